@@ -1,0 +1,66 @@
+//! The names of a store's files.
+ghost use Rattle.std.specs.Prelude.{◌≡◌, ◌≤◌, ◌++◌, length, codes};
+ghost use Rattle.std.specs.Fmt.{decimal};
+ghost use Rattle.ix_base.specs.FileNames.{name_text};
+
+use arrayvec::ArrayString;
+
+/// The name of a file of an index. Each number is at least 1; any other name is foreign.
+#[derive(Clone, Copy, Debug, PartialEq, Eq, PartialOrd, Ord)]
+pub enum FileName {
+    /// The commit of this number.
+    Commit(u64),
+    /// A commit file before it is renamed.
+    Pending(u64),
+    /// The rows of the segment of this id.
+    Rows(u64),
+    /// The postings of the segment of this id.
+    Posts(u64),
+    /// The live bits of a segment, written with a commit: id and number.
+    Live(u64, u64),
+    /// The set numbers of a segment, written with a commit: id and number.
+    Values(u64, u64),
+}
+
+impl FileName {
+    /// The name as a directory shows it, as `segments_2` or `seg_1.row`. It takes no memory.
+    pub fn text(self) -> ArrayString<56>
+        ensures { result.bytes ≡ name_text self }
+    {
+        match self {
+            FileName::Commit(number) => numbered("segments_", number, ""),
+            FileName::Pending(number) => numbered("pending_segments_", number, ""),
+            FileName::Rows(id) => numbered("seg_", id, ".row"),
+            FileName::Posts(id) => numbered("seg_", id, ".pst"),
+            FileName::Live(id, number) => written_with(id, number, ".liv"),
+            FileName::Values(id, number) => written_with(id, number, ".val"),
+        }
+    }
+}
+
+fn numbered(front: &str, number: u64, end: &str) -> ArrayString<56>
+    requires front { length front.now ≤ 17 }
+    requires end { length end.now ≤ 4 }
+    ensures { result.bytes ≡ front.now ++ (decimal number ++ end.now) }
+{
+    let mut digits = itoa::Buffer::new();
+    let mut text = ArrayString::<56>::new();
+    text.push_str(front);
+    text.push_str(digits.format(number));
+    text.push_str(end);
+    text
+}
+
+fn written_with(id: u64, number: u64, end: &str) -> ArrayString<56>
+    requires { length end.now ≤ 4 }
+    ensures { result.bytes ≡ codes "seg_" ++ (decimal id ++ (codes "_" ++ (decimal number ++ end.now))) }
+{
+    let mut digits = itoa::Buffer::new();
+    let mut text = ArrayString::<56>::new();
+    text.push_str("seg_");
+    text.push_str(digits.format(id));
+    text.push_str("_");
+    text.push_str(digits.format(number));
+    text.push_str(end);
+    text
+}

@@ -1,0 +1,25 @@
+//! What every layer of the index speaks of: texts, names, documents, rows, queries and operations,
+//! and the names of a store's files.
+//!
+//! Contracts see each of these types as plain mathematics: a `Text` as its list of bytes, `Fields`
+//! as a list of pairs, a list of queries as a tree. So two values are equal in a clause exactly
+//! where a user would call them equal.
+#![tactic(auto)]
+
+mod document;
+mod fields;
+mod file_name;
+mod list;
+mod memory;
+mod postings;
+mod query;
+mod text;
+
+pub use document::{Document, Operation, Row, Term};
+pub use fields::{Fields, Numbers};
+pub use file_name::FileName;
+pub use list::List;
+pub use memory::NoMemory;
+pub use postings::{Analysed, Posting, Postings, TermPostings};
+pub use query::{Queries, Query};
+pub use text::{Name, PhraseText, Text};

@@ -1,0 +1,10 @@
+//! What watches the lines of a run.
+
+/// Hears of each try of a write or commit line, and of each number. The program's gate does nothing.
+pub trait Gate: Sync {
+    /// A worker is about to try this line of the script.
+    fn before(&self, line: u32);
+
+    /// The line has this number.
+    fn told(&self, line: u32, number: u64);
+}
