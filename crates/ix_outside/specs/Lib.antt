@@ -1,3 +1,4 @@
 pub mod Causes
 pub mod Files
 pub mod Images
+pub mod Calls

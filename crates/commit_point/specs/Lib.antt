@@ -1,0 +1,6 @@
+pub mod Spelling
+pub mod Fits
+pub mod Holds
+pub mod Reading
+pub mod Writing
+pub mod Laws

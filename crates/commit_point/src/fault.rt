@@ -1,0 +1,41 @@
+//! Why a commit can't be read or written.
+
+use ix_base::FileName;
+use ix_outside::StoreFault;
+
+/// A file whose bytes are not in the grammar, and the first broken place: the offset of the first
+/// byte of the first field that is cut short or breaks a rule. An absent file is broken at 0.
+#[derive(Clone, Copy, Debug, PartialEq, Eq)]
+pub struct Damaged {
+    pub file: FileName,
+    pub at: u64,
+}
+
+/// Why a file's bytes were not read.
+#[derive(Clone, Copy, Debug, PartialEq, Eq)]
+pub enum FileFault {
+    /// The bytes are not in the grammar.
+    Damaged(Damaged),
+    /// Memory ran out.
+    NoMemory,
+}
+
+/// Why a commit was not opened.
+#[derive(Clone, Copy, Debug, PartialEq, Eq)]
+pub enum OpenFault {
+    /// The store failed, and its count of faults rose.
+    Store,
+    /// A file of the commit is not in the grammar, or absent.
+    Damaged(Damaged),
+    /// The store's list has no commit of this number.
+    NoSuch { number: u64 },
+    /// Memory ran out.
+    NoMemory,
+}
+
+/// Why a commit was not written, and whether its rename was done in the call.
+#[derive(Clone, Copy, Debug, PartialEq, Eq)]
+pub struct CommitRefused {
+    pub fault: StoreFault,
+    pub renamed: bool,
+}

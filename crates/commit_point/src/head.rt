@@ -1,0 +1,22 @@
+//! What a commit file says.
+
+use ix_base::List;
+
+/// A segment as a commit file names it: its id, how many rows it has, and the commit that its
+/// live bits were last written with.
+#[derive(Clone, Copy, Debug, PartialEq, Eq)]
+pub struct HeadSegment {
+    pub id: u64,
+    pub n: u32,
+    pub v: u64,
+}
+
+/// A commit file: its number, how many live rows it has, the next segment id, and its segments by
+/// rising id.
+#[derive(Drop)]
+pub struct Head {
+    pub number: u64,
+    pub docs: u64,
+    pub next_id: u64,
+    pub segments: List<HeadSegment>,
+}

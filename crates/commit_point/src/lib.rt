@@ -1,0 +1,13 @@
+//! Commits: their files' bytes, how one is written so that a stop at any moment leaves it whole or
+//! not at all, and how it is read back.
+#![tactic(auto)]
+
+mod fault;
+mod head;
+mod open;
+mod write;
+
+pub use fault::{CommitRefused, Damaged, FileFault, OpenFault};
+pub use head::{Head, HeadSegment};
+pub use open::{Opened, list_commits, read_commit};
+pub use write::write_commit;

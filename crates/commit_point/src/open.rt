@@ -1,0 +1,58 @@
+//! Reading a commit back.
+ghost use Rattle.std.specs.Prelude.{◌≡◌, ◌<◌, ◌≤◌, ◌↔◌, ◌⊎◌, ℕ, List, Contains, AllPairs, IfOk, IfErr, IsSome, IfSome, Some, None, Ok, Err};
+ghost use Rattle.ix_base.specs.FileNames.{IsCounted};
+ghost use Rattle.ix_base.specs.declared.document.Row.{Row};
+ghost use Rattle.ix_base.specs.declared.file_name.FileName.TheVariants.{Commit};
+ghost use Rattle.ix_outside.specs.Causes.{Rose};
+ghost use Rattle.ix_outside.specs.Files.{Files, Was};
+ghost use Rattle.ix_outside.specs.Calls.{OnlyReads};
+ghost use Rattle.commit_point.specs.Holds.{Holds};
+ghost use Rattle.commit_point.specs.Reading.{reading};
+ghost use Rattle.commit_point.specs.declared.fault.Damaged.{Damaged};
+
+use crate::fault::OpenFault;
+use ix_base::{List, Row};
+use ix_outside::{Store, StoreFault};
+use std::alloc::Global;
+
+/// A commit that was read back: its rows by birth.
+#[derive(Drop)]
+pub struct Opened {
+    pub number: u64,
+    pub next_id: u64,
+    pub rows: List<Row>,
+}
+
+/// The numbers of the store's commits, rising.
+pub fn list_commits<S: Store>(alloc: Global, store: &mut S) -> Result<List<u64>, StoreFault>
+    ensures commits { IfOk result (λ numbers. IfSome (S.files store.old) (λ files. (s : ℕ) → Contains numbers s ↔ IsSome (files (Commit s)))) }
+    ensures rise { IfOk result (λ numbers. AllPairs ◌<◌ numbers) }
+    ensures counted { IfOk result (λ numbers. (s : ℕ) → Contains numbers s → IsCounted s) }
+    ensures reads { OnlyReads S.files S.unsynced S.images S.moment S.left_since store.old store.new }
+    ensures later { S.fault_count store.old ≤ S.fault_count store.new }
+    ensures failed { result ≡ Err StoreFault.Failed → Rose (S.fault_count store.old) (S.fault_count store.new) }
+{
+    Err(StoreFault::NoMemory)
+}
+
+/// Reads the commit of this number, which a list has shown. A commit file that is gone since is
+/// damaged at 0.
+pub fn read_commit<S: Store>(alloc: Global, store: &mut S, number: u64) -> Result<Opened, OpenFault>
+    ensures number { IfOk result (λ opened. opened.number ≡ number) }
+    // What is read is what the files spell.
+    ensures found { IfOk result (λ opened. (files : Files) × Was (S.files store.old) files × Holds files number opened.next_id opened.rows) }
+    // What the files spell is read, unless the store fails or memory runs out.
+    ensures only { (files : Files) (next : ℕ) (rows : List Row) → S.files store.old ≡ Some files → Holds files number next rows
+        → IfOk result (λ opened. (opened.next_id ≡ next) × (opened.rows ≡ rows)) }
+    ensures whole { (files : Files) (next : ℕ) (rows : List Row) → S.files store.old ≡ Some files → Holds files number next rows
+        → IfErr result (λ fault. (fault ≡ OpenFault.Store) ⊎ (fault ≡ OpenFault.NoMemory)) }
+    // Which place is the first broken one.
+    ensures damaged { (damaged : Damaged) → result ≡ Err (OpenFault.Damaged damaged)
+        → (files : Files) × Was (S.files store.old) files × (reading files number ≡ Err damaged) }
+    ensures listed { (other : ℕ) → result ≡ Err (OpenFault.NoSuch other) → ⊥ }
+    ensures reads { OnlyReads S.files S.unsynced S.images S.moment S.left_since store.old store.new }
+    ensures later { S.fault_count store.old ≤ S.fault_count store.new }
+    ensures failed { result ≡ Err OpenFault.Store → Rose (S.fault_count store.old) (S.fault_count store.new) }
+{
+    Err(OpenFault::NoMemory)
+}
