@@ -1,13 +1,8 @@
-// A library with one function.
+//! Scripts: one JSON object a line, each an operation of a caller or a search.
 #![tactic(auto)]
 
-ghost use Rattle.std.specs.Prelude.{◌≡◌};
-ghost use Rattle.op_script.specs.Echo.{echo_of};
+mod read;
+mod script;
 
-// The `ensures` clause is the contract: what `echo` returns is `echo_of` of its argument, a definition
-// in `specs/Echo.antt`, which a caller's clause can cite too.
-pub fn echo(x: usize) -> usize
-    ensures { result ≡ echo_of x }
-{
-    x
-}
+pub use read::read_script;
+pub use script::{Act, BadLine, Line, Script, ScriptFault, Why};

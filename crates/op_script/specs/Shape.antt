@@ -1,0 +1,50 @@
+-- What holds of every script that was read.
+use Rattle.std.specs.Prelude.{◌≡◌, ℕ, ◌+◌, ◌<◌, ◌≤◌, ◌^◌, List, [], ◌∷◌, Bool, true, false, length, map, ⊤}
+use Rattle.ix_base.specs.Limits.{names_are_apart}
+use Rattle.ix_base.specs.declared.document.Document.{Document}
+use Rattle.ix_base.specs.declared.document.Operation.{Operation}
+use Rattle.ix_base.specs.declared.document.Operation.TheVariants.{Add, Update, DeleteTerm, DeleteQuery, SetNumber, Commit}
+use Rattle.ix_base.specs.declared.query.Query.{Query}
+use Rattle.ix_base.specs.declared.query.Query.TheVariants as query
+use Rattle.op_script.specs.declared.script.Line.{Line}
+use Rattle.op_script.specs.declared.script.Act.{Act}
+use Rattle.op_script.specs.declared.script.Act.TheVariants.{Do, Search}
+
+-- the queries of this language
+abbrev pub is_read_query : Query → Bool
+is_read_query query.All = true
+is_read_query (query.Term t) = true
+is_read_query (query.Phrase f t) = false
+is_read_query (query.Bool a b c) = false
+
+-- no name of a document stands twice among its texts, nor is one `key`
+abbrev pub is_apart : Document → Bool
+is_apart doc = names_are_apart (map (λ pair. pair.0) doc.text) (map (λ pair. pair.0) doc.exact)
+
+-- the operations of this language
+abbrev pub is_read_operation : Operation → Bool
+is_read_operation (Add doc) = is_apart doc
+is_read_operation (Update t doc) = false
+is_read_operation (DeleteTerm t) = false
+is_read_operation (DeleteQuery q) = false
+is_read_operation (SetNumber t n v) = false
+is_read_operation Commit = true
+
+abbrev pub is_read_act : Act → Bool
+is_read_act (Do op) = is_read_operation op
+is_read_act (Search q) = is_read_query q
+
+-- the lines' places rise, from this one on
+abbrev pub LinesRise : ℕ → List Line → Type 0
+LinesRise low [] = ⊤
+LinesRise low (l ∷ ls) = (low ≤ l.line) × LinesRise (l.line + 1) ls
+
+abbrev pub AreReadActs : List Line → Type 0
+AreReadActs [] = ⊤
+AreReadActs (l ∷ ls) = (is_read_act l.act ≡ true) × (l.caller < 256) × AreReadActs ls
+
+-- a script that was read: its lines rise, are few, and are of this language
+pub record AreScriptLines (lines : List Line) : Type 0 where
+  pub rise : LinesRise 1 lines
+  pub few : length lines < 2 ^ 27
+  pub acts : AreReadActs lines
