@@ -6,8 +6,8 @@ ghost use Rattle.ix_outside.specs.Files.{Files, Lists, Puts, Removes, Renames, M
 ghost use Rattle.ix_outside.specs.Images.{NoMore, Leaves, MayHaveRenamed, MayHaveRemoved, Elapses, IsDurable, AreSettled, AddsUnsynced, Syncs, MovesUnsynced, NoMoreUnsynced};
 ghost use Rattle.ix_outside.specs.Causes.{HasStoreCause};
 
-use ix_base::FileName;
-use std::alloc::Global;
+use ix_base::{FileName, NoMemory};
+use std::alloc::{AllocError, AllocFailed, Global};
 
 /// Why a call of a store gave up.
 #[derive(Clone, Copy, Debug, PartialEq, Eq)]
@@ -16,6 +16,33 @@ pub enum StoreFault {
     Failed,
     /// Memory ran out. Nothing changed, and no count rose.
     NoMemory,
+}
+
+impl From<NoMemory> for StoreFault {
+    ghost use Rattle.ix_outside.specs.declared.store.StoreFault.TheVariants.{NoMemory as WantOfMemory};
+    ghost from_gives = { λ _ fault. fault ≡ WantOfMemory };
+
+    fn from(_error: NoMemory) -> StoreFault {
+        StoreFault::NoMemory
+    }
+}
+
+impl From<AllocError> for StoreFault {
+    ghost use Rattle.ix_outside.specs.declared.store.StoreFault.TheVariants.{NoMemory as WantOfMemory};
+    ghost from_gives = { λ _ fault. fault ≡ WantOfMemory };
+
+    fn from(_error: AllocError) -> StoreFault {
+        StoreFault::NoMemory
+    }
+}
+
+impl<T: Drop> From<AllocFailed<T>> for StoreFault {
+    ghost use Rattle.ix_outside.specs.declared.store.StoreFault.TheVariants.{NoMemory as WantOfMemory};
+    ghost from_gives = { λ _ fault. fault ≡ WantOfMemory };
+
+    fn from(_error: AllocFailed<T>) -> StoreFault {
+        StoreFault::NoMemory
+    }
 }
 
 /// A directory of whole files. Where it tells its contents, contracts see them as a function from

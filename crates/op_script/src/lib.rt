@@ -4,5 +4,5 @@
 mod read;
 mod script;
 
-pub use read::read_script;
+pub use read::{MOST_BYTES, read_script};
 pub use script::{Act, BadLine, Line, Script, ScriptFault, Why};
