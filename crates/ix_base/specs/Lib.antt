@@ -6,3 +6,9 @@ pub mod QueryFalls
 pub mod Terms
 pub mod Matches
 pub mod Steps
+pub mod Spelling
+pub mod QueryBytes
+pub mod Entry
+pub mod Words
+pub mod EntryLaws
+pub mod Refusals
