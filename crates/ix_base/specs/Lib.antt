@@ -6,3 +6,4 @@ pub mod QueryFalls
 pub mod Terms
 pub mod Matches
 pub mod Steps
+pub mod Inversion
