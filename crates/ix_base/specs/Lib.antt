@@ -12,3 +12,4 @@ pub mod Entry
 pub mod Words
 pub mod EntryLaws
 pub mod Refusals
+pub mod Inversion

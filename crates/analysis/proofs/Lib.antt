@@ -1,0 +1,5 @@
+pub mod LongTerms
+pub mod Ends
+pub mod Growth
+pub mod GrowthOfTerms
+pub mod Inverting

@@ -1,0 +1,17 @@
+//! Analysis of documents: their terms, and the postings of them.
+//!
+//! Words are those of UAX #29 (word boundaries, without pieces that have no letter and no digit),
+//! folded by Unicode's default (full) case folding. There are no stop words, and long words aren't
+//! split.
+#![tactic(auto)]
+
+mod grouping;
+mod inverse;
+mod occurrence;
+mod sizes;
+mod words;
+
+pub use inverse::{Refused, analyse, invert};
+pub use occurrence::compare_terms;
+pub use sizes::long_term;
+pub use words::phrase_terms;
