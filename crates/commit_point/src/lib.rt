@@ -8,6 +8,7 @@ mod encode;
 mod fault;
 mod head;
 mod open;
+mod put;
 mod write;
 
 pub use encode::{encode_commit, encode_row};
