@@ -4,3 +4,4 @@ pub mod Holds
 pub mod Reading
 pub mod Writing
 pub mod Laws
+pub mod Putting

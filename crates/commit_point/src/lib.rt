@@ -2,11 +2,16 @@
 //! not at all, and how it is read back.
 #![tactic(auto)]
 
+mod bytes;
+mod documents;
+mod encode;
 mod fault;
 mod head;
 mod open;
+mod put;
 mod write;
 
+pub use encode::{encode_commit, encode_row};
 pub use fault::{CommitRefused, Damaged, FileFault, OpenFault};
 pub use head::{Head, HeadSegment};
 pub use open::{Opened, list_commits, read_commit};

@@ -1,19 +1,90 @@
 //! Writing a commit.
-ghost use Rattle.std.specs.Prelude.{◌≡◌, ◌<◌, ◌≤◌, ◌+◌, ◌^◌, ◌↔◌, ℕ, length, map, true, All, IsTrue, IsSome, OnOk, OnErr, IfOk, IfErr, Some, None, Ok, Err};
-ghost use Rattle.ix_base.specs.FileNames.{IsCounted};
+ghost use Rattle.std.specs.Prelude.{◌≡◌, ◌≢◌, ◌<◌, ◌≤◌, ◌+◌, ◌^◌, ◌↔◌, ℕ, length, map, true, false, All, IsTrue, IsSome, OnOk, OnErr, IfOk, IfErr, Some, None, Err};
 ghost use Rattle.ix_base.specs.Limits.{names_are_apart};
+ghost use Rattle.ix_base.specs.declared.file_name.FileName.{FileName};
 ghost use Rattle.ix_base.specs.declared.file_name.FileName.TheVariants.{Commit, Rows};
 ghost use Rattle.ix_outside.specs.Causes.{Rose};
 ghost use Rattle.ix_outside.specs.Files.{Files, Changes};
-ghost use Rattle.ix_outside.specs.Images.{IsDurable};
+ghost use Rattle.ix_outside.specs.Images.{Follows, IsDurable};
 ghost use Rattle.ix_outside.specs.Calls.{LeavesOnly};
 ghost use Rattle.commit_point.specs.Fits.{BirthsRise};
+ghost use Rattle.commit_point.specs.Putting.{Reaches, PutsCommit, MayPutCommit, SameButCommit, head_of};
+ghost use Rattle.commit_point.specs.Spelling.{commit_file};
 ghost use Rattle.commit_point.specs.Writing.{Commits, MayCommit, SameElsewhere, next_after};
 
+use crate::encode::encode_commit;
 use crate::fault::CommitRefused;
-use ix_base::Row;
+use crate::head::{Head, HeadSegment};
+use crate::put::{publish, put_file, put_rows_file};
+use ix_base::{FileName, List, NoMemory, Row};
 use ix_outside::{Store, StoreFault};
 use std::alloc::Global;
+
+/// The most rows of one commit.
+const MOST_ROWS: usize = 2_147_483_647;
+
+/// What the commit file of these rows says.
+fn new_head(alloc: Global, number: u64, next_id: u64, rows: &[Row]) -> Result<Head, NoMemory>
+    requires room { next_id < 2 ^ 63 }
+    requires count { length rows.now < 2 ^ 32 }
+    ensures { IfOk result (λ head. head ≡ head_of number next_id rows.now) }
+{
+    let docs = rows.len() as u64;
+    if rows.is_empty() {
+        return Ok(Head {
+            number,
+            docs,
+            next_id,
+            segments: List::new(alloc),
+        });
+    }
+    let mut segments = Vec::new(alloc);
+    segments.push(HeadSegment {
+        id: next_id,
+        n: rows.len() as u32,
+        v: number,
+    })?;
+    Ok(Head {
+        number,
+        docs,
+        next_id: next_id + 1,
+        segments: List::from_vec(segments),
+    })
+}
+
+fn before_rename(fault: StoreFault) -> CommitRefused
+    ensures { result ≡ record { fault = fault; renamed = false } }
+{
+    CommitRefused {
+        fault,
+        renamed: false,
+    }
+}
+
+/// Writes the commit file under its pending name, and then gives it its own.
+fn write_head<S: Store>(alloc: Global, store: &mut S, head: &Head) -> Result<(), CommitRefused>
+    requires { 1 ≤ head.now.number }
+    ensures ok { OnOk result (Changes (PutsCommit head.now.number (commit_file head.now)) (S.files store.old) (S.files store.new)) }
+    ensures err { OnErr result (Changes (SameButCommit head.now.number) (S.files store.old) (S.files store.new)) }
+    ensures images { Follows (SameButCommit head.now.number) (S.images store.old) (S.images store.new) }
+    ensures durable { OnOk result (IsDurable (Commit head.now.number) (S.images store.new) (S.files store.new)) }
+    ensures settled { OnOk result ((name : FileName) → name ≢ Commit head.now.number → ¬ S.unsynced store.old name → IsDurable name (S.images store.new) (S.files store.new)) }
+    ensures crash { IsSome (S.files store.old) → LeavesOnly S.moment S.left_since store.old store.new (Reaches (MayPutCommit head.now.number (commit_file head.now)) (S.images store.old)) }
+    ensures renamed { (files : Files) (now : Files) → S.files store.old ≡ Some files → files (Commit head.now.number) ≡ None → S.files store.new ≡ Some now
+        → IfErr result (λ refused. refused.fault ≡ StoreFault.NoMemory → (IsTrue refused.renamed ↔ IsSome (now (Commit head.now.number)))) }
+    ensures later { S.fault_count store.old ≤ S.fault_count store.new }
+    ensures failed { IfErr result (λ refused. refused.fault ≡ StoreFault.Failed → Rose (S.fault_count store.old) (S.fault_count store.new)) }
+{
+    let number = head.number;
+    let bytes = match encode_commit(alloc, head) {
+        Ok(bytes) => bytes,
+        Err(_) => return Err(before_rename(StoreFault::NoMemory)),
+    };
+    match put_file(store, FileName::Pending(number), &bytes) {
+        Ok(()) => publish(store, number),
+        Err(fault) => Err(before_rename(fault)),
+    }
+}
 
 /// Writes the rows as the commit of this number, as one new segment with the id `next_id`; without
 /// a row it has no segment. It answers the number of rows. The files are written and synced one by
@@ -57,8 +128,18 @@ pub fn write_commit<S: Store>(
     ensures later { S.fault_count store.old ≤ S.fault_count store.new }
     ensures failed { IfErr result (λ refused. refused.fault ≡ StoreFault.Failed → Rose (S.fault_count store.old) (S.fault_count store.new)) }
 {
-    Err(CommitRefused {
-        fault: StoreFault::NoMemory,
-        renamed: false,
-    })
+    if rows.len() > MOST_ROWS {
+        return Err(before_rename(StoreFault::NoMemory));
+    }
+    let head = match new_head(alloc, number, next_id, rows) {
+        Ok(head) => head,
+        Err(_) => return Err(before_rename(StoreFault::NoMemory)),
+    };
+    match put_rows_file(alloc, store, next_id, rows) {
+        Ok(()) => {
+            write_head(alloc, store, &head)?;
+            Ok(head.docs)
+        }
+        Err(fault) => Err(before_rename(fault)),
+    }
 }

@@ -1,0 +1,19 @@
+use Rattle.std.proofs.Common.{subst, rules}
+use Rattle.std.specs.Prelude.{IsUtf8}
+use Rattle.commit_point.specs.Fits.{TextFits, DocumentFits}
+use Rattle.commit_point.proofs.documents.put_document.Goals as goal
+
+pub returns-clause-fits : goal.returns-clause-fits
+returns-clause-fits c = record {
+  key = record { utf8 = subst IsUtf8 c.as_str.ensures.bytes c.in_ok-put_text.ensures.utf8; short = c.as_str.ensures.short };
+  text_count = c.put_fields.ensures.count;
+  text = c.in_ok-put_fields.ensures.fits;
+  text_rises = c.put_fields.ensures.rise;
+  exact_count = c.put_fields-2.ensures.count;
+  exact = c.in_ok-put_fields-2.ensures.fits;
+  exact_rises = c.put_fields-2.ensures.rise;
+  num_count = c.in_ok-put_numbers.ensures.count;
+  num = c.in_ok-put_numbers.ensures.fits;
+  num_rises = c.put_numbers.ensures.rise;
+  apart = c.requires;
+}

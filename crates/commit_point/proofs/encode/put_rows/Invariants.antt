@@ -1,0 +1,12 @@
+use Rattle.std.proofs.Common.{◌≡◌, ◌++◌, length, take}
+use Rattle.std.specs.List.{flat_map, AllByRecursion}
+use Rattle.ix_base.specs.declared.document.Row.{Row}
+use Rattle.commit_point.specs.Spelling.{be64, be32, rows_mark, row}
+use Rattle.commit_point.specs.Fits.{DocumentFits}
+use Rattle.commit_point.proofs.encode.put_rows.Given as goal
+
+abbrev pub invariant-loop-row : goal.invariant-loop-row
+invariant-loop-row l = record {
+  bytes : l.out.items ≡ l.fn.out.items ++ (rows_mark ++ (be64 l.id ++ (be32 (length l.rows) ++ flat_map row (take l.row-index l.rows))));
+  fits : AllByRecursion (λ (r : Row). DocumentFits r.doc) (take l.row-index l.rows)
+}
