@@ -1,0 +1,6 @@
+mod Values
+mod Names
+mod Pairs
+mod Lines
+mod Shapes
+mod Scripts

@@ -1,9 +1,97 @@
 -- Which script the bytes of an input are, or the first bad line.
-use Rattle.std.specs.Prelude.{ℕ, List, Result, Ok, Err}
+use Rattle.std.specs.Prelude.{ℕ, ◌+◌, List, [], ◌∷◌, ◌++◌, length, nat_lt, if◌then◌else◌, codes, Option, Some, None, option_and_then, Result, Ok, Err}
+use Rattle.std.specs.Option.{option_map_or}
+use Rattle.serde_json.specs.Data.{Data, null, boolean, number, string, array, object}
+use Rattle.serde_json.specs.Find.{get, as_number, as_u64, as_str}
+use Rattle.ix_base.specs.declared.document.Operation.TheVariants as operation
+use Rattle.op_script.specs.Values.{value_of, has_exactly}
+use Rattle.op_script.specs.Lines.{lines_of, is_blank}
+use Rattle.op_script.specs.Verbs.{verb_named, members_of}
+use Rattle.op_script.specs.Documents.{document_of}
+use Rattle.op_script.specs.Queries.{query_of}
+use Rattle.op_script.specs.declared.script.Act.{Act}
+use Rattle.op_script.specs.declared.script.Act.TheVariants as act
 use Rattle.op_script.specs.declared.script.Line.{Line}
 use Rattle.op_script.specs.declared.script.BadLine.{BadLine}
+use Rattle.op_script.specs.declared.script.Why.{Why}
 use Rattle.op_script.specs.declared.script.Why.TheVariants as why
+use Rattle.op_script.specs.declared.verbs.Verb.{Verb}
+use Rattle.op_script.specs.declared.verbs.Verb.TheVariants as verb
 
--- (stands in until the reader comes)
+-- a whole number from 0 to 255
+abbrev pub byte_of : ℕ → Option ℕ
+byte_of n = if nat_lt n 256 then Some n else None
+
+abbrev pub caller_of : Data → Option ℕ
+caller_of d = option_and_then byte_of (option_and_then as_u64 (option_and_then as_number (get (codes "c") d)))
+
+abbrev pub verb_of : Data → Option Verb
+verb_of d = option_and_then verb_named (option_and_then as_str (get (codes "op") d))
+
+-- what f makes of the value, if that is anything
+abbrev pub act_by : {X : Type 0} → Why → (X → Act) → Option X → Result Act Why
+act_by missing f None = Err missing
+act_by missing f (Some x) = Ok (f x)
+
+-- what the line asks for
+abbrev pub act_of : Verb → Data → Result Act Why
+act_of verb.Add d = act_by why.Doc (λ doc. act.Do (operation.Add doc)) (option_and_then document_of (get (codes "doc") d))
+act_of verb.Commit d = Ok (act.Do operation.Commit)
+act_of verb.Search d = act_by why.Query act.Search (option_and_then query_of (get (codes "query") d))
+
+abbrev pub line_with : ℕ → ℕ → Result Act Why → Result Line Why
+line_with at caller (Err reason) = Err reason
+line_with at caller (Ok asked) = Ok (record { line = at; caller = caller; act = asked })
+
+-- the tests in their order, of which the first that fails counts
+abbrev pub line_by : ℕ → Data → Option ℕ → Option Verb → Result Line Why
+line_by at d None verb = Err why.Caller
+line_by at d (Some caller) None = Err why.Op
+line_by at d (Some caller) (Some verb) = if has_exactly (members_of verb) d then line_with at caller (act_of verb d) else Err why.Members
+
+abbrev pub line_of : ℕ → Data → Result Line Why
+line_of at null = Err why.Json
+line_of at (boolean b) = Err why.Json
+line_of at (number n) = Err why.Json
+line_of at (string s) = Err why.Json
+line_of at (array ds) = Err why.Json
+line_of at (object ms) = line_by at (object ms) (caller_of (object ms)) (verb_of (object ms))
+
+abbrev pub placed : ℕ → Result Line Why → Result (Option Line) BadLine
+placed at (Err reason) = Err (record { line = at; why = reason })
+placed at (Ok line) = Ok (Some line)
+
+-- the line that the text is
+abbrev pub request_of : ℕ → List ℕ → Result Line Why
+request_of at text = option_map_or (line_of at) (value_of text) (Err why.Json)
+
+-- the line of this number, none where it is passed over
+abbrev pub line_at : ℕ → List ℕ → Result (Option Line) BadLine
+line_at at text = if is_blank text then Ok None else placed at (request_of at text)
+
+abbrev pub before : Option Line → Result (List Line) BadLine → Result (List Line) BadLine
+before line (Err bad) = Err bad
+before None (Ok lines) = Ok lines
+before (Some line) (Ok lines) = Ok (line ∷ lines)
+
+-- the first bad line counts
+abbrev pub and_then : Result (Option Line) BadLine → Result (List Line) BadLine → Result (List Line) BadLine
+and_then (Err bad) rest = Err bad
+and_then (Ok line) rest = before line rest
+
+-- lines that are numbered from this number on
+abbrev pub lines_from : ℕ → List (List ℕ) → Result (List Line) BadLine
+lines_from at [] = Ok []
+lines_from at (text ∷ texts) = and_then (line_at at text) (lines_from (at + 1) texts)
+
+-- these lines, and then those
+abbrev pub onto : List Line → Result (List Line) BadLine → Result (List Line) BadLine
+onto lines (Err bad) = Err bad
+onto lines (Ok more) = Ok (lines ++ more)
+
+-- no input has more bytes than this
+abbrev pub most_bytes : ℕ
+most_bytes = 67108864
+
 unfoldable pub script : List ℕ → Result (List Line) BadLine
-script bytes = Err (record { line = 0; why = why.Long })
+script bytes = if nat_lt most_bytes (length bytes) then Err (record { line = 0; why = why.Long }) else lines_from 1 (lines_of bytes)

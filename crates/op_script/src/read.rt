@@ -1,10 +1,14 @@
 //! Reading a script.
-ghost use Rattle.std.specs.Prelude.{◌≡◌, ◌<◌, ℕ, List, length, IfOk, Ok, Err};
-ghost use Rattle.op_script.specs.Language.{script};
+ghost use Rattle.std.specs.Prelude.{◌≡◌, ◌<◌, ◌≤◌, ℕ, List, ◌==◌, [], ◌∷◌, length, position, MatchOption, IfSome, Result, IfOk, OnOk, Ok, Err};
+ghost use Rattle.op_script.specs.Language.{script, lines_from, line_at, and_then, onto};
+ghost use Rattle.op_script.specs.Lines.{lines_of};
 ghost use Rattle.op_script.specs.Shape.{AreScriptLines};
 ghost use Rattle.op_script.specs.declared.script.BadLine.{BadLine};
+ghost use Rattle.op_script.specs.declared.script.Line.{Line};
 
-use crate::script::{Script, ScriptFault, Why};
+use crate::requests::read_line;
+use crate::script::{BadLine, Line, Script, ScriptFault, Why};
+use ix_base::List;
 use std::alloc::Global;
 
 /// No input has more bytes than this.
@@ -19,5 +23,60 @@ pub fn read_script(alloc: Global, bytes: &[u8]) -> Result<Script, ScriptFault>
     // An input that is too long is bad whatever else it holds.
     ensures long { (input : List ℕ) → MOST_BYTES < length input → script input ≡ Err (record { line = 0; why = Why.Long }) }
 {
-    Err(ScriptFault::NoMemory)
+    if bytes.len() > MOST_BYTES {
+        return Err(ScriptFault::Bad(BadLine {
+            line: 0,
+            why: Why::Long,
+        }));
+    }
+    let lines = read_lines(alloc, bytes)?;
+    Ok(Script {
+        lines: List::from_vec(lines),
+    })
+}
+
+fn read_lines(alloc: Global, bytes: &[u8]) -> Result<Vec<Line>, ScriptFault>
+    requires { length bytes.now ≤ MOST_BYTES }
+    ensures ok { IfOk result (λ lines. lines_from 1 (lines_of bytes.now) ≡ Ok lines.items) }
+    ensures bad { (bad : BadLine) → result ≡ Err (ScriptFault.Bad bad) → lines_from 1 (lines_of bytes.now) ≡ Err bad }
+{
+    let mut lines = Vec::new(alloc);
+    let mut rest = bytes;
+    let mut at = 1;
+    while let Some((text, left)) = cut_line(rest) {
+        add_line(alloc, at, text, &mut lines)?;
+        rest = left;
+        at += 1;
+    }
+    add_line(alloc, at, rest, &mut lines)?;
+    Ok(lines)
+}
+
+/// Adds the line of this number, unless it is passed over.
+fn add_line(alloc: Global, at: u32, text: &[u8], lines: &mut Vec<Line>) -> Result<(), ScriptFault>
+    ensures ok { OnOk result ((rest : Result (List Line) BadLine)
+        → onto lines.old.items (and_then (line_at at text.now) rest) ≡ onto lines.new.items rest) }
+    ensures bad { (bad : BadLine) → result ≡ Err (ScriptFault.Bad bad) → line_at at text.now ≡ Err bad }
+{
+    if let Some(line) = read_line(alloc, at, text)? {
+        lines.push(line)?;
+    }
+    Ok(())
+}
+
+/// The first of several lines, and the text after it.
+fn cut_line(text: &[u8]) -> Option<(&[u8], &[u8])>
+    ensures cut { MatchOption result (lines_of text.now ≡ text.now ∷ [])
+        (λ cut. lines_of text.now ≡ cut.0.now ∷ lines_of cut.1.now) }
+    ensures shorter { IfSome result (λ cut. length cut.1.now < length text.now) }
+{
+    let end = line_end(text)?;
+    Some((&text[..end], &text[end + 1..]))
+}
+
+/// The place of the first byte that ends a line.
+fn line_end(text: &[u8]) -> Option<usize>
+    ensures { result ≡ position (λ b. b == 10) text.now }
+{
+    text.iter().position(|byte| *byte == b'\n')
 }

@@ -1,6 +1,10 @@
 //! What a script is.
 
+ghost use Rattle.std.specs.Prelude.{◌≡◌};
+ghost use Rattle.op_script.specs.declared.script.ScriptFault.TheVariants as fault;
+
 use ix_base::{List, Operation, Query};
+use std::alloc::{AllocError, AllocFailed};
 
 /// What a line asks for.
 #[derive(Drop)]
@@ -64,4 +68,20 @@ pub enum ScriptFault {
     Bad(BadLine),
     /// Memory ran out.
     NoMemory,
+}
+
+impl From<AllocError> for ScriptFault {
+    ghost from_gives = { λ _ f. f ≡ fault.NoMemory };
+
+    fn from(_error: AllocError) -> ScriptFault {
+        ScriptFault::NoMemory
+    }
+}
+
+impl<T: Drop> From<AllocFailed<T>> for ScriptFault {
+    ghost from_gives = { λ _ f. f ≡ fault.NoMemory };
+
+    fn from(_error: AllocFailed<T>) -> ScriptFault {
+        ScriptFault::NoMemory
+    }
 }

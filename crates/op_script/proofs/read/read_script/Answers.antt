@@ -1,7 +1,29 @@
-use Rattle.std.proofs.Common.{refl}
-use Rattle.op_script.specs.Language.{script}
+use Rattle.std.proofs.Common.{◌≡◌, ◌∙◌, ℕ, List, Ok, Err, sym, ap, rules}
+use Rattle.op_script.specs.Language.{lines_from}
+use Rattle.op_script.specs.Lines.{lines_of}
+use Rattle.op_script.proofs.Scripts.{script_long, script_short}
+use Rattle.op_script.proofs.Shapes.{shape_of}
 use Rattle.op_script.proofs.read.read_script.Goals as goal
 
+pub returns-then-bytes-gt-MOST_BYTES-clause-bad : goal.returns-then-bytes-gt-MOST_BYTES-clause-bad
+returns-then-bytes-gt-MOST_BYTES-clause-bad c = λ bad is. script_long c.args.bytes.now c.if-bytes-gt-MOST_BYTES.true ∙ ap Err (cc)
+
+pub returns-then-bytes-gt-MOST_BYTES-clause-long : goal.returns-then-bytes-gt-MOST_BYTES-clause-long
+returns-then-bytes-gt-MOST_BYTES-clause-long c = script_long
+
+pub returns-in_err-lines-clause-bad : goal.returns-in_err-lines-clause-bad
+returns-in_err-lines-clause-bad c = λ bad is.
+    let read : lines_from 1 (lines_of c.args.bytes.now) ≡ Err bad = c.in_err-lines.ensures.bad bad (search rules) in
+    script_short c.args.bytes.now c.if-bytes-gt-MOST_BYTES.false ∙ read
+
+pub returns-in_err-lines-clause-long : goal.returns-in_err-lines-clause-long
+returns-in_err-lines-clause-long c = script_long
+
+pub returns-clause-lines : goal.returns-clause-lines
+returns-clause-lines c = script_short c.args.bytes.now c.if-bytes-gt-MOST_BYTES.false ∙ c.in_ok-lines.ensures.ok ∙ ap Ok (sym c.from_vec.ensures)
+
+pub returns-clause-shape : goal.returns-clause-shape
+returns-clause-shape c = shape_of c.args.bytes.now c.from_vec.result c.if-bytes-gt-MOST_BYTES.false (c.in_ok-lines.ensures.ok ∙ ap Ok (sym c.from_vec.ensures))
+
 pub returns-clause-long : goal.returns-clause-long
-unfolding script
-returns-clause-long c input h = refl
+returns-clause-long c = script_long

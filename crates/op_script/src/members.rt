@@ -1,0 +1,79 @@
+//! JSON values and the members of objects.
+ghost use Rattle.std.specs.Prelude.{◌≡◌, IfOk, map, option_map};
+ghost use Rattle.serde_json.specs.View.{view};
+ghost use Rattle.ix_base.specs.Limits.{is_among};
+ghost use Rattle.op_script.specs.Values.{value_of, member_names, has_only, has_exactly, text_pair};
+
+use ix_base::{NoMemory, Text};
+use serde_json::Value;
+use std::alloc::Global;
+
+/// The JSON value that the bytes are, if they are one.
+pub fn read_value(alloc: Global, bytes: &[u8]) -> Result<Option<Value>, NoMemory>
+    ensures { IfOk result (λ found. option_map view found ≡ value_of bytes.now) }
+{
+    match Value::from_slice(alloc, bytes) {
+        Ok(value) => Ok(Some(value)),
+        Err(error) => {
+            if error.is_memory() {
+                Err(NoMemory)
+            } else {
+                Ok(None)
+            }
+        }
+    }
+}
+
+/// Whether a value is an object with a member of this name.
+pub fn has_member(value: &Value, name: &str) -> bool
+    ensures { result ≡ is_among (member_names (view value.now)) name.now }
+{
+    value.get(name).is_some()
+}
+
+/// Whether each member of a value has one of these names.
+pub fn has_only(value: &Value, names: &[&str]) -> bool
+    ensures { result ≡ has_only (map (λ name. name.now) names.now) (view value.now) }
+{
+    match value.as_object() {
+        Some(members) => members.keys().all(|key| is_among(names, key.as_str())),
+        None => true,
+    }
+}
+
+/// Whether a value's members are those of these names, no more and no fewer.
+pub fn has_exactly(value: &Value, names: &[&str]) -> bool
+    ensures { result ≡ has_exactly (map (λ name. name.now) names.now) (view value.now) }
+{
+    names.iter().all(|name| has_member(value, *name)) && has_only(value, names)
+}
+
+fn is_among(names: &[&str], key: &str) -> bool
+    ensures { result ≡ is_among (map (λ name. name.now) names.now) key.now }
+{
+    names.iter().any(|name| *name == key)
+}
+
+/// The two texts of an array of two texts.
+pub fn text_pair(value: &Value) -> Option<(&str, &str)>
+    ensures { option_map (λ pair. (pair.0.now, pair.1.now)) result ≡ text_pair (view value.now) }
+{
+    let items = value.as_array()?;
+    if items.len() != 2 {
+        return None;
+    }
+    let first = items[0].as_str()?;
+    let second = items[1].as_str()?;
+    Some((first, second))
+}
+
+/// A text of these bytes.
+pub fn text_from(alloc: Global, text: &str) -> Result<Text, NoMemory>
+    ensures { IfOk result (λ copy. copy ≡ text.now) }
+{
+    // No input is so long that a text of it doesn't fit.
+    match Text::new(String::from_str(alloc, text)?) {
+        Some(text) => Ok(text),
+        None => Err(NoMemory),
+    }
+}

@@ -1,0 +1,130 @@
+//! Reading a line.
+ghost use Rattle.std.specs.Prelude.{◌≡◌, IfOk, Ok, Err, option_map};
+ghost use Rattle.serde_json.specs.View.{view};
+ghost use Rattle.op_script.specs.Lines.{is_blank};
+ghost use Rattle.op_script.specs.Language.{caller_of, verb_of, act_of, line_of, request_of, line_at};
+ghost use Rattle.op_script.specs.declared.script.BadLine.{BadLine};
+ghost use Rattle.op_script.specs.declared.script.Why.{Why};
+
+use crate::documents::read_document;
+use crate::line_fault::LineFault;
+use crate::members::read_value;
+use crate::queries::read_query;
+use crate::script::{Act, BadLine, Line, ScriptFault, Why};
+use crate::verbs::{Verb, has_members_of, verb_named};
+use ix_base::Operation;
+use serde_json::Value;
+use std::alloc::Global;
+
+/// The line of this number, none where the text is passed over.
+pub fn read_line(alloc: Global, at: u32, text: &[u8]) -> Result<Option<Line>, ScriptFault>
+    ensures ok { IfOk result (λ line. line_at at text.now ≡ Ok line) }
+    ensures bad { (bad : BadLine) → result ≡ Err (ScriptFault.Bad bad) → line_at at text.now ≡ Err bad }
+{
+    if is_blank(text) {
+        return Ok(None);
+    }
+    match read_request(alloc, at, text) {
+        Ok(line) => Ok(Some(line)),
+        Err(LineFault::Bad(why)) => Err(ScriptFault::Bad(BadLine { line: at, why })),
+        Err(LineFault::NoMemory) => Err(ScriptFault::NoMemory),
+    }
+}
+
+/// Whether a line is passed over.
+fn is_blank(text: &[u8]) -> bool
+    ensures { result ≡ is_blank text.now }
+{
+    text.iter()
+        .all(|byte| *byte == 32 || *byte == 9 || *byte == 13)
+}
+
+fn read_request(alloc: Global, at: u32, text: &[u8]) -> Result<Line, LineFault>
+    ensures ok { IfOk result (λ line. request_of at text.now ≡ Ok line) }
+    ensures bad { (why : Why) → result ≡ Err (LineFault.Bad why) → request_of at text.now ≡ Err why }
+{
+    match read_value(alloc, text) {
+        Ok(Some(value)) => line_in(alloc, at, &value),
+        Ok(None) => Err(LineFault::Bad(Why::Json)),
+        Err(_) => Err(LineFault::NoMemory),
+    }
+}
+
+fn line_in(alloc: Global, at: u32, value: &Value) -> Result<Line, LineFault>
+    ensures ok { IfOk result (λ line. line_of at (view value.now) ≡ Ok line) }
+    ensures bad { (why : Why) → result ≡ Err (LineFault.Bad why) → line_of at (view value.now) ≡ Err why }
+{
+    if value.as_object().is_none() {
+        return Err(LineFault::Bad(Why::Json));
+    }
+    let Some(caller) = caller_in(value) else {
+        return Err(LineFault::Bad(Why::Caller));
+    };
+    let Some(verb) = verb_in(value) else {
+        return Err(LineFault::Bad(Why::Op));
+    };
+    if !has_members_of(verb, value) {
+        return Err(LineFault::Bad(Why::Members));
+    }
+    let act = act_in(alloc, verb, value)?;
+    Ok(Line {
+        line: at,
+        caller,
+        act,
+    })
+}
+
+fn caller_in(value: &Value) -> Option<u8>
+    ensures { result ≡ caller_of (view value.now) }
+{
+    let number = value.get("c").and_then(Value::as_u64)?;
+    if number < 256 {
+        Some(number as u8)
+    } else {
+        None
+    }
+}
+
+fn verb_in(value: &Value) -> Option<Verb>
+    ensures { result ≡ verb_of (view value.now) }
+{
+    let name = value.get("op").and_then(Value::as_str)?;
+    verb_named(name)
+}
+
+fn act_in(alloc: Global, verb: Verb, value: &Value) -> Result<Act, LineFault>
+    ensures ok { IfOk result (λ act. act_of verb (view value.now) ≡ Ok act) }
+    ensures bad { (why : Why) → result ≡ Err (LineFault.Bad why) → act_of verb (view value.now) ≡ Err why }
+{
+    match verb {
+        Verb::Add => add_in(alloc, value),
+        Verb::Commit => Ok(Act::Do(Operation::Commit)),
+        Verb::Search => search_in(alloc, value),
+    }
+}
+
+fn add_in(alloc: Global, value: &Value) -> Result<Act, LineFault>
+    ensures ok { IfOk result (λ act. act_of Verb.Add (view value.now) ≡ Ok act) }
+    ensures bad { (why : Why) → result ≡ Err (LineFault.Bad why) → act_of Verb.Add (view value.now) ≡ Err why }
+{
+    let Some(doc) = value.get("doc") else {
+        return Err(LineFault::Bad(Why::Doc));
+    };
+    match read_document(alloc, doc)? {
+        Some(doc) => Ok(Act::Do(Operation::Add(doc))),
+        None => Err(LineFault::Bad(Why::Doc)),
+    }
+}
+
+fn search_in(alloc: Global, value: &Value) -> Result<Act, LineFault>
+    ensures ok { IfOk result (λ act. act_of Verb.Search (view value.now) ≡ Ok act) }
+    ensures bad { (why : Why) → result ≡ Err (LineFault.Bad why) → act_of Verb.Search (view value.now) ≡ Err why }
+{
+    let Some(query) = value.get("query") else {
+        return Err(LineFault::Bad(Why::Query));
+    };
+    match read_query(alloc, query)? {
+        Some(query) => Ok(Act::Search(query)),
+        None => Err(LineFault::Bad(Why::Query)),
+    }
+}

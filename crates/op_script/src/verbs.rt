@@ -1,0 +1,42 @@
+//! What the member `op` of a line may be.
+ghost use Rattle.std.specs.Prelude.{◌≡◌};
+ghost use Rattle.op_script.specs.Verbs.{verb_named, members_of};
+ghost use Rattle.serde_json.specs.View.{view};
+ghost use Rattle.op_script.specs.Values.{has_exactly};
+
+use crate::members::has_exactly;
+use serde_json::Value;
+
+/// What a line asks for, as its member `op` names it.
+#[derive(Clone, Copy, Debug, PartialEq, Eq)]
+pub enum Verb {
+    Add,
+    Commit,
+    Search,
+}
+
+/// The verb of this name.
+pub fn verb_named(name: &str) -> Option<Verb>
+    ensures { result ≡ verb_named name.now }
+{
+    if name == "add" {
+        Some(Verb::Add)
+    } else if name == "commit" {
+        Some(Verb::Commit)
+    } else if name == "search" {
+        Some(Verb::Search)
+    } else {
+        None
+    }
+}
+
+/// Whether a line's members are exactly those of this verb.
+pub fn has_members_of(verb: Verb, value: &Value) -> bool
+    ensures { result ≡ has_exactly (members_of verb) (view value.now) }
+{
+    match verb {
+        Verb::Add => has_exactly(value, &["c", "op", "doc"]),
+        Verb::Commit => has_exactly(value, &["c", "op"]),
+        Verb::Search => has_exactly(value, &["c", "op", "query"]),
+    }
+}
