@@ -1,3 +1,5 @@
 pub mod Causes
 pub mod Files
+pub mod History
+pub mod HistoryLaws
 pub mod Images

@@ -4,12 +4,20 @@
 //! it failed. A count of faults never falls, and a call answers `Failed` only where it rose.
 #![tactic(auto)]
 
+mod failing_calls;
 mod gate;
+mod history;
+mod memory_sink;
+mod memory_source;
 mod sink;
 mod source;
+mod steady_source;
 mod store;
 
 pub use gate::Gate;
+pub use memory_sink::MemorySink;
+pub use memory_source::MemorySource;
 pub use sink::Sink;
 pub use source::{Failed, Source};
+pub use steady_source::SteadySource;
 pub use store::{Store, StoreFault};
