@@ -1,11 +1,15 @@
 -- What calls have made of a store that was empty, and what a crash may leave of it. The calls stand
 -- the newest first.
-use Rattle.std.specs.Prelude.{◌≡◌, ◌⊎◌, ℕ, ◌≤◌, List, [], ◌∷◌, length, Option, Some, None, Bool, true, false, not, ◌&&◌, ◌||◌, ◌==◌, if◌then◌else◌}
+use Rattle.std.specs.Prelude.{◌≡◌, ◌⊎◌, ℕ, ◌≤◌, List, [], ◌∷◌, length, Option, Some, None, Bool, true, false, ◌&&◌, ◌==◌, ◌/◌, ◌%◌, take, if◌then◌else◌}
 use Rattle.ix_base.specs.FileNames.{IsName}
 use Rattle.ix_base.specs.declared.file_name.FileName.{FileName}
 use Rattle.ix_base.specs.declared.file_name.FileName.TheVariants.{Commit, Pending, Rows, Posts, Live, Values}
 use Rattle.ix_outside.specs.Files.{Files, SameBut, Puts, Renames, Removes}
 use Rattle.ix_outside.specs.Images.{MayHaveRenamed, MayHaveRemoved}
+use Rattle.ix_outside.specs.declared.outcome.StepsLeft.{StepsLeft}
+use Rattle.ix_outside.specs.declared.outcome.StepsLeft.TheVariants.{Every, Nothing, Even, Odd}
+use Rattle.ix_outside.specs.declared.outcome.BytesLeft.{BytesLeft}
+use Rattle.ix_outside.specs.declared.outcome.BytesLeft.TheVariants.{Whole, Absent, Empty, Half}
 use Rattle.ix_outside.specs.declared.history.Call.{Call}
 use Rattle.ix_outside.specs.declared.history.Call.TheVariants.{Written, Synced, Renamed, Deleted, Settled}
 
@@ -24,7 +28,7 @@ with_at name x f other = if is_same other name then x else f other
 
 -- the function, but with what it has at one name moved to another, and this at the first
 abbrev pub moved : {A : Type 0} → FileName → FileName → A → (FileName → A) → FileName → A
-moved «from» to gone f = with_at «from» gone (with_at to (f «from») f)
+moved «from» to gone f = if is_same «from» to then f else with_at «from» gone (with_at to (f «from») f)
 
 -- what reads give
 abbrev pub files_of : List Call → Files
@@ -70,3 +74,30 @@ IsImage (Settled ∷ older) image = IsImage older image × AllKept older image
 abbrev pub HasLeft : List Call → ℕ → Files → Type 0
 HasLeft [] since image = IsImage [] image
 HasLeft (call ∷ older) since image = IsImage (call ∷ older) image ⊎ ((since ≤ length older) × HasLeft older since image)
+
+-- ---- one outcome of a crash
+
+-- a step with so many calls before it is there
+abbrev pub leaves_step : StepsLeft → ℕ → Bool
+leaves_step Every before = true
+leaves_step Nothing before = false
+leaves_step Even before = before % 2 == 0
+leaves_step Odd before = before % 2 == 1
+
+-- what is left of these bytes
+abbrev pub bytes_left : BytesLeft → List ℕ → Option (List ℕ)
+bytes_left Whole bytes = Some bytes
+bytes_left Absent bytes = None
+bytes_left Empty bytes = Some []
+bytes_left Half bytes = Some (take (length bytes / 2) bytes)
+
+-- what the crash of this outcome leaves
+abbrev pub outcome_of : StepsLeft → BytesLeft → List Call → Files
+outcome_of steps bytes [] = λ name. None
+outcome_of steps bytes (Written name written ∷ older) = with_at name (bytes_left bytes written) (outcome_of steps bytes older)
+outcome_of steps bytes (Synced name ∷ older) = with_at name (files_of older name) (outcome_of steps bytes older)
+outcome_of steps bytes (Renamed «from» to ∷ older) =
+    if leaves_step steps (length older) then moved «from» to None (outcome_of steps bytes older) else outcome_of steps bytes older
+outcome_of steps bytes (Deleted name ∷ older) =
+    if leaves_step steps (length older) then with_at name None (outcome_of steps bytes older) else outcome_of steps bytes older
+outcome_of steps bytes (Settled ∷ older) = outcome_of Every bytes older
