@@ -5,6 +5,7 @@
 #![tactic(auto)]
 
 mod failing_calls;
+mod fuse_store;
 mod gate;
 mod history;
 mod left;
@@ -19,6 +20,7 @@ mod source;
 mod steady_source;
 mod store;
 
+pub use fuse_store::FuseStore;
 pub use gate::Gate;
 pub use memory_sink::MemorySink;
 pub use memory_source::MemorySource;
