@@ -1,0 +1,4 @@
+pub mod Fronts
+pub mod Looks
+pub mod NameLists
+pub mod StoreCalls

@@ -1,4 +1,9 @@
 pub mod Causes
 pub mod Files
+pub mod History
+pub mod HistoryLaws
 pub mod Images
 pub mod Calls
+pub mod Left
+pub mod Names
+pub mod Records

@@ -4,12 +4,29 @@
 //! it failed. A count of faults never falls, and a call answers `Failed` only where it rose.
 #![tactic(auto)]
 
+mod failing_calls;
+mod fuse_store;
 mod gate;
+mod history;
+mod left;
+mod memory_sink;
+mod memory_source;
+mod memory_store;
+mod names;
+mod outcome;
+mod recorded;
 mod sink;
 mod source;
+mod steady_source;
 mod store;
 
+pub use fuse_store::FuseStore;
 pub use gate::Gate;
+pub use memory_sink::MemorySink;
+pub use memory_source::MemorySource;
+pub use memory_store::MemoryStore;
+pub use outcome::{BytesLeft, StepsLeft};
 pub use sink::Sink;
 pub use source::{Failed, Source};
+pub use steady_source::SteadySource;
 pub use store::{Store, StoreFault};

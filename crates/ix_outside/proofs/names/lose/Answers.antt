@@ -1,0 +1,13 @@
+use Rattle.std.proofs.Common.{sym, subst, not}
+use Rattle.std.proofs.lemmas.List.Elements.{All-filter}
+use Rattle.ix_base.specs.FileNames.{IsName}
+use Rattle.ix_outside.specs.History.{is_same}
+use Rattle.ix_outside.specs.Names.{Loses}
+use Rattle.ix_outside.proofs.NameLists.{loses}
+use Rattle.ix_outside.proofs.names.lose.Goals as goal
+
+pub returns-clause-change : goal.returns-clause-change
+returns-clause-change c = rw c.take_out.ensures (loses c.args.name c.args.names.now.items)
+
+pub returns-clause-real : goal.returns-clause-real
+returns-clause-real c all = rw c.take_out.ensures (All-filter (λ other. not (is_same other c.args.name)) IsName c.args.names.now.items all)

@@ -1,0 +1,106 @@
+//! The calls that changed a store in memory.
+ghost use Rattle.std.specs.Prelude.{◌≡◌, ◌∷◌, [], All, IfOk, OnOk, OnErr};
+
+use crate::left::left_of;
+use crate::names::go_on;
+use crate::outcome::{BytesLeft, StepsLeft};
+use ix_base::{FileName, List, NoMemory};
+use std::alloc::Global;
+use std::marker::Model;
+
+/// A call that was done.
+#[derive(Drop)]
+pub enum Call {
+    /// The file has these bytes now.
+    Written(FileName, List<u8>),
+    /// The file's bytes were put on the disk.
+    Synced(FileName),
+    /// The file of the first name has the second one now.
+    Renamed(FileName, FileName),
+    /// The file is gone.
+    Deleted(FileName),
+    /// All renames and deletes were put on the disk.
+    Settled,
+}
+
+/// The calls that changed a store which was empty. Contracts see them as a list, the newest first.
+#[derive(Drop)]
+pub struct History {
+    alloc: Global,
+    calls: Vec<Call>,
+}
+
+impl Model for History {
+    ghost use Rattle.std.specs.Prelude.{List, reverse};
+    ghost use Rattle.ix_outside.specs.declared.history.Call.{Call};
+
+    ghost Value = { List Call };
+
+    ghost view = { λ history. reverse history.calls.items };
+
+    ghost use Rattle.std.specs.Prelude.{All};
+    ghost use Rattle.ix_outside.specs.Names.{NamesFile};
+
+    ghost invariant = { λ history. All NamesFile history.calls.items };
+}
+
+impl History {
+    ghost use Rattle.std.specs.Option.{option_copied};
+    ghost use Rattle.ix_base.specs.FileNames.{IsName};
+    ghost use Rattle.ix_outside.specs.Files.{Lists};
+    ghost use Rattle.ix_outside.specs.History.{files_of, outcome_of};
+    ghost use Rattle.ix_outside.specs.Names.{NamesFile};
+
+    /// No call. It takes no memory.
+    pub fn new(alloc: Global) -> Self
+        ensures { result ≡ [] }
+    {
+        History {
+            alloc,
+            calls: Vec::new(alloc),
+        }
+    }
+
+    /// One call more.
+    pub fn push(&mut self, call: Call) -> Result<(), NoMemory>
+        requires { NamesFile call }
+        ensures ok { OnOk result (self.new ≡ call ∷ self.old) }
+        ensures err { OnErr result (self.new ≡ self.old) }
+    {
+        self.calls.push(call)?;
+        Ok(())
+    }
+
+    /// A copy of these bytes, in the memory that the history takes.
+    pub fn copy_of(&self, bytes: &[u8]) -> Result<List<u8>, NoMemory>
+        ensures { IfOk result (λ copy. copy ≡ bytes.now) }
+    {
+        Ok(List::from_vec(bytes.to_vec(self.alloc)?))
+    }
+
+    /// The names of the files, each once.
+    pub fn names(&self, alloc: Global) -> Result<Vec<FileName>, NoMemory>
+        ensures names { IfOk result (λ names. Lists (files_of self.now) names.items) }
+        ensures real { IfOk result (λ names. All IsName names.items) }
+    {
+        let mut names = Vec::new(alloc);
+        for call in &self.calls {
+            go_on(&mut names, call)?;
+        }
+        Ok(names)
+    }
+
+    /// What a crash of this outcome leaves of the file: `None` where it leaves no such file.
+    pub fn left(&self, steps: StepsLeft, bytes: BytesLeft, name: FileName) -> Option<&[u8]>
+        ensures { option_copied result ≡ outcome_of steps bytes self.now name }
+    {
+        left_of(&self.calls, steps, bytes, name)
+    }
+
+    /// The bytes of the file: `None` where there is no such file.
+    pub fn read(&self, name: FileName) -> Option<&[u8]>
+        ensures { option_copied result ≡ files_of self.now name }
+    {
+        self.left(StepsLeft::Every, BytesLeft::Whole, name)
+    }
+}
