@@ -1,10 +1,12 @@
 -- Which operations are refused because their own term or their query is too long.
-use Rattle.std.specs.Prelude.{ℕ, ◌-◌, ◌^◌, min, length, Option, Some, None, nat_lt, if◌then◌else◌}
+use Rattle.std.specs.Prelude.{ℕ, ◌-◌, ◌^◌, min, length, Option, Some, None, option_map, nat_lt, if◌then◌else◌}
 use Rattle.ix_base.specs.Entry.{most_query_bytes}
 use Rattle.ix_base.specs.Query.{tree_of}
 use Rattle.ix_base.specs.QueryBytes.{query_bytes}
-use Rattle.ix_base.specs.Terms.{most_term_bytes}
+use Rattle.ix_base.specs.Terms.{most_term_bytes, terms}
+use Rattle.ix_base.specs.Terms as place
 use Rattle.ix_base.specs.Tree.{Tree}
+use Rattle.ix_base.specs.declared.document.Document.{Document}
 use Rattle.ix_base.specs.declared.document.Term.{Term}
 use Rattle.ix_base.specs.declared.document.Operation.{Operation}
 use Rattle.ix_base.specs.declared.document.Operation.TheVariants.{Add, Update, DeleteTerm, DeleteQuery, SetNumber, Commit}
@@ -32,3 +34,20 @@ own_refusal (DeleteTerm term) = term_refusal term
 own_refusal (DeleteQuery query) = query_refusal (tree_of query)
 own_refusal (SetNumber term num value) = term_refusal term
 own_refusal Commit = None
+
+-- the refusal of a document: for its first term that is too long
+abbrev pub document_refusal : Document → Option Refusal
+document_refusal doc = option_map long_term (place.long_term (terms doc))
+
+abbrev pub first_refusal : Option Refusal → Option Refusal → Option Refusal
+first_refusal (Some refusal) later = Some refusal
+first_refusal None later = later
+
+-- the refusal of an operation: for what it names itself, and then for its document
+abbrev pub refusal : Operation → Option Refusal
+refusal (Add doc) = document_refusal doc
+refusal (Update term doc) = first_refusal (term_refusal term) (document_refusal doc)
+refusal (DeleteTerm term) = own_refusal (DeleteTerm term)
+refusal (DeleteQuery query) = own_refusal (DeleteQuery query)
+refusal (SetNumber term num value) = own_refusal (SetNumber term num value)
+refusal Commit = None
