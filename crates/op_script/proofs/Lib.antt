@@ -4,3 +4,4 @@ mod Pairs
 mod Lines
 mod Shapes
 mod Scripts
+mod Examples
