@@ -5,6 +5,7 @@ use Rattle.std.specs.Char.{encode_utf8}
 use Rattle.serde_json.proofs.OnLiterals.{serde_json_on_literals}
 use Rattle.ix_base.specs.declared.document.Operation.TheVariants as operation
 use Rattle.ix_base.specs.declared.query.Query.TheVariants as query
+use Rattle.ix_base.specs.Tree.{all, bool, no_trees, tree}
 use Rattle.op_script.specs.Language.{script}
 use Rattle.op_script.specs.declared.script.Act.TheVariants as act
 use Rattle.op_script.specs.declared.script.Why.TheVariants as why
@@ -68,6 +69,22 @@ no_query = refl
 no_doc : script (codes "{\"c\":0,\"op\":\"add\",\"doc\":{}}") ≡ Err (record { line = 1; why = why.Doc })
 unfolding script serde_json_on_literals is_utf8 chars encode_utf8
 no_doc = refl
+
+a_text : script (codes "{\"c\":1,\"op\":\"add\",\"doc\":{\"key\":\"a1\",\"text\":{\"b\":\"w x\"}}}") ≡ Ok (record { line = 1; caller = 1; act = act.Do (operation.Add (record { key = codes "a1"; text = (codes "b", codes "w x") ∷ []; exact = []; num = [] })) } ∷ [])
+unfolding script serde_json_on_literals is_utf8 chars encode_utf8
+a_text = refl
+
+a_name_twice : script (codes "{\"c\":1,\"op\":\"add\",\"doc\":{\"key\":\"a1\",\"text\":{\"b\":\"\"},\"exact\":{\"b\":\"\"}}}") ≡ Err (record { line = 1; why = why.Doc })
+unfolding script serde_json_on_literals is_utf8 chars encode_utf8
+a_name_twice = refl
+
+a_phrase : script (codes "{\"c\":1,\"op\":\"search\",\"query\":{\"phrase\":[\"b\",\"w x\"]}}") ≡ Ok (record { line = 1; caller = 1; act = act.Search (query.Phrase (codes "b") (codes "w x")) } ∷ [])
+unfolding script serde_json_on_literals is_utf8 chars encode_utf8
+a_phrase = refl
+
+a_bool : script (codes "{\"c\":1,\"op\":\"search\",\"query\":{\"bool\":{\"not\":[\"all\"],\"must\":[{\"bool\":{}},\"all\"]}}}") ≡ Ok (record { line = 1; caller = 1; act = act.Search (query.Bool (tree (bool no_trees no_trees no_trees) (tree all no_trees)) no_trees (tree all no_trees)) } ∷ [])
+unfolding script serde_json_on_literals is_utf8 chars encode_utf8
+a_bool = refl
 
 first_bad_line_counts : script (codes "{\"c\":0,\"op\":\"commit\"}\n\n{\n[]") ≡ Err (record { line = 3; why = why.Json })
 unfolding script serde_json_on_literals is_utf8 chars encode_utf8

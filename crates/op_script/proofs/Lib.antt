@@ -5,3 +5,4 @@ mod Lines
 mod Shapes
 mod Scripts
 mod Examples
+mod Trees

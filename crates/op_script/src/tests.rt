@@ -69,6 +69,34 @@ fn hostile_scripts(rt: HostRuntime) -> Result<(), Fail> {
             "{\"c\":0,\"op\":\"search\",\"query\":{\"term\":[\"a\",\"b\",\"c\"]}}",
             "1 Query",
         ),
+        (
+            "{\"c\":0,\"op\":\"search\",\"query\":{\"phrase\":[\"a\",\"b c\"]}}",
+            "1 lines",
+        ),
+        (
+            "{\"c\":0,\"op\":\"search\",\"query\":{\"bool\":{}}}",
+            "1 lines",
+        ),
+        (
+            "{\"c\":0,\"op\":\"search\",\"query\":{\"bool\":{\"should\":[],\"not\":[{\"bool\":{\"must\":[\"all\"]}}]}}}",
+            "1 lines",
+        ),
+        (
+            "{\"c\":0,\"op\":\"search\",\"query\":{\"bool\":{\"must\":[\"all\",{}]}}}",
+            "1 Query",
+        ),
+        (
+            "{\"c\":0,\"op\":\"search\",\"query\":{\"bool\":{\"must\":\"all\"}}}",
+            "1 Query",
+        ),
+        (
+            "{\"c\":0,\"op\":\"search\",\"query\":{\"bool\":{\"must_not\":[]}}}",
+            "1 Query",
+        ),
+        (
+            "{\"c\":0,\"op\":\"search\",\"query\":{\"bool\":[]}}",
+            "1 Query",
+        ),
     ];
     for (text, want) in cases {
         let found = answer(alloc, text.as_bytes())?;
@@ -107,6 +135,16 @@ fn documents(rt: HostRuntime) -> Result<(), Fail> {
         ),
         ("\"key\":\"a\",\"num\":{\"a\":9223372036854775808}", "1 Doc"),
         ("\"key\":\"a\",\"num\":{\"a\":1.0}", "1 Doc"),
+        (
+            "\"key\":\"a\",\"text\":{\"a\":\"b c\"},\"exact\":{\"b\":\"\"}",
+            "1 lines",
+        ),
+        (
+            "\"key\":\"a\",\"text\":{\"a\":\"\",\"b\":\"\"},\"exact\":{\"b\":\"\"}",
+            "1 Doc",
+        ),
+        ("\"key\":\"a\",\"text\":{\"key\":\"\"}", "1 Doc"),
+        ("\"key\":\"a\",\"text\":\"\"", "1 Doc"),
     ];
     for (members, want) in cases {
         let text = format!(in alloc; "{{\"c\":0,\"op\":\"add\",\"doc\":{{{members}}}}}")?;
