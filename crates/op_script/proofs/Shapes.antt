@@ -1,21 +1,19 @@
 -- What holds of every script that was read.
-use Rattle.std.proofs.Common.{◌≡◌, ℕ, ℤ, ◌+◌, ◌<◌, ◌≤◌, List, [], ◌∷◌, length, Bool, true, false, ◌&&◌, ◌==◌, if◌then◌else◌, map, codes, Option, Some, None, option_and_then, Result, Ok, Err, nat_lt, refl, sym, subst, arith, bytes_eq}
+use Rattle.std.proofs.Common.{◌≡◌, ℕ, ℤ, ◌+◌, ◌<◌, ◌≤◌, List, [], ◌∷◌, length, Bool, true, false, ◌&&◌, ◌==◌, if◌then◌else◌, map, codes, Option, Some, None, option_and_then, Result, Ok, Err, nat_lt, refl, sym, subst, arith}
 use Rattle.std.specs.Option.{option_map_or}
 use Rattle.std.proofs.lemmas.Bool.{ltb-true}
 use Rattle.std.proofs.lemmas.List.Splits.{length-slice_split}
 use Rattle.std.proofs.lemmas.List.Sums.{count_by-le-length}
-use Rattle.serde_json.specs.Data.{Data, null, boolean, number, string, array, object, Members, no_members, member}
+use Rattle.serde_json.specs.Data.{Data, null, boolean, number, string, array, object, Members}
 use Rattle.serde_json.specs.Find.{get, as_number, as_u64}
-use Rattle.ix_base.specs.Limits.{is_name}
 use Rattle.ix_base.specs.declared.document.Document.{Document}
 use Rattle.ix_base.specs.declared.document.Operation.TheVariants as operation
 use Rattle.ix_base.specs.declared.query.Query.{Query}
-use Rattle.ix_base.specs.declared.query.Query.TheVariants as query
-use Rattle.op_script.specs.Values.{value_of, has_exactly, has_only, names_of, member_names, text_pair}
+use Rattle.op_script.specs.Values.{value_of, has_exactly, has_only, names_of, member_names}
 use Rattle.op_script.specs.Lines.{lines_of, is_blank}
 use Rattle.op_script.specs.Verbs.{members_of}
 use Rattle.op_script.specs.Documents.{document_of, document_from, document_names, are_apart, texts_at, texts_of, names_at, few_by, is_few}
-use Rattle.op_script.specs.Queries.{query_of, member_query, term_by}
+use Rattle.op_script.specs.Queries.{query_of}
 use Rattle.op_script.specs.Language.{byte_of, caller_of, verb_of, act_by, act_of, line_with, line_by, line_of, placed, request_of, line_at, and_then, lines_from, most_bytes}
 use Rattle.op_script.specs.Shape.{is_apart, is_read_act, LinesRise, AreReadActs, AreScriptLines}
 use Rattle.op_script.specs.declared.script.Act.{Act}

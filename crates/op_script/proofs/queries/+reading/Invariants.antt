@@ -1,4 +1,4 @@
-use Rattle.std.proofs.Common.{◌≡◌, option_map, drop, string_bytes}
+use Rattle.std.proofs.Common.{◌≡◌, option_map, drop}
 use Rattle.serde_json.specs.View.{items_view, members_view}
 use Rattle.op_script.specs.Queries.{queries_of, queries_at}
 use Rattle.op_script.proofs.Trees.{onto_trees}
