@@ -4,3 +4,5 @@ mod Pairs
 mod Lines
 mod Shapes
 mod Scripts
+mod Examples
+mod Trees

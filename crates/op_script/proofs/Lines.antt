@@ -1,5 +1,5 @@
 -- Lines read one after another.
-use Rattle.std.proofs.Common.{◌≡◌, ◌∙◌, ℕ, ◌+◌, ◌-◌, ◌<◌, ◌≤◌, not, arith, length-drop, ◌==◌, nat_lt, cond, true, false, position, subst, List, [], ◌∷◌, ◌++◌, length, take, drop, Bool, Option, Some, None, Result, Ok, Err, refl, sym, ap, append_assoc, rules}
+use Rattle.std.proofs.Common.{◌≡◌, ◌∙◌, ℕ, ◌+◌, ◌-◌, ◌<◌, ◌≤◌, not, arith, length-drop, ◌==◌, nat_lt, cond, true, false, position, subst, List, [], ◌∷◌, ◌++◌, length, take, drop, Bool, Some, None, Result, Ok, Err, refl, sym, ap, append_assoc}
 use Rattle.std.proofs.lemmas.List.{append-nil}
 use Rattle.std.proofs.lemmas.Bool.{ltb-true, ltb-false}
 use Rattle.std.proofs.Math.Seq.{take-length}

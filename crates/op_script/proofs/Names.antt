@@ -1,6 +1,5 @@
 -- The names of an object's members.
 use Rattle.std.proofs.Common.{◌≡◌, ◌∙◌, ℕ, suc, List, [], ◌∷◌, Bool, true, false, ◌&&◌, ◌||◌, length, Option, Some, None, is_some, option_map, map, refl, sym, ap, String, string_bytes, string_cmp, Ordering, Less, Equal, Greater, is_eq, nat_cmp, bytes_eq}
-use Rattle.std.specs.Bool.{Decides}
 use Rattle.std.specs.List.{list_any, list_all}
 use Rattle.std.specs.List.Sorted.{IsStrictlySortedBy}
 use Rattle.std.specs.Map.{keys_of}

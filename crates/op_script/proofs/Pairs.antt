@@ -1,5 +1,5 @@
 -- The texts and the numbers of an object's members.
-use Rattle.std.proofs.Common.{◌≡◌, ◌∙◌, ℕ, ℤ, ◌<◌, ◌≤◌, List, [], ◌∷◌, ◌++◌, length, Bool, true, false, map, Option, Some, None, option_map, option_and_then, nat_lt, refl, sym, ap, arith, append_assoc, rules, String, string_cmp}
+use Rattle.std.proofs.Common.{◌≡◌, ◌∙◌, ℕ, ℤ, ◌<◌, ◌≤◌, List, [], ◌∷◌, ◌++◌, length, true, map, Option, Some, None, option_map, option_and_then, refl, sym, ap, arith, append_assoc, String, string_cmp}
 use Rattle.std.proofs.lemmas.List.{append-nil}
 use Rattle.std.specs.List.Sorted.{IsStrictlySortedBy}
 use Rattle.std.specs.Map.{keys_of}
@@ -12,7 +12,7 @@ use Rattle.serde_json.specs.View.{members_view}
 use Rattle.serde_json.specs.declared.value.Value.{Value}
 use Rattle.ix_base.specs.Limits.{names_rise}
 use Rattle.op_script.specs.Values.{names_of, member_names}
-use Rattle.op_script.specs.Documents.{texts_of, numbers_of, named_text, named_number, few_by, is_few, names_at}
+use Rattle.op_script.specs.Documents.{texts_of, numbers_of, named_text, named_number, few_by, names_at}
 use Rattle.op_script.proofs.Names.{names_rise-members, length-names_of, names_in}
 
 abbrev Entry : Type 0

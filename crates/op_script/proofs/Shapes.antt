@@ -1,23 +1,21 @@
 -- What holds of every script that was read.
-use Rattle.std.proofs.Common.{◌≡◌, ◌∙◌, ℕ, ℤ, ◌+◌, ◌<◌, ◌≤◌, ◌^◌, List, [], ◌∷◌, length, Bool, true, false, ◌&&◌, ◌==◌, if◌then◌else◌, map, codes, Option, Some, None, option_and_then, option_map, Result, Ok, Err, nat_lt, refl, sym, ap, subst, arith, bytes_eq}
+use Rattle.std.proofs.Common.{◌≡◌, ℕ, ℤ, ◌+◌, ◌<◌, ◌≤◌, List, [], ◌∷◌, length, Bool, true, false, ◌&&◌, ◌==◌, if◌then◌else◌, map, codes, Option, Some, None, option_and_then, Result, Ok, Err, nat_lt, refl, sym, subst, arith}
 use Rattle.std.specs.Option.{option_map_or}
 use Rattle.std.proofs.lemmas.Bool.{ltb-true}
 use Rattle.std.proofs.lemmas.List.Splits.{length-slice_split}
 use Rattle.std.proofs.lemmas.List.Sums.{count_by-le-length}
-use Rattle.serde_json.specs.Data.{Data, null, boolean, number, string, array, object, Members, no_members, member}
-use Rattle.serde_json.specs.Find.{get, as_number, as_u64, as_str}
-use Rattle.ix_base.specs.Limits.{is_name, names_are_apart}
+use Rattle.serde_json.specs.Data.{Data, null, boolean, number, string, array, object, Members}
+use Rattle.serde_json.specs.Find.{get, as_number, as_u64}
 use Rattle.ix_base.specs.declared.document.Document.{Document}
 use Rattle.ix_base.specs.declared.document.Operation.TheVariants as operation
 use Rattle.ix_base.specs.declared.query.Query.{Query}
-use Rattle.ix_base.specs.declared.query.Query.TheVariants as query
-use Rattle.op_script.specs.Values.{value_of, has_exactly, has_only, names_of, member_names, text_pair}
+use Rattle.op_script.specs.Values.{value_of, has_exactly, has_only, names_of, member_names}
 use Rattle.op_script.specs.Lines.{lines_of, is_blank}
 use Rattle.op_script.specs.Verbs.{members_of}
-use Rattle.op_script.specs.Documents.{document_of, document_from, document_names, are_apart, texts_at, texts_of, numbers_at, names_at, few_by, is_few}
-use Rattle.op_script.specs.Queries.{query_of, member_query, query_by, term_by}
-use Rattle.op_script.specs.Language.{byte_of, caller_of, verb_of, act_by, act_of, line_with, line_by, line_of, placed, request_of, line_at, before, and_then, lines_from, script, most_bytes}
-use Rattle.op_script.specs.Shape.{is_read_query, is_apart, is_read_act, LinesRise, AreReadActs, AreScriptLines}
+use Rattle.op_script.specs.Documents.{document_of, document_from, document_names, are_apart, texts_at, texts_of, names_at, few_by, is_few}
+use Rattle.op_script.specs.Queries.{query_of}
+use Rattle.op_script.specs.Language.{byte_of, caller_of, verb_of, act_by, act_of, line_with, line_by, line_of, placed, request_of, line_at, and_then, lines_from, most_bytes}
+use Rattle.op_script.specs.Shape.{is_apart, is_read_act, LinesRise, AreReadActs, AreScriptLines}
 use Rattle.op_script.specs.declared.script.Act.{Act}
 use Rattle.op_script.specs.declared.script.Act.TheVariants as act
 use Rattle.op_script.specs.declared.script.Line.{Line}
@@ -27,37 +25,6 @@ use Rattle.op_script.specs.declared.script.Why.TheVariants as why
 use Rattle.op_script.specs.declared.verbs.Verb.{Verb}
 use Rattle.op_script.specs.declared.verbs.Verb.TheVariants as verb
 use Rattle.op_script.proofs.Pairs.{Named, names_of-texts}
-
--- ---- queries
-
-term_is_read : (test : Bool) (field bytes : List ℕ) (q : Query) → (if test then Some (query.Term (record { field = field; bytes = bytes })) else None) ≡ Some q → is_read_query q ≡ true
-term_is_read true field bytes q is = let same : query.Term (record { field = field; bytes = bytes }) ≡ q = cc in subst (λ q. is_read_query q ≡ true) same refl
-term_is_read false field bytes q is = cc
-
-pair_is_read : (pair : Option (List ℕ × List ℕ)) (q : Query) → option_and_then term_by pair ≡ Some q → is_read_query q ≡ true
-pair_is_read None q is = cc
-pair_is_read (Some pair) q is = term_is_read (is_name pair.0) pair.0 pair.1 q is
-
-named_is_read : (test : Bool) (d : Data) (q : Query) → (if test then option_and_then term_by (text_pair d) else None) ≡ Some q → is_read_query q ≡ true
-named_is_read true d q is = pair_is_read (text_pair d) q is
-named_is_read false d q is = cc
-
-all_is_read : (test : Bool) (q : Query) → (if test then Some query.All else None) ≡ Some q → is_read_query q ≡ true
-all_is_read true q is = let same : query.All ≡ q = cc in subst (λ q. is_read_query q ≡ true) same refl
-all_is_read false q is = cc
-
-member_is_read : (ms : Members) (q : Query) → member_query ms ≡ Some q → is_read_query q ≡ true
-member_is_read no_members q is = cc
-member_is_read (member name d no_members) q is = named_is_read (bytes_eq name (codes "term")) d q is
-member_is_read (member name d (member l e ms)) q is = cc
-
-query_is_read : (d : Data) (q : Query) → query_of d ≡ Some q → is_read_query q ≡ true
-query_is_read null q is = cc
-query_is_read (boolean b) q is = cc
-query_is_read (number n) q is = cc
-query_is_read (string s) q is = all_is_read (bytes_eq s (codes "all")) q is
-query_is_read (array ds) q is = cc
-query_is_read (object ms) q is = member_is_read ms q is
 
 -- ---- documents
 
@@ -113,18 +80,14 @@ add_is_read (Some d) asked is = go (document_of d) refl is
     go None e is = cc
     go (Some doc) e is = let same : act.Do (operation.Add doc) ≡ asked = cc in subst (λ asked. is_read_act asked ≡ true) same (document_is_apart d doc e)
 
-search_is_read : (found : Option Data) (asked : Act) → act_by why.Query act.Search (option_and_then query_of found) ≡ Ok asked → is_read_act asked ≡ true
+search_is_read : (found : Option Query) (asked : Act) → act_by why.Query act.Search found ≡ Ok asked → is_read_act asked ≡ true
 search_is_read None asked is = cc
-search_is_read (Some d) asked is = go (query_of d) refl is
-  where
-    go : (o : Option Query) → query_of d ≡ o → act_by why.Query act.Search o ≡ Ok asked → is_read_act asked ≡ true
-    go None e is = cc
-    go (Some q) e is = let same : act.Search q ≡ asked = cc in subst (λ asked. is_read_act asked ≡ true) same (query_is_read d q e)
+search_is_read (Some q) asked is = let same : act.Search q ≡ asked = cc in subst (λ asked. is_read_act asked ≡ true) same refl
 
 act_is_read : (v : Verb) (d : Data) (asked : Act) → act_of v d ≡ Ok asked → is_read_act asked ≡ true
 act_is_read verb.Add d asked is = add_is_read (get (codes "doc") d) asked is
 act_is_read verb.Commit d asked is = let same : act.Do operation.Commit ≡ asked = cc in subst (λ asked. is_read_act asked ≡ true) same refl
-act_is_read verb.Search d asked is = search_is_read (get (codes "query") d) asked is
+act_is_read verb.Search d asked is = search_is_read (option_and_then query_of (get (codes "query") d)) asked is
 
 -- ---- lines
 

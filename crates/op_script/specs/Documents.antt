@@ -52,7 +52,7 @@ are_apart d = names_are_apart (names_at (codes "text") d) (names_at (codes "exac
 
 -- the members that a document may have
 abbrev pub document_names : List (List ℕ)
-document_names = codes "key" ∷ codes "exact" ∷ codes "num" ∷ []
+document_names = codes "key" ∷ codes "text" ∷ codes "exact" ∷ codes "num" ∷ []
 
 abbrev pub document_from : Option (List ℕ) → Option (List (List ℕ × List ℕ)) → Option (List (List ℕ × List ℕ)) → Option (List (List ℕ × ℤ)) → Option Document
 document_from key text exact num =

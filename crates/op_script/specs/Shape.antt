@@ -4,18 +4,9 @@ use Rattle.ix_base.specs.Limits.{names_are_apart}
 use Rattle.ix_base.specs.declared.document.Document.{Document}
 use Rattle.ix_base.specs.declared.document.Operation.{Operation}
 use Rattle.ix_base.specs.declared.document.Operation.TheVariants.{Add, Update, DeleteTerm, DeleteQuery, SetNumber, Commit}
-use Rattle.ix_base.specs.declared.query.Query.{Query}
-use Rattle.ix_base.specs.declared.query.Query.TheVariants as query
 use Rattle.op_script.specs.declared.script.Line.{Line}
 use Rattle.op_script.specs.declared.script.Act.{Act}
 use Rattle.op_script.specs.declared.script.Act.TheVariants.{Do, Search}
-
--- the queries of this language
-abbrev pub is_read_query : Query → Bool
-is_read_query query.All = true
-is_read_query (query.Term t) = true
-is_read_query (query.Phrase f t) = false
-is_read_query (query.Bool a b c) = false
 
 -- no name of a document stands twice among its texts, nor is one `key`
 abbrev pub is_apart : Document → Bool
@@ -32,7 +23,7 @@ is_read_operation Commit = true
 
 abbrev pub is_read_act : Act → Bool
 is_read_act (Do op) = is_read_operation op
-is_read_act (Search q) = is_read_query q
+is_read_act (Search q) = true
 
 -- the lines' places rise, from this one on
 abbrev pub LinesRise : ℕ → List Line → Type 0

@@ -18,7 +18,7 @@ pub const MOST_MEMBERS: usize = 65_535;
 pub fn read_document(alloc: Global, value: &Value) -> Result<Option<Document>, NoMemory>
     ensures { IfOk result (λ found. found ≡ document_of (view value.now)) }
 {
-    if !has_only(value, &["key", "exact", "num"]) || !are_apart(value) {
+    if !has_only(value, &["key", "text", "exact", "num"]) || !are_apart(value) {
         return Ok(None);
     }
     let Some(key) = value.get("key").and_then(Value::as_str) else {

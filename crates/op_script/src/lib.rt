@@ -12,3 +12,6 @@ mod verbs;
 
 pub use read::{MOST_BYTES, read_script};
 pub use script::{Act, BadLine, Line, Script, ScriptFault, Why};
+
+#[cfg(test)]
+mod tests;

@@ -1,4 +1,4 @@
-use Rattle.std.proofs.Common.{◌≡◌, ◌∙◌, [], ◌∷◌, ◌++◌, sym, ap, option_map, string_bytes, Some, rules}
+use Rattle.std.proofs.Common.{◌≡◌, ◌∙◌, [], ◌∷◌, ◌++◌, option_map, string_bytes, Some, rules}
 use Rattle.serde_json.specs.View.{view, members_view}
 use Rattle.op_script.specs.Documents.{numbers_of, named_number}
 use Rattle.op_script.proofs.Pairs.{numbers_more, numbers_rise, all_numbers}

@@ -1,4 +1,4 @@
-use Rattle.std.proofs.Common.{◌≡◌, ◌∙◌, sym, ap, map, codes, string_bytes, rules, List, ℕ, Bool, Some, option_and_then}
+use Rattle.std.proofs.Common.{◌≡◌, ◌∙◌, sym, ap, codes, string_bytes, rules, List, ℕ, Bool, Some, option_and_then}
 use Rattle.std.specs.List.{list_any}
 use Rattle.std.specs.Map.Iter.{deref}
 use Rattle.std.proofs.lemmas.Iterator.Search.{any_from_yields_List}

@@ -1,4 +1,4 @@
-use Rattle.std.proofs.Common.{◌≡◌, ◌∙◌, [], ◌∷◌, ◌++◌, sym, ap, option_map, string_bytes, Some, rules}
+use Rattle.std.proofs.Common.{◌≡◌, ◌∙◌, [], ◌∷◌, ◌++◌, option_map, string_bytes, Some, rules}
 use Rattle.serde_json.specs.View.{view, members_view}
 use Rattle.op_script.specs.Documents.{texts_of, named_text}
 use Rattle.op_script.proofs.Pairs.{texts_more, texts_rise, all_texts}

@@ -1,4 +1,4 @@
-use Rattle.std.proofs.Common.{◌≡◌, ◌∙◌, ◌<◌, ◌≤◌, ◌^◌, sym, ap, length, option_map, Some, rules, arith}
+use Rattle.std.proofs.Common.{◌≡◌, ◌∙◌, sym, ap, length, Some, rules, arith}
 use Rattle.serde_json.specs.View.{members_view}
 use Rattle.op_script.specs.Documents.{texts_of}
 use Rattle.op_script.proofs.Pairs.{few_by-few, few_by-many, length-texts}

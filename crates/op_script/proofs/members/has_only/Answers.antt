@@ -1,4 +1,4 @@
-use Rattle.std.proofs.Common.{◌≡◌, ◌∙◌, sym, ap, map, string_bytes, rules, List, ℕ, Bool}
+use Rattle.std.proofs.Common.{◌∙◌, sym, ap, map, string_bytes, rules, List, ℕ, Bool}
 use Rattle.std.specs.List.{list_all}
 use Rattle.std.specs.Map.Iter.{deref}
 use Rattle.std.proofs.lemmas.Iterator.Search.{all_from_yields_List}

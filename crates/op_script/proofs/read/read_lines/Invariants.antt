@@ -1,4 +1,4 @@
-use Rattle.std.proofs.Common.{◌≡◌, ◌+◌, ◌<◌, ◌≤◌, length}
+use Rattle.std.proofs.Common.{◌≡◌, ◌+◌, ◌≤◌, length}
 use Rattle.op_script.specs.Language.{lines_from, onto}
 use Rattle.op_script.specs.Lines.{lines_of}
 use Rattle.op_script.proofs.read.read_lines.Given as goal

@@ -1,4 +1,4 @@
-use Rattle.std.proofs.Common.{◌≡◌, ◌∙◌, ℕ, List, Ok, Err, sym, ap, rules}
+use Rattle.std.proofs.Common.{◌≡◌, ◌∙◌, Ok, Err, sym, ap, rules}
 use Rattle.op_script.specs.Language.{lines_from}
 use Rattle.op_script.specs.Lines.{lines_of}
 use Rattle.op_script.proofs.Scripts.{script_long, script_short}

@@ -1,0 +1,205 @@
+use crate::{ScriptFault, read_script};
+use std::alloc::Global;
+use std::fmt::Write;
+use std::test::Fail;
+
+/// How many lines were read, or the bad line and its reason.
+fn answer(alloc: Global, bytes: &[u8]) -> Result<String, Fail> {
+    let mut text = String::new(alloc);
+    match read_script(alloc, bytes) {
+        Ok(script) => {
+            let lines = script.lines.len();
+            write!(text, "{lines} lines")?;
+        }
+        Err(ScriptFault::Bad(bad)) => {
+            let line = bad.line;
+            let why = bad.why;
+            write!(text, "{line} {why:?}")?;
+        }
+        Err(ScriptFault::NoMemory) => text.push_str("no memory")?,
+    }
+    Ok(text)
+}
+
+/// Scripts that are hard to read, and what is to be said of each.
+#[test]
+fn hostile_scripts(rt: HostRuntime) -> Result<(), Fail> {
+    let alloc = rt.alloc();
+    let cases = [
+        ("", "0 lines"),
+        (" \t\r\n\r\n\n", "0 lines"),
+        ("{\"c\":0,\"op\":\"commit\"}", "1 lines"),
+        (
+            "{\"c\":0,\"op\":\"commit\"}\r\n{\"c\":255,\"op\":\"commit\"}\r\n",
+            "2 lines",
+        ),
+        ("\n \n{\"c\":0}\n[]", "3 Op"),
+        ("[]", "1 Json"),
+        ("7", "1 Json"),
+        ("{\"c\":0,\"op\":\"commit\"} x", "1 Json"),
+        ("{\"c\":0,\"op\":\"\\ud800\"}", "1 Json"),
+        ("{\"op\":\"commit\"}", "1 Caller"),
+        ("{\"c\":256,\"op\":\"flush\"}", "1 Caller"),
+        ("{\"c\":1.0,\"op\":\"commit\"}", "1 Caller"),
+        ("{\"c\":-0,\"op\":\"commit\"}", "1 Caller"),
+        ("{\"c\":1e2,\"op\":\"commit\"}", "1 Caller"),
+        ("{\"c\":\"1\",\"op\":\"commit\"}", "1 Caller"),
+        ("{\"c\":0,\"op\":\"flush\"}", "1 Op"),
+        ("{\"c\":0,\"op\":7,\"x\":1}", "1 Op"),
+        ("{\"c\":0,\"op\":\"commit\",\"x\":1}", "1 Members"),
+        ("{\"c\":0,\"op\":\"add\"}", "1 Members"),
+        ("{\"c\":0,\"op\":\"commit\",\"c\":300}", "1 Caller"),
+        ("{\"c\":300,\"op\":\"commit\",\"c\":0}", "1 lines"),
+        ("{\"c\":0,\"op\":\"search\",\"query\":\"all\"}", "1 lines"),
+        ("{\"c\":0,\"op\":\"search\",\"query\":{}}", "1 Query"),
+        ("{\"c\":0,\"op\":\"search\",\"query\":\"All\"}", "1 Query"),
+        (
+            "{\"c\":0,\"op\":\"search\",\"query\":{\"term\":[\"a\",\"\"]}}",
+            "1 lines",
+        ),
+        (
+            "{\"c\":0,\"op\":\"search\",\"query\":{\"term\":[\"\",\"a\"]}}",
+            "1 Query",
+        ),
+        (
+            "{\"c\":0,\"op\":\"search\",\"query\":{\"term\":[\"a\"]}}",
+            "1 Query",
+        ),
+        (
+            "{\"c\":0,\"op\":\"search\",\"query\":{\"term\":[\"a\",\"b\",\"c\"]}}",
+            "1 Query",
+        ),
+        (
+            "{\"c\":0,\"op\":\"search\",\"query\":{\"phrase\":[\"a\",\"b c\"]}}",
+            "1 lines",
+        ),
+        (
+            "{\"c\":0,\"op\":\"search\",\"query\":{\"bool\":{}}}",
+            "1 lines",
+        ),
+        (
+            "{\"c\":0,\"op\":\"search\",\"query\":{\"bool\":{\"should\":[],\"not\":[{\"bool\":{\"must\":[\"all\"]}}]}}}",
+            "1 lines",
+        ),
+        (
+            "{\"c\":0,\"op\":\"search\",\"query\":{\"bool\":{\"must\":[\"all\",{}]}}}",
+            "1 Query",
+        ),
+        (
+            "{\"c\":0,\"op\":\"search\",\"query\":{\"bool\":{\"must\":\"all\"}}}",
+            "1 Query",
+        ),
+        (
+            "{\"c\":0,\"op\":\"search\",\"query\":{\"bool\":{\"must_not\":[]}}}",
+            "1 Query",
+        ),
+        (
+            "{\"c\":0,\"op\":\"search\",\"query\":{\"bool\":[]}}",
+            "1 Query",
+        ),
+    ];
+    for (text, want) in cases {
+        let found = answer(alloc, text.as_bytes())?;
+        assert_eq!(rt; found.as_str(), want, "at {text}");
+    }
+    let found = answer(alloc, b"\xff")?;
+    assert_eq!(rt; found.as_str(), "1 Json");
+    Ok(())
+}
+
+/// Documents by what they hold beside the key.
+#[test]
+fn documents(rt: HostRuntime) -> Result<(), Fail> {
+    let alloc = rt.alloc();
+    let cases = [
+        ("\"key\":\"a\"", "1 lines"),
+        ("", "1 Doc"),
+        ("\"key\":7", "1 Doc"),
+        ("\"key\":\"a\",\"x\":1", "1 Doc"),
+        ("\"key\":\"a\",\"exact\":[]", "1 Doc"),
+        (
+            "\"key\":\"a\",\"exact\":{\"b\":\"\",\"a\":\"c\"}",
+            "1 lines",
+        ),
+        ("\"key\":\"a\",\"exact\":{\"key\":\"b\"}", "1 Doc"),
+        ("\"key\":\"a\",\"exact\":{\"\":\"b\"}", "1 Doc"),
+        ("\"key\":\"a\",\"exact\":{\"a\":7}", "1 Doc"),
+        ("\"key\":\"a\",\"exact\":{\"a\":7},\"exact\":{}", "1 lines"),
+        (
+            "\"key\":\"a\",\"num\":{\"key\":9223372036854775807}",
+            "1 lines",
+        ),
+        (
+            "\"key\":\"a\",\"num\":{\"a\":-9223372036854775808}",
+            "1 lines",
+        ),
+        ("\"key\":\"a\",\"num\":{\"a\":9223372036854775808}", "1 Doc"),
+        ("\"key\":\"a\",\"num\":{\"a\":1.0}", "1 Doc"),
+        (
+            "\"key\":\"a\",\"text\":{\"a\":\"b c\"},\"exact\":{\"b\":\"\"}",
+            "1 lines",
+        ),
+        (
+            "\"key\":\"a\",\"text\":{\"a\":\"\",\"b\":\"\"},\"exact\":{\"b\":\"\"}",
+            "1 Doc",
+        ),
+        ("\"key\":\"a\",\"text\":{\"key\":\"\"}", "1 Doc"),
+        ("\"key\":\"a\",\"text\":\"\"", "1 Doc"),
+    ];
+    for (members, want) in cases {
+        let text = format!(in alloc; "{{\"c\":0,\"op\":\"add\",\"doc\":{{{members}}}}}")?;
+        let found = answer(alloc, text.as_bytes())?;
+        assert_eq!(rt; found.as_str(), want, "at {members}");
+    }
+    Ok(())
+}
+
+/// A search for arrays nested so deep, in the object of the line.
+fn nested(alloc: Global, depth: u32) -> Result<String, Fail> {
+    let mut text = String::from_str(alloc, "{\"c\":0,\"op\":\"search\",\"query\":")?;
+    for _ in 1..depth {
+        text.push_str("[")?;
+    }
+    for _ in 1..depth {
+        text.push_str("]")?;
+    }
+    text.push_str("}")?;
+    Ok(text)
+}
+
+/// A document with so many numbers, or with a number of so long a name.
+fn numbered(alloc: Global, count: u32, len: u32) -> Result<String, Fail> {
+    let mut text = String::from_str(
+        alloc,
+        "{\"c\":0,\"op\":\"add\",\"doc\":{\"key\":\"\",\"num\":{\"",
+    )?;
+    for _ in 0..len {
+        text.push_str("n")?;
+    }
+    text.push_str("\":1")?;
+    for number in 1..count {
+        write!(text, ",\"{number}\":2")?;
+    }
+    text.push_str("}}}")?;
+    Ok(text)
+}
+
+/// Nesting, counts and lengths at their limits.
+#[test]
+fn limits(rt: HostRuntime) -> Result<(), Fail> {
+    let alloc = rt.alloc();
+    for (depth, want) in [(127, "1 Query"), (128, "1 Json"), (200, "1 Json")] {
+        let found = answer(alloc, nested(alloc, depth)?.as_bytes())?;
+        assert_eq!(rt; found.as_str(), want, "nested {depth} deep");
+    }
+    for (count, len, want) in [
+        (1, 255, "1 lines"),
+        (1, 256, "1 Doc"),
+        (65_535, 1, "1 lines"),
+        (65_536, 1, "1 Doc"),
+    ] {
+        let found = answer(alloc, numbered(alloc, count, len)?.as_bytes())?;
+        assert_eq!(rt; found.as_str(), want, "{count} numbers, {len} bytes");
+    }
+    Ok(())
+}
