@@ -13,4 +13,4 @@ mod row_lists;
 
 pub use index::{PostingsIndex, holding_in, index_rows, places_in};
 pub use inverted::Inverted;
-// pub use matching::answer;
+pub use matching::answer;

@@ -50,7 +50,7 @@ pub fn followed(
     others: &[u32],
     distance: u64,
 ) -> Result<Vec<u32>, NoMemory>
-    requires { distance < 2 ^ 32 }
+    requires { distance < 2 ^ 63 }
     ensures { IfOk result (λ kept. IsRising others.now → kept.items ≡ filter (λ x. has_number others.now (x + distance)) numbers.now) }
 {
     let mut kept = Vec::new(alloc);
@@ -63,13 +63,13 @@ pub fn followed(
 }
 
 /// Each of the numbers once, rising.
-pub fn distinct(mut numbers: Vec<u32>) -> Vec<u32>
-    ensures rise { IsRising result.items }
-    ensures same { (x : ℕ) → has_number result.items x ≡ has_number numbers.items x }
+pub fn distinct(mut numbers: Vec<u32>) -> Result<Vec<u32>, NoMemory>
+    ensures rise { IfOk result (λ kept. IsRising kept.items) }
+    ensures same { IfOk result (λ kept. (x : ℕ) → has_number kept.items x ≡ has_number numbers.items x) }
 {
-    numbers.as_mut_slice().sort_unstable();
+    numbers.sort()?;
     numbers.dedup();
-    numbers
+    Ok(numbers)
 }
 
 /// The numbers below this one, rising.
