@@ -1,13 +1,14 @@
 -- Rows of two tests, and words that stand one after another.
-use Rattle.std.proofs.Common.{◌≡◌, ◌≢◌, ℕ, zero, suc, ◌+◌, ◌<◌, ◌≤◌, List, [], ◌∷◌, ◌++◌, Bool, true, false, not, ◌&&◌, ◌||◌, ◌==◌, cond, length, get_or, take, map, nat_lt, refl, sym, ap, ◌∙◌, subst, arith}
+use Rattle.std.proofs.Common.{◌≡◌, ◌≢◌, ℕ, zero, suc, ◌+◌, ◌<◌, ◌≤◌, List, [], ◌∷◌, ◌++◌, Bool, true, false, not, ◌&&◌, ◌||◌, ◌==◌, cond, length, get_or, take, map, nat_lt, Option, Some, None, MatchOption, Vec, Global, refl, sym, ap, ◌∙◌, subst, arith}
 use Rattle.std.specs.List.{All, list_any, list_all, filter}
-use Rattle.std.proofs.lemmas.Bool.{eqb-true, and_parts, ltb-true, lt-ltb}
+use Rattle.std.proofs.lemmas.Bool.{eqb-true, ne_eqb, and_parts, ltb-true, lt-ltb}
 use Rattle.std.proofs.lemmas.List.{take_more, take_all, length-take, length-map}
 use Rattle.std.proofs.lemmas.List.Folds.{Any-from_list_any, list_any_at, list_any-append}
 use Rattle.ix_base.specs.Terms.{Place, terms}
-use Rattle.ix_base.specs.Matches.{is_term, holds_term, stands_at, words_stand_at, phrase_stands, matches, all_match, any_matches}
+use Rattle.ix_base.specs.Matches.{is_term, holds_term, stands_at, words_stand_at, phrase_stands, matches, all_match, any_matches, is_empty}
 use Rattle.ix_base.specs.Inversion.{has_number, at_row, stands_in_row, rows_where}
 use Rattle.ix_base.specs.Query.{tree_of, trees_of}
+use Rattle.ix_base.specs.Tree.{Trees, bool, tree_count, trees_count}
 use Rattle.ix_base.specs.declared.document.Document.{Document}
 use Rattle.ix_base.specs.declared.document.Term.{Term}
 use Rattle.ix_base.specs.declared.query.Query.{Query}
@@ -238,3 +239,36 @@ phrase_rows_from field texts words docs e some =
 -- the same of lists that were passed as slices
 pub of_slices : (F : List ℕ → List ℕ → List ℕ) (kept numbers others first second : List ℕ) → first ≡ numbers → second ≡ others → (IsRising second → kept ≡ F second first) → IsRising others → kept ≡ F others numbers
 of_slices F kept numbers others first second e f h rise = h (subst IsRising (sym f) rise) ∙ (λ i. F (f i) (e i))
+
+pub none_empty : (queries : List Query) → (length queries == 0) ≡ is_empty (trees_of queries)
+none_empty [] = refl
+none_empty (q ∷ queries) = ne_eqb (suc (length queries)) 0 (λ e. omega arith)
+
+-- a query of a list has no more parts than the list
+pub tree_within : (queries : List Query) (i : ℕ) (e : Query) → i < length queries → tree_count (tree_of (get_or queries i e)) ≤ trees_count (trees_of queries)
+tree_within [] i e lt = absurd (omega arith)
+tree_within (q ∷ queries) zero e lt = omega arith
+tree_within (q ∷ queries) (suc i) e lt = let h = tree_within queries i e (omega arith) in omega arith
+
+-- the first query's rows, or those of all the queries so far
+pub narrowed_next : (queries : List Query) (i : ℕ) (e : Query) (docs : List Document) (so_far : Option (Vec ℕ Global)) (found kept : List ℕ) → i < length queries
+    → MatchOption so_far (i ≡ 0) (λ rows. rows.items ≡ rows_where (all_match (trees_of (take i queries))) docs)
+    → found ≡ rows_where (matches (tree_of (get_or queries i e))) docs
+    → MatchOption so_far (kept ≡ found) (λ rows. IsRising found → kept ≡ filter (has_number found) rows.items)
+    → kept ≡ rows_where (all_match (trees_of (take (i + 1) queries))) docs
+narrowed_next queries i e docs None found kept in' none o k =
+    subst (λ (n : ℕ). kept ≡ rows_where (all_match (trees_of (take (n + 1) queries))) docs) (sym none)
+    (all_first queries e docs kept (omega arith) (k ∙ o ∙ ap (λ (n : ℕ). rows_where (matches (tree_of (get_or queries n e))) docs) none))
+narrowed_next queries i e docs (Some rows) found kept in' r o k = all_next queries i e docs rows.items found kept in' r o k
+
+-- the rows of a bool query
+pub bool_rows : (must should must_not : Trees) (docs : List Document) (rows others kept : List ℕ)
+    → rows ≡ rows_where (λ d. cond (is_empty must) (any_matches should d) (all_match must d)) docs → others ≡ rows_where (any_matches must_not) docs
+    → (IsRising others → kept ≡ filter (λ x. not (has_number others x)) rows) → kept ≡ rows_where (matches (bool must should must_not)) docs
+bool_rows must should must_not docs rows others kept r o k = first_rows (λ d. cond (is_empty must) (any_matches should d) (all_match must d)) (any_matches must_not) docs rows others kept r o k
+
+pub chosen_should : (must should : Trees) (docs : List Document) → is_empty must ≡ true → rows_where (any_matches should) docs ≡ rows_where (λ d. cond (is_empty must) (any_matches should d) (all_match must d)) docs
+chosen_should must should docs e = rows_where-agree (any_matches should) (λ d. cond (is_empty must) (any_matches should d) (all_match must d)) docs (λ d. ap (λ (b : Bool). cond b (any_matches should d) (all_match must d)) (sym e))
+
+pub chosen_must : (must should : Trees) (docs : List Document) → is_empty must ≡ false → rows_where (all_match must) docs ≡ rows_where (λ d. cond (is_empty must) (any_matches should d) (all_match must d)) docs
+chosen_must must should docs e = rows_where-agree (all_match must) (λ d. cond (is_empty must) (any_matches should d) (all_match must d)) docs (λ d. ap (λ (b : Bool). cond b (any_matches should d) (all_match must d)) (sym e))
