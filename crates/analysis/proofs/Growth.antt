@@ -95,9 +95,9 @@ rows_exact : (row position r x : ℕ) (front : List Posting) (last posting : Pos
 rows_exact row position r x front last posting was is adds =
     let p : Posting → Bool = λ g. (g.row == r) && has_number g.positions x in
     let new : posted_at (front ++ posting ∷ []) r x ≡ (posted_at front r x || ((row == r) && (has_number last.positions x || (position == x)))) =
-        any_push p front posting ∙ ap (λ (b : Bool). posted_at front r x || b) ((λ i. (is i == r) && adds.exact x i)) in
+    any_push p front posting ∙ ap (λ (b : Bool). posted_at front r x || b) ((λ i. (is i == r) && adds.exact x i)) in
     let old : posted_at (front ++ last ∷ []) r x ≡ (posted_at front r x || ((row == r) && has_number last.positions x)) =
-        any_push p front last ∙ ap (λ (n : ℕ). posted_at front r x || ((n == r) && has_number last.positions x)) was in
+    any_push p front last ∙ ap (λ (n : ℕ). posted_at front r x || ((n == r) && has_number last.positions x)) was in
     new ∙ regroup (posted_at front r x) (row == r) (has_number last.positions x) (position == x) ∙ ap (λ (b : Bool). b || ((row == r) && (position == x))) (sym old)
 
 pub replace_row : (row position : ℕ) (old front new : List Posting) (last posting : Posting) → RowsUpto row position old → last.row ≡ row → old ≡ front ++ last ∷ [] → new ≡ front ++ posting ∷ []

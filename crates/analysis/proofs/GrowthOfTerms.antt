@@ -88,9 +88,9 @@ entries_exact o field bytes r x front last entry was is adds =
     let named : Term → Bool = λ t. bytes_eq t.field field && bytes_eq t.bytes bytes in
     let p : TermPostings → Bool = λ e. named e.term && posted_at e.rows r x in
     let new : posted (front ++ entry ∷ []) field bytes r x ≡ (posted front field bytes r x || (named o.term && (posted_at last.rows r x || ((o.row == r) && (o.position == x))))) =
-        any_push p front entry ∙ (λ i. posted front field bytes r x || (named (is i) && adds.exact r x i)) in
+    any_push p front entry ∙ (λ i. posted front field bytes r x || (named (is i) && adds.exact r x i)) in
     let old : posted (front ++ last ∷ []) field bytes r x ≡ (posted front field bytes r x || (named o.term && posted_at last.rows r x)) =
-        any_push p front last ∙ ap (λ (t : Term). posted front field bytes r x || (named t && posted_at last.rows r x)) was in
+    any_push p front last ∙ ap (λ (t : Term). posted front field bytes r x || (named t && posted_at last.rows r x)) was in
     new ∙ regroup (posted front field bytes r x) (named o.term) (posted_at last.rows r x) ((o.row == r) && (o.position == x)) ∙ ap (λ (b : Bool). b || is_at field bytes r x o) (sym old)
 
 pub replace_entry : (o : Occurrence) (old front new : List TermPostings) (last entry : TermPostings) → EntriesUpto o old → last.term ≡ o.term → old ≡ front ++ last ∷ [] → new ≡ front ++ entry ∷ []
@@ -182,7 +182,7 @@ earlier found i o sorted in' is k d lt =
     let far : is_lt (occurrence_cmp (get_or found i d) (get_or found k d)) ≡ false = sorted_far (λ x y. is_lt (occurrence_cmp x y)) (ranks_by occurrence_total (λ x. x)) found sorted k i d (omega arith) in' in
     let here : o ≡ get_or found i d = get_or_read found i o in' is d in
     let above : is_lt (ordering_reverse (occurrence_cmp (get_or found k d) o)) ≡ false =
-        ap is_lt (sym (occurrence_total.antisymm o (get_or found k d))) ∙ ap (λ (q : Occurrence). is_lt (occurrence_cmp q (get_or found k d))) here ∙ far in
+    ap is_lt (sym (occurrence_total.antisymm o (get_or found k d))) ∙ ap (λ (q : Occurrence). is_lt (occurrence_cmp q (get_or found k d))) here ∙ far in
     ap (λ (q : Occurrence). is_gt (occurrence_cmp q o)) (get_or-take i found k d below) ∙ not_below (occurrence_cmp (get_or found k d) o) above
 
 take_one : (found : List Occurrence) (i : ℕ) (o : Occurrence) → i < length found → o ≡ get_or found i o → take (i + 1) found ≡ take i found ++ o ∷ []

@@ -15,3 +15,6 @@ pub use inverse::{Refused, analyse, invert};
 pub use occurrence::compare_terms;
 pub use sizes::long_term;
 pub use words::phrase_terms;
+
+#[cfg(test)]
+mod tests;

@@ -1,13 +1,16 @@
-// A library with one function.
+//! Queries answered from an inverted index, after Lucene's term, phrase and boolean queries.
+//!
+//! An answer is made of rising lists alone: those of the terms that the query names are
+//! intersected, joined and taken from one another, so its cost grows with them. `All` and a query
+//! that only excludes walk all rows.
 #![tactic(auto)]
 
-ghost use Rattle.std.specs.Prelude.{◌≡◌};
-ghost use Rattle.query_core.specs.Echo.{echo_of};
+mod index;
+mod inverted;
+mod matching;
+mod phrase;
+mod row_lists;
 
-// The `ensures` clause is the contract: what `echo` returns is `echo_of` of its argument, a definition
-// in `specs/Echo.antt`, which a caller's clause can cite too.
-pub fn echo(x: usize) -> usize
-    ensures { result ≡ echo_of x }
-{
-    x
-}
+pub use index::{PostingsIndex, holding_in, index_rows, places_in};
+pub use inverted::Inverted;
+pub use matching::answer;

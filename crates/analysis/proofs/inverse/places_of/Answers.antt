@@ -11,8 +11,8 @@ loop-row-preserved c =
     let done = occurrences_from 0 (map (λ (r : Row). r.doc) (take c.loop-row.row-index c.args.rows.now)) in
     record {
       so_far = c.in_ok-add_terms.ensures
-        ∙ ap (λ (l : List Occurrence). l ++ occurrences c.loop-row.number row.doc) c.loop-row.invariant.so_far
-        ∙ ap (λ (n : ℕ). done ++ occurrences n row.doc) c.loop-row.invariant.counted
-        ∙ occurrences_more c.args.rows.now c.loop-row.row-index row c.loop-row-test.true c.row-item.is;
+          ∙ ap (λ (l : List Occurrence). l ++ occurrences c.loop-row.number row.doc) c.loop-row.invariant.so_far
+          ∙ ap (λ (n : ℕ). done ++ occurrences n row.doc) c.loop-row.invariant.counted
+          ∙ occurrences_more c.args.rows.now c.loop-row.row-index row c.loop-row-test.true c.row-item.is;
       counted = omega (arith, c.loop-row.invariant.counted);
     }

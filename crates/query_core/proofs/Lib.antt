@@ -1,0 +1,5 @@
+pub mod Rising
+pub mod Documents
+pub mod Found
+pub mod InPostings
+pub mod Joining

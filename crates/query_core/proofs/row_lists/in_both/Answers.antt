@@ -1,0 +1,19 @@
+use Rattle.std.proofs.Common.{◌≡◌, ◌+◌, ℕ, Bool, not, true, false, sym, ap, ◌∙◌, refl, get_or, Vec}
+use Rattle.ix_base.specs.Inversion.{has_number}
+use Rattle.query_core.proofs.Rising.{filter_kept, filter_left}
+use Rattle.query_core.proofs.row_lists.in_both.Goals as goal
+use Rattle.query_core.proofs.row_lists.in_both.Goals.{then-has+in_ok-push, else-has}
+
+pub loop-number-preserved : goal.loop-number-preserved
+loop-number-preserved c = λ rise.
+    let keep : ℕ → Bool = has_number c.args.others.now in
+    let xs = c.args.numbers.now in
+    let i = c.loop-number.number-index in
+    let x = get_or xs i 0 in
+    let old = c.loop-number.kept.items in
+    let in' = c.loop-number-test.true in
+    let tested : c.has.result ≡ has_number c.args.others.now x = c.has.ensures rise ∙ ap (λ (y : ℕ). has_number c.args.others.now y) c.from.ensures in
+    elim c.if-has.branch [
+      then-has+in_ok-push w ↦ filter_kept keep xs i x old c.if-has.kept.items in' refl (sym tested ∙ w.if-has.true) (c.loop-number.invariant rise) (ap (λ (v : Vec ℕ _). v.items) w.kept-is ∙ w.in_ok-push.ensures.items)
+    | else-has w ↦ filter_left keep xs i x old c.if-has.kept.items in' refl (sym tested ∙ w.if-has.false) (c.loop-number.invariant rise) (ap (λ (v : Vec ℕ _). v.items) w.kept-is)
+    ]

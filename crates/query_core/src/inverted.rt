@@ -1,0 +1,26 @@
+//! Inverted indexes.
+ghost use Rattle.std.specs.Prelude.{◌≡◌, List, length, IfOk};
+ghost use Rattle.ix_base.specs.Matches.{holds_term};
+ghost use Rattle.ix_base.specs.declared.document.Document.{Document};
+ghost use Rattle.query_core.specs.Answers.{AreRowsWhere, ArePositions};
+
+use ix_base::{NoMemory, Term};
+use std::alloc::Global;
+
+/// An inverted index of some documents: row i is the i-th.
+pub trait Inverted {
+    ghost inverts: { Self → List Document → Type 0 };
+
+    /// How many rows there are.
+    fn rows(&self) -> u32
+        ensures { (docs : List Document) → inverts self.now docs → result ≡ length docs };
+
+    /// The rows that hold the term, rising. It refuses for memory only.
+    fn holding(&self, alloc: Global, term: &Term) -> Result<Vec<u32>, NoMemory>
+        ensures { IfOk result (λ rows. AreRowsWhere (inverts self.now) (holds_term term.now.field term.now.bytes) rows.items) };
+
+    /// The positions of the term in the row, rising: none where there is no such row. It refuses
+    /// for memory only.
+    fn places(&self, alloc: Global, term: &Term, row: u32) -> Result<Vec<u32>, NoMemory>
+        ensures { IfOk result (λ places. (docs : List Document) → inverts self.now docs → ArePositions docs term.now row places.items) };
+}
