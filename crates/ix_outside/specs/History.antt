@@ -77,6 +77,13 @@ HasLeft (call ∷ older) since image = IsImage (call ∷ older) image ⊎ ((sinc
 
 -- ---- one outcome of a crash
 
+-- the outcomes in their order, again and again
+abbrev pub steps_of : ℕ → StepsLeft
+steps_of choice = if choice % 4 == 0 then Every else (if choice % 4 == 1 then Nothing else (if choice % 4 == 2 then Even else Odd))
+
+abbrev pub bytes_of : ℕ → BytesLeft
+bytes_of choice = if choice % 4 == 0 then Whole else (if choice % 4 == 1 then Absent else (if choice % 4 == 2 then Empty else Half))
+
 -- a step with so many calls before it is there
 abbrev pub leaves_step : StepsLeft → ℕ → Bool
 leaves_step Every before = true

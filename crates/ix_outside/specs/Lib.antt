@@ -6,3 +6,4 @@ pub mod Images
 pub mod Left
 pub mod Names
 pub mod Records
+pub mod Settled

@@ -5,6 +5,7 @@
 #![tactic(auto)]
 
 mod failing_calls;
+mod fault_count;
 mod fuse_store;
 mod gate;
 mod history;
@@ -15,13 +16,15 @@ mod memory_store;
 mod names;
 mod outcome;
 mod recorded;
+mod settled;
 mod sink;
 mod source;
 mod steady_source;
 mod store;
+mod streams;
 
 pub use fuse_store::FuseStore;
-pub use gate::Gate;
+pub use gate::{EmptyGate, Gate};
 pub use memory_sink::MemorySink;
 pub use memory_source::MemorySource;
 pub use memory_store::MemoryStore;
@@ -29,4 +32,5 @@ pub use outcome::{BytesLeft, StepsLeft};
 pub use sink::Sink;
 pub use source::{Failed, Source};
 pub use steady_source::SteadySource;
+pub use streams::{ReadSource, WriteSink};
 pub use store::{Store, StoreFault};
