@@ -3,3 +3,4 @@ pub mod Looks
 pub mod NameLists
 pub mod SettledFiles
 pub mod StoreCalls
+pub mod Told

@@ -4,6 +4,7 @@
 //! it failed. A count of faults never falls, and a call answers `Failed` only where it rose.
 #![tactic(auto)]
 
+mod dir_store;
 mod failing_calls;
 mod fault_count;
 mod fuse_store;
@@ -23,6 +24,7 @@ mod steady_source;
 mod store;
 mod streams;
 
+pub use dir_store::DirStore;
 pub use fuse_store::FuseStore;
 pub use gate::{EmptyGate, Gate};
 pub use memory_sink::MemorySink;
