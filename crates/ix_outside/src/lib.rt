@@ -36,3 +36,6 @@ pub use source::{Failed, Source};
 pub use steady_source::SteadySource;
 pub use streams::{ReadSource, WriteSink};
 pub use store::{Store, StoreFault};
+
+#[cfg(test)]
+mod tests;
