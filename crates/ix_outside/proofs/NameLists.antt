@@ -1,5 +1,5 @@
 -- One name more in a list, or one less, and what that says of the files.
-use Rattle.std.proofs.Common.{◌≡◌, ◌≢◌, ◌⊎◌, ℕ, ◌+◌, ◌<◌, List, [], ◌∷◌, ◌++◌, length, get_or, filter, not, Bool, true, false, Option, None, refl, sym, ap, subst, ◌∙◌, inl, inr, arith, All, Contains, AllPairs, is_some, IsSome, Some, ◌↔◌, if◌then◌else◌}
+use Rattle.std.proofs.Common.{◌≡◌, ◌≢◌, ◌⊎◌, ℕ, List, [], ◌∷◌, ◌++◌, get_or, filter, not, Bool, true, false, Option, None, refl, sym, ap, subst, ◌∙◌, inl, inr, arith, Contains, is_some, IsSome, Some, ◌↔◌, if◌then◌else◌}
 use Rattle.std.proofs.lemmas.List.Elements.{All-contains, All-filter, All-contains_itself, filter_passes, Contains-push, Contains-push_cases, Contains-append_left, Contains-append_right, Contains-append_cases, All-get_or}
 use Rattle.std.proofs.lemmas.List.Kept.{AllPairs-filter}
 use Rattle.std.proofs.lemmas.List.Quantifiers.{all_pairs_push}
@@ -8,8 +8,7 @@ use Rattle.ix_outside.specs.Files.{Files, Lists}
 use Rattle.ix_outside.specs.History.{is_same, with_at, moved, files_of}
 use Rattle.ix_outside.specs.HistoryLaws.{is_same-refl, is_same-true, is_same-apart, moved-apart}
 use Rattle.ix_outside.specs.Names.{Gains, Loses, GoesOn}
-use Rattle.ix_outside.specs.declared.history.Call.{Call}
-use Rattle.ix_outside.specs.declared.history.Call.TheVariants.{Written, Synced, Renamed, Deleted, Settled}
+use Rattle.ix_outside.specs.declared.history.Call.TheVariants.{Written, Renamed, Deleted}
 
 -- the names but this one
 abbrev pub without : FileName → List FileName → List FileName

@@ -1,13 +1,13 @@
 -- What holds of a store that was filled and settled, and of the files that a crash leaves.
-use Rattle.std.proofs.Common.{◌≡◌, ◌≢◌, ℕ, ◌+◌, ◌<◌, List, [], ◌∷◌, ◌++◌, length, get_or, take, reverse, ◌≤◌, Bool, true, false, Option, Some, None, refl, sym, ap, subst, ◌∙◌, if◌then◌else◌, Vec}
+use Rattle.std.proofs.Common.{◌≡◌, ℕ, ◌+◌, ◌<◌, List, [], ◌∷◌, ◌++◌, length, get_or, take, reverse, ◌≤◌, Bool, true, false, Option, Some, None, refl, sym, ap, subst, ◌∙◌, if◌then◌else◌, Vec}
 use Rattle.std.proofs.lemmas.List.{take_more, take_all}
 use Rattle.std.proofs.Math.Path.{fun_ext}
 use Rattle.std.specs.declared.alloc.Global.{Global}
 use Rattle.ix_base.specs.declared.file_name.FileName.{FileName}
 use Rattle.ix_outside.specs.Files.{Files}
-use Rattle.ix_outside.specs.History.{is_same, with_at, moved, files_of, outcome_of, leaves_step, bytes_left, is_unsynced, IsUnsynced, IsImage}
+use Rattle.ix_outside.specs.History.{is_same, with_at, moved, files_of, outcome_of, leaves_step, IsUnsynced, IsImage}
 use Rattle.ix_outside.proofs.Looks.{newest}
-use Rattle.ix_outside.specs.HistoryLaws.{is_same-refl, is_same-true, read_is_image, whole_is_read}
+use Rattle.ix_outside.specs.HistoryLaws.{is_same-true, read_is_image, whole_is_read}
 use Rattle.ix_outside.specs.Settled.{AreDurable, AllSynced, Fills, no_files, with_pairs, are_made, taken_at, file_made}
 use Rattle.ix_outside.specs.declared.outcome.StepsLeft.{StepsLeft}
 use Rattle.ix_outside.specs.declared.outcome.StepsLeft.TheVariants.{Every}

@@ -1,10 +1,9 @@
 -- What calls have made of a store that was empty, and what a crash may leave of it. The calls stand
 -- the newest first.
 use Rattle.std.specs.Prelude.{◌≡◌, ◌⊎◌, ℕ, ◌≤◌, List, [], ◌∷◌, length, Option, Some, None, Bool, true, false, ◌&&◌, ◌==◌, ◌/◌, ◌%◌, take, if◌then◌else◌}
-use Rattle.ix_base.specs.FileNames.{IsName}
 use Rattle.ix_base.specs.declared.file_name.FileName.{FileName}
 use Rattle.ix_base.specs.declared.file_name.FileName.TheVariants.{Commit, Pending, Rows, Posts, Live, Values}
-use Rattle.ix_outside.specs.Files.{Files, SameBut, Puts, Renames, Removes}
+use Rattle.ix_outside.specs.Files.{Files, SameBut}
 use Rattle.ix_outside.specs.Images.{MayHaveRenamed, MayHaveRemoved}
 use Rattle.ix_outside.specs.declared.outcome.StepsLeft.{StepsLeft}
 use Rattle.ix_outside.specs.declared.outcome.StepsLeft.TheVariants.{Every, Nothing, Even, Odd}

@@ -1,4 +1,4 @@
-use Rattle.std.proofs.Common.{not, rules, ◌≡◌, ◌++◌, ◌∷◌, [], filter}
+use Rattle.std.proofs.Common.{not, rules, ◌≡◌, ◌++◌, ◌∷◌, []}
 use Rattle.std.proofs.lemmas.List.Elements.{All-filter, All-push}
 use Rattle.ix_base.specs.FileNames.{IsName}
 use Rattle.ix_outside.specs.History.{is_same}

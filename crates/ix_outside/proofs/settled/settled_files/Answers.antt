@@ -1,4 +1,4 @@
-use Rattle.std.proofs.Common.{◌≡◌, ◌<◌, length, get_or, rules, arith, sym, subst, ap, ◌∙◌, All, Some, Vec, List, ℕ}
+use Rattle.std.proofs.Common.{◌<◌, length, arith, sym, subst, ap, ◌∙◌, All, Some, Vec, ℕ}
 use Rattle.std.specs.declared.alloc.Global.{Global}
 use Rattle.std.proofs.lemmas.List.Elements.{All-get_or}
 use Rattle.ix_base.specs.FileNames.{IsName}

@@ -1,4 +1,4 @@
-use Rattle.std.proofs.Common.{◌≡◌, ◌<◌, ◌≤◌, length, get_or, reverse, rules, arith, ◌∙◌, ap, sym}
+use Rattle.std.proofs.Common.{◌≡◌, ◌<◌, ◌≤◌, length, get_or, reverse, rules, arith, ◌∙◌, ap}
 use Rattle.ix_outside.proofs.SettledFiles.{fills_on, filled_all}
 use Rattle.ix_outside.specs.History.{files_of}
 use Rattle.ix_outside.proofs.history.History.crash.Goals as goal

@@ -1,5 +1,4 @@
 use Rattle.std.proofs.Common.{rules, ◌≡◌, false, List}
-use Rattle.ix_base.specs.declared.file_name.FileName.{FileName}
 use Rattle.ix_outside.specs.Files.{Renames, MayRename}
 use Rattle.ix_outside.specs.Images.{MovesUnsynced}
 use Rattle.ix_outside.specs.History.{is_same, IsUnsynced}
