@@ -18,7 +18,7 @@ pub at_written : (call : Call) (older : List Call) (steps : StepsLeft) (bytes : 
     → call ≡ Written at written → is_same name at ≡ true → Goes older (bytes_left bytes written) found → Goes older (outcome_of steps bytes (call ∷ older) name) found
 at_written call older steps bytes name at written found is same goes =
     subst (λ (c : Call). Goes older (outcome_of steps bytes (c ∷ older) name) found) (sym is)
-      (subst (λ (b : Bool). Goes older (if b then bytes_left bytes written else outcome_of steps bytes older name) found) (sym same) goes)
+    (subst (λ (b : Bool). Goes older (if b then bytes_left bytes written else outcome_of steps bytes older name) found) (sym same) goes)
 
 pub at_synced : (call : Call) (older : List Call) (steps : StepsLeft) (bytes : BytesLeft) (name at : FileName)
     → call ≡ Synced at → is_same name at ≡ true → outcome_of steps bytes (call ∷ older) name ≡ outcome_of Every Whole older name
@@ -32,7 +32,7 @@ pub at_renamed : (call : Call) (older : List Call) (steps : StepsLeft) (bytes : 
     → Goes older (outcome_of steps bytes (call ∷ older) name) found
 at_renamed call older steps bytes name «from» to found is leaves goes =
     subst (λ (c : Call). Goes older (outcome_of steps bytes (c ∷ older) name) found) (sym is)
-      (subst (λ (b : Bool). Goes older ((if b then moved «from» to None (outcome_of steps bytes older) else outcome_of steps bytes older) name) found) (sym leaves) goes)
+    (subst (λ (b : Bool). Goes older ((if b then moved «from» to None (outcome_of steps bytes older) else outcome_of steps bytes older) name) found) (sym leaves) goes)
 
 -- ---- from the newest call on
 

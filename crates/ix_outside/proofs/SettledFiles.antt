@@ -79,7 +79,7 @@ none_synced at name f g one other = tell (is_same name at) refl
 none_moved : («from» to name : FileName) (f : Files) → is_same name to ≡ false → f name ≡ None → moved «from» to None f name ≡ None
 none_moved «from» to name f apart none =
     none_by (is_same «from» to) f (with_at «from» None (with_at to (f «from») f)) name none
-      (none_at (is_same name «from») None (with_at to (f «from») f name) refl (rw apart none))
+    (none_at (is_same name «from») None (with_at to (f «from») f name) refl (rw apart none))
 
 -- A file that no call made isn't there.
 pub unmade : (steps : StepsLeft) (bytes : BytesLeft) (calls : List Call) (name : FileName) → are_made calls name ≡ false → outcome_of steps bytes calls name ≡ None
@@ -89,15 +89,15 @@ unmade steps bytes (Written at written ∷ older) = λ name none.
     rw p.0 (unmade steps bytes older name p.1)
 unmade steps bytes (Synced at ∷ older) = λ name none.
     none_synced at name (files_of older) (outcome_of steps bytes older)
-      (sym (ap (λ (f : Files). f name) (whole_is_read older)) ∙ unmade Every Whole older name none) (unmade steps bytes older name none)
+    (sym (ap (λ (f : Files). f name) (whole_is_read older)) ∙ unmade Every Whole older name none) (unmade steps bytes older name none)
 unmade steps bytes (Renamed «from» to ∷ older) = λ name none.
     let p = not_made to name (are_made older) none in
     none_by (leaves_step steps (length older)) (moved «from» to None (outcome_of steps bytes older)) (outcome_of steps bytes older) name
-      (none_moved «from» to name (outcome_of steps bytes older) p.0 (unmade steps bytes older name p.1)) (unmade steps bytes older name p.1)
+    (none_moved «from» to name (outcome_of steps bytes older) p.0 (unmade steps bytes older name p.1)) (unmade steps bytes older name p.1)
 unmade steps bytes (Deleted at ∷ older) = λ name none.
     let less = unmade steps bytes older name none in
     none_by (leaves_step steps (length older)) (with_at at None (outcome_of steps bytes older)) (outcome_of steps bytes older) name
-      (none_at (is_same name at) None (outcome_of steps bytes older name) refl less) less
+    (none_at (is_same name at) None (outcome_of steps bytes older name) refl less) less
 unmade steps bytes (Settled ∷ older) = unmade Every bytes older
 
 -- Files that are the outcome's where a call made them are the outcome's files.
@@ -116,14 +116,14 @@ pub fills_on : (calls history : List Call) (k : ℕ) (call : Call) (steps : Step
 fills_on calls history k call steps bytes old new lt here whole fills is =
     let last : reverse (take (k + 1) calls) ≡ call ∷ reverse (take k calls) = newest calls k call lt ∙ ap (λ (x : Call). x ∷ reverse (take k calls)) here in
     let same : taken_at (file_made call) (outcome_of steps bytes (reverse calls)) old ≡ new =
-        ap (λ (h : List Call). taken_at (file_made call) (outcome_of steps bytes h) old) whole ∙ sym is in
+    ap (λ (h : List Call). taken_at (file_made call) (outcome_of steps bytes h) old) whole ∙ sym is in
     subst (λ (h : List Call). Fills (are_made h) (outcome_of steps bytes (reverse calls)) new) (sym last)
-      (subst (λ (f : Files). Fills (are_made (call ∷ reverse (take k calls))) (outcome_of steps bytes (reverse calls)) f) same
-        (fills_more (file_made call) (are_made (reverse (take k calls))) (outcome_of steps bytes (reverse calls)) old fills))
+    (subst (λ (f : Files). Fills (are_made (call ∷ reverse (take k calls))) (outcome_of steps bytes (reverse calls)) f) same
+    (fills_more (file_made call) (are_made (reverse (take k calls))) (outcome_of steps bytes (reverse calls)) old fills))
 
 pub filled_all : (calls history : List Call) (k : ℕ) (steps : StepsLeft) (bytes : BytesLeft) (files : Files) → length calls ≤ k → reverse calls ≡ history
     → Fills (are_made (reverse (take k calls))) (outcome_of steps bytes (reverse calls)) files → files ≡ outcome_of steps bytes history
 filled_all calls history k steps bytes files all whole fills =
     filled steps bytes (reverse calls) files
-      (subst (λ (h : List Call). Fills (are_made (reverse h)) (outcome_of steps bytes (reverse calls)) files) (take_all k calls all) fills)
+    (subst (λ (h : List Call). Fills (are_made (reverse h)) (outcome_of steps bytes (reverse calls)) files) (take_all k calls all) fills)
     ∙ ap (λ (h : List Call). outcome_of steps bytes h) whole

@@ -39,6 +39,7 @@ moves_renamed «from» to old apart other e = first (tell_with (is_same other «
         → ((other ≡ to) × IsUnsynced old «from») ⊎ ((other ≢ to) × IsUnsynced old other)
     second (inl p) = inl (is_same-true other to p.0, p.1)
     second (inr p) = inr (apart_where other to p.0, p.1)
+
     first : (is_same other «from» ≡ true) × (false ≡ true) ⊎ (is_same other «from» ≡ false) × ((if is_same other to then is_unsynced old «from» else is_unsynced old other) ≡ true)
         → ((other ≡ to) × IsUnsynced old «from») ⊎ ((other ≢ to) × IsUnsynced old other)
     first (inl p) = absurd (differ p.1)

@@ -49,6 +49,7 @@ both a b c d e = (eqb-true a b (left (a == b) (c == d) e), eqb-true c d (right (
     left : (x y : Bool) → (x && y) ≡ true → x ≡ true
     left true y e = refl
     left false y e = e
+
     right : (x y : Bool) → (x && y) ≡ true → y ≡ true
     right true y e = e
     right false y e = cc
@@ -182,10 +183,14 @@ unfolding Agree
 outcome_is_image steps bytes [] = λ name. refl
 outcome_is_image steps bytes (Written name written ∷ older) =
     (outcome_of steps bytes older, outcome_is_image steps bytes older, keeps_others name (bytes_left bytes written) (outcome_of steps bytes older))
-outcome_is_image steps bytes (Synced name ∷ older) =
-    (outcome_of steps bytes older, outcome_is_image steps bytes older,
-     record { there = with_at-same name (files_of older name) (outcome_of steps bytes older);
-              others = keeps_others name (files_of older name) (outcome_of steps bytes older) })
+outcome_is_image steps bytes (Synced name ∷ older) = (
+  outcome_of steps bytes older,
+  outcome_is_image steps bytes older,
+  record {
+    there = with_at-same name (files_of older name) (outcome_of steps bytes older);
+    others = keeps_others name (files_of older name) (outcome_of steps bytes older);
+  },
+)
 outcome_is_image steps bytes (Renamed «from» to ∷ older) =
     (outcome_of steps bytes older, outcome_is_image steps bytes older, may_rename_if (leaves_step steps (length older)) «from» to (outcome_of steps bytes older))
 outcome_is_image steps bytes (Deleted name ∷ older) =

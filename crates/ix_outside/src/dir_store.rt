@@ -47,7 +47,8 @@ impl<R: Files + AllocGlobal + Clone + Drop> DirStore<R> {
 
     /// Whether the error is that there is no such file, in a directory that is there.
     fn is_absent(&self, error: &Error) -> bool {
-        error.kind() == ErrorKind::NotFound && fs::metadata(&self.runtime, self.path.as_str()).is_ok()
+        error.kind() == ErrorKind::NotFound
+            && fs::metadata(&self.runtime, self.path.as_str()).is_ok()
     }
 
     fn list_names(&self, alloc: Global) -> io::Result<Vec<FileName>>

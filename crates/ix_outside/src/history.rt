@@ -107,7 +107,12 @@ impl History {
     }
 
     /// The files that a crash of this outcome leaves, as the calls that make them on the disk.
-    pub fn crash(&self, alloc: Global, steps: StepsLeft, bytes: BytesLeft) -> Result<History, NoMemory>
+    pub fn crash(
+        &self,
+        alloc: Global,
+        steps: StepsLeft,
+        bytes: BytesLeft,
+    ) -> Result<History, NoMemory>
         ensures files { IfOk result (λ left. files_of left ≡ outcome_of steps bytes self.now) }
         ensures durable { IfOk result (λ left. AreDurable (files_of left) (IsImage left) (IsUnsynced left)) }
     {
@@ -120,7 +125,13 @@ impl History {
     }
 
     /// Puts the file that this call made among those that a crash of this outcome leaves.
-    fn leave(&self, left: &mut History, steps: StepsLeft, bytes: BytesLeft, call: &Call) -> Result<(), NoMemory>
+    fn leave(
+        &self,
+        left: &mut History,
+        steps: StepsLeft,
+        bytes: BytesLeft,
+        call: &Call,
+    ) -> Result<(), NoMemory>
         requires { NamesFile call.now }
         ensures files { OnOk result (files_of left.new ≡ taken_at (file_made call.now) (outcome_of steps bytes self.now) (files_of left.old)) }
         ensures synced { OnOk result (AllSynced left.old → AllSynced left.new) }
@@ -133,7 +144,13 @@ impl History {
     }
 
     /// Puts this file among those that a crash of this outcome leaves.
-    fn leave_file(&self, left: &mut History, steps: StepsLeft, bytes: BytesLeft, name: FileName) -> Result<(), NoMemory>
+    fn leave_file(
+        &self,
+        left: &mut History,
+        steps: StepsLeft,
+        bytes: BytesLeft,
+        name: FileName,
+    ) -> Result<(), NoMemory>
         requires { IsName name }
         ensures files { OnOk result (files_of left.new ≡ with_at name (outcome_of steps bytes self.now name) (files_of left.old)) }
         ensures synced { OnOk result (AllSynced left.old → AllSynced left.new) }

@@ -34,8 +34,8 @@ pub use outcome::{BytesLeft, StepsLeft};
 pub use sink::Sink;
 pub use source::{Failed, Source};
 pub use steady_source::SteadySource;
-pub use streams::{ReadSource, WriteSink};
 pub use store::{Store, StoreFault};
+pub use streams::{ReadSource, WriteSink};
 
 #[cfg(test)]
 mod tests;

@@ -45,10 +45,7 @@ pub fn settle(history: &mut History) -> Result<(), NoMemory>
 }
 
 /// A store with these files, of which the last of a name counts, all of them on the disk.
-pub fn settled_files(
-    alloc: Global,
-    files: Vec<(FileName, Vec<u8>)>,
-) -> Result<History, NoMemory>
+pub fn settled_files(alloc: Global, files: Vec<(FileName, Vec<u8>)>) -> Result<History, NoMemory>
     requires { All (λ file. IsName file.0) files.items }
     ensures files { IfOk result (λ history. files_of history ≡ with_pairs files.items no_files) }
     ensures durable { IfOk result (λ history. AreDurable (files_of history) (IsImage history) (IsUnsynced history)) }

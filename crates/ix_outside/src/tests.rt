@@ -72,7 +72,10 @@ fn store_calls_fail_by_number(rt: HostRuntime) {
     assert_eq!(rt; store.delete(FileName::Rows(1)), Err(StoreFault::Failed));
     assert_eq!(rt; store.sync_all(), Err(StoreFault::Failed));
     assert!(rt; has(rt.alloc(), &mut store, FileName::Rows(1), b"rows"));
-    assert_eq!(rt; store.rename(FileName::Rows(2), FileName::Rows(3)), Err(StoreFault::Failed));
+    assert_eq!(rt;
+        store.rename(FileName::Rows(2), FileName::Rows(3)),
+        Err(StoreFault::Failed)
+    );
     assert_eq!(rt; store.sync(FileName::Rows(2)), Err(StoreFault::Failed));
     assert_eq!(rt; store.delete(FileName::Rows(2)), Ok(()));
     assert_eq!(rt; store.faults(), 4);
@@ -87,9 +90,15 @@ fn lists_each_name_once(rt: HostRuntime) {
     };
     assert_eq!(rt; store.write(FileName::Pending(2), b"two"), Ok(()));
     assert_eq!(rt; store.write(FileName::Commit(2), b"old"), Ok(()));
-    assert_eq!(rt; store.rename(FileName::Pending(2), FileName::Commit(2)), Ok(()));
+    assert_eq!(rt;
+        store.rename(FileName::Pending(2), FileName::Commit(2)),
+        Ok(())
+    );
     let names = store.list(rt.alloc()).unwrap_or(Vec::new(rt.alloc()));
-    assert_eq!(rt; names.as_slice(), [FileName::Commit(1), FileName::Commit(2)].as_slice());
+    assert_eq!(rt;
+        names.as_slice(),
+        [FileName::Commit(1), FileName::Commit(2)].as_slice()
+    );
     assert!(rt; has(rt.alloc(), &mut store, FileName::Commit(2), b"two"));
 }
 
@@ -124,9 +133,15 @@ fn crash_leaves_what_was_chosen(rt: HostRuntime) {
         assert!(rt; lacks(rt.alloc(), &mut left, gone), "at {choice}");
         match rows[(choice / 4) as usize] {
             Some(bytes) => {
-                assert!(rt; has(rt.alloc(), &mut left, FileName::Rows(1), bytes), "at {choice}")
+                assert!(rt;
+                    has(rt.alloc(), &mut left, FileName::Rows(1), bytes),
+                    "at {choice}"
+                )
             }
-            None => assert!(rt; lacks(rt.alloc(), &mut left, FileName::Rows(1)), "at {choice}"),
+            None => assert!(rt;
+                lacks(rt.alloc(), &mut left, FileName::Rows(1)),
+                "at {choice}"
+            ),
         }
         assert_eq!(rt; left.faults(), 0);
     }
@@ -165,7 +180,10 @@ fn std_streams(rt: HostRuntime) {
 fn names_are_parsed(rt: HostRuntime) {
     let names = [
         ("segments_2", Some(FileName::Commit(2))),
-        ("pending_segments_18446744073709551615", Some(FileName::Pending(u64::MAX))),
+        (
+            "pending_segments_18446744073709551615",
+            Some(FileName::Pending(u64::MAX)),
+        ),
         ("seg_1.row", Some(FileName::Rows(1))),
         ("seg_10.pst", Some(FileName::Posts(10))),
         ("seg_3_4.liv", Some(FileName::Live(3, 4))),
@@ -191,7 +209,10 @@ fn directory(rt: HostRuntime) {
     let text = String::from_str(rt.alloc(), path).expect(&rt, "memory");
     let runtime = rt.clone().expect(&rt, "memory");
     let mut store = DirStore::new(runtime, text);
-    assert_eq!(rt; store.write(FileName::Rows(1), b"rows"), Err(StoreFault::Failed));
+    assert_eq!(rt;
+        store.write(FileName::Rows(1), b"rows"),
+        Err(StoreFault::Failed)
+    );
     assert!(rt; store.list(rt.alloc()).is_err());
     assert!(rt; store.read(rt.alloc(), FileName::Rows(1)).is_err());
     assert_eq!(rt; store.delete(FileName::Rows(1)), Err(StoreFault::Failed));
@@ -199,7 +220,10 @@ fn directory(rt: HostRuntime) {
     fs::create_dir(&rt, path).expect(&rt, "a directory");
     assert_eq!(rt; store.write(FileName::Pending(1), b"one"), Ok(()));
     assert_eq!(rt; store.sync(FileName::Pending(1)), Ok(()));
-    assert_eq!(rt; store.rename(FileName::Pending(1), FileName::Commit(1)), Ok(()));
+    assert_eq!(rt;
+        store.rename(FileName::Pending(1), FileName::Commit(1)),
+        Ok(())
+    );
     assert_eq!(rt; store.sync_all(), Ok(()));
     fs::write(&rt, "ix_outside_test_directory/foreign", b"x".as_slice()).expect(&rt, "a file");
     let names = store.list(rt.alloc()).unwrap_or(Vec::new(rt.alloc()));

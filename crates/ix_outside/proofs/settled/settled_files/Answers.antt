@@ -13,14 +13,14 @@ put_file-requires c =
     let lt : c.loop-file.file-index < length c.deref-file-items.result.now = omega arith in
     let all : All (λ (file : FileName × Vec ℕ Global). IsName file.0) c.deref-file-items.result.now = rw c.deref-file-items.ensures.value c.requires in
     subst (λ (file : FileName × Vec ℕ Global). IsName file.0) (sym c.file-item.is)
-      (All-get_or (λ (file : FileName × Vec ℕ Global). IsName file.0) c.deref-file-items.result.now c.loop-file.file-index c.file-item.result lt all)
+    (All-get_or (λ (file : FileName × Vec ℕ Global). IsName file.0) c.deref-file-items.result.now c.loop-file.file-index c.file-item.result lt all)
 
 pub loop-file-preserved : goal.loop-file-preserved
 loop-file-preserved c =
     let lt : c.loop-file.file-index < length c.deref-file-items.result.now = omega arith in
     record {
       files = c.in_ok-put_file.ensures.files
-        ∙ (ap (λ (f : Files). with_at c.file-item.result.0 (Some c.file-item.result.1.items) f) c.loop-file.invariant.files
-        ∙ sym (more_pairs c.deref-file-items.result.now c.loop-file.file-index c.file-item.result _ lt (sym c.file-item.is)));
+          ∙ (ap (λ (f : Files). with_at c.file-item.result.0 (Some c.file-item.result.1.items) f) c.loop-file.invariant.files
+          ∙ sym (more_pairs c.deref-file-items.result.now c.loop-file.file-index c.file-item.result _ lt (sym c.file-item.is)));
       synced = c.in_ok-put_file.ensures.synced c.loop-file.invariant.synced;
     }

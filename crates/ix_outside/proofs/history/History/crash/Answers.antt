@@ -10,7 +10,7 @@ loop-call-preserved c =
     let whole : reverse c.deref-call-items.result.now ≡ c.args.self.now = ap reverse c.deref-call-items.ensures.value ∙ c.self.view_is in
     record {
       files = fills_on c.deref-call-items.result.now c.args.self.now c.loop-call.call-index c.call-item.result c.args.steps c.args.bytes
-        (files_of c.loop-call.left) (files_of c.leave.new.left) lt here whole c.loop-call.invariant.files c.in_ok-leave.ensures.files;
+          (files_of c.loop-call.left) (files_of c.leave.new.left) lt here whole c.loop-call.invariant.files c.in_ok-leave.ensures.files;
       synced = c.in_ok-leave.ensures.synced c.loop-call.invariant.synced;
     }
 
