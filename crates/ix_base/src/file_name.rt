@@ -1,7 +1,7 @@
 //! The names of a store's files.
-ghost use Rattle.std.specs.Prelude.{◌≡◌, ◌≤◌, ◌++◌, length, codes};
+ghost use Rattle.std.specs.Prelude.{◌≡◌, ◌≤◌, ◌++◌, IfSome, IsTrue, length, codes};
 ghost use Rattle.std.specs.Fmt.{decimal};
-ghost use Rattle.ix_base.specs.FileNames.{name_text};
+ghost use Rattle.ix_base.specs.FileNames.{name_text, IsName};
 
 use arrayvec::ArrayString;
 
@@ -35,6 +35,61 @@ impl FileName {
             FileName::Live(id, number) => written_with(id, number, ".liv"),
             FileName::Values(id, number) => written_with(id, number, ".val"),
         }
+    }
+}
+
+impl FileName {
+    /// The name that a directory shows as this text: `Some` only of a name with numbers from 1 whose
+    /// text this is, and `None` of a foreign name. It takes no memory.
+    pub fn parse(text: &str) -> Option<FileName>
+        ensures text { IfSome result (λ name. name_text name ≡ text.now) }
+        ensures real { IfSome result IsName }
+    {
+        let name = likely(text)?;
+        if name.has_counted_numbers() && name.text().as_str() == text {
+            Some(name)
+        } else {
+            None
+        }
+    }
+
+    /// Whether each number is at least 1.
+    fn has_counted_numbers(self) -> bool
+        ensures { IsTrue result → IsName self }
+    {
+        match self {
+            FileName::Commit(number) | FileName::Pending(number) => number > 0,
+            FileName::Rows(id) | FileName::Posts(id) => id > 0,
+            FileName::Live(id, number) | FileName::Values(id, number) => id > 0 && number > 0,
+        }
+    }
+}
+
+/// The name that a text seems to be, by its letters. Its numbers may be spelled otherwise there.
+fn likely(text: &str) -> Option<FileName> {
+    if let Some(number) = text.strip_prefix("segments_") {
+        return Some(FileName::Commit(number.parse::<u64>().ok()?));
+    }
+    if let Some(number) = text.strip_prefix("pending_segments_") {
+        return Some(FileName::Pending(number.parse::<u64>().ok()?));
+    }
+    let (numbers, end) = text.strip_prefix("seg_")?.split_once('.')?;
+    match end {
+        "row" => Some(FileName::Rows(numbers.parse::<u64>().ok()?)),
+        "pst" => Some(FileName::Posts(numbers.parse::<u64>().ok()?)),
+        _ => likely_with(numbers, end),
+    }
+}
+
+/// The same of a file that was written with a commit, by its two numbers and its end.
+fn likely_with(numbers: &str, end: &str) -> Option<FileName> {
+    let (id, number) = numbers.split_once('_')?;
+    let id = id.parse::<u64>().ok()?;
+    let number = number.parse::<u64>().ok()?;
+    match end {
+        "liv" => Some(FileName::Live(id, number)),
+        "val" => Some(FileName::Values(id, number)),
+        _ => None,
     }
 }
 

@@ -1,10 +1,9 @@
 -- Where the search for the bytes of a file goes from a call.
-use Rattle.std.proofs.Common.{◌≡◌, ℕ, ◌+◌, ◌<◌, ◌≤◌, List, [], ◌∷◌, ◌++◌, length, get_or, take, reverse, Bool, true, false, Option, Some, None, refl, sym, ap, subst, ◌∙◌, arith, if◌then◌else◌}
+use Rattle.std.proofs.Common.{◌≡◌, ℕ, ◌+◌, ◌<◌, List, [], ◌∷◌, length, get_or, take, reverse, Bool, true, None, sym, ap, subst, ◌∙◌, arith, if◌then◌else◌}
 use Rattle.std.proofs.lemmas.List.{take_more, reverse-append, length-reverse, length-take-le}
-use Rattle.std.specs.Option.{option_copied}
 use Rattle.ix_base.specs.declared.file_name.FileName.{FileName}
 use Rattle.ix_outside.specs.Files.{Files}
-use Rattle.ix_outside.specs.History.{is_same, with_at, moved, files_of, outcome_of, bytes_left, leaves_step}
+use Rattle.ix_outside.specs.History.{is_same, moved, files_of, outcome_of, bytes_left, leaves_step}
 use Rattle.ix_outside.specs.HistoryLaws.{is_same-true, whole_is_read}
 use Rattle.ix_outside.specs.Left.{Goes}
 use Rattle.ix_outside.specs.declared.outcome.StepsLeft.{StepsLeft}
@@ -12,15 +11,14 @@ use Rattle.ix_outside.specs.declared.outcome.StepsLeft.TheVariants.{Every}
 use Rattle.ix_outside.specs.declared.outcome.BytesLeft.{BytesLeft}
 use Rattle.ix_outside.specs.declared.outcome.BytesLeft.TheVariants.{Whole}
 use Rattle.ix_outside.specs.declared.left.Found.{Found}
-use Rattle.ix_outside.specs.declared.left.Found.TheVariants.{Bytes, Absent, Before}
 use Rattle.ix_outside.specs.declared.history.Call.{Call}
-use Rattle.ix_outside.specs.declared.history.Call.TheVariants.{Written, Synced, Renamed, Deleted, Settled}
+use Rattle.ix_outside.specs.declared.history.Call.TheVariants.{Written, Synced, Renamed}
 
 pub at_written : (call : Call) (older : List Call) (steps : StepsLeft) (bytes : BytesLeft) (name at : FileName) (written : List ℕ) (found : Found)
     → call ≡ Written at written → is_same name at ≡ true → Goes older (bytes_left bytes written) found → Goes older (outcome_of steps bytes (call ∷ older) name) found
 at_written call older steps bytes name at written found is same goes =
     subst (λ (c : Call). Goes older (outcome_of steps bytes (c ∷ older) name) found) (sym is)
-      (subst (λ (b : Bool). Goes older (if b then bytes_left bytes written else outcome_of steps bytes older name) found) (sym same) goes)
+    (subst (λ (b : Bool). Goes older (if b then bytes_left bytes written else outcome_of steps bytes older name) found) (sym same) goes)
 
 pub at_synced : (call : Call) (older : List Call) (steps : StepsLeft) (bytes : BytesLeft) (name at : FileName)
     → call ≡ Synced at → is_same name at ≡ true → outcome_of steps bytes (call ∷ older) name ≡ outcome_of Every Whole older name
@@ -34,7 +32,7 @@ pub at_renamed : (call : Call) (older : List Call) (steps : StepsLeft) (bytes : 
     → Goes older (outcome_of steps bytes (call ∷ older) name) found
 at_renamed call older steps bytes name «from» to found is leaves goes =
     subst (λ (c : Call). Goes older (outcome_of steps bytes (c ∷ older) name) found) (sym is)
-      (subst (λ (b : Bool). Goes older ((if b then moved «from» to None (outcome_of steps bytes older) else outcome_of steps bytes older) name) found) (sym leaves) goes)
+    (subst (λ (b : Bool). Goes older ((if b then moved «from» to None (outcome_of steps bytes older) else outcome_of steps bytes older) name) found) (sym leaves) goes)
 
 -- ---- from the newest call on
 

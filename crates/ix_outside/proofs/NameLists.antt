@@ -1,5 +1,5 @@
 -- One name more in a list, or one less, and what that says of the files.
-use Rattle.std.proofs.Common.{◌≡◌, ◌≢◌, ◌⊎◌, ℕ, ◌+◌, ◌<◌, List, [], ◌∷◌, ◌++◌, length, get_or, filter, not, Bool, true, false, Option, None, refl, sym, ap, subst, ◌∙◌, inl, inr, arith, All, Contains, AllPairs, is_some, IsSome, Some, ◌↔◌, if◌then◌else◌}
+use Rattle.std.proofs.Common.{◌≡◌, ◌≢◌, ◌⊎◌, ℕ, List, [], ◌∷◌, ◌++◌, get_or, filter, not, Bool, true, false, Option, None, refl, sym, ap, subst, ◌∙◌, inl, inr, arith, Contains, is_some, IsSome, Some, ◌↔◌, if◌then◌else◌}
 use Rattle.std.proofs.lemmas.List.Elements.{All-contains, All-filter, All-contains_itself, filter_passes, Contains-push, Contains-push_cases, Contains-append_left, Contains-append_right, Contains-append_cases, All-get_or}
 use Rattle.std.proofs.lemmas.List.Kept.{AllPairs-filter}
 use Rattle.std.proofs.lemmas.List.Quantifiers.{all_pairs_push}
@@ -8,8 +8,7 @@ use Rattle.ix_outside.specs.Files.{Files, Lists}
 use Rattle.ix_outside.specs.History.{is_same, with_at, moved, files_of}
 use Rattle.ix_outside.specs.HistoryLaws.{is_same-refl, is_same-true, is_same-apart, moved-apart}
 use Rattle.ix_outside.specs.Names.{Gains, Loses, GoesOn}
-use Rattle.ix_outside.specs.declared.history.Call.{Call}
-use Rattle.ix_outside.specs.declared.history.Call.TheVariants.{Written, Synced, Renamed, Deleted, Settled}
+use Rattle.ix_outside.specs.declared.history.Call.TheVariants.{Written, Renamed, Deleted}
 
 -- the names but this one
 abbrev pub without : FileName → List FileName → List FileName
@@ -47,6 +46,7 @@ apart_of other name pass same = differ (sym (ap not found) ∙ pass)
   where
     found : is_same other name ≡ true
     found = subst (λ n. is_same other n ≡ true) same (is_same-refl other)
+
     differ : false ≡ true → ⊥
     differ e = cc
 
@@ -57,7 +57,8 @@ pub loses : (name : FileName) (names : List FileName) → Loses name names (with
 loses name names = record {
   each = λ other. (
     (λ has. (stood _ names other has, apart_of other name (passes (λ n. not (is_same n name)) names other has))),
-    (λ both. stays_in (λ n. not (is_same n name)) names other both.0 (passes_apart other name both.1)));
+    (λ both. stays_in (λ n. not (is_same n name)) names other both.0 (passes_apart other name both.1)),
+  );
   once = λ once. AllPairs-filter ◌≢◌ (λ n. not (is_same n name)) names once;
 }
 
@@ -65,16 +66,18 @@ pub gains : (name : FileName) (names : List FileName) → Gains name names (with
 gains name names = record {
   each = λ other. ((λ has. forth other (Contains-push_cases (without name names) name other has)), (λ one. back other one));
   once = λ once. all_pairs_push ◌≢◌ (without name names) name (AllPairs-filter ◌≢◌ (λ n. not (is_same n name)) names once)
-    (λ k d lt. apart_of (get_or (without name names) k d) name
+      (λ k d lt. apart_of (get_or (without name names) k d) name
       (All-get_or (λ n. not (is_same n name) ≡ true) (without name names) k d lt (filter_passes (λ n. not (is_same n name)) names)));
 }
   where
     forth : (other : FileName) → Contains (without name names) other ⊎ (name ≡ other) → Contains names other ⊎ (other ≡ name)
     forth other (inl has) = inl (stood (λ n. not (is_same n name)) names other has)
     forth other (inr e) = inr (sym e)
+
     tell : (other : FileName) (b : Bool) → is_same other name ≡ b → Contains names other → Contains (without name names ++ name ∷ []) other
     tell other true e has = subst (λ n. Contains (without name names ++ name ∷ []) n) (sym (is_same-true other name e)) (Contains-push (without name names) name)
     tell other false e has = Contains-append_left (without name names) (name ∷ []) other (stays_in (λ n. not (is_same n name)) names other has (ap not e))
+
     back : (other : FileName) → Contains names other ⊎ (other ≡ name) → Contains (without name names ++ name ∷ []) other
     back other (inl has) = tell other (is_same other name) refl has
     back other (inr e) = subst (λ n. Contains (without name names ++ name ∷ []) n) (sym e) (Contains-push (without name names) name)
@@ -96,11 +99,13 @@ lists_gain name bytes f old new some gained lists = record {
     pick : (other : FileName) → other ≢ name → Contains old other ⊎ (other ≡ name) → Contains old other
     pick other apart (inl has) = has
     pick other apart (inr e) = absurd (apart e)
+
     tell : (other : FileName) (b : Bool) → is_same other name ≡ b → Contains new other ↔ IsSome (if b then bytes else f other)
     tell other true e = ((λ has. some), (λ there. (gained.each other).1 (inr (is_same-true other name e))))
     tell other false e = (
       (λ has. (lists.each other).0 (pick other (apart_where other name e) ((gained.each other).0 has))),
-      (λ there. (gained.each other).1 (inl ((lists.each other).1 there))))
+      (λ there. (gained.each other).1 (inl ((lists.each other).1 there))),
+    )
 
 pub lists_lose : (name : FileName) (bytes : Option (List ℕ)) (f : Files) (old new : List FileName) → bytes ≡ None → Loses name old new → Lists f old → Lists (with_at name bytes f) new
 lists_lose name bytes f old new none lost lists = record {
@@ -113,13 +118,16 @@ lists_lose name bytes f old new none lost lists = record {
       where
         differ : false ≡ true → ⊥
         differ e = cc
+
     tell : (other : FileName) (b : Bool) → is_same other name ≡ b → Contains new other ↔ IsSome (if b then bytes else f other)
     tell other true e = (
       (λ has. absurd (((lost.each other).0 has).1 (is_same-true other name e))),
-      (λ there. absurd (no_some there)))
+      (λ there. absurd (no_some there)),
+    )
     tell other false e = (
       (λ has. (lists.each other).0 ((lost.each other).0 has).0),
-      (λ there. (lost.each other).1 ((lists.each other).1 there, apart_where other name e)))
+      (λ there. (lost.each other).1 ((lists.each other).1 there, apart_where other name e)),
+    )
 
 none_where : (o : Option (List ℕ)) → ¬ IsSome o → o ≡ None
 none_where None not = refl
@@ -142,12 +150,12 @@ on_same «from» to names same older lists = subst (λ f. Lists f names) (sym un
 pub on_renamed : («from» to : FileName) (old mid new : List FileName) → is_same «from» to ≡ false → Contains old «from» → Gains to old mid → Loses «from» mid new → GoesOn (Renamed «from» to) old new
 on_renamed «from» to old mid new apart has gained lost older lists =
     subst (λ f. Lists f new) (sym (moved-apart «from» to None (files_of older) (apart_where «from» to apart)))
-      (lists_lose «from» None _ mid new refl lost
-        (lists_gain to (files_of older «from») (files_of older) old mid ((lists.each «from»).0 has) gained lists))
+    (lists_lose «from» None _ mid new refl lost
+    (lists_gain to (files_of older «from») (files_of older) old mid ((lists.each «from»).0 has) gained lists))
 
 pub on_absent : («from» to : FileName) (old mid new : List FileName) → is_same «from» to ≡ false → ¬ Contains old «from» → Loses to old mid → Loses «from» mid new → GoesOn (Renamed «from» to) old new
 on_absent «from» to old mid new apart not first second older lists =
     subst (λ f. Lists f new) (sym (moved-apart «from» to None (files_of older) (apart_where «from» to apart)))
-      (lists_lose «from» None _ mid new refl second
-        (lists_lose to (files_of older «from») (files_of older) old mid
-          (none_where (files_of older «from») (λ there. not ((lists.each «from»).1 there))) first lists))
+    (lists_lose «from» None _ mid new refl second
+    (lists_lose to (files_of older «from») (files_of older) old mid
+    (none_where (files_of older «from») (λ there. not ((lists.each «from»).1 there))) first lists))

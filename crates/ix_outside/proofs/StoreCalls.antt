@@ -1,16 +1,15 @@
 -- What a rename does in a store in memory.
-use Rattle.std.proofs.Common.{◌≡◌, ◌≢◌, ◌⊎◌, ℕ, ◌≤◌, List, ◌∷◌, length, Bool, true, false, Option, Some, None, Result, Ok, Err, OnOk, IsErrOf, refl, sym, ap, subst, ◌∙◌, inl, inr, arith, if◌then◌else◌}
+use Rattle.std.proofs.Common.{◌≡◌, ◌≢◌, ◌⊎◌, List, ◌∷◌, Bool, true, false, Some, Result, Ok, Err, OnOk, refl, sym, ap, subst, ◌∙◌, inl, inr, if◌then◌else◌}
 use Rattle.ix_base.specs.declared.file_name.FileName.{FileName}
-use Rattle.ix_outside.specs.Causes.{HasStoreCause}
-use Rattle.ix_outside.specs.Files.{Files, Does, Puts, Removes, Renames, SameBut, Same, MayRename, MayRemove}
-use Rattle.ix_outside.specs.Images.{Leaves, Follows, NoMore, Elapses, IsDurable, AreSettled, AddsUnsynced, Syncs, MovesUnsynced, NoMoreUnsynced, MayHaveRenamed, MayHaveRemoved}
-use Rattle.ix_outside.specs.History.{is_same, with_at, moved, files_of, is_unsynced, IsUnsynced, Keeps, AllKept, IsImage, HasLeft}
-use Rattle.ix_outside.specs.HistoryLaws.{is_same-refl, is_same-true, is_same-apart, puts, removes, renames, goes_on}
+use Rattle.ix_outside.specs.Files.{Files, Does, Renames}
+use Rattle.ix_outside.specs.Images.{MovesUnsynced}
+use Rattle.ix_outside.specs.History.{is_same, files_of, is_unsynced, IsUnsynced}
+use Rattle.ix_outside.specs.HistoryLaws.{is_same-refl, is_same-true, renames}
 use Rattle.ix_outside.specs.Records.{Records}
 use Rattle.ix_outside.specs.declared.store.StoreFault.{StoreFault}
 use Rattle.ix_outside.specs.declared.store.StoreFault.TheVariants.{Failed, NoMemory}
 use Rattle.ix_outside.specs.declared.history.Call.{Call}
-use Rattle.ix_outside.specs.declared.history.Call.TheVariants.{Written, Synced, Renamed, Deleted, Settled}
+use Rattle.ix_outside.specs.declared.history.Call.TheVariants.{Renamed}
 
 pub does : {T : Type 0} (done failed : Files → Files → Type 0) (call : Call) (old new : List Call) (result : Result T StoreFault)
     → done (files_of old) (files_of (call ∷ old)) → Records call old new result → Does done failed (Some (files_of old)) (Some (files_of new)) result
@@ -40,6 +39,7 @@ moves_renamed «from» to old apart other e = first (tell_with (is_same other «
         → ((other ≡ to) × IsUnsynced old «from») ⊎ ((other ≢ to) × IsUnsynced old other)
     second (inl p) = inl (is_same-true other to p.0, p.1)
     second (inr p) = inr (apart_where other to p.0, p.1)
+
     first : (is_same other «from» ≡ true) × (false ≡ true) ⊎ (is_same other «from» ≡ false) × ((if is_same other to then is_unsynced old «from» else is_unsynced old other) ≡ true)
         → ((other ≡ to) × IsUnsynced old «from») ⊎ ((other ≢ to) × IsUnsynced old other)
     first (inl p) = absurd (differ p.1)

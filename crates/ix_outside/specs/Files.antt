@@ -1,7 +1,6 @@
 -- The files of a store, and what its calls do to them.
-use Rattle.std.specs.Prelude.{◌≡◌, ◌≢◌, ◌↔◌, ◌⊎◌, ℕ, ◌≤◌, List, Option, Some, None, option_map, Result, Ok, Err, Contains, All, AllPairs, IsSome, ⊤}
+use Rattle.std.specs.Prelude.{◌≡◌, ◌≢◌, ◌↔◌, ◌⊎◌, ℕ, List, Option, Some, None, Result, Ok, Err, Contains, AllPairs, IsSome, ⊤}
 use Rattle.std.proofs.Common.{subst, sym}
-use Rattle.ix_base.specs.FileNames.{IsName}
 use Rattle.ix_base.specs.declared.file_name.FileName.{FileName}
 use Rattle.ix_outside.specs.declared.store.StoreFault.{StoreFault}
 use Rattle.ix_outside.specs.declared.store.StoreFault.TheVariants.{Failed, NoMemory}

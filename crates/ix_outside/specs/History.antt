@@ -1,10 +1,9 @@
 -- What calls have made of a store that was empty, and what a crash may leave of it. The calls stand
 -- the newest first.
 use Rattle.std.specs.Prelude.{◌≡◌, ◌⊎◌, ℕ, ◌≤◌, List, [], ◌∷◌, length, Option, Some, None, Bool, true, false, ◌&&◌, ◌==◌, ◌/◌, ◌%◌, take, if◌then◌else◌}
-use Rattle.ix_base.specs.FileNames.{IsName}
 use Rattle.ix_base.specs.declared.file_name.FileName.{FileName}
 use Rattle.ix_base.specs.declared.file_name.FileName.TheVariants.{Commit, Pending, Rows, Posts, Live, Values}
-use Rattle.ix_outside.specs.Files.{Files, SameBut, Puts, Renames, Removes}
+use Rattle.ix_outside.specs.Files.{Files, SameBut}
 use Rattle.ix_outside.specs.Images.{MayHaveRenamed, MayHaveRemoved}
 use Rattle.ix_outside.specs.declared.outcome.StepsLeft.{StepsLeft}
 use Rattle.ix_outside.specs.declared.outcome.StepsLeft.TheVariants.{Every, Nothing, Even, Odd}
@@ -76,6 +75,13 @@ HasLeft [] since image = IsImage [] image
 HasLeft (call ∷ older) since image = IsImage (call ∷ older) image ⊎ ((since ≤ length older) × HasLeft older since image)
 
 -- ---- one outcome of a crash
+
+-- the outcomes in their order, again and again
+abbrev pub steps_of : ℕ → StepsLeft
+steps_of choice = if choice % 4 == 0 then Every else (if choice % 4 == 1 then Nothing else (if choice % 4 == 2 then Even else Odd))
+
+abbrev pub bytes_of : ℕ → BytesLeft
+bytes_of choice = if choice % 4 == 0 then Whole else (if choice % 4 == 1 then Absent else (if choice % 4 == 2 then Empty else Half))
 
 -- a step with so many calls before it is there
 abbrev pub leaves_step : StepsLeft → ℕ → Bool

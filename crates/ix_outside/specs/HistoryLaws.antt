@@ -1,16 +1,16 @@
 -- What follows of the calls of a store from its definitions.
-use Rattle.std.specs.Prelude.{◌≡◌, ◌≢◌, ◌⊎◌, ℕ, ◌+◌, ◌≤◌, List, [], ◌∷◌, length, Option, Some, None, Bool, true, false, not, ◌&&◌, ◌==◌, if◌then◌else◌, refl}
+use Rattle.std.specs.Prelude.{◌≡◌, ◌≢◌, ℕ, ◌≤◌, List, [], ◌∷◌, length, Option, Some, None, Bool, true, false, not, ◌&&◌, ◌==◌, if◌then◌else◌, refl}
 use Rattle.std.proofs.Common.{inl, inr, arith, subst, sym, ap, ◌∙◌}
 use Rattle.std.proofs.lemmas.Bool.{eq-eqb, eqb-true}
 use Rattle.ix_base.specs.declared.file_name.FileName.{FileName}
 use Rattle.ix_base.specs.declared.file_name.FileName.TheVariants.{Commit, Pending, Rows, Posts, Live, Values}
 use Rattle.ix_outside.specs.Files.{Files, SameBut, Puts, Renames, Removes}
 use Rattle.ix_outside.specs.Images.{MayHaveRenamed, MayHaveRemoved, Elapses}
-use Rattle.ix_outside.specs.History.{is_same, with_at, moved, files_of, is_unsynced, IsUnsynced, Keeps, AllKept, IsImage, HasLeft, leaves_step, bytes_left, outcome_of}
+use Rattle.ix_outside.specs.History.{is_same, with_at, moved, files_of, is_unsynced, IsImage, HasLeft, leaves_step, bytes_left, outcome_of}
 use Rattle.ix_outside.specs.declared.outcome.StepsLeft.{StepsLeft}
-use Rattle.ix_outside.specs.declared.outcome.StepsLeft.TheVariants.{Every, Nothing, Even, Odd}
+use Rattle.ix_outside.specs.declared.outcome.StepsLeft.TheVariants.{Every}
 use Rattle.ix_outside.specs.declared.outcome.BytesLeft.{BytesLeft}
-use Rattle.ix_outside.specs.declared.outcome.BytesLeft.TheVariants.{Whole, Absent, Empty, Half}
+use Rattle.ix_outside.specs.declared.outcome.BytesLeft.TheVariants.{Whole}
 use Rattle.ix_outside.specs.declared.history.Call.{Call}
 use Rattle.ix_outside.specs.declared.history.Call.TheVariants.{Written, Synced, Renamed, Deleted, Settled}
 
@@ -49,6 +49,7 @@ both a b c d e = (eqb-true a b (left (a == b) (c == d) e), eqb-true c d (right (
     left : (x y : Bool) → (x && y) ≡ true → x ≡ true
     left true y e = refl
     left false y e = e
+
     right : (x y : Bool) → (x && y) ≡ true → y ≡ true
     right true y e = e
     right false y e = cc
@@ -182,10 +183,14 @@ unfolding Agree
 outcome_is_image steps bytes [] = λ name. refl
 outcome_is_image steps bytes (Written name written ∷ older) =
     (outcome_of steps bytes older, outcome_is_image steps bytes older, keeps_others name (bytes_left bytes written) (outcome_of steps bytes older))
-outcome_is_image steps bytes (Synced name ∷ older) =
-    (outcome_of steps bytes older, outcome_is_image steps bytes older,
-     record { there = with_at-same name (files_of older name) (outcome_of steps bytes older);
-              others = keeps_others name (files_of older name) (outcome_of steps bytes older) })
+outcome_is_image steps bytes (Synced name ∷ older) = (
+  outcome_of steps bytes older,
+  outcome_is_image steps bytes older,
+  record {
+    there = with_at-same name (files_of older name) (outcome_of steps bytes older);
+    others = keeps_others name (files_of older name) (outcome_of steps bytes older);
+  },
+)
 outcome_is_image steps bytes (Renamed «from» to ∷ older) =
     (outcome_of steps bytes older, outcome_is_image steps bytes older, may_rename_if (leaves_step steps (length older)) «from» to (outcome_of steps bytes older))
 outcome_is_image steps bytes (Deleted name ∷ older) =

@@ -1,7 +1,7 @@
 -- What a crash may leave of the files of a store, at any moment.
-use Rattle.std.specs.Prelude.{◌≡◌, ◌≢◌, ◌⊎◌, ℕ, ◌≤◌, List, Option, Some, None, Result, Ok, Err, OnOk, ⊤}
+use Rattle.std.specs.Prelude.{◌≡◌, ◌≢◌, ◌⊎◌, ℕ, ◌≤◌, Option, Some, None, Result, Ok, Err, ⊤}
 use Rattle.ix_base.specs.declared.file_name.FileName.{FileName}
-use Rattle.ix_outside.specs.Files.{Files, SameBut, Renames, Removes}
+use Rattle.ix_outside.specs.Files.{Files, Renames, Removes}
 use Rattle.ix_outside.specs.declared.store.StoreFault.{StoreFault}
 use Rattle.ix_outside.specs.declared.store.StoreFault.TheVariants.{Failed, NoMemory}
 

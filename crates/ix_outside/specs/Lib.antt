@@ -7,3 +7,4 @@ pub mod Calls
 pub mod Left
 pub mod Names
 pub mod Records
+pub mod Settled

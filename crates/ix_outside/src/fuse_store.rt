@@ -1,7 +1,6 @@
 //! A store that fails for good after so many calls.
-ghost use Rattle.std.specs.Prelude.{◌≡◌, ◌+◌, ◌-◌, ◌^◌, ◌≤◌, min};
+ghost use Rattle.std.specs.Prelude.{◌≡◌, ◌+◌, ◌-◌, ◌^◌, ◌↔◌, min, IsTrue};
 ghost use Rattle.std.specs.Bool.{OnTrue, OnFalse};
-ghost use Rattle.ix_outside.specs.Causes.{Rose};
 
 use crate::store::{Store, StoreFault};
 use ix_base::FileName;
@@ -45,8 +44,10 @@ impl<S: Store> FuseStore<S> {
 }
 
 impl Fuse {
-    /// Whether this call fails.
+    /// Whether this call fails: exactly where no more pass. A call that passes is one less to come.
     fn next_fails(&mut self) -> bool
+        ensures fails { IsTrue result ↔ (self.old.passes ≡ 0) }
+        ensures passes { self.new.passes ≡ self.old.passes - 1 }
         ensures same { OnFalse result (self.new.faults ≡ self.old.faults) }
         ensures risen { OnTrue result (self.new.faults ≡ min (self.old.faults + 1) (2 ^ 64 - 1)) }
     {

@@ -8,3 +8,13 @@ pub trait Gate: Sync {
     /// The line has this number.
     fn told(&self, line: u32, number: u64);
 }
+
+/// The program's gate, which does nothing.
+#[derive(Clone, Copy, Debug)]
+pub struct EmptyGate;
+
+impl Gate for EmptyGate {
+    fn before(&self, _line: u32) {}
+
+    fn told(&self, _line: u32, _number: u64) {}
+}

@@ -4,6 +4,7 @@ ghost use Rattle.std.specs.Prelude.{◌≡◌, ◌∷◌, [], All, IfOk, OnOk, O
 use crate::left::left_of;
 use crate::names::go_on;
 use crate::outcome::{BytesLeft, StepsLeft};
+use crate::settled::{put, settle, take_out};
 use ix_base::{FileName, List, NoMemory};
 use std::alloc::Global;
 use std::marker::Model;
@@ -48,7 +49,8 @@ impl History {
     ghost use Rattle.std.specs.Option.{option_copied};
     ghost use Rattle.ix_base.specs.FileNames.{IsName};
     ghost use Rattle.ix_outside.specs.Files.{Lists};
-    ghost use Rattle.ix_outside.specs.History.{files_of, outcome_of};
+    ghost use Rattle.ix_outside.specs.History.{files_of, outcome_of, with_at, IsImage, IsUnsynced};
+    ghost use Rattle.ix_outside.specs.Settled.{AreDurable, AllSynced, taken_at, file_made};
     ghost use Rattle.ix_outside.specs.Names.{NamesFile};
 
     /// No call. It takes no memory.
@@ -102,5 +104,60 @@ impl History {
         ensures { option_copied result ≡ files_of self.now name }
     {
         self.left(StepsLeft::Every, BytesLeft::Whole, name)
+    }
+
+    /// The files that a crash of this outcome leaves, as the calls that make them on the disk.
+    pub fn crash(
+        &self,
+        alloc: Global,
+        steps: StepsLeft,
+        bytes: BytesLeft,
+    ) -> Result<History, NoMemory>
+        ensures files { IfOk result (λ left. files_of left ≡ outcome_of steps bytes self.now) }
+        ensures durable { IfOk result (λ left. AreDurable (files_of left) (IsImage left) (IsUnsynced left)) }
+    {
+        let mut left = History::new(alloc);
+        for call in &self.calls {
+            self.leave(&mut left, steps, bytes, call)?;
+        }
+        settle(&mut left)?;
+        Ok(left)
+    }
+
+    /// Puts the file that this call made among those that a crash of this outcome leaves.
+    fn leave(
+        &self,
+        left: &mut History,
+        steps: StepsLeft,
+        bytes: BytesLeft,
+        call: &Call,
+    ) -> Result<(), NoMemory>
+        requires { NamesFile call.now }
+        ensures files { OnOk result (files_of left.new ≡ taken_at (file_made call.now) (outcome_of steps bytes self.now) (files_of left.old)) }
+        ensures synced { OnOk result (AllSynced left.old → AllSynced left.new) }
+    {
+        match call {
+            Call::Written(name, _) => self.leave_file(left, steps, bytes, *name),
+            Call::Renamed(_, name) => self.leave_file(left, steps, bytes, *name),
+            Call::Synced(_) | Call::Deleted(_) | Call::Settled => Ok(()),
+        }
+    }
+
+    /// Puts this file among those that a crash of this outcome leaves.
+    fn leave_file(
+        &self,
+        left: &mut History,
+        steps: StepsLeft,
+        bytes: BytesLeft,
+        name: FileName,
+    ) -> Result<(), NoMemory>
+        requires { IsName name }
+        ensures files { OnOk result (files_of left.new ≡ with_at name (outcome_of steps bytes self.now name) (files_of left.old)) }
+        ensures synced { OnOk result (AllSynced left.old → AllSynced left.new) }
+    {
+        match self.left(steps, bytes, name) {
+            None => take_out(left, name),
+            Some(bytes) => put(left, name, bytes),
+        }
     }
 }

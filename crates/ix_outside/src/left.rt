@@ -46,13 +46,7 @@ pub fn left_of(
 }
 
 /// Looks at one call, with so many calls before it.
-fn look(
-    call: &Call,
-    before: usize,
-    steps: StepsLeft,
-    bytes: BytesLeft,
-    name: FileName,
-) -> Found<'_>
+fn look(call: &Call, before: usize, steps: StepsLeft, bytes: BytesLeft, name: FileName) -> Found<'_>
     ensures { (older : List CallOf) → length older ≡ before → Goes older (outcome_of steps bytes (call.now ∷ older) name) result }
 {
     match call {

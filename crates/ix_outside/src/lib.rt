@@ -4,7 +4,9 @@
 //! it failed. A count of faults never falls, and a call answers `Failed` only where it rose.
 #![tactic(auto)]
 
+mod dir_store;
 mod failing_calls;
+mod fault_count;
 mod fuse_store;
 mod gate;
 mod history;
@@ -15,13 +17,16 @@ mod memory_store;
 mod names;
 mod outcome;
 mod recorded;
+mod settled;
 mod sink;
 mod source;
 mod steady_source;
 mod store;
+mod streams;
 
+pub use dir_store::DirStore;
 pub use fuse_store::FuseStore;
-pub use gate::Gate;
+pub use gate::{EmptyGate, Gate};
 pub use memory_sink::MemorySink;
 pub use memory_source::MemorySource;
 pub use memory_store::MemoryStore;
@@ -30,3 +35,7 @@ pub use sink::Sink;
 pub use source::{Failed, Source};
 pub use steady_source::SteadySource;
 pub use store::{Store, StoreFault};
+pub use streams::{ReadSource, WriteSink};
+
+#[cfg(test)]
+mod tests;

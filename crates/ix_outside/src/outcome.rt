@@ -15,7 +15,19 @@ pub enum StepsLeft {
 
 impl StepsLeft {
     ghost use Rattle.std.specs.Prelude.{◌≡◌};
-    ghost use Rattle.ix_outside.specs.History.{leaves_step};
+    ghost use Rattle.ix_outside.specs.History.{leaves_step, steps_of};
+
+    /// One of the four, by the rest of the choice at 4.
+    pub fn of_choice(choice: u32) -> Self
+        ensures { result ≡ steps_of choice }
+    {
+        match choice % 4 {
+            0 => StepsLeft::Every,
+            1 => StepsLeft::Nothing,
+            2 => StepsLeft::Even,
+            _ => StepsLeft::Odd,
+        }
+    }
 
     /// Whether the step with so many calls before it is there.
     pub fn leaves(self, before: usize) -> bool
@@ -41,4 +53,21 @@ pub enum BytesLeft {
     Empty,
     /// The first half of its bytes.
     Half,
+}
+
+impl BytesLeft {
+    ghost use Rattle.std.specs.Prelude.{◌≡◌};
+    ghost use Rattle.ix_outside.specs.History.{bytes_of};
+
+    /// One of the four, by the rest of the choice at 4.
+    pub fn of_choice(choice: u32) -> Self
+        ensures { result ≡ bytes_of choice }
+    {
+        match choice % 4 {
+            0 => BytesLeft::Whole,
+            1 => BytesLeft::Absent,
+            2 => BytesLeft::Empty,
+            _ => BytesLeft::Half,
+        }
+    }
 }

@@ -1,4 +1,4 @@
-use Rattle.std.proofs.Common.{rules, ◌≡◌, true, subst, sym, length}
+use Rattle.std.proofs.Common.{rules, ◌≡◌, true}
 use Rattle.ix_outside.specs.History.{is_same, leaves_step}
 use Rattle.ix_outside.proofs.Looks.{at_written, at_synced, at_renamed}
 use Rattle.ix_outside.proofs.left.look.Goals as goal

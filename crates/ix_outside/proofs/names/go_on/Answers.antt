@@ -8,14 +8,14 @@ use Rattle.ix_outside.proofs.names.go_on.Goals as goal
 pub returns-in-Written-clause-change : goal.returns-in-Written-clause-change
 returns-in-Written-clause-change c =
     on_ok_weaker c.gain.result
-      (λ gained. subst (λ (call : Call). GoesOn call c.args.names.now.items c.gain.new.names.items) (sym c.in-Written.is) (on_written _ _ _ _ gained))
-      c.gain.ensures.change
+    (λ gained. subst (λ (call : Call). GoesOn call c.args.names.now.items c.gain.new.names.items) (sym c.in-Written.is) (on_written _ _ _ _ gained))
+    c.gain.ensures.change
 
 pub returns-in-Renamed-clause-change : goal.returns-in-Renamed-clause-change
 returns-in-Renamed-clause-change c =
     on_ok_weaker c.rename.result
-      (λ moved. subst (λ (call : Call). GoesOn call c.args.names.now.items c.rename.new.names.items) (sym c.in-Renamed.is) moved)
-      c.rename.ensures.change
+    (λ moved. subst (λ (call : Call). GoesOn call c.args.names.now.items c.rename.new.names.items) (sym c.in-Renamed.is) moved)
+    c.rename.ensures.change
 
 pub returns-in-Deleted-clause-change : goal.returns-in-Deleted-clause-change
 returns-in-Deleted-clause-change c =

@@ -1,8 +1,7 @@
-use Rattle.std.proofs.Common.{sym, subst, not}
+use Rattle.std.proofs.Common.{not}
 use Rattle.std.proofs.lemmas.List.Elements.{All-filter}
 use Rattle.ix_base.specs.FileNames.{IsName}
 use Rattle.ix_outside.specs.History.{is_same}
-use Rattle.ix_outside.specs.Names.{Loses}
 use Rattle.ix_outside.proofs.NameLists.{loses}
 use Rattle.ix_outside.proofs.names.lose.Goals as goal
 

@@ -1,4 +1,4 @@
-use Rattle.std.proofs.Common.{rules, ◌≡◌, true, false, Contains}
+use Rattle.std.proofs.Common.{rules, ◌≡◌, false, Contains}
 use Rattle.ix_outside.proofs.NameLists.{on_renamed, on_absent}
 use Rattle.ix_outside.specs.History.{is_same}
 use Rattle.ix_outside.proofs.names.rename.Goals as goal

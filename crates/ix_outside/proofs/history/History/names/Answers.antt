@@ -16,7 +16,7 @@ loop-call-preserved c =
     let named : NamesFile c.call-item.result = subst NamesFile here (All-get_or NamesFile c.deref-call-items.result.now c.loop-call.call-index c.call-item.result lt all) in
     record {
       names = subst (λ (calls : List Call). Lists (files_of calls) c.go_on.new.names.items)
-        (sym (last ∙ ap (λ x. x ∷ reverse (take c.loop-call.call-index c.deref-call-items.result.now)) here))
-        (c.in_ok-go_on.ensures.change (reverse (take c.loop-call.call-index c.deref-call-items.result.now)) c.loop-call.invariant.names);
+          (sym (last ∙ ap (λ x. x ∷ reverse (take c.loop-call.call-index c.deref-call-items.result.now)) here))
+          (c.in_ok-go_on.ensures.change (reverse (take c.loop-call.call-index c.deref-call-items.result.now)) c.loop-call.invariant.names);
       real = c.in_ok-go_on.ensures.real named c.loop-call.invariant.real;
     }
