@@ -1,0 +1,4 @@
+pub mod Forms
+pub mod Fields
+pub mod Both
+pub mod QueryForms
