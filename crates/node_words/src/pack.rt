@@ -1,5 +1,5 @@
 //! Bytes in words.
-ghost use Rattle.std.specs.Prelude.{◌≡◌, ◌∷◌, IfOk, slice_index};
+ghost use Rattle.std.specs.Prelude.{◌≡◌, ◌∷◌, IfOk, drop, slice_index};
 ghost use Rattle.ix_base.specs.Words.{first_word, packed};
 
 use std::alloc::{AllocError, Global};
@@ -13,7 +13,7 @@ pub(crate) fn pack(alloc: Global, head: u64, bytes: &[u8]) -> Result<Vec<u64>, A
     let mut rest = bytes;
     while !rest.is_empty() {
         words.push(first_word(rest))?;
-        rest = &rest[rest.len().min(8)..];
+        rest = after_word(rest);
     }
     Ok(words)
 }
@@ -33,6 +33,17 @@ fn first_word(bytes: &[u8]) -> u64
         byte_at(bytes, 6),
         byte_at(bytes, 7),
     ])
+}
+
+/// What follows the first eight bytes.
+fn after_word(bytes: &[u8]) -> &[u8]
+    ensures { result.now ≡ drop 8 bytes.now }
+{
+    if bytes.len() < 8 {
+        &[]
+    } else {
+        bytes.split_at(8).1
+    }
 }
 
 fn byte_at(bytes: &[u8], at: usize) -> u8

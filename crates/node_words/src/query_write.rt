@@ -45,9 +45,9 @@ fn put_list(out: &mut Vec<u8>, queries: &Queries) -> Result<(), AllocError>
     ensures bytes { OnOk result (out.new.items ≡ out.old.items ++ list_bytes queries.now) }
     ensures queries { OnOk result (IsQueryList queries.now) }
 {
-    let queries = queries.as_slice();
-    put_number(out, queries.len() as u32)?;
-    for query in queries {
+    let items = queries.as_slice();
+    put_number(out, items.len() as u32)?;
+    for query in items {
         put_query(out, query)?;
     }
     Ok(())

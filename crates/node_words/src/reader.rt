@@ -61,16 +61,14 @@ impl<'a> Reader<'a> {
         ensures { Reads (λ found. found) (λ n. n < 2 ^ 32) be32 self.old self.new result }
     {
         let front = self.take(4)?;
-        Ok(u32::from_be_bytes([front[0], front[1], front[2], front[3]]))
+        Ok(number_of(front))
     }
 
     pub(crate) fn signed(&mut self) -> Result<i64, ReadError>
         ensures { Reads (λ found. found) (FitsSigned w64) signed64 self.old self.new result }
     {
         let front = self.take(8)?;
-        Ok(i64::from_be_bytes([
-            front[0], front[1], front[2], front[3], front[4], front[5], front[6], front[7],
-        ]))
+        Ok(signed_of(front))
     }
 
     pub(crate) fn text(&mut self, alloc: Global) -> Result<Text, ReadError>
@@ -101,4 +99,20 @@ impl<'a> Reader<'a> {
         let bytes = self.text(alloc)?;
         Ok(Term { field, bytes })
     }
+}
+
+fn number_of(bytes: &[u8]) -> u32
+    requires { length bytes.now ≡ 4 }
+    ensures { bytes.now ≡ be32 result }
+{
+    u32::from_be_bytes([bytes[0], bytes[1], bytes[2], bytes[3]])
+}
+
+fn signed_of(bytes: &[u8]) -> i64
+    requires { length bytes.now ≡ 8 }
+    ensures { bytes.now ≡ signed64 result }
+{
+    i64::from_be_bytes([
+        bytes[0], bytes[1], bytes[2], bytes[3], bytes[4], bytes[5], bytes[6], bytes[7],
+    ])
 }
