@@ -4,3 +4,4 @@ pub mod Both
 pub mod QueryForms
 pub mod Packing
 pub mod Sizes
+pub mod Reading
