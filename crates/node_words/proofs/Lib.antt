@@ -5,3 +5,5 @@ pub mod QueryForms
 pub mod Packing
 pub mod Sizes
 pub mod Reading
+pub mod Entries
+pub mod Small

@@ -1,5 +1,5 @@
 //! Words as bytes again.
-ghost use Rattle.std.specs.Prelude.{◌≡◌, ◌++◌, ◌↔◌, IfOk, IsTrue, OnOk, slice_index, EachIndex};
+ghost use Rattle.std.specs.Prelude.{◌≡◌, ◌++◌, ◌↔◌, ◌≤◌, IfOk, IsTrue, OnOk, drop, length, slice_index, EachIndex};
 ghost use Rattle.std.specs.List.{flat_map};
 ghost use Rattle.ix_base.specs.Spelling.{be64};
 ghost use Rattle.node_words.specs.Packed.{Unpacks};
@@ -21,17 +21,20 @@ pub(crate) fn unpack(alloc: Global, words: &[u64]) -> Result<(u64, Vec<u8>), Rea
         return Err(ReadError::Foreign);
     }
     let mut bytes = bytes_of(alloc, rest)?;
-    if len > bytes.len() || !is_zero(&bytes[len..]) {
+    if !is_zero_from(&bytes, len) {
         return Err(ReadError::Foreign);
     }
     bytes.truncate(len);
     Ok((kind, bytes))
 }
 
-fn is_zero(bytes: &[u8]) -> bool
-    ensures { IsTrue result ↔ EachIndex bytes.now (λ k. slice_index bytes.now k ≡ 0) }
+/// Whether each byte from this place on is 0.
+fn is_zero_from(bytes: &[u8], at: usize) -> bool
+    requires { at ≤ length bytes.now }
+    ensures { IsTrue result ↔ EachIndex (drop at bytes.now) (λ k. slice_index (drop at bytes.now) k ≡ 0) }
 {
-    bytes.iter().all(|byte| *byte == 0)
+    let (_, rest) = bytes.split_at(at);
+    rest.iter().all(|byte| *byte == 0)
 }
 
 fn bytes_of(alloc: Global, words: &[u64]) -> Result<Vec<u8>, AllocError>
