@@ -7,3 +7,4 @@ pub mod Sizes
 pub mod Reading
 pub mod Entries
 pub mod Small
+pub mod Spelled

@@ -1,6 +1,7 @@
 -- The bytes of an entry are bytes.
 use Rattle.std.proofs.Common.{◌≡◌, ℕ, zero, suc, ◌+◌, ◌/◌, ◌%◌, ◌<◌, ◌≤◌, ◌^◌, Bool, true, false, cond, ltb, ℤ, List, [], ◌∷◌, ◌++◌, length, get_or, refl, sym, ap, subst, ◌∙◌, arith, inl, inr}
-use lib.Utf8.{scalar, scalars, encode, encodes, scalar_cases}
+use mathlib.Core.Bool.{◌&&◌}
+use lib.Utf8.{scalar, scalars, next, encode, encodes, scalar_cases}
 use Rattle.std.specs.Str.{IsUtf8}
 use Rattle.std.proofs.lemmas.Bool.{cases_lt, lt-ltb, le-ltb}
 use Rattle.ix_base.specs.Entry.{Entry, add, update, delete_term, delete_query, set_number, commit, turn, kind_of, entry_bytes, term_bytes, IsOwnTerm, IsEntry}
@@ -43,21 +44,27 @@ signed64_fits z (suc (suc (suc (suc (suc (suc (suc (suc i)))))))) = omega arith
 below_top : (c : ℕ) → scalar c ≡ true → c < 1114112
 below_top c is = elim (scalar_cases c is) [ inl lt ↦ omega arith | inr both ↦ both.1 ]
 
+next_fits : (n : ℕ) → next n < 256
+next_fits n = omega arith
+
+two_fit : (a b : ℕ) → a < 256 → b < 256 → AreBytes (a ∷ b ∷ [])
+two_fit a b p q = cons_fits a (b ∷ []) p (cons_fits b [] q nil_fits)
+
 encode_fits : (c : ℕ) → c < 1114112 → AreBytes (encode c)
 unfolding encode
 encode_fits c lt =
     elim (cases_lt c 128) [
       | inl one ↦ rw (lt-ltb c 128 one) (cons_fits c [] (omega arith) nil_fits)
       | inr more ↦ rw (le-ltb c 128 more) (elim (cases_lt c 2048) [
-        | inl two ↦ rw (lt-ltb c 2048 two) (cons_fits _ _ (omega arith) (cons_fits _ _ (omega arith) nil_fits))
+        | inl two ↦ rw (lt-ltb c 2048 two) (two_fit (192 + c / 64) (next c) (omega arith) (next_fits c))
         | inr more ↦ rw (le-ltb c 2048 more) (elim (cases_lt c 65536) [
-          | inl three ↦ rw (lt-ltb c 65536 three) (cons_fits _ _ (omega arith) (cons_fits _ _ (omega arith) (cons_fits _ _ (omega arith) nil_fits)))
-          | inr more ↦ rw (le-ltb c 65536 more) (cons_fits _ _ (omega arith) (cons_fits _ _ (omega arith) (cons_fits _ _ (omega arith) (cons_fits _ _ (omega arith) nil_fits))))
+          | inl three ↦ rw (lt-ltb c 65536 three) (cons_fits (224 + c / 4096) (next (c / 64) ∷ next c ∷ []) (omega arith) (two_fit (next (c / 64)) (next c) (next_fits (c / 64)) (next_fits c)))
+          | inr more ↦ rw (le-ltb c 65536 more) (cons_fits (240 + c / 262144) (next (c / 4096) ∷ next (c / 64) ∷ next c ∷ []) (omega arith) (cons_fits (next (c / 4096)) (next (c / 64) ∷ next c ∷ []) (next_fits (c / 4096)) (two_fit (next (c / 64)) (next c) (next_fits (c / 64)) (next_fits c))))
         ])
       ])
     ]
 
-both_true : (a b : Bool) → cond a b false ≡ true → (a ≡ true) × (b ≡ true)
+both_true : (a b : Bool) → (a && b) ≡ true → (a ≡ true) × (b ≡ true)
 both_true true b e = (refl, e)
 both_true false b e = absurd cc
 
