@@ -1,0 +1,10 @@
+pub mod Forms
+pub mod Fields
+pub mod Both
+pub mod QueryForms
+pub mod Packing
+pub mod Sizes
+pub mod Reading
+pub mod Entries
+pub mod Small
+pub mod Spelled

@@ -1,0 +1,94 @@
+-- Reading queries from the front of bytes.
+use Rattle.std.proofs.Common.{◌≡◌, ℕ, ◌+◌, ◌<◌, ◌≤◌, ◌^◌, List, [], ◌∷◌, ◌++◌, length, drop, refl, sym, ap, subst, ◌∙◌, append_assoc, arith, length-append}
+use Rattle.ix_base.specs.EntryLaws.{length-be32}
+use Rattle.ix_base.specs.Query.{tree_of, trees_of}
+use Rattle.ix_base.specs.QueryBytes.{count_of, query_bytes, queries_bytes, list_bytes, IsQuery, AreQueries, IsQueryList}
+use Rattle.ix_base.specs.Entry.{term_bytes}
+use Rattle.ix_base.specs.Spelling.{be32, text_bytes, IsText, IsName}
+use Rattle.ix_base.specs.Tree.{Tree, all, term, phrase, bool, Trees, no_trees, tree}
+use Rattle.ix_base.specs.declared.query.Query.{Query}
+use Rattle.node_words.proofs.Forms.{one_number}
+use Rattle.node_words.proofs.QueryForms.{goes_on}
+use Rattle.node_words.proofs.Sizes.{queries_bytes-push, count_of-push, AreQueries-push}
+use Rattle.node_words.specs.Reads.{Begins, Fails, byte_alone, IsPair, pair_bytes, IsTerm, AreLists, lists_bytes}
+use Rattle.node_words.specs.declared.fault.ReadError.{ReadError}
+use Rattle.node_words.specs.declared.fault.ReadError.TheVariants.{Memory, Foreign}
+
+-- ---- the first byte of a query says its kind
+
+first_byte : (bytes : List ℕ) → Fails (λ b. b < 256) byte_alone bytes Foreign → Fails IsQuery query_bytes bytes Foreign
+first_byte bytes h all rest is e = h 0 rest (omega arith) e
+first_byte bytes h (term f t) rest is e = h 1 (pair_bytes (f, t) ++ rest) (omega arith) e
+first_byte bytes h (phrase f t) rest is e = h 2 (pair_bytes (f, t) ++ rest) (omega arith) e
+first_byte bytes h (bool a b c) rest is e = h 3 (lists_bytes (a, (b, c)) ++ rest) (omega arith) e
+
+pub byte_fails : (e : ReadError) (bytes : List ℕ) → Fails (λ b. b < 256) byte_alone bytes e → Fails IsQuery query_bytes bytes e
+byte_fails Memory bytes h = tt
+byte_fails Foreign bytes h = first_byte bytes h
+
+after_one : (bytes mid : List ℕ) → bytes ≡ 1 ∷ mid → Fails IsTerm term_bytes mid Foreign → Fails IsQuery query_bytes bytes Foreign
+after_one bytes mid b h all rest is e = absurd (cc b)
+after_one bytes mid b h (term f t) rest is e = h (record { field = f; bytes = t }) rest is (ap (drop 1) (sym b ∙ e))
+after_one bytes mid b h (phrase f t) rest is e = absurd (cc b)
+after_one bytes mid b h (bool x y z) rest is e = absurd (cc b)
+
+pub term_fails : (e : ReadError) (bytes mid : List ℕ) (byte : ℕ) → byte ≡ 1 → bytes ≡ byte_alone byte ++ mid → Fails IsTerm term_bytes mid e → Fails IsQuery query_bytes bytes e
+term_fails Memory bytes mid byte one b h = tt
+term_fails Foreign bytes mid byte one b h = after_one bytes mid (b ∙ ap (λ (n : ℕ). n ∷ mid) one) h
+
+after_two : (bytes mid : List ℕ) → bytes ≡ 2 ∷ mid → Fails IsPair pair_bytes mid Foreign → Fails IsQuery query_bytes bytes Foreign
+after_two bytes mid b h all rest is e = absurd (cc b)
+after_two bytes mid b h (term f t) rest is e = absurd (cc b)
+after_two bytes mid b h (phrase f t) rest is e = h (f, t) rest is (ap (drop 1) (sym b ∙ e))
+after_two bytes mid b h (bool x y z) rest is e = absurd (cc b)
+
+pub phrase_fails : (e : ReadError) (bytes mid : List ℕ) (byte : ℕ) → byte ≡ 2 → bytes ≡ byte_alone byte ++ mid → Fails IsPair pair_bytes mid e → Fails IsQuery query_bytes bytes e
+phrase_fails Memory bytes mid byte two b h = tt
+phrase_fails Foreign bytes mid byte two b h = after_two bytes mid (b ∙ ap (λ (n : ℕ). n ∷ mid) two) h
+
+after_three : (bytes mid : List ℕ) → bytes ≡ 3 ∷ mid → Fails AreLists lists_bytes mid Foreign → Fails IsQuery query_bytes bytes Foreign
+after_three bytes mid b h all rest is e = absurd (cc b)
+after_three bytes mid b h (term f t) rest is e = absurd (cc b)
+after_three bytes mid b h (phrase f t) rest is e = absurd (cc b)
+after_three bytes mid b h (bool x y z) rest is e = h (x, (y, z)) rest (is.0, (is.1, is.2)) (ap (drop 1) (sym b ∙ e))
+
+pub bool_fails : (e : ReadError) (bytes mid : List ℕ) (byte : ℕ) → byte ≡ 3 → bytes ≡ byte_alone byte ++ mid → Fails AreLists lists_bytes mid e → Fails IsQuery query_bytes bytes e
+bool_fails Memory bytes mid byte three b h = tt
+bool_fails Foreign bytes mid byte three b h = after_three bytes mid (b ∙ ap (λ (n : ℕ). n ∷ mid) three) h
+
+
+front-of : (byte tag : ℕ) (mid rest : List ℕ) → byte ∷ mid ≡ tag ∷ rest → byte ≡ tag
+front-of byte tag mid rest e = cc
+
+-- any other first byte
+pub other_fails : (bytes mid : List ℕ) (byte : ℕ) → 4 ≤ byte → bytes ≡ byte_alone byte ++ mid → Fails IsQuery query_bytes bytes Foreign
+other_fails bytes mid byte le b all rest is e = absurd (omega (arith, front-of byte 0 mid rest (sym b ∙ e)))
+other_fails bytes mid byte le b (term f t) rest is e = absurd (omega (arith, front-of byte 1 mid (pair_bytes (f, t) ++ rest) (sym b ∙ e)))
+other_fails bytes mid byte le b (phrase f t) rest is e = absurd (omega (arith, front-of byte 2 mid (pair_bytes (f, t) ++ rest) (sym b ∙ e)))
+other_fails bytes mid byte le b (bool x y z) rest is e = absurd (omega (arith, front-of byte 3 mid (lists_bytes (x, (y, z)) ++ rest) (sym b ∙ e)))
+
+-- ---- a list of queries
+
+-- fewer queries than the count were read, and the next can't be
+pub list_fails : (e : ReadError) (bytes mid rest : List ℕ) (n : ℕ) (before : Trees) → Begins (λ n. n < 2 ^ 32) be32 n bytes mid → AreQueries before → count_of before < n
+    → mid ≡ queries_bytes before ++ rest → Fails IsQuery query_bytes rest e → Fails IsQueryList list_bytes bytes e
+list_fails Memory bytes mid rest n before p are lt m h = tt
+list_fails Foreign bytes mid rest n before p are lt m h = λ qs after is e.
+    let s = one_number n (count_of qs) mid (queries_bytes qs ++ after) p.0 is.0 (sym p.1 ∙ e ∙ append_assoc (be32 (count_of qs)) (queries_bytes qs) after) in
+    let next = goes_on before qs rest after (omega (arith, s.0)) are is.1 (sym m ∙ s.1) in
+    h next.0 next.1 next.2 next.3
+
+pub one_read : (items more : List Query) (q : Query) (mid rest after : List ℕ) → more ≡ items ++ q ∷ [] → AreQueries (trees_of items) → IsQuery (tree_of q)
+    → mid ≡ queries_bytes (trees_of items) ++ rest → rest ≡ query_bytes (tree_of q) ++ after
+    → AreQueries (trees_of more) × (count_of (trees_of more) ≡ count_of (trees_of items) + 1) × (mid ≡ queries_bytes (trees_of more) ++ after)
+one_read items more q mid rest after m are is e r =
+    ( subst (λ (xs : List Query). AreQueries (trees_of xs)) (sym m) (AreQueries-push items q are is)
+    , ap (λ (xs : List Query). count_of (trees_of xs)) m ∙ count_of-push items q
+    , e ∙ ap (λ (t : List ℕ). queries_bytes (trees_of items) ++ t) r ∙ sym (append_assoc (queries_bytes (trees_of items)) (query_bytes (tree_of q)) after)
+      ∙ ap (λ (t : List ℕ). t ++ after) (sym (queries_bytes-push items q) ∙ ap (λ (xs : List Query). queries_bytes (trees_of xs)) (sym m)) )
+
+pub left_le : (front bytes rest : List ℕ) → bytes ≡ front ++ rest → length rest ≤ length bytes
+left_le front bytes rest e = omega (arith, ap length e, length-append front rest)
+
+pub count_taken : (n : ℕ) (bytes rest : List ℕ) → bytes ≡ be32 n ++ rest → length rest + 4 ≡ length bytes
+count_taken n bytes rest e = omega (arith, ap length e, length-append (be32 n) rest, length-be32 n)

@@ -1,0 +1,22 @@
+use Rattle.std.proofs.Common.{◌≡◌, ℕ, List, ◌<◌, ◌≤◌, ◌^◌, ◌+◌, ◌++◌, length, get_or, sym, subst, ap, ◌∙◌, arith, length-append}
+use Rattle.std.proofs.lemmas.Result.{err_from_is_err_and}
+use Rattle.std.specs.Int.{w32, w64, from_be_bytes, cast_signed}
+use Rattle.std.specs.Prelude.{FitsSigned}
+use Rattle.ix_base.specs.EntryLaws.{length-be32, length-signed64}
+use Rattle.ix_base.specs.Spelling.{be32, signed64, text_bytes, IsText, IsName}
+use Rattle.node_words.specs.Reads.{Begins, Fails}
+use Rattle.node_words.proofs.Both.{second_fails}
+use Rattle.node_words.proofs.Forms.{one_name}
+use Rattle.node_words.proofs.Fields.{short_fails, be32-again, signed64-again, text_short, text_foreign, name_foreign}
+use Rattle.node_words.proofs.reader.Reader.text.Goals as goal
+
+pub returns-in_err-front : goal.returns-in_err-front
+returns-in_err-front c =
+    let p = err_from_is_err_and c.from_residual-in_err-front.result c.from_residual-in_err-front.ensures.1 in
+    rw (p.1, p.2) (text_short c.in_err-front.field-0.0 c.in_ok-len.field-0 c.args.self.now c.number.new.self c.in_ok-len.ensures c.in_err-front.ensures.short.1)
+
+pub returns-in-Err : goal.returns-in-Err
+returns-in-Err c =
+    let front = c.in_ok-front.front.now in
+    let begins = subst (λ (n : ℕ). Begins (λ n. n < 2 ^ 32) be32 n c.args.self.now c.number.new.self) (sym c.in_ok-front.ensures.len) c.in_ok-len.ensures in
+    text_foreign front c.args.self.now c.number.new.self c.take.new.self begins c.in_ok-front.ensures.front c.in-Err.ensures.cases.0

@@ -1,0 +1,4 @@
+pub mod Entry
+pub mod Refused
+pub mod Reads
+pub mod Packed

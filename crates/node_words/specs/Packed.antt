@@ -1,0 +1,29 @@
+-- What words hold of a kind and bytes.
+use Rattle.std.specs.Prelude.{◌≡◌, ℕ, ◌<◌, ◌≤◌, List, ◌∷◌, length, slice_index, Result, Ok, Err}
+use Rattle.std.specs.Global.{Vec}
+use Rattle.ix_base.specs.Entry.{Entry, most_query_bytes}
+use Rattle.ix_base.specs.Words.{head, packed, Spells}
+use Rattle.node_words.specs.Entry.{value_of}
+use Rattle.node_words.specs.declared.entry.Entry as code
+use Rattle.node_words.specs.declared.fault.ReadError.{ReadError}
+use Rattle.node_words.specs.declared.fault.ReadError.TheVariants.{Memory, Foreign}
+
+abbrev pub AreBytes : List ℕ → Type 0
+AreBytes bytes = (i : ℕ) → slice_index bytes i < 256
+
+-- the words are a head of this kind and these bytes, which are no more than an entry has
+pub record Holds (words : List ℕ) (kind : ℕ) (bytes : List ℕ) : Type 0 where
+  pub bytes_fit : AreBytes bytes
+  pub short : length bytes ≤ most_query_bytes
+  pub spelled : words ≡ head kind (length bytes) ∷ packed bytes
+
+abbrev pub Unpacks : List ℕ → Result (ℕ × Vec ℕ) ReadError → Type 0
+Unpacks words (Ok found) = Holds words found.0 found.1.items
+Unpacks words (Err Memory) = Unit {0}
+Unpacks words (Err Foreign) = (kind : ℕ) (bytes : List ℕ) → Holds words kind bytes → ⊥
+
+-- what reading an entry from words answers
+abbrev pub ReadsEntry : List ℕ → Result code.Entry ReadError → Type 0
+ReadsEntry words (Ok entry) = Spells words (value_of entry)
+ReadsEntry words (Err Memory) = Unit {0}
+ReadsEntry words (Err Foreign) = (e : Entry) → Spells words e → ⊥

@@ -1,0 +1,90 @@
+//! An operation as words.
+ghost use Rattle.std.specs.Prelude.{◌≡◌, ◌++◌, IfOk, OnOk, None, MatchResult, option_map};
+ghost use Rattle.ix_base.specs.Entry.{entry_of, kind_of, entry_bytes, IsEntry};
+ghost use Rattle.ix_base.specs.Refusals.{own_refusal, term_refusal};
+ghost use Rattle.ix_base.specs.Words.{Spells};
+ghost use Rattle.node_words.specs.Refused.{refused_as, Answers};
+
+use crate::{MOST_QUERY_BYTES, MOST_TERM_BYTES};
+use crate::pack::pack;
+use crate::query_size::query_size;
+use crate::query_write::put_query;
+use crate::refused::Refused;
+use crate::write::{put_name, put_signed, put_term};
+use ix_base::{Operation, Term};
+use std::alloc::{AllocError, Global};
+
+/// The words that spell the operation: one head word and its bytes, without its document.
+/// An operation is refused by `Term` exactly where its own term has more than 32,766 bytes, and by
+/// `Query` exactly where it deletes by a query of more than 131,072 bytes; no memory is taken then.
+pub fn encode(alloc: Global, operation: &Operation) -> Result<Vec<u64>, Refused>
+    ensures words { IfOk result (λ words. Spells words.items (entry_of operation.now)) }
+    ensures refusal { MatchResult result (λ _. own_refusal operation.now ≡ None) (λ refused. Answers refused (own_refusal operation.now)) }
+{
+    if let Some(refused) = refusal(operation) {
+        return Err(refused);
+    }
+    Ok(words_of(alloc, operation)?)
+}
+
+fn words_of(alloc: Global, operation: &Operation) -> Result<Vec<u64>, AllocError>
+    requires { own_refusal operation.now ≡ None }
+    ensures { IfOk result (λ words. Spells words.items (entry_of operation.now)) }
+{
+    let mut bytes = Vec::new(alloc);
+    put_operation(&mut bytes, operation)?;
+    let head = kind_of(operation) * (1 << 32) + bytes.len() as u64;
+    pack(alloc, head, &bytes)
+}
+
+/// Why the operation is refused for the size of its own term or of its query.
+fn refusal(operation: &Operation) -> Option<Refused>
+    ensures { result ≡ option_map refused_as (own_refusal operation.now) }
+{
+    match operation {
+        Operation::Add(_) | Operation::Commit => None,
+        Operation::Update(term, _) | Operation::DeleteTerm(term) => term_refusal(term),
+        Operation::SetNumber { term, .. } => term_refusal(term),
+        Operation::DeleteQuery(query) => {
+            let size = query_size(query);
+            (size > MOST_QUERY_BYTES as u64).then_some(Refused::Query { size })
+        }
+    }
+}
+
+fn term_refusal(term: &Term) -> Option<Refused>
+    ensures { result ≡ option_map refused_as (term_refusal term.now) }
+{
+    let size = term.bytes.as_str().len();
+    (size > MOST_TERM_BYTES).then_some(Refused::Term { size: size as u64 })
+}
+
+fn kind_of(operation: &Operation) -> u64
+    ensures { result ≡ kind_of (entry_of operation.now) }
+{
+    match operation {
+        Operation::Add(_) => 1,
+        Operation::Update(..) => 2,
+        Operation::DeleteTerm(_) => 3,
+        Operation::DeleteQuery(_) => 4,
+        Operation::SetNumber { .. } => 5,
+        Operation::Commit => 6,
+    }
+}
+
+fn put_operation(out: &mut Vec<u8>, operation: &Operation) -> Result<(), AllocError>
+    requires { own_refusal operation.now ≡ None }
+    ensures bytes { OnOk result (out.new.items ≡ out.old.items ++ entry_bytes (entry_of operation.now)) }
+    ensures entry { OnOk result (IsEntry (entry_of operation.now)) }
+{
+    match operation {
+        Operation::Add(_) | Operation::Commit => Ok(()),
+        Operation::Update(term, _) | Operation::DeleteTerm(term) => put_term(out, term),
+        Operation::DeleteQuery(query) => put_query(out, query),
+        Operation::SetNumber { term, num, value } => {
+            put_term(out, term)?;
+            put_name(out, num)?;
+            put_signed(out, *value)
+        }
+    }
+}

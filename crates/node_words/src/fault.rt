@@ -1,0 +1,37 @@
+//! Why nothing was read.
+ghost use Rattle.std.specs.Prelude.{◌≡◌};
+ghost use Rattle.node_words.specs.declared.fault.ReadError.TheVariants.{Memory};
+
+use ix_base::NoMemory;
+use std::alloc::{AllocError, AllocFailed};
+
+/// Why nothing was read: memory ran out, or what stands there is not of the wanted form.
+#[derive(Drop)]
+pub(crate) enum ReadError {
+    Memory,
+    Foreign,
+}
+
+impl From<NoMemory> for ReadError {
+    ghost from_gives = { λ _ e. e ≡ Memory };
+
+    fn from(_error: NoMemory) -> ReadError {
+        ReadError::Memory
+    }
+}
+
+impl From<AllocError> for ReadError {
+    ghost from_gives = { λ _ e. e ≡ Memory };
+
+    fn from(_error: AllocError) -> ReadError {
+        ReadError::Memory
+    }
+}
+
+impl<T: Drop> From<AllocFailed<T>> for ReadError {
+    ghost from_gives = { λ _ e. e ≡ Memory };
+
+    fn from(_error: AllocFailed<T>) -> ReadError {
+        ReadError::Memory
+    }
+}
