@@ -2,6 +2,7 @@
 //! not at all, and how it is read back.
 #![tactic(auto)]
 
+mod broken;
 mod bytes;
 mod documents;
 mod encode;
@@ -9,6 +10,8 @@ mod fault;
 mod head;
 mod open;
 mod put;
+mod read_documents;
+mod read_fields;
 mod write;
 
 pub use encode::{encode_commit, encode_row};
