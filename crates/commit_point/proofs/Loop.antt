@@ -77,3 +77,14 @@ left_by-last leaves state [] x some is = absurd (omega arith)
 left_by-last leaves state (y ∷ ys) x some is =
     let k : length (y ∷ ys) - 1 ≡ length ys = omega arith in
     left_at leaves state y ys x ∙ ap leaves (sym (is ∙ ap (λ (i : ℕ). get_or (y ∷ ys) i x) k))
+
+-- the same where what the items so far leave was kept beside them
+pub goes_on_from : {X S : Type 0} (item : S → List ℕ → Result (X × List ℕ) ℕ) (leaves : X → S) (start state : S) (front : List X) (count i : ℕ) (bytes : List ℕ) (x : X) (after : List ℕ) (total : Result (List X × List ℕ) ℕ)
+    → state ≡ left_by leaves start front → i < count → item state bytes ≡ Ok (x, after) → so_far item leaves start front (count - i) bytes ≡ total → so_far item leaves start (front ++ x ∷ []) (count - (i + 1)) after ≡ total
+goes_on_from item leaves start state front count i bytes x after total is lt h so =
+    goes_on item leaves start front count i bytes x after total lt (ap (λ s. item s bytes) (sym is) ∙ h) so
+
+pub ends_from : {X S : Type 0} (item : S → List ℕ → Result (X × List ℕ) ℕ) (leaves : X → S) (start state : S) (e : Broken) (front : List X) (count i : ℕ) (bytes : List ℕ) (total : Result (List X × List ℕ) ℕ)
+    → state ≡ left_by leaves start front → i < count → Fails e (item state bytes) → so_far item leaves start front (count - i) bytes ≡ total → Fails e total
+ends_from {X} {S} item leaves start state e front count i bytes total is lt h so =
+    ends item leaves start e front count i bytes total lt (subst (λ (s : S). Fails e (item s bytes)) is h) so

@@ -1,5 +1,5 @@
 -- What is read of a commit, field by field: its next id and rows, or the first broken place.
-use Rattle.std.specs.Prelude.{ℕ, ◌+◌, ◌-◌, ◌^◌, List, [], ◌∷◌, ◌++◌, length, Bool, true, false, not, ◌&&◌, ◌||◌, Option, Some, None, Result, Ok, Err, nat_lt, nat_le, ◌==◌, if◌then◌else◌}
+use Rattle.std.specs.Prelude.{◌≡◌, ⊤, ℕ, ◌+◌, ◌-◌, ◌^◌, List, [], ◌∷◌, ◌++◌, length, Bool, true, false, not, ◌&&◌, ◌||◌, Option, Some, None, Result, Ok, Err, nat_lt, nat_le, ◌==◌, if◌then◌else◌}
 use Rattle.std.specs.Int.{w32, w64}
 use Rattle.std.specs.List.{flat_map, list_any}
 use Rattle.ix_base.specs.declared.file_name.FileName.{FileName}
@@ -7,6 +7,8 @@ use Rattle.ix_base.specs.declared.file_name.FileName.TheVariants.{Commit, Rows}
 use Rattle.ix_base.specs.declared.document.Row.{Row}
 use Rattle.ix_outside.specs.Files.{Files}
 use Rattle.commit_point.specs.declared.fault.Damaged.{Damaged}
+use Rattle.commit_point.specs.declared.fault.FileFault.{FileFault}
+use Rattle.commit_point.specs.declared.fault.FileFault.TheVariants as faults
 use Rattle.commit_point.specs.declared.head.HeadSegment.{HeadSegment}
 use Rattle.commit_point.specs.declared.head.Head.{Head}
 use Rattle.commit_point.specs.Spelling.{rows_mark, commit_mark}
@@ -25,12 +27,12 @@ row_at s known low bytes = do
   doc ← document_at birth.1
   Ok (record { birth = birth.0; doc = doc.0 }, doc.1)
 
--- the file of the segment of this id, of n rows, in the commit s
+-- the file of the segment of this id, of n rows and at least one, in the commit s
 unfoldable pub rows_in : ℕ → ℕ → ℕ → (ℕ → Bool) → List ℕ → Result (List Row) ℕ
 rows_in id n s known bytes = do
   rest ← mark_at rows_mark bytes
   own ← number_where w64 (λ x. x == id) rest
-  count ← number_where w32 (λ x. x == n) own.1
+  count ← number_where w32 (λ x. x == n && nat_le 1 x) own.1
   rows ← items_at (row_at s known) (λ (r : Row). r.birth + 1) 1 n count.1
   ended rows.0 rows.1
 
@@ -48,7 +50,7 @@ entry_at s next low bytes = do
 unfoldable pub head_in : ℕ → List ℕ → Result Head ℕ
 head_in s bytes = do
   rest ← mark_at commit_mark bytes
-  number ← number_where w64 (λ x. x == s) rest
+  number ← number_where w64 (λ x. x == s && nat_le 1 x) rest
   docs ← number_at w64 number.1
   next ← number_where w64 (λ x. nat_le 1 x && nat_le x (2 ^ 62)) docs.1
   count ← number_at w64 next.1
@@ -56,6 +58,15 @@ head_in s bytes = do
   ended (record { number = number.0; docs = docs.0; next_id = next.0; segments = segments.0 }) segments.1
 
 -- ---- files
+
+-- What a function returned, seen by view, is what reading gives, unless memory ran out.
+abbrev pub FailsFile : {Y : Type 0} → FileFault → Result Y Damaged → Type 0
+FailsFile faults.NoMemory read = ⊤
+FailsFile (faults.Damaged d) read = read ≡ Err d
+
+abbrev pub GivesFile : {X Y : Type 0} → (X → Y) → Result X FileFault → Result Y Damaged → Type 0
+GivesFile view (Ok x) read = read ≡ Ok (view x)
+GivesFile view (Err e) read = FailsFile e read
 
 infixl 10 ◌then◌
 abbrev pub ◌then◌ : {A B : Type 0} → Result A Damaged → (A → Result B Damaged) → Result B Damaged

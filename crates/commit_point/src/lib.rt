@@ -4,6 +4,7 @@
 
 mod broken;
 mod bytes;
+mod decode;
 mod documents;
 mod encode;
 mod fault;
@@ -14,6 +15,7 @@ mod read_documents;
 mod read_fields;
 mod write;
 
+pub use decode::{decode_commit, decode_row};
 pub use encode::{encode_commit, encode_row};
 pub use fault::{CommitRefused, Damaged, FileFault, OpenFault};
 pub use head::{Head, HeadSegment};
