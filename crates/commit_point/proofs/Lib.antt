@@ -6,3 +6,4 @@ pub mod Loop
 pub mod NumberLaws
 pub mod ItemLaws
 pub mod DocumentLaws
+pub mod FileLaws

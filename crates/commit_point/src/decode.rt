@@ -81,6 +81,22 @@ fn rows_of(
     Ok(rows)
 }
 
+fn placed_rows(
+    alloc: Global,
+    bytes: &[u8],
+    id: u64,
+    n: u32,
+    number: u64,
+    earlier: &BTreeSet<u64>,
+) -> Result<List<Row>, FileFault>
+    ensures { GivesFile (λ x. x) result (placed (Rows id) bytes.now (rows_in id n number (contains nat_cmp earlier.now) bytes.now)) }
+{
+    match rows_of(alloc, bytes, id, n, number, earlier) {
+        Ok(rows) => Ok(List::from_vec(rows)),
+        Err(broken) => Err(place_of(broken, FileName::Rows(id), bytes.len())),
+    }
+}
+
 /// The rows that the file of a segment spells: the segment has this id and so many rows, the commit
 /// this number, and the earlier segments of the commit have these births.
 ///
@@ -101,10 +117,7 @@ pub fn decode_row(
     // Which place is the first broken one.
     ensures exact { GivesFile (λ x. x) result (placed (Rows id) bytes.now (rows_in id n number (contains nat_cmp earlier.now) bytes.now)) }
 {
-    match rows_of(alloc, bytes, id, n, number, earlier) {
-        Ok(rows) => Ok(List::from_vec(rows)),
-        Err(broken) => Err(place_of(broken, FileName::Rows(id), bytes.len())),
-    }
+    placed_rows(alloc, bytes, id, n, number, earlier)
 }
 
 /// A segment of a commit file: its id is after the last one and below the next one.
@@ -183,6 +196,15 @@ fn head_of(alloc: Global, bytes: &[u8], number: u64) -> Result<Head, Broken>
     })
 }
 
+fn placed_head(alloc: Global, bytes: &[u8], number: u64) -> Result<Head, FileFault>
+    ensures { GivesFile (λ x. x) result (placed (Commit number) bytes.now (head_in number bytes.now)) }
+{
+    match head_of(alloc, bytes, number) {
+        Ok(head) => Ok(head),
+        Err(broken) => Err(place_of(broken, FileName::Commit(number), bytes.len())),
+    }
+}
+
 /// What the commit file of this number says. It is `Damaged` exactly where the bytes are not in the
 /// grammar of such a file, at the first broken place.
 pub fn decode_commit(alloc: Global, bytes: &[u8], number: u64) -> Result<Head, FileFault>
@@ -193,8 +215,5 @@ pub fn decode_commit(alloc: Global, bytes: &[u8], number: u64) -> Result<Head, F
     // Which place is the first broken one.
     ensures exact { GivesFile (λ x. x) result (placed (Commit number) bytes.now (head_in number bytes.now)) }
 {
-    match head_of(alloc, bytes, number) {
-        Ok(head) => Ok(head),
-        Err(broken) => Err(place_of(broken, FileName::Commit(number), bytes.len())),
-    }
+    placed_head(alloc, bytes, number)
 }
