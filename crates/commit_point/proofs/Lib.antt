@@ -7,3 +7,5 @@ pub mod NumberLaws
 pub mod ItemLaws
 pub mod DocumentLaws
 pub mod FileLaws
+pub mod Births
+pub mod Segments
