@@ -1,3 +1,11 @@
 pub mod Loops
 pub mod Crashes
 pub mod Making
+pub mod Readers
+pub mod Loop
+pub mod NumberLaws
+pub mod ItemLaws
+pub mod DocumentLaws
+pub mod FileLaws
+pub mod Births
+pub mod Segments

@@ -1,5 +1,5 @@
 -- Which values have a spelling: so that one file spells one value.
-use Rattle.std.specs.Prelude.{◌≡◌, ℕ, ℤ, pos, ◌+◌, ◌<◌, ◌≤◌, ◌^◌, List, [], ◌∷◌, true, length, map, IsUtf8, FitsSigned, ⊤}
+use Rattle.std.specs.Prelude.{◌≡◌, ℕ, ℤ, pos, ◌+◌, ◌<◌, ◌≤◌, ◌^◌, List, [], ◌∷◌, Bool, true, false, length, map, IsUtf8, FitsSigned, ⊤}
 use Rattle.std.specs.Int.{w64}
 use Rattle.std.specs.List.{AllByRecursion}
 use Rattle.ix_base.specs.Limits.{is_name, names_rise, names_are_apart}
@@ -74,3 +74,9 @@ pub record HeadFits (head : Head) : Type 0 where
   pub count : length head.segments < 2 ^ 64
   pub ids : IdsRise 1 head.next_id head.segments
   pub entries : AllByRecursion (EntryFits head.number) head.segments
+
+-- the rows of a segment of n rows, in the commit numbered s, of which none has a birth that is known
+pub record IsSegment (s n : ℕ) (known : ℕ → Bool) (rows : List Row) : Type 0 where
+  pub fits : RowsFit s rows
+  pub count : length rows ≡ n
+  pub unknown : AllByRecursion (λ (r : Row). known r.birth ≡ false) rows

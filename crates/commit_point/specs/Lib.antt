@@ -1,7 +1,9 @@
 pub mod Spelling
 pub mod Fits
 pub mod Holds
+pub mod Fields
 pub mod Reading
 pub mod Writing
 pub mod Laws
 pub mod Putting
+pub mod Loading

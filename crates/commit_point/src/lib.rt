@@ -2,17 +2,25 @@
 //! not at all, and how it is read back.
 #![tactic(auto)]
 
+mod broken;
 mod bytes;
+mod decode;
 mod documents;
 mod encode;
 mod fault;
 mod head;
+mod listing;
+mod load;
 mod open;
 mod put;
+mod read_documents;
+mod read_fields;
 mod write;
 
+pub use decode::{decode_commit, decode_row};
 pub use encode::{encode_commit, encode_row};
 pub use fault::{CommitRefused, Damaged, FileFault, OpenFault};
 pub use head::{Head, HeadSegment};
-pub use open::{Opened, list_commits, read_commit};
+pub use listing::list_commits;
+pub use open::{Opened, read_commit};
 pub use write::write_commit;

@@ -23,18 +23,6 @@ pub struct Opened {
     pub rows: List<Row>,
 }
 
-/// The numbers of the store's commits, rising.
-pub fn list_commits<S: Store>(alloc: Global, store: &mut S) -> Result<List<u64>, StoreFault>
-    ensures commits { IfOk result (λ numbers. IfSome (S.files store.old) (λ files. (s : ℕ) → Contains numbers s ↔ IsSome (files (Commit s)))) }
-    ensures rise { IfOk result (λ numbers. AllPairs ◌<◌ numbers) }
-    ensures counted { IfOk result (λ numbers. (s : ℕ) → Contains numbers s → IsCounted s) }
-    ensures reads { OnlyReads S.files S.unsynced S.images S.moment S.left_since store.old store.new }
-    ensures later { S.fault_count store.old ≤ S.fault_count store.new }
-    ensures failed { result ≡ Err StoreFault.Failed → Rose (S.fault_count store.old) (S.fault_count store.new) }
-{
-    Err(StoreFault::NoMemory)
-}
-
 /// Reads the commit of this number, which a list has shown. A commit file that is gone since is
 /// damaged at 0.
 pub fn read_commit<S: Store>(alloc: Global, store: &mut S, number: u64) -> Result<Opened, OpenFault>

@@ -1,0 +1,12 @@
+use Rattle.std.proofs.Common.{◌≡◌, ℕ, ◌++◌}
+use Rattle.std.specs.Prelude.{◌||◌}
+use Rattle.std.specs.BTreeSet.{contains}
+use Rattle.std.specs.Ordering.{nat_cmp}
+use Rattle.commit_point.specs.Reading.{has_birth}
+use Rattle.commit_point.proofs.load.take_in.Given as goal
+
+abbrev pub invariant-loop-row : goal.invariant-loop-row
+invariant-loop-row l = record {
+  rows : l.rows.items ≡ l.fn.rows.items ++ l.yielded;
+  births : (b : ℕ) → contains nat_cmp l.earlier b ≡ (contains nat_cmp l.fn.earlier b || has_birth l.yielded b)
+}

@@ -1,0 +1,9 @@
+use Rattle.std.proofs.Common.{◌≡◌, ◌-◌, ℕ, List, map, Option, Some, None}
+use Rattle.commit_point.specs.Fields.{field_at, items_at}
+use Rattle.commit_point.proofs.Loop.{so_far}
+use Rattle.commit_point.proofs.read_documents.field_list.Given as goal
+
+abbrev pub invariant-loop : goal.invariant-loop
+invariant-loop l =
+    so_far (field_at (map (λ pair. pair.0) l.taken)) (λ (pair : List ℕ × List ℕ). Some pair.0) None l.pairs.items (l.count - l.counter) l.rest
+    ≡ items_at (field_at (map (λ pair. pair.0) l.taken)) (λ (pair : List ℕ × List ℕ). Some pair.0) None l.count l.bytes

@@ -1,0 +1,10 @@
+use Rattle.std.proofs.Common.{◌≡◌, ◌-◌, ℕ, List, Option, Some, None}
+use Rattle.std.specs.Prelude.{ℤ}
+use Rattle.commit_point.specs.Fields.{numbered_at, items_at}
+use Rattle.commit_point.proofs.Loop.{so_far}
+use Rattle.commit_point.proofs.read_documents.number_list.Given as goal
+
+abbrev pub invariant-loop : goal.invariant-loop
+invariant-loop l =
+    so_far numbered_at (λ (pair : List ℕ × ℤ). Some pair.0) None l.pairs.items (l.count - l.counter) l.rest
+    ≡ items_at numbered_at (λ (pair : List ℕ × ℤ). Some pair.0) None l.count l.bytes

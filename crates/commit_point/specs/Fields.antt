@@ -1,0 +1,126 @@
+-- Reading fields from left to right. A field is broken where it is cut short or breaks a rule; the
+-- first broken field is told by how many bytes are left from its first byte on.
+use Rattle.std.specs.Prelude.{◌≡◌, ℕ, zero, suc, ℤ, List, [], ◌∷◌, length, take, drop, Bool, true, not, ◌&&◌, Option, Some, None, Result, Ok, Err, map, codes, nat_lt, ◌==◌, if◌then◌else◌, ⊤}
+use Rattle.std.specs.Int.{Width, w32, w64, byte_len, from_be_bytes, cast_signed}
+use Rattle.std.specs.Str.{bytes_eq, is_utf8}
+use Rattle.ix_base.specs.Limits.{is_name, text_lt, is_among}
+use Rattle.ix_base.specs.declared.document.Document.{Document}
+use Rattle.commit_point.specs.declared.broken.Broken.{Broken}
+use Rattle.commit_point.specs.declared.broken.Broken.TheVariants.{At, NoMemory}
+
+infixl 10 ◌>>=◌
+abbrev pub ◌>>=◌ : {A B : Type 0} → Result A ℕ → (A → Result B ℕ) → Result B ℕ
+(Ok x) >>= f = f x
+(Err left) >>= f = Err left
+
+-- What a function returned, seen by view, is what reading gives, unless memory ran out.
+abbrev pub Fails : {Y : Type 0} → Broken → Result Y ℕ → Type 0
+Fails NoMemory read = ⊤
+Fails (At left) read = read ≡ Err left
+
+abbrev pub Gives : {X Y : Type 0} → (X → Y) → Result X Broken → Result Y ℕ → Type 0
+Gives view (Ok x) read = read ≡ Ok (view x)
+Gives view (Err e) read = Fails e read
+
+-- ---- a field is a value and the bytes after it
+
+abbrev pub number_at : Width → List ℕ → Result (ℕ × List ℕ) ℕ
+number_at w bytes = if nat_lt (length bytes) (byte_len w) then Err (length bytes) else Ok (from_be_bytes w (take (byte_len w) bytes), drop (byte_len w) bytes)
+
+-- a number that passes a test
+abbrev pub number_where : Width → (ℕ → Bool) → List ℕ → Result (ℕ × List ℕ) ℕ
+number_where w test bytes = do
+  n ← number_at w bytes
+  if test n.0 then Ok n else Err (length bytes)
+
+unfoldable pub signed_at : List ℕ → Result (ℤ × List ℕ) ℕ
+signed_at bytes = do
+  n ← number_at w64 bytes
+  Ok (cast_signed w64 n.0, n.1)
+
+-- the eight bytes at the front of a file; what is read is the bytes after them
+unfoldable pub mark_at : List ℕ → List ℕ → Result (List ℕ) ℕ
+mark_at mark bytes = if bytes_eq (take 8 bytes) mark then Ok (drop 8 bytes) else Err (length bytes)
+
+-- a length and that many bytes of UTF-8
+unfoldable pub text_at : List ℕ → Result (List ℕ × List ℕ) ℕ
+text_at bytes = do
+  n ← number_at w32 bytes
+  if nat_lt (length n.1) n.0 then Err (length bytes) else (if is_utf8 (take n.0 n.1) then Ok (take n.0 n.1, drop n.0 n.1) else Err (length bytes))
+
+-- a text of 1 to 255 bytes
+unfoldable pub name_at : List ℕ → Result (List ℕ × List ℕ) ℕ
+name_at bytes = do
+  name ← text_at bytes
+  if is_name name.0 then Ok name else Err (length bytes)
+
+-- a name that passes a test
+abbrev pub name_where : (List ℕ → Bool) → List ℕ → Result (List ℕ × List ℕ) ℕ
+name_where test bytes = do
+  name ← name_at bytes
+  if test name.0 then Ok name else Err (length bytes)
+
+-- ---- so many items, of which each knows what the last one leaves to it
+
+unfoldable pub items_at : {X S : Type 0} → (S → List ℕ → Result (X × List ℕ) ℕ) → (X → S) → S → ℕ → List ℕ → Result (List X × List ℕ) ℕ
+items_at item leaves state zero bytes = Ok ([], bytes)
+items_at item leaves state (suc n) bytes = do
+  first ← item state bytes
+  others ← items_at item leaves (leaves first.0) n first.1
+  Ok (first.0 ∷ others.0, others.1)
+
+-- what the items so far leave to the next one
+abbrev pub left_by : {X S : Type 0} → (X → S) → S → List X → S
+left_by leaves state [] = state
+left_by leaves state (x ∷ xs) = left_by leaves (leaves x) xs
+
+-- ---- documents
+
+-- the name comes after the last one, where there was one
+abbrev pub comes_after : Option (List ℕ) → List ℕ → Bool
+comes_after None name = true
+comes_after (Some last) name = text_lt last name
+
+-- no document has a field that is called as its key is
+abbrev pub is_key : List ℕ → Bool
+is_key name = bytes_eq name (codes "key")
+
+-- no document has a name in both of its lists of texts
+abbrev pub is_free_name : List (List ℕ) → List ℕ → Bool
+is_free_name taken name = not (is_key name) && not (is_among taken name)
+
+abbrev pub may_name : List (List ℕ) → Option (List ℕ) → List ℕ → Bool
+may_name taken last name = comes_after last name && is_free_name taken name
+
+-- a name and a text
+unfoldable pub field_at : List (List ℕ) → Option (List ℕ) → List ℕ → Result ((List ℕ × List ℕ) × List ℕ) ℕ
+field_at taken last bytes = do
+  name ← name_where (may_name taken last) bytes
+  text ← text_at name.1
+  Ok ((name.0, text.0), text.1)
+
+-- fields by rising names, of which none is taken
+unfoldable pub fields_at : List (List ℕ) → List ℕ → Result (List (List ℕ × List ℕ) × List ℕ) ℕ
+fields_at taken bytes = do
+  count ← number_at w32 bytes
+  items_at (field_at taken) (λ pair. Some pair.0) None count.0 count.1
+
+-- a name and a number
+unfoldable pub numbered_at : Option (List ℕ) → List ℕ → Result ((List ℕ × ℤ) × List ℕ) ℕ
+numbered_at last bytes = do
+  name ← name_where (comes_after last) bytes
+  value ← signed_at name.1
+  Ok ((name.0, value.0), value.1)
+
+unfoldable pub numbers_at : List ℕ → Result (List (List ℕ × ℤ) × List ℕ) ℕ
+numbers_at bytes = do
+  count ← number_at w64 bytes
+  items_at numbered_at (λ pair. Some pair.0) None count.0 count.1
+
+unfoldable pub document_at : List ℕ → Result (Document × List ℕ) ℕ
+document_at bytes = do
+  key ← text_at bytes
+  text ← fields_at [] key.1
+  exact ← fields_at (map (λ pair. pair.0) text.0) text.1
+  num ← numbers_at exact.1
+  Ok (record { key = key.0; text = text.0; exact = exact.0; num = num.0 }, num.1)

@@ -1,0 +1,44 @@
+-- What the reads of a commit tell, of the files where a store tells them and else of files that the reads fit.
+use Rattle.std.specs.Prelude.{◌≡◌, ◌↔◌, ℕ, List, [], ◌∷◌, Bool, true, false, ◌==◌, ◌||◌, ⊤, Option, Some, Result, Ok, Err}
+use Rattle.std.specs.List.{AllByRecursion}
+use Rattle.ix_base.specs.declared.file_name.FileName.{FileName}
+use Rattle.ix_base.specs.declared.file_name.FileName.TheVariants.{Commit, Pending, Rows, Posts, Live, Values}
+use Rattle.ix_base.specs.declared.document.Row.{Row}
+use Rattle.ix_outside.specs.Files.{Files, Was, Reads}
+use Rattle.commit_point.specs.declared.fault.Damaged.{Damaged}
+use Rattle.commit_point.specs.declared.head.Head.{Head}
+use Rattle.commit_point.specs.Holds.{HaveRows, Holds}
+use Rattle.commit_point.specs.Reading.{of_file, segments_from, has_birth, all_rows}
+
+-- the name is that of the commit s
+abbrev pub is_commit : ℕ → FileName → Bool
+is_commit s (Commit t) = s == t
+is_commit s name = false
+
+-- a read of this file gave what is broken here
+pub record IsBroken {A : Type 0} (told : Option Files) (name : FileName) (read : List ℕ → Result A ℕ) (damaged : Damaged) : Type 0 where
+  pub found : Option (List ℕ)
+  pub seen : Reads told name found
+  pub broken : of_file name read found ≡ Err damaged
+
+-- no birth of a part is known or stands in an earlier part
+abbrev pub Unknown : (ℕ → Bool) → List (List Row) → Type 0
+Unknown known [] = ⊤
+Unknown known (p ∷ ps) = AllByRecursion (λ (r : Row). known r.birth ≡ false) p × Unknown (λ b. known b || has_birth p b) ps
+
+-- the segments of a commit were read, and these are all their rows
+pub record AreRead (told : Option Files) (head : Head) (before : Files) (rows : List Row) : Type 0 where
+  pub files : Files
+  pub was : Was told files
+  pub commit : files (Commit head.number) ≡ before (Commit head.number)
+  pub parts : List (List Row)
+  pub each : HaveRows files head.number head.segments parts
+  pub unknown : Unknown (λ b. false) parts
+  pub all : all_rows parts ≡ rows
+
+-- a segment of a commit is broken, and each before it is not
+pub record BreakAt (told : Option Files) (head : Head) (before : Files) (damaged : Damaged) : Type 0 where
+  pub files : Files
+  pub was : Was told files
+  pub commit : files (Commit head.number) ≡ before (Commit head.number)
+  pub broken : segments_from files head.number (λ b. false) head.segments ≡ Err damaged

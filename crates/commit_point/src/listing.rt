@@ -1,0 +1,60 @@
+//! The commits of a store.
+ghost use Rattle.std.specs.Prelude.{◌≡◌, ◌<◌, ◌≤◌, ◌↔◌, ◌||◌, ℕ, Contains, All, AllPairs, IfOk, OnOk, IsSome, IfSome, Err};
+ghost use Rattle.std.specs.BTreeSet.{contains};
+ghost use Rattle.std.specs.List.{list_any};
+ghost use Rattle.std.specs.Ordering.{nat_cmp};
+ghost use Rattle.ix_base.specs.FileNames.{IsCounted};
+ghost use Rattle.ix_base.specs.declared.file_name.FileName.TheVariants.{Commit};
+ghost use Rattle.ix_outside.specs.Causes.{Rose};
+ghost use Rattle.ix_outside.specs.Calls.{OnlyReads};
+ghost use Rattle.commit_point.specs.Loading.{is_commit};
+
+use ix_base::{FileName, List, NoMemory};
+use ix_outside::{Store, StoreFault};
+use std::alloc::Global;
+use std::collections::BTreeSet;
+
+fn add_commit(numbers: &mut BTreeSet<u64>, name: &FileName) -> Result<(), NoMemory>
+    ensures { OnOk result ((s : ℕ) → contains nat_cmp numbers.new s ≡ (contains nat_cmp numbers.old s || is_commit s name.now)) }
+{
+    if let FileName::Commit(number) = name {
+        numbers.insert(*number)?;
+    }
+    Ok(())
+}
+
+fn commits_among(alloc: Global, names: &[FileName]) -> Result<BTreeSet<u64>, NoMemory>
+    ensures { IfOk result (λ numbers. (s : ℕ) → contains nat_cmp numbers s ≡ list_any (is_commit s) names.now) }
+{
+    let mut numbers = BTreeSet::new(alloc);
+    for name in names {
+        add_commit(&mut numbers, name)?;
+    }
+    Ok(numbers)
+}
+
+/// The numbers of the commits among these names, rising.
+fn numbers_of(alloc: Global, names: &[FileName]) -> Result<List<u64>, NoMemory>
+    ensures commits { IfOk result (λ numbers. (s : ℕ) → Contains numbers s ↔ Contains names.now (Commit s)) }
+    ensures rise { IfOk result (λ numbers. AllPairs ◌<◌ numbers) }
+{
+    let numbers = commits_among(alloc, names)?;
+    let items: Vec<u64> = numbers.into_iter().collect(alloc)?;
+    Ok(List::from_vec(items))
+}
+
+/// The numbers of the store's commits, rising.
+pub fn list_commits<S: Store>(alloc: Global, store: &mut S) -> Result<List<u64>, StoreFault>
+    ensures commits { IfOk result (λ numbers. IfSome (S.files store.old) (λ files. (s : ℕ) → Contains numbers s ↔ IsSome (files (Commit s)))) }
+    ensures rise { IfOk result (λ numbers. AllPairs ◌<◌ numbers) }
+    ensures counted { IfOk result (λ numbers. (s : ℕ) → Contains numbers s → IsCounted s) }
+    ensures reads { OnlyReads S.files S.unsynced S.images S.moment S.left_since store.old store.new }
+    ensures later { S.fault_count store.old ≤ S.fault_count store.new }
+    ensures failed { result ≡ Err StoreFault.Failed → Rose (S.fault_count store.old) (S.fault_count store.new) }
+{
+    let names = store.list(alloc)?;
+    match numbers_of(alloc, &names) {
+        Ok(numbers) => Ok(numbers),
+        Err(_) => Err(StoreFault::NoMemory),
+    }
+}

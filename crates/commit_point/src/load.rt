@@ -1,0 +1,98 @@
+//! Reading the files of a commit from a store.
+ghost use Rattle.std.specs.Prelude.{◌≡◌, ◌≤◌, ◌++◌, ◌||◌, ◌^◌, ◌<◌, ℕ, Some, None, Err, IfOk, OnOk};
+ghost use Rattle.std.specs.BTreeSet.{contains};
+ghost use Rattle.std.specs.Ordering.{nat_cmp};
+ghost use Rattle.ix_base.specs.declared.file_name.FileName.TheVariants.{Commit, Rows};
+ghost use Rattle.ix_outside.specs.Causes.{Rose};
+ghost use Rattle.ix_outside.specs.Files.{Files, Was, Reads};
+ghost use Rattle.ix_outside.specs.Calls.{OnlyReads};
+ghost use Rattle.commit_point.specs.declared.fault.Damaged.{Damaged};
+ghost use Rattle.commit_point.specs.Fits.{HeadFits, IsSegment};
+ghost use Rattle.commit_point.specs.Loading.{IsBroken, AreRead, BreakAt};
+ghost use Rattle.commit_point.specs.Reading.{head_in, rows_in, has_birth};
+ghost use Rattle.commit_point.specs.Spelling.{rows_file, commit_file};
+
+use crate::decode::{decode_commit, decode_row};
+use crate::fault::{Damaged, FileFault, OpenFault};
+use crate::head::{Head, HeadSegment};
+use ix_base::{FileName, List, NoMemory, Row};
+use ix_outside::{Store, StoreFault};
+use std::alloc::Global;
+use std::collections::BTreeSet;
+
+/// The bytes of a file. An absent one is damaged at 0.
+fn bytes_of<S: Store>(alloc: Global, store: &mut S, name: FileName) -> Result<Vec<u8>, OpenFault>
+    ensures bytes { IfOk result (λ bytes. Reads (S.files store.old) name (Some bytes.items)) }
+    ensures absent { (damaged : Damaged) → result ≡ Err (OpenFault.Damaged damaged) → (damaged ≡ record { file = name; at = 0 }) × Reads (S.files store.old) name None }
+    ensures listed { (other : ℕ) → result ≡ Err (OpenFault.NoSuch other) → ⊥ }
+    ensures reads { OnlyReads S.files S.unsynced S.images S.moment S.left_since store.old store.new }
+    ensures later { S.fault_count store.old ≤ S.fault_count store.new }
+    ensures failed { result ≡ Err OpenFault.Store → Rose (S.fault_count store.old) (S.fault_count store.new) }
+{
+    match store.read(alloc, name) {
+        Ok(Some(bytes)) => Ok(bytes),
+        Ok(None) => Err(OpenFault::Damaged(Damaged { file: name, at: 0 })),
+        Err(StoreFault::Failed) => Err(OpenFault::Store),
+        Err(StoreFault::NoMemory) => Err(OpenFault::NoMemory),
+    }
+}
+
+/// Reads the commit file of this number.
+pub(crate) fn read_head<S: Store>(
+    alloc: Global,
+    store: &mut S,
+    number: u64,
+) -> Result<Head, OpenFault>
+    ensures found { IfOk result (λ head. Reads (S.files store.old) (Commit number) (Some (commit_file head)) × (head.number ≡ number) × HeadFits head) }
+    ensures damaged { (damaged : Damaged) → result ≡ Err (OpenFault.Damaged damaged) → IsBroken (S.files store.old) (Commit number) (head_in number) damaged }
+    ensures listed { (other : ℕ) → result ≡ Err (OpenFault.NoSuch other) → ⊥ }
+    ensures reads { OnlyReads S.files S.unsynced S.images S.moment S.left_since store.old store.new }
+    ensures later { S.fault_count store.old ≤ S.fault_count store.new }
+    ensures failed { result ≡ Err OpenFault.Store → Rose (S.fault_count store.old) (S.fault_count store.new) }
+{
+    let bytes = bytes_of(alloc, store, FileName::Commit(number))?;
+    match decode_commit(alloc, &bytes, number) {
+        Ok(head) => Ok(head),
+        Err(FileFault::Damaged(damaged)) => Err(OpenFault::Damaged(damaged)),
+        Err(FileFault::NoMemory) => Err(OpenFault::NoMemory),
+    }
+}
+
+/// Reads the rows of a segment of the commit of this number.
+fn read_segment<S: Store>(
+    alloc: Global,
+    store: &mut S,
+    number: u64,
+    segment: HeadSegment,
+    earlier: &BTreeSet<u64>,
+) -> Result<List<Row>, OpenFault>
+    ensures found { IfOk result (λ rows. Reads (S.files store.old) (Rows segment.id) (Some (rows_file segment.id rows)) × IsSegment number segment.n (contains nat_cmp earlier.now) rows) }
+    ensures damaged { (damaged : Damaged) → result ≡ Err (OpenFault.Damaged damaged) → IsBroken (S.files store.old) (Rows segment.id) (rows_in segment.id segment.n number (contains nat_cmp earlier.now)) damaged }
+    ensures listed { (other : ℕ) → result ≡ Err (OpenFault.NoSuch other) → ⊥ }
+    ensures reads { OnlyReads S.files S.unsynced S.images S.moment S.left_since store.old store.new }
+    ensures later { S.fault_count store.old ≤ S.fault_count store.new }
+    ensures failed { result ≡ Err OpenFault.Store → Rose (S.fault_count store.old) (S.fault_count store.new) }
+{
+    let bytes = bytes_of(alloc, store, FileName::Rows(segment.id))?;
+    match decode_row(alloc, &bytes, segment.id, segment.n, number, earlier) {
+        Ok(rows) => Ok(rows),
+        Err(FileFault::Damaged(damaged)) => Err(OpenFault::Damaged(damaged)),
+        Err(FileFault::NoMemory) => Err(OpenFault::NoMemory),
+    }
+}
+
+/// Puts the rows of a segment behind those of earlier ones, and their births beside theirs.
+fn take_in(
+    earlier: &mut BTreeSet<u64>,
+    rows: &mut Vec<Row>,
+    part: List<Row>,
+) -> Result<(), NoMemory>
+    ensures rows { OnOk result (rows.new.items ≡ rows.old.items ++ part) }
+    ensures births { OnOk result ((b : ℕ) → contains nat_cmp earlier.new b ≡ (contains nat_cmp earlier.old b || has_birth part b)) }
+{
+    for row in part.into_vec() {
+        earlier.insert(row.birth)?;
+        rows.push(row)?;
+    }
+    Ok(())
+}

@@ -1,0 +1,169 @@
+//! Reading documents and rows from the front of bytes.
+ghost use Rattle.std.specs.Prelude.{◌≡◌, ◌+◌, map, length, true, Option, Some, None, IfOk};
+ghost use Rattle.std.specs.BTreeSet.{contains};
+ghost use Rattle.std.specs.List.{list_any};
+ghost use Rattle.std.specs.Str.{bytes_eq};
+ghost use Rattle.std.specs.Ordering.{nat_cmp};
+ghost use Rattle.commit_point.specs.Fields.{Gives, field_at, fields_at, numbered_at, numbers_at, document_at, items_at, left_by, comes_after, is_free_name, may_name};
+ghost use Rattle.commit_point.specs.Reading.{row_at};
+
+use crate::broken::Broken;
+use crate::read_fields::{i64_at, name_of, text_of, u32_at, u64_at};
+use ix_base::{Document, Fields, Name, Numbers, Row, Text};
+use std::alloc::Global;
+use std::collections::BTreeSet;
+
+/// Whether the name comes after the last of these.
+fn comes_next<V>(pairs: &[(Name, V)], name: &Name) -> bool
+    ensures { result ≡ comes_after (left_by (λ pair. Some pair.0) None pairs.now) name.now }
+{
+    match pairs.last() {
+        Some(pair) => pair.0.as_str() < name.as_str(),
+        None => true,
+    }
+}
+
+fn is_taken(taken: &[(Name, Text)], name: &Name) -> bool
+    ensures { result ≡ list_any (λ pair. bytes_eq pair.0 name.now) taken.now }
+{
+    taken.iter().any(|pair| pair.0.as_str() == name.as_str())
+}
+
+/// Whether a field may have this name, where these names are taken.
+#[tactic(auto, using(crate::proofs::Readers::among_names))]
+fn is_free(taken: &[(Name, Text)], name: &Name) -> bool
+    ensures { result ≡ is_free_name (map (λ pair. pair.0) taken.now) name.now }
+{
+    name.as_str() != "key" && !is_taken(taken, name)
+}
+
+/// Whether a field of this name may come after these, where these names are taken.
+fn may_come(pairs: &[(Name, Text)], taken: &[(Name, Text)], name: &Name) -> bool
+    ensures { result ≡ may_name (map (λ pair. pair.0) taken.now) (left_by (λ pair. Some pair.0) None pairs.now) name.now }
+{
+    comes_next(pairs, name) && is_free(taken, name)
+}
+
+#[tactic(auto, unfolding(crate::specs::Fields::field_at))]
+fn field_of<'a>(
+    alloc: Global,
+    bytes: &'a [u8],
+    pairs: &[(Name, Text)],
+    taken: &[(Name, Text)],
+) -> Result<((Name, Text), &'a [u8]), Broken>
+    ensures { Gives (λ x. (x.0, x.1.now)) result (field_at (map (λ pair. pair.0) taken.now) (left_by (λ pair. Some pair.0) None pairs.now) bytes.now) }
+{
+    let (name, rest) = name_of(alloc, bytes)?;
+    if !may_come(pairs, taken, &name) {
+        return Err(Broken::At(bytes.len()));
+    }
+    let (text, rest) = text_of(alloc, rest)?;
+    Ok(((name, text), rest))
+}
+
+fn field_list<'a>(
+    alloc: Global,
+    count: u32,
+    bytes: &'a [u8],
+    taken: &[(Name, Text)],
+) -> Result<(Fields, &'a [u8]), Broken>
+    ensures { Gives (λ x. (x.0, x.1.now)) result (items_at (field_at (map (λ pair. pair.0) taken.now)) (λ pair. Some pair.0) None count bytes.now) }
+{
+    let mut pairs = Vec::new(alloc);
+    let mut rest = bytes;
+    for _ in 0..count {
+        let (pair, after) = field_of(alloc, rest, &pairs, taken)?;
+        pairs.push(pair)?;
+        rest = after;
+    }
+    Ok((Fields::from_vec(pairs), rest))
+}
+
+#[tactic(auto, unfolding(crate::specs::Fields::numbered_at))]
+fn numbered_of<'a>(
+    alloc: Global,
+    bytes: &'a [u8],
+    pairs: &[(Name, i64)],
+) -> Result<((Name, i64), &'a [u8]), Broken>
+    ensures { Gives (λ x. (x.0, x.1.now)) result (numbered_at (left_by (λ pair. Some pair.0) None pairs.now) bytes.now) }
+{
+    let (name, rest) = name_of(alloc, bytes)?;
+    if !comes_next(pairs, &name) {
+        return Err(Broken::At(bytes.len()));
+    }
+    let (value, rest) = i64_at(rest)?;
+    Ok(((name, value), rest))
+}
+
+fn number_list(
+    alloc: Global,
+    count: u64,
+    bytes: &[u8],
+) -> Result<(Numbers, &[u8]), Broken>
+    ensures { Gives (λ x. (x.0, x.1.now)) result (items_at numbered_at (λ pair. Some pair.0) None count bytes.now) }
+{
+    let mut pairs = Vec::new(alloc);
+    let mut rest = bytes;
+    for _ in 0..count {
+        let (pair, after) = numbered_of(alloc, rest, &pairs)?;
+        pairs.push(pair)?;
+        rest = after;
+    }
+    Ok((Numbers::from_vec(pairs), rest))
+}
+
+#[tactic(auto, unfolding(crate::specs::Fields::fields_at))]
+fn fields_of<'a>(
+    alloc: Global,
+    bytes: &'a [u8],
+    taken: &[(Name, Text)],
+) -> Result<(Fields, &'a [u8]), Broken>
+    ensures { Gives (λ x. (x.0, x.1.now)) result (fields_at (map (λ pair. pair.0) taken.now) bytes.now) }
+{
+    let (count, rest) = u32_at(bytes)?;
+    field_list(alloc, count, rest, taken)
+}
+
+#[tactic(auto, unfolding(crate::specs::Fields::numbers_at))]
+fn numbers_of(alloc: Global, bytes: &[u8]) -> Result<(Numbers, &[u8]), Broken>
+    ensures { Gives (λ x. (x.0, x.1.now)) result (numbers_at bytes.now) }
+{
+    let (count, rest) = u64_at(bytes)?;
+    number_list(alloc, count, rest)
+}
+
+#[tactic(auto, unfolding(crate::specs::Fields::document_at))]
+fn document_of(alloc: Global, bytes: &[u8]) -> Result<(Document, &[u8]), Broken>
+    ensures { Gives (λ x. (x.0, x.1.now)) result (document_at bytes.now) }
+{
+    let (key, rest) = text_of(alloc, bytes)?;
+    let (text, rest) = fields_of(alloc, rest, &[])?;
+    let (exact, rest) = fields_of(alloc, rest, text.as_slice())?;
+    let (num, rest) = numbers_of(alloc, rest)?;
+    let doc = Document {
+        key,
+        text,
+        exact,
+        num,
+    };
+    Ok((doc, rest))
+}
+
+/// A row of the commit of this number, whose birth is after the last one and in no earlier segment.
+#[tactic(auto, unfolding(crate::specs::Reading::row_at))]
+pub(crate) fn row_of<'a>(
+    alloc: Global,
+    bytes: &'a [u8],
+    number: u64,
+    earlier: &BTreeSet<u64>,
+    last: u64,
+) -> Result<(Row, &'a [u8]), Broken>
+    ensures { Gives (λ x. (x.0, x.1.now)) result (row_at number (contains nat_cmp earlier.now) (last + 1) bytes.now) }
+{
+    let (birth, rest) = u64_at(bytes)?;
+    if birth <= last || number < birth || earlier.contains(&birth) {
+        return Err(Broken::At(bytes.len()));
+    }
+    let (doc, rest) = document_of(alloc, rest)?;
+    Ok((Row { birth, doc }, rest))
+}
