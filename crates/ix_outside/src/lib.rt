@@ -21,6 +21,7 @@ mod settled;
 mod sink;
 mod source;
 mod steady_source;
+mod steady_store;
 mod store;
 mod streams;
 
@@ -34,6 +35,7 @@ pub use outcome::{BytesLeft, StepsLeft};
 pub use sink::Sink;
 pub use source::{Failed, Source};
 pub use steady_source::SteadySource;
+pub use steady_store::SteadyStore;
 pub use store::{Store, StoreFault};
 pub use streams::{ReadSource, WriteSink};
 

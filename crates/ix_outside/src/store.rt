@@ -1,5 +1,5 @@
 //! Where the files are.
-ghost use Rattle.std.specs.Prelude.{◌≡◌, ◌≤◌, ℕ, Option, IfOk, OnOk, OnErr, All, IfSome, option_map};
+ghost use Rattle.std.specs.Prelude.{◌≡◌, ◌≢◌, ◌≤◌, ℕ, Option, IfOk, OnOk, OnErr, All, IfSome, option_map};
 ghost use Rattle.ix_base.specs.FileNames.{IsName};
 ghost use Rattle.ix_base.specs.declared.file_name.FileName.{FileName};
 ghost use Rattle.ix_outside.specs.Files.{Files, Lists, Puts, Removes, Renames, MayRename, MayRemove, SameBut, Same, Does, Reads};
@@ -121,7 +121,8 @@ pub trait Store {
     /// Gives the file another name, in place of a file that has it. After `Failed` it may have
     /// either name.
     fn rename(&mut self, from: FileName, to: FileName) -> Result<(), StoreFault>
-        requires { IsName to }
+        requires name { IsName to }
+        requires apart { from ≢ to }
         ensures does { Does (Renames from to) (MayRename from to) (files self.old) (files self.new) result }
         ensures crash { Leaves (MayHaveRenamed from to) (images self.old) (images self.new) result }
         ensures moved { OnOk result (MovesUnsynced from to (unsynced self.old) (unsynced self.new)) }

@@ -1,7 +1,7 @@
 //! What no clause says: which calls fail, which outcomes a crash has, and the real objects.
 use crate::{
     DirStore, EmptyGate, Failed, FuseStore, Gate, MemorySink, MemorySource, MemoryStore,
-    ReadSource, Sink, Source, SteadySource, Store, StoreFault, WriteSink,
+    ReadSource, Sink, Source, SteadySource, SteadyStore, Store, StoreFault, WriteSink,
 };
 use ix_base::FileName;
 use std::alloc::Global;
@@ -145,6 +145,28 @@ fn crash_leaves_what_was_chosen(rt: HostRuntime) {
         }
         assert_eq!(rt; left.faults(), 0);
     }
+}
+
+#[test]
+fn steady_calls(rt: HostRuntime) {
+    let bytes = b"old".to_vec(rt.alloc()).expect(&rt, "memory");
+    let files = vec![in rt.alloc(); (FileName::Commit(1), bytes)].expect(&rt, "memory");
+    let Ok(mut store) = SteadyStore::with_files(rt.alloc(), files) else {
+        panic!(rt; "memory");
+    };
+    assert_eq!(rt; store.delete(FileName::Commit(1)), Ok(()));
+    let Ok(mut left) = store.crash(rt.alloc(), 1) else {
+        panic!(rt; "memory");
+    };
+    assert!(rt; has(rt.alloc(), &mut left, FileName::Commit(1), b"old"));
+    assert_eq!(rt; store.sync_all(), Ok(()));
+    let Ok(mut left) = store.crash(rt.alloc(), 1) else {
+        panic!(rt; "memory");
+    };
+    assert!(rt; lacks(rt.alloc(), &mut left, FileName::Commit(1)));
+    let mut empty = SteadyStore::new(rt.alloc());
+    assert_eq!(rt; empty.rename(FileName::Rows(1), FileName::Rows(2)), Ok(()));
+    assert!(rt; lacks(rt.alloc(), &mut empty, FileName::Rows(2)));
 }
 
 #[test]
