@@ -1,8 +1,7 @@
 //! Reading a commit back.
-ghost use Rattle.std.specs.Prelude.{◌≡◌, ◌<◌, ◌≤◌, ◌↔◌, ◌⊎◌, ℕ, List, Contains, AllPairs, IfOk, IfErr, IsSome, IfSome, Some, None, Ok, Err};
-ghost use Rattle.ix_base.specs.FileNames.{IsCounted};
+ghost use Rattle.std.specs.Prelude.{◌≡◌, ◌≤◌, ◌⊎◌, ℕ, List, IfOk, IfErr, IsPermutation, Some, Err};
+ghost use Rattle.std.specs.List.Sorted.{IsNonDecreasingBy};
 ghost use Rattle.ix_base.specs.declared.document.Row.{Row};
-ghost use Rattle.ix_base.specs.declared.file_name.FileName.TheVariants.{Commit};
 ghost use Rattle.ix_outside.specs.Causes.{Rose};
 ghost use Rattle.ix_outside.specs.Files.{Files, Was};
 ghost use Rattle.ix_outside.specs.Calls.{OnlyReads};
@@ -10,9 +9,10 @@ ghost use Rattle.commit_point.specs.Holds.{Holds};
 ghost use Rattle.commit_point.specs.Reading.{reading};
 ghost use Rattle.commit_point.specs.declared.fault.Damaged.{Damaged};
 
-use crate::fault::OpenFault;
-use ix_base::{List, Row};
-use ix_outside::{Store, StoreFault};
+use crate::fault::{Damaged, OpenFault};
+use crate::load::{read_head, read_segments};
+use ix_base::{FileName, List, Row};
+use ix_outside::Store;
 use std::alloc::Global;
 
 /// A commit that was read back: its rows by birth.
@@ -21,6 +21,40 @@ pub struct Opened {
     pub number: u64,
     pub next_id: u64,
     pub rows: List<Row>,
+}
+
+/// Brings rows into the order of their births.
+fn sort_by_birth(rows: &mut Vec<Row>)
+    ensures moved { IsPermutation rows.old.items rows.new.items }
+    ensures sorted { IsNonDecreasingBy (λ row. row.birth) rows.new.items }
+{
+    rows.sort_unstable_by_key(|row| row.birth);
+}
+
+fn read_whole<S: Store>(alloc: Global, store: &mut S, number: u64) -> Result<Opened, OpenFault>
+    ensures number { IfOk result (λ opened. opened.number ≡ number) }
+    ensures found { IfOk result (λ opened. (files : Files) × Was (S.files store.old) files × Holds files number opened.next_id opened.rows) }
+    ensures damaged { (damaged : Damaged) → result ≡ Err (OpenFault.Damaged damaged)
+        → (files : Files) × Was (S.files store.old) files × (reading files number ≡ Err damaged) }
+    ensures listed { (other : ℕ) → result ≡ Err (OpenFault.NoSuch other) → ⊥ }
+    ensures reads { OnlyReads S.files S.unsynced S.images S.moment S.left_since store.old store.new }
+    ensures later { S.fault_count store.old ≤ S.fault_count store.new }
+    ensures failed { result ≡ Err OpenFault.Store → Rose (S.fault_count store.old) (S.fault_count store.new) }
+{
+    let head = read_head(alloc, store, number)?;
+    let mut rows = read_segments(alloc, store, &head)?;
+    if rows.len() as u64 != head.docs {
+        return Err(OpenFault::Damaged(Damaged {
+            file: FileName::Commit(number),
+            at: 16,
+        }));
+    }
+    sort_by_birth(&mut rows);
+    Ok(Opened {
+        number,
+        next_id: head.next_id,
+        rows: List::from_vec(rows),
+    })
 }
 
 /// Reads the commit of this number, which a list has shown. A commit file that is gone since is
@@ -42,5 +76,5 @@ pub fn read_commit<S: Store>(alloc: Global, store: &mut S, number: u64) -> Resul
     ensures later { S.fault_count store.old ≤ S.fault_count store.new }
     ensures failed { result ≡ Err OpenFault.Store → Rose (S.fault_count store.old) (S.fault_count store.new) }
 {
-    Err(OpenFault::NoMemory)
+    read_whole(alloc, store, number)
 }
