@@ -13,3 +13,4 @@ pub mod CommitNumbers
 pub mod Loading
 pub mod OnlyReading
 pub mod Opening
+pub mod Telling

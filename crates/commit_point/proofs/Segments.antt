@@ -11,8 +11,8 @@ use Rattle.ix_base.specs.declared.file_name.FileName.TheVariants.{Commit, Pendin
 use Rattle.ix_base.specs.declared.document.Row.{Row}
 use Rattle.ix_outside.specs.Files.{Files, Was, Reads, SameBut}
 use Rattle.commit_point.specs.declared.fault.Damaged.{Damaged}
-use Rattle.commit_point.specs.declared.head.HeadSegment.{HeadSegment}
-use Rattle.commit_point.specs.declared.head.Head.{Head}
+use Rattle.commit_point.specs.declared.heads.HeadSegment.{HeadSegment}
+use Rattle.commit_point.specs.declared.heads.Head.{Head}
 use Rattle.commit_point.specs.Spelling.{rows_file, commit_file}
 use Rattle.commit_point.specs.Fits.{BirthsRise, RowsFit, IdsRise, HeadFits, IsSegment}
 use Rattle.commit_point.specs.Holds.{HaveRows, HasHead, Holds}

@@ -14,7 +14,7 @@ ghost use Rattle.commit_point.specs.Spelling.{rows_file, commit_file};
 
 use crate::decode::{decode_commit, decode_row};
 use crate::fault::{Damaged, FileFault, OpenFault};
-use crate::head::{Head, HeadSegment};
+use crate::heads::{Head, HeadSegment};
 use ix_base::{FileName, List, NoMemory, Row};
 use ix_outside::{Store, StoreFault};
 use std::alloc::Global;

@@ -2,7 +2,7 @@ use Rattle.std.proofs.Common.{◌≡◌, ◌≤◌, List, length, Err, sym, subs
 use Rattle.std.specs.BTreeSet.{contains}
 use Rattle.std.specs.Ordering.{nat_cmp}
 use Rattle.std.proofs.lemmas.Result.{err_from_is_err_and}
-use Rattle.commit_point.specs.declared.head.HeadSegment.{HeadSegment}
+use Rattle.commit_point.specs.declared.heads.HeadSegment.{HeadSegment}
 use Rattle.commit_point.proofs.Loading.{one_more_seen, breaks_seen, all_read}
 use Rattle.commit_point.proofs.OnlyReading.{reads_then}
 use Rattle.commit_point.proofs.load.read_segments.Goals as goal
