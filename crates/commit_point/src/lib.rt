@@ -24,3 +24,6 @@ pub use heads::{Head, HeadSegment};
 pub use listing::list_commits;
 pub use open::{Opened, head, open_commit, read_commit};
 pub use write::write_commit;
+
+#[cfg(test)]
+mod tests;
