@@ -8,8 +8,8 @@ use Rattle.std.proofs.lemmas.Bool.{eqb-true, eq-eqb, leb-true, le-leb, ltb-true,
 use Rattle.std.proofs.lemmas.List.{append-nil, nil_from_length}
 use Rattle.ix_base.specs.declared.file_name.FileName.{FileName}
 use Rattle.ix_base.specs.declared.document.Row.{Row}
-use Rattle.commit_point.specs.declared.head.HeadSegment.{HeadSegment}
-use Rattle.commit_point.specs.declared.head.Head.{Head}
+use Rattle.commit_point.specs.declared.heads.HeadSegment.{HeadSegment}
+use Rattle.commit_point.specs.declared.heads.Head.{Head}
 use Rattle.commit_point.specs.declared.fault.Damaged.{Damaged}
 use Rattle.commit_point.specs.declared.fault.FileFault.{FileFault}
 use Rattle.commit_point.specs.Spelling.{be32, be64, rows_mark, commit_mark, document, row, rows_file, entry, commit_file}

@@ -9,3 +9,8 @@ pub mod DocumentLaws
 pub mod FileLaws
 pub mod Births
 pub mod Segments
+pub mod CommitNumbers
+pub mod Loading
+pub mod OnlyReading
+pub mod Opening
+pub mod Telling

@@ -13,7 +13,7 @@ use Rattle.ix_outside.specs.Images.{IsDurable, Follows}
 use Rattle.ix_outside.specs.Calls.{LeavesOnly}
 use Rattle.ix_outside.specs.declared.store.StoreFault.TheVariants.{NoMemory}
 use Rattle.commit_point.specs.declared.fault.CommitRefused.{CommitRefused}
-use Rattle.commit_point.specs.declared.head.Head.{Head}
+use Rattle.commit_point.specs.declared.heads.Head.{Head}
 use Rattle.commit_point.specs.Fits.{BirthsRise, DocumentFits, EntryFits, HeadFits}
 use Rattle.commit_point.specs.Holds.{Holds, HaveRows}
 use Rattle.commit_point.specs.Putting.{Reaches, PutsRows, PutsCommit, MayPutCommit, head_of}

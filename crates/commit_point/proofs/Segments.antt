@@ -11,8 +11,8 @@ use Rattle.ix_base.specs.declared.file_name.FileName.TheVariants.{Commit, Pendin
 use Rattle.ix_base.specs.declared.document.Row.{Row}
 use Rattle.ix_outside.specs.Files.{Files, Was, Reads, SameBut}
 use Rattle.commit_point.specs.declared.fault.Damaged.{Damaged}
-use Rattle.commit_point.specs.declared.head.HeadSegment.{HeadSegment}
-use Rattle.commit_point.specs.declared.head.Head.{Head}
+use Rattle.commit_point.specs.declared.heads.HeadSegment.{HeadSegment}
+use Rattle.commit_point.specs.declared.heads.Head.{Head}
 use Rattle.commit_point.specs.Spelling.{rows_file, commit_file}
 use Rattle.commit_point.specs.Fits.{BirthsRise, RowsFit, IdsRise, HeadFits, IsSegment}
 use Rattle.commit_point.specs.Holds.{HaveRows, HasHead, Holds}
@@ -94,21 +94,21 @@ some_files (Some files) = (files, refl)
 
 -- ---- segments
 
-each_rises : (files : Files) (s : ℕ) (es : List HeadSegment) (parts : List (List Row)) → HaveRows files s es parts → EachRises s parts
+pub each_rises : (files : Files) (s : ℕ) (es : List HeadSegment) (parts : List (List Row)) → HaveRows files s es parts → EachRises s parts
 each_rises files s [] [] have = tt
 each_rises files s [] (p ∷ ps) have = absurd have
 each_rises files s (e ∷ es) [] have = absurd have
 each_rises files s (e ∷ es) (p ∷ ps) have = (have.2.births, each_rises files s es ps have.3)
 
 -- the segments so far with one more
-have_push : (files : Files) (s : ℕ) (es : List HeadSegment) (parts : List (List Row)) (e : HeadSegment) (rows : List Row) → HaveRows files s es parts
+pub have_push : (files : Files) (s : ℕ) (es : List HeadSegment) (parts : List (List Row)) (e : HeadSegment) (rows : List Row) → HaveRows files s es parts
     → files (Rows e.id) ≡ Some (rows_file e.id rows) → e.n ≡ length rows → RowsFit s rows → HaveRows files s (es ++ e ∷ []) (parts ++ rows ∷ [])
 have_push files s [] [] e rows have file count fits = (file, count, fits, tt)
 have_push files s [] (p ∷ ps) e rows have file count fits = absurd have
 have_push files s (d ∷ ds) [] e rows have file count fits = absurd have
 have_push files s (d ∷ ds) (p ∷ ps) e rows have file count fits = (have.0, have.1, have.2, have_push files s ds ps e rows have.3 file count fits)
 
-have_kept : (files now : Files) (s low id : ℕ) (es : List HeadSegment) (parts : List (List Row)) → SameBut (Rows id) files now → IdsRise low id es → HaveRows files s es parts → HaveRows now s es parts
+pub have_kept : (files now : Files) (s low id : ℕ) (es : List HeadSegment) (parts : List (List Row)) → SameBut (Rows id) files now → IdsRise low id es → HaveRows files s es parts → HaveRows now s es parts
 have_kept files now s low id [] [] same ids have = have
 have_kept files now s low id [] (p ∷ ps) same ids have = have
 have_kept files now s low id (e ∷ es) [] same ids have = have
@@ -116,11 +116,11 @@ have_kept files now s low id (e ∷ es) (p ∷ ps) same ids have =
     let other : Rows e.id ≢ Rows id = λ is. let same_id : e.id ≡ id = cc in absurd (omega (arith, same_id, ids.1)) in
     (same (Rows e.id) other ∙ have.0, have.1, have.2, have_kept files now s (e.id + 1) id es ps same ids.2 have.3)
 
-all_rows_push : (parts : List (List Row)) (rows : List Row) → all_rows (parts ++ rows ∷ []) ≡ all_rows parts ++ rows
+pub all_rows_push : (parts : List (List Row)) (rows : List Row) → all_rows (parts ++ rows ∷ []) ≡ all_rows parts ++ rows
 all_rows_push [] rows = append-nil rows
 all_rows_push (p ∷ ps) rows = ap (λ (r : List Row). p ++ r) (all_rows_push ps rows) ∙ sym (append_assoc p (all_rows ps) rows)
 
-has_append : (xs ys : List Row) (b : ℕ) → has_birth (xs ++ ys) b ≡ (has_birth xs b || has_birth ys b)
+pub has_append : (xs ys : List Row) (b : ℕ) → has_birth (xs ++ ys) b ≡ (has_birth xs b || has_birth ys b)
 has_append [] ys b = refl
 has_append (x ∷ xs) ys b = ap (λ (t : Bool). eqb x.birth b || t) (has_append xs ys b) ∙ sym (or_assoc (eqb x.birth b) (has_birth xs b) (has_birth ys b))
   where
@@ -136,11 +136,11 @@ known_more known p ps b = or_assoc (known b) (has_birth p b) (has_birth (all_row
     or_assoc true q r = refl
     or_assoc false q r = refl
 
-all_congr : (f g : ℕ → Bool) (rows : List Row) → ((b : ℕ) → f b ≡ g b) → AllByRecursion (λ (r : Row). f r.birth ≡ false) rows → AllByRecursion (λ (r : Row). g r.birth ≡ false) rows
+pub all_congr : (f g : ℕ → Bool) (rows : List Row) → ((b : ℕ) → f b ≡ g b) → AllByRecursion (λ (r : Row). f r.birth ≡ false) rows → AllByRecursion (λ (r : Row). g r.birth ≡ false) rows
 all_congr f g [] same all = tt
 all_congr f g (r ∷ rs) same all = (sym (same r.birth) ∙ all.0, all_congr f g rs same all.1)
 
-unknown_push : (known : ℕ → Bool) (parts : List (List Row)) (rows : List Row) → Unknown known parts → AllByRecursion (λ (r : Row). (known r.birth || has_birth (all_rows parts) r.birth) ≡ false) rows → Unknown known (parts ++ rows ∷ [])
+pub unknown_push : (known : ℕ → Bool) (parts : List (List Row)) (rows : List Row) → Unknown known parts → AllByRecursion (λ (r : Row). (known r.birth || has_birth (all_rows parts) r.birth) ≡ false) rows → Unknown known (parts ++ rows ∷ [])
 unknown_push known [] rows unknown all = (all_congr (λ b. known b || false) known rows (λ b. or_false (known b)) all, tt)
   where
     or_false : (b : Bool) → (b || false) ≡ b
@@ -158,7 +158,7 @@ segment_reads files s known e rows id_fits s_fits file count fits unknown =
     ∙ ap (placed (Rows e.id) (rows_file e.id rows)) (rows_again e.id e.n s known rows id_fits s_fits (record { fits = fits; count = sym count; unknown = unknown }))
 
 -- segments that are there are read
-segments_read : (files : Files) (s low limit : ℕ) (known : ℕ → Bool) (es : List HeadSegment) (parts : List (List Row)) → s < 2 ^ 64 → limit ≤ 2 ^ 62 → IdsRise low limit es → HaveRows files s es parts → Unknown known parts
+pub segments_read : (files : Files) (s low limit : ℕ) (known : ℕ → Bool) (es : List HeadSegment) (parts : List (List Row)) → s < 2 ^ 64 → limit ≤ 2 ^ 62 → IdsRise low limit es → HaveRows files s es parts → Unknown known parts
     → segments_from files s known es ≡ Ok parts
 unfolding segments_from
 segments_read files s low limit known [] [] s_fits room ids have unknown = refl
@@ -169,7 +169,7 @@ segments_read files s low limit known (e ∷ es) (p ∷ ps) s_fits room ids have
       segments_read files s (e.id + 1) limit (λ b. known b || has_birth p b) es ps s_fits room ids.2 have.3 unknown.1) refl
 
 -- a segment that is broken, after segments that are there
-segments_break : (files : Files) (s low limit : ℕ) (known : ℕ → Bool) (es : List HeadSegment) (parts : List (List Row)) (e : HeadSegment) (rest : List HeadSegment) (d : Damaged) → s < 2 ^ 64 → limit ≤ 2 ^ 62 → IdsRise low limit es
+pub segments_break : (files : Files) (s low limit : ℕ) (known : ℕ → Bool) (es : List HeadSegment) (parts : List (List Row)) (e : HeadSegment) (rest : List HeadSegment) (d : Damaged) → s < 2 ^ 64 → limit ≤ 2 ^ 62 → IdsRise low limit es
     → HaveRows files s es parts → Unknown known parts → segment_from files s (λ b. known b || has_birth (all_rows parts) b) e ≡ Err d → segments_from files s known (es ++ e ∷ rest) ≡ Err d
 unfolding segments_from
 segments_break files s low limit known [] [] e rest d s_fits room ids have unknown broken =

@@ -5,7 +5,7 @@ use Rattle.ix_base.specs.declared.file_name.FileName.{FileName}
 use Rattle.ix_base.specs.declared.file_name.FileName.TheVariants.{Commit, Pending, Rows}
 use Rattle.ix_base.specs.declared.document.Row.{Row}
 use Rattle.ix_outside.specs.Files.{Files}
-use Rattle.commit_point.specs.declared.head.HeadSegment.{HeadSegment}
+use Rattle.commit_point.specs.declared.heads.HeadSegment.{HeadSegment}
 use Rattle.commit_point.specs.Fits.{IdsRise}
 use Rattle.commit_point.specs.Holds.{Holds, HaveRows, HasHead}
 use Rattle.commit_point.specs.Writing.{SameElsewhere}

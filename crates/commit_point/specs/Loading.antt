@@ -6,7 +6,7 @@ use Rattle.ix_base.specs.declared.file_name.FileName.TheVariants.{Commit, Pendin
 use Rattle.ix_base.specs.declared.document.Row.{Row}
 use Rattle.ix_outside.specs.Files.{Files, Was, Reads}
 use Rattle.commit_point.specs.declared.fault.Damaged.{Damaged}
-use Rattle.commit_point.specs.declared.head.Head.{Head}
+use Rattle.commit_point.specs.declared.heads.Head.{Head}
 use Rattle.commit_point.specs.Holds.{HaveRows, Holds}
 use Rattle.commit_point.specs.Reading.{of_file, segments_from, has_birth, all_rows}
 

@@ -9,8 +9,8 @@ use Rattle.ix_outside.specs.Files.{Files}
 use Rattle.commit_point.specs.declared.fault.Damaged.{Damaged}
 use Rattle.commit_point.specs.declared.fault.FileFault.{FileFault}
 use Rattle.commit_point.specs.declared.fault.FileFault.TheVariants as faults
-use Rattle.commit_point.specs.declared.head.HeadSegment.{HeadSegment}
-use Rattle.commit_point.specs.declared.head.Head.{Head}
+use Rattle.commit_point.specs.declared.heads.HeadSegment.{HeadSegment}
+use Rattle.commit_point.specs.declared.heads.Head.{Head}
 use Rattle.commit_point.specs.Spelling.{rows_mark, commit_mark}
 use Rattle.commit_point.specs.Fields.{◌>>=◌, number_at, number_where, mark_at, items_at, document_at}
 

@@ -4,8 +4,8 @@ use Rattle.std.specs.List.{flat_map}
 use Rattle.std.specs.Int.{w32, w64, to_be_bytes, cast_unsigned}
 use Rattle.ix_base.specs.declared.document.Document.{Document}
 use Rattle.ix_base.specs.declared.document.Row.{Row}
-use Rattle.commit_point.specs.declared.head.HeadSegment.{HeadSegment}
-use Rattle.commit_point.specs.declared.head.Head.{Head}
+use Rattle.commit_point.specs.declared.heads.HeadSegment.{HeadSegment}
+use Rattle.commit_point.specs.declared.heads.Head.{Head}
 
 -- a number in eight bytes and in four
 unfoldable pub be64 : ℕ → List ℕ

@@ -4,7 +4,7 @@ ghost use Rattle.std.specs.BTreeSet.{contains};
 ghost use Rattle.std.specs.Ordering.{nat_cmp};
 ghost use Rattle.ix_base.specs.declared.document.Row.{Row};
 ghost use Rattle.ix_base.specs.declared.file_name.FileName.TheVariants.{Commit, Rows};
-ghost use Rattle.commit_point.specs.declared.head.Head.{Head};
+ghost use Rattle.commit_point.specs.declared.heads.Head.{Head};
 ghost use Rattle.commit_point.specs.Fields.{Gives, Fails, items_at};
 ghost use Rattle.commit_point.specs.Fits.{HeadFits, IsSegment};
 ghost use Rattle.commit_point.specs.Reading.{GivesFile, FailsFile, row_at, rows_in, entry_at, head_in, placed};
@@ -12,7 +12,7 @@ ghost use Rattle.commit_point.specs.Spelling.{rows_file, commit_file};
 
 use crate::broken::Broken;
 use crate::fault::{Damaged, FileFault};
-use crate::head::{Head, HeadSegment};
+use crate::heads::{Head, HeadSegment};
 use crate::read_documents::row_of;
 use crate::read_fields::{commit_mark_at, rows_mark_at, u32_at, u64_at};
 use ix_base::{FileName, List, Row};

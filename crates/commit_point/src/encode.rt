@@ -7,7 +7,7 @@ ghost use Rattle.commit_point.specs.Fits.{DocumentFits};
 
 use crate::bytes::{put_commit_mark, put_rows_mark, put_u32, put_u64};
 use crate::documents::put_row;
-use crate::head::{Head, HeadSegment};
+use crate::heads::{Head, HeadSegment};
 use ix_base::{NoMemory, Row};
 use std::alloc::Global;
 

@@ -1,4 +1,6 @@
 //! Why a commit can't be read or written.
+ghost use Rattle.std.specs.Prelude.{◌≡◌};
+ghost use Rattle.commit_point.specs.declared.fault.OpenFault.TheVariants.{NoMemory};
 
 use ix_base::FileName;
 use ix_outside::StoreFault;
@@ -31,6 +33,14 @@ pub enum OpenFault {
     NoSuch { number: u64 },
     /// Memory ran out.
     NoMemory,
+}
+
+impl From<ix_base::NoMemory> for OpenFault {
+    ghost from_gives = { λ _ fault. fault ≡ NoMemory };
+
+    fn from(_error: ix_base::NoMemory) -> OpenFault {
+        OpenFault::NoMemory
+    }
 }
 
 /// Why a commit was not written, and whether its rename was done in the call.

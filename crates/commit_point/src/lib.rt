@@ -8,7 +8,7 @@ mod decode;
 mod documents;
 mod encode;
 mod fault;
-mod head;
+mod heads;
 mod listing;
 mod load;
 mod open;
@@ -20,7 +20,10 @@ mod write;
 pub use decode::{decode_commit, decode_row};
 pub use encode::{encode_commit, encode_row};
 pub use fault::{CommitRefused, Damaged, FileFault, OpenFault};
-pub use head::{Head, HeadSegment};
+pub use heads::{Head, HeadSegment};
 pub use listing::list_commits;
-pub use open::{Opened, read_commit};
+pub use open::{Opened, head, open_commit, read_commit};
 pub use write::write_commit;
+
+#[cfg(test)]
+mod tests;

@@ -14,7 +14,7 @@ ghost use Rattle.commit_point.specs.Spelling.{rows_file, commit_file};
 
 use crate::decode::{decode_commit, decode_row};
 use crate::fault::{Damaged, FileFault, OpenFault};
-use crate::head::{Head, HeadSegment};
+use crate::heads::{Head, HeadSegment};
 use ix_base::{FileName, List, NoMemory, Row};
 use ix_outside::{Store, StoreFault};
 use std::alloc::Global;
@@ -95,4 +95,29 @@ fn take_in(
         rows.push(row)?;
     }
     Ok(())
+}
+
+/// Reads the rows of all segments of a commit, segment by segment.
+pub(crate) fn read_segments<S: Store>(
+    alloc: Global,
+    store: &mut S,
+    head: &Head,
+) -> Result<Vec<Row>, OpenFault>
+    requires { HeadFits head.now }
+    ensures found { (before : Files) → Was (S.files store.old) before → IfOk result (λ rows. AreRead (S.files store.old) head.now before rows.items) }
+    ensures damaged { (before : Files) (damaged : Damaged) → Was (S.files store.old) before → result ≡ Err (OpenFault.Damaged damaged) → BreakAt (S.files store.old) head.now before damaged }
+    ensures listed { (other : ℕ) → result ≡ Err (OpenFault.NoSuch other) → ⊥ }
+    ensures reads { OnlyReads S.files S.unsynced S.images S.moment S.left_since store.old store.new }
+    ensures later { S.fault_count store.old ≤ S.fault_count store.new }
+    ensures failed { result ≡ Err OpenFault.Store → Rose (S.fault_count store.old) (S.fault_count store.new) }
+{
+    let number = head.number;
+    let segments = head.segments.as_slice();
+    let mut earlier = BTreeSet::new(alloc);
+    let mut rows = Vec::new(alloc);
+    for segment in segments {
+        let part = read_segment(alloc, store, number, *segment, &earlier)?;
+        take_in(&mut earlier, &mut rows, part)?;
+    }
+    Ok(rows)
 }

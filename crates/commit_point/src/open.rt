@@ -1,17 +1,21 @@
 //! Reading a commit back.
-ghost use Rattle.std.specs.Prelude.{◌≡◌, ◌<◌, ◌≤◌, ◌↔◌, ◌⊎◌, ℕ, List, Contains, AllPairs, IfOk, IfErr, IsSome, IfSome, Some, None, Ok, Err};
-ghost use Rattle.ix_base.specs.FileNames.{IsCounted};
+ghost use Rattle.std.specs.Prelude.{◌≡◌, ◌≤◌, ◌⊎◌, ◌↔◌, ℕ, List, IfOk, IfErr, IsErrAnd, IsPermutation, IsSome, IsTrue, Some, None, Err};
+ghost use Rattle.std.specs.List.Sorted.{IsNonDecreasingBy};
 ghost use Rattle.ix_base.specs.declared.document.Row.{Row};
 ghost use Rattle.ix_base.specs.declared.file_name.FileName.TheVariants.{Commit};
 ghost use Rattle.ix_outside.specs.Causes.{Rose};
 ghost use Rattle.ix_outside.specs.Files.{Files, Was};
 ghost use Rattle.ix_outside.specs.Calls.{OnlyReads};
-ghost use Rattle.commit_point.specs.Holds.{Holds};
-ghost use Rattle.commit_point.specs.Reading.{reading};
+ghost use Rattle.commit_point.specs.Holds.{HasHead, Holds};
+ghost use Rattle.commit_point.specs.Reading.{head_from, reading};
 ghost use Rattle.commit_point.specs.declared.fault.Damaged.{Damaged};
+ghost use Rattle.commit_point.specs.declared.heads.Head.{Head};
 
-use crate::fault::OpenFault;
-use ix_base::{List, Row};
+use crate::fault::{Damaged, OpenFault};
+use crate::heads::Head;
+use crate::listing::list_commits;
+use crate::load::{read_head, read_segments};
+use ix_base::{FileName, List, Row};
 use ix_outside::{Store, StoreFault};
 use std::alloc::Global;
 
@@ -21,6 +25,40 @@ pub struct Opened {
     pub number: u64,
     pub next_id: u64,
     pub rows: List<Row>,
+}
+
+/// Brings rows into the order of their births.
+fn sort_by_birth(rows: &mut Vec<Row>)
+    ensures moved { IsPermutation rows.old.items rows.new.items }
+    ensures sorted { IsNonDecreasingBy (λ row. row.birth) rows.new.items }
+{
+    rows.sort_unstable_by_key(|row| row.birth);
+}
+
+fn read_whole<S: Store>(alloc: Global, store: &mut S, number: u64) -> Result<Opened, OpenFault>
+    ensures number { IfOk result (λ opened. opened.number ≡ number) }
+    ensures found { IfOk result (λ opened. (files : Files) × Was (S.files store.old) files × Holds files number opened.next_id opened.rows) }
+    ensures damaged { (damaged : Damaged) → result ≡ Err (OpenFault.Damaged damaged)
+        → (files : Files) × Was (S.files store.old) files × (reading files number ≡ Err damaged) }
+    ensures listed { (other : ℕ) → result ≡ Err (OpenFault.NoSuch other) → ⊥ }
+    ensures reads { OnlyReads S.files S.unsynced S.images S.moment S.left_since store.old store.new }
+    ensures later { S.fault_count store.old ≤ S.fault_count store.new }
+    ensures failed { result ≡ Err OpenFault.Store → Rose (S.fault_count store.old) (S.fault_count store.new) }
+{
+    let head = read_head(alloc, store, number)?;
+    let mut rows = read_segments(alloc, store, &head)?;
+    if rows.len() as u64 != head.docs {
+        return Err(OpenFault::Damaged(Damaged {
+            file: FileName::Commit(number),
+            at: 16,
+        }));
+    }
+    sort_by_birth(&mut rows);
+    Ok(Opened {
+        number,
+        next_id: head.next_id,
+        rows: List::from_vec(rows),
+    })
 }
 
 /// Reads the commit of this number, which a list has shown. A commit file that is gone since is
@@ -42,5 +80,76 @@ pub fn read_commit<S: Store>(alloc: Global, store: &mut S, number: u64) -> Resul
     ensures later { S.fault_count store.old ≤ S.fault_count store.new }
     ensures failed { result ≡ Err OpenFault.Store → Rose (S.fault_count store.old) (S.fault_count store.new) }
 {
-    Err(OpenFault::NoMemory)
+    read_whole(alloc, store, number)
+}
+
+/// Whether the store's list has the commit of this number.
+fn is_listed<S: Store>(alloc: Global, store: &mut S, number: u64) -> Result<bool, OpenFault>
+    ensures told { IfOk result (λ listed. (files : Files) → S.files store.old ≡ Some files → (IsTrue listed ↔ IsSome (files (Commit number)))) }
+    ensures fault { IfErr result (λ fault. (fault ≡ OpenFault.Store) ⊎ (fault ≡ OpenFault.NoMemory)) }
+    ensures reads { OnlyReads S.files S.unsynced S.images S.moment S.left_since store.old store.new }
+    ensures later { S.fault_count store.old ≤ S.fault_count store.new }
+    ensures failed { result ≡ Err OpenFault.Store → Rose (S.fault_count store.old) (S.fault_count store.new) }
+{
+    match list_commits(alloc, store) {
+        Ok(numbers) => Ok(numbers.as_slice().contains(&number)),
+        Err(StoreFault::Failed) => Err(OpenFault::Store),
+        Err(StoreFault::NoMemory) => Err(OpenFault::NoMemory),
+    }
+}
+
+/// Reads the commit file of this number. `NoSuch` comes where the store's list lacks the number.
+pub fn head<S: Store>(alloc: Global, store: &mut S, number: u64) -> Result<Head, OpenFault>
+    // What is read is what the file spells.
+    ensures found { IfOk result (λ head. (files : Files) × Was (S.files store.old) files × HasHead files number head) }
+    // What the file spells is read, unless the store fails or memory runs out.
+    ensures only { (files : Files) (head : Head) → S.files store.old ≡ Some files → HasHead files number head → IfOk result (λ read. read ≡ head) }
+    ensures whole { (files : Files) (head : Head) → S.files store.old ≡ Some files → HasHead files number head
+        → IfErr result (λ fault. (fault ≡ OpenFault.Store) ⊎ (fault ≡ OpenFault.NoMemory)) }
+    // Which place is the first broken one.
+    ensures damaged { (damaged : Damaged) → result ≡ Err (OpenFault.Damaged damaged)
+        → (files : Files) × Was (S.files store.old) files × (head_from files number ≡ Err damaged) }
+    // There is no such commit, and this is said.
+    ensures no_such { (other : ℕ) → result ≡ Err (OpenFault.NoSuch other) → (other ≡ number) × ((files : Files) → S.files store.old ≡ Some files → files (Commit number) ≡ None) }
+    ensures absent { (files : Files) → S.files store.old ≡ Some files → files (Commit number) ≡ None
+        → IsErrAnd result (λ fault. (fault ≡ OpenFault.NoSuch number) ⊎ ((fault ≡ OpenFault.Store) ⊎ (fault ≡ OpenFault.NoMemory))) }
+    ensures reads { OnlyReads S.files S.unsynced S.images S.moment S.left_since store.old store.new }
+    ensures later { S.fault_count store.old ≤ S.fault_count store.new }
+    ensures failed { result ≡ Err OpenFault.Store → Rose (S.fault_count store.old) (S.fault_count store.new) }
+{
+    if !is_listed(alloc, store, number)? {
+        return Err(OpenFault::NoSuch { number });
+    }
+    read_head(alloc, store, number)
+}
+
+/// Reads the commit of this number. `NoSuch` comes where the store's list lacks the number.
+pub fn open_commit<S: Store>(
+    alloc: Global,
+    store: &mut S,
+    number: u64,
+) -> Result<Opened, OpenFault>
+    ensures number { IfOk result (λ opened. opened.number ≡ number) }
+    // What is read is what the files spell.
+    ensures found { IfOk result (λ opened. (files : Files) × Was (S.files store.old) files × Holds files number opened.next_id opened.rows) }
+    // What the files spell is read, unless the store fails or memory runs out.
+    ensures only { (files : Files) (next : ℕ) (rows : List Row) → S.files store.old ≡ Some files → Holds files number next rows
+        → IfOk result (λ opened. (opened.next_id ≡ next) × (opened.rows ≡ rows)) }
+    ensures whole { (files : Files) (next : ℕ) (rows : List Row) → S.files store.old ≡ Some files → Holds files number next rows
+        → IfErr result (λ fault. (fault ≡ OpenFault.Store) ⊎ (fault ≡ OpenFault.NoMemory)) }
+    // Which place is the first broken one.
+    ensures damaged { (damaged : Damaged) → result ≡ Err (OpenFault.Damaged damaged)
+        → (files : Files) × Was (S.files store.old) files × (reading files number ≡ Err damaged) }
+    // There is no such commit, and this is said.
+    ensures no_such { (other : ℕ) → result ≡ Err (OpenFault.NoSuch other) → (other ≡ number) × ((files : Files) → S.files store.old ≡ Some files → files (Commit number) ≡ None) }
+    ensures absent { (files : Files) → S.files store.old ≡ Some files → files (Commit number) ≡ None
+        → IsErrAnd result (λ fault. (fault ≡ OpenFault.NoSuch number) ⊎ ((fault ≡ OpenFault.Store) ⊎ (fault ≡ OpenFault.NoMemory))) }
+    ensures reads { OnlyReads S.files S.unsynced S.images S.moment S.left_since store.old store.new }
+    ensures later { S.fault_count store.old ≤ S.fault_count store.new }
+    ensures failed { result ≡ Err OpenFault.Store → Rose (S.fault_count store.old) (S.fault_count store.new) }
+{
+    if !is_listed(alloc, store, number)? {
+        return Err(OpenFault::NoSuch { number });
+    }
+    read_commit(alloc, store, number)
 }

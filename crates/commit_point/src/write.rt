@@ -14,7 +14,7 @@ ghost use Rattle.commit_point.specs.Writing.{Commits, MayCommit, SameElsewhere, 
 
 use crate::encode::encode_commit;
 use crate::fault::CommitRefused;
-use crate::head::{Head, HeadSegment};
+use crate::heads::{Head, HeadSegment};
 use crate::put::{publish, put_file, put_rows_file};
 use ix_base::{FileName, List, NoMemory, Row};
 use ix_outside::{Store, StoreFault};

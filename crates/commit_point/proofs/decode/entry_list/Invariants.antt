@@ -1,5 +1,5 @@
 use Rattle.std.proofs.Common.{◌≡◌, ◌-◌, ◌+◌}
-use Rattle.commit_point.specs.declared.head.HeadSegment.{HeadSegment}
+use Rattle.commit_point.specs.declared.heads.HeadSegment.{HeadSegment}
 use Rattle.commit_point.specs.Fields.{items_at, left_by}
 use Rattle.commit_point.specs.Reading.{entry_at}
 use Rattle.commit_point.proofs.Loop.{so_far}

@@ -1,0 +1,8 @@
+use Rattle.commit_point.proofs.Opening.{only_it, whole_is_read}
+use Rattle.commit_point.proofs.open.read_commit.Goals as goal
+
+pub returns-clause-only : goal.returns-clause-only
+returns-clause-only g c = only_it (g.S.Store.files c.args.store.now) c.args.number c.read_whole.result c.read_whole.ensures.found
+
+pub returns-clause-whole : goal.returns-clause-whole
+returns-clause-whole g c = whole_is_read (g.S.Store.files c.args.store.now) c.args.number c.read_whole.result c.read_whole.ensures.damaged c.read_whole.ensures.listed

@@ -1,0 +1,36 @@
+use Rattle.std.proofs.Common.{◌≡◌, ◌∙◌, sym, ap, subst, ℕ, List, Err, arith}
+use Rattle.std.proofs.lemmas.Result.{err_from_is_err_and}
+use Rattle.ix_outside.specs.Files.{Files, Was}
+use Rattle.commit_point.specs.Holds.{Holds}
+use Rattle.commit_point.specs.Reading.{reading}
+use Rattle.commit_point.specs.declared.fault.Damaged.{Damaged}
+use Rattle.ix_base.specs.declared.document.Row.{Row}
+use Rattle.ix_base.specs.declared.file_name.FileName.TheVariants.{Commit}
+use Rattle.commit_point.proofs.Opening.{opens, head_breaks, segment_breaks, docs_break}
+use Rattle.commit_point.proofs.open.read_whole.Goals as goal
+
+pub returns-in_err-head-clause-damaged : goal.returns-in_err-head-clause-damaged
+returns-in_err-head-clause-damaged g c damaged e =
+    let p = err_from_is_err_and c.from_residual.result c.from_residual.ensures.1 in
+    head_breaks (g.S.Store.files c.args.store.now) c.args.number damaged (c.in_err-head.ensures.damaged damaged (let q = p.1 in let r = p.2 in cc))
+
+pub returns-in_err-rows-clause-damaged : goal.returns-in_err-rows-clause-damaged
+returns-in_err-rows-clause-damaged g c damaged e =
+    let p = err_from_is_err_and c.from_residual-in_err-rows.result c.from_residual-in_err-rows.ensures.1 in
+    segment_breaks (g.S.Store.files c.args.store.now) (g.S.Store.files c.read_head.new.store) c.args.number c.in_ok-head.head damaged c.in_ok-head.ensures.reads.same
+    c.in_ok-head.ensures.found.0 c.in_ok-head.ensures.found.1 c.in_ok-head.ensures.found.2
+    (λ before was. c.in_err-rows.ensures.damaged before damaged was (let q = p.1 in let r = p.2 in cc))
+
+pub returns-then-len-head-clause-damaged : goal.returns-then-len-head-clause-damaged
+returns-then-len-head-clause-damaged g c damaged e =
+    let at = docs_break (g.S.Store.files c.args.store.now) (g.S.Store.files c.read_head.new.store) c.args.number c.in_ok-head.head c.in_ok-rows.rows.items c.in_ok-head.ensures.reads.same
+      c.in_ok-head.ensures.found.0 c.in_ok-head.ensures.found.1 c.in_ok-head.ensures.found.2 c.in_ok-rows.ensures.found (λ q. absurd (omega (arith, q))) in
+    let place : Damaged = record { file = Commit c.args.number; at = 16 } in
+    let same : place ≡ damaged = cc in
+    (at.0, at.1, subst (λ (d : Damaged). reading at.0 c.args.number ≡ Err d) same at.2)
+
+pub returns-clause-found : goal.returns-clause-found
+returns-clause-found g c =
+    let at = opens (g.S.Store.files c.args.store.now) (g.S.Store.files c.read_head.new.store) c.args.number c.in_ok-head.head c.in_ok-rows.rows.items c.sort_by_birth.new.rows.items c.in_ok-head.ensures.reads.same
+      c.in_ok-head.ensures.found.0 c.in_ok-head.ensures.found.1 c.in_ok-head.ensures.found.2 c.in_ok-rows.ensures.found (omega arith) c.sort_by_birth.ensures.moved c.sort_by_birth.ensures.sorted in
+    (at.0, at.1, subst (λ (rows : List Row). Holds at.0 c.args.number c.in_ok-head.head.next_id rows) (sym c.from_vec.ensures) at.2)
