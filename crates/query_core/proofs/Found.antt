@@ -38,8 +38,8 @@ module _ {X K : Type 0} (R : K → K → Ordering) (total : IsTotalOrder R) (key
   in_order : AllPairs (λ a b. R (key a) (key b) ≡ Less) xs → IsNonDecreasingBy (λ y. ordering_index (R (key y) x)) xs
   in_order rise =
       let sorted : IsSortedBy (λ a b. is_lt (R (key a) (key b))) xs = λ k d low lt.
-          let below : R (key (get_or xs k d)) (key (get_or xs (k + 1) d)) ≡ Less = rise k (k + 1) d (omega arith) lt in
-          ap is_lt (total.antisymm (key (get_or xs (k + 1) d)) (key (get_or xs k d))) ∙ turned (R (key (get_or xs k d)) (key (get_or xs (k + 1) d))) below in
+      let below : R (key (get_or xs k d)) (key (get_or xs (k + 1) d)) ≡ Less = rise k (k + 1) d (omega arith) lt in
+      ap is_lt (total.antisymm (key (get_or xs (k + 1) d)) (key (get_or xs k d))) ∙ turned (R (key (get_or xs k d)) (key (get_or xs (k + 1) d))) below in
       searchable_from_sorted total key xs x sorted
 
   pub found_nowhere : (r : Result ℕ ℕ) → IsBinarySearchResult (λ y. R (key y) x) xs r → IfNone (result_ok r) (AllPairs (λ a b. R (key a) (key b) ≡ Less) xs → All (λ y. R (key y) x ≢ Equal) xs)

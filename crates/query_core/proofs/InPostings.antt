@@ -45,20 +45,20 @@ apart R xs i k d rise in' on ne = go (cases_order i k)
     go (inr (inl lt)) = inl (rise i k d lt on)
     go (inr (inr lt)) = inr (rise k i d lt in')
 
-abbrev is_named : List ℕ → List ℕ → Term → Bool
+abbrev pub is_named : List ℕ → List ℕ → Term → Bool
 is_named field bytes other = bytes_eq other.field field && bytes_eq other.bytes bytes
 
 named_same : (term other : Term) → other ≡ term → is_named term.field term.bytes other ≡ true
 named_same term other e =
     and_from (bytes_eq other.field term.field) (bytes_eq other.bytes term.bytes) ((bytes_eq-Decides other.field term.field).1 (ap (λ (t : Term). t.field) e)) ((bytes_eq-Decides other.bytes term.bytes).1 (ap (λ (t : Term). t.bytes) e))
 
-named_other : (term other : Term) → other ≢ term → is_named term.field term.bytes other ≡ false
+pub named_other : (term other : Term) → other ≢ term → is_named term.field term.bytes other ≡ false
 named_other term other ne =
     false_from_ne_true (is_named term.field term.bytes other) (λ h.
-      let parts = and_parts (bytes_eq other.field term.field) (bytes_eq other.bytes term.bytes) h in
-      let field : other.field ≡ term.field = (bytes_eq-Decides other.field term.field).0 parts.0 in
-      let bytes : other.bytes ≡ term.bytes = (bytes_eq-Decides other.bytes term.bytes).0 parts.1 in
-      ne (λ i. record { field = field i; bytes = bytes i }))
+    let parts = and_parts (bytes_eq other.field term.field) (bytes_eq other.bytes term.bytes) h in
+    let field : other.field ≡ term.field = (bytes_eq-Decides other.field term.field).0 parts.0 in
+    let bytes : other.bytes ≡ term.bytes = (bytes_eq-Decides other.bytes term.bytes).0 parts.1 in
+    ne (λ i. record { field = field i; bytes = bytes i }))
 
 pub posted_found : (entries : List TermPostings) (i : ℕ) (d : TermPostings) (term : Term) (row at : ℕ) → IsPostings entries → i < length entries → (get_or entries i d).term ≡ term → posted entries term.field term.bytes row at ≡ posted_at (get_or entries i d).rows row at
 posted_found entries i d term row at lawful in' is =
@@ -97,7 +97,7 @@ row_has rows row at h =
     let long : a.0 < length (map (λ (p : Posting). p.row) rows) = subst (λ (n : ℕ). a.0 < n) (sym (length-map rows (λ (p : Posting). p.row))) a.2 in
     has_at (map (λ (p : Posting). p.row) rows) a.0 row 0 long (get_or-map (λ (p : Posting). p.row) rows a.0 a.1 0 a.2 ∙ ap (λ (p : Posting). p.row) a.3 ∙ eqb-true a.1.row row parts.0)
 
-no_posting : Posting
+pub no_posting : Posting
 no_posting = record { row = 0; positions = [] }
 
 row_stands : (rows : List Posting) (row : ℕ) → All IsPosting rows → has_number (map (λ p. p.row) rows) row ≡ true → (at : ℕ) × (posted_at rows row at ≡ true)
@@ -149,15 +149,15 @@ rows_of_term docs postings i d term inversion in' is =
     let told : (row at : ℕ) → posted_at entry.rows row at ≡ stands_in_row docs term.field term.bytes row at = λ row at. sym (posted_found postings.terms i d term row at inversion.ordered in' is) ∙ inversion.exact term.field term.bytes row at in
     rows_are (holds_term term.field term.bytes) docs (map (λ p. p.row) entry.rows) (rows_rising entry.rows lawful.rise)
     (λ r. same_bool (has_number (map (λ p. p.row) entry.rows) r) (at_row (holds_term term.field term.bytes) docs r)
-      (λ h. let s = row_stands entry.rows r lawful.each h in stands_holds docs term.field term.bytes r s.0 (sym (told r s.0) ∙ s.1))
-      (λ h. let s = holds_stands docs term.field term.bytes r h in row_has entry.rows r s.0 (told r s.0 ∙ s.1)))
+    (λ h. let s = row_stands entry.rows r lawful.each h in stands_holds docs term.field term.bytes r s.0 (sym (told r s.0) ∙ s.1))
+    (λ h. let s = holds_stands docs term.field term.bytes r h in row_has entry.rows r s.0 (told r s.0 ∙ s.1)))
 
 pub rows_of_none : (docs : List Document) (postings : Postings) (term : Term) → IsInversion docs postings → All (λ e. e.term ≢ term) postings.terms → [] ≡ rows_where (holds_term term.field term.bytes) docs
 rows_of_none docs postings term inversion none =
     rows_are (holds_term term.field term.bytes) docs [] (λ i j d lt in'. absurd (omega arith))
     (λ r. sym (false_from_ne_true (at_row (holds_term term.field term.bytes) docs r) (λ h.
-      let s = holds_stands docs term.field term.bytes r h in
-      let q : false ≡ true = sym (posted_nowhere postings.terms term r s.0 none) ∙ inversion.exact term.field term.bytes r s.0 ∙ s.1 in cc)))
+    let s = holds_stands docs term.field term.bytes r h in
+    let q : false ≡ true = sym (posted_nowhere postings.terms term r s.0 none) ∙ inversion.exact term.field term.bytes r s.0 ∙ s.1 in cc)))
 
 pub places_of_row : (docs : List Document) (postings : Postings) (i : ℕ) (d : TermPostings) (term : Term) (j : ℕ) (e : Posting) (row : ℕ) → IsInversion docs postings → i < length postings.terms → (get_or postings.terms i d).term ≡ term
     → j < length (get_or postings.terms i d).rows → (get_or (get_or postings.terms i d).rows j e).row ≡ row → ArePositions docs term row (get_or (get_or postings.terms i d).rows j e).positions
@@ -197,14 +197,14 @@ pub places_of_row_in : (docs : List Document) (postings : Postings) (entries : L
 places_of_row_in docs postings entries i d term rows j g row inversion e in' is r =
     subst (λ (l : List Posting). j < length l → (get_or l j g).row ≡ row → ArePositions docs term row (get_or l j g).positions) (sym r)
     (subst (λ (l : List TermPostings). i < length l → (get_or l i d).term ≡ term → j < length (get_or l i d).rows → (get_or (get_or l i d).rows j g).row ≡ row → ArePositions docs term row (get_or (get_or l i d).rows j g).positions) (sym e)
-      (λ on same. places_of_row docs postings i d term j g row inversion on same) in' is)
+    (λ on same. places_of_row docs postings i d term j g row inversion on same) in' is)
 
 pub places_of_no_row_in : (docs : List Document) (postings : Postings) (entries : List TermPostings) (i : ℕ) (d : TermPostings) (term : Term) (rows : List Posting) (row : ℕ) → IsInversion docs postings → entries ≡ postings.terms → i < length entries → (get_or entries i d).term ≡ term
     → rows ≡ (get_or entries i d).rows → (AllPairs (λ a b. a.row < b.row) rows → All (λ p. p.row ≢ row) rows) → ArePositions docs term row []
 places_of_no_row_in docs postings entries i d term rows row inversion e in' is r =
     subst (λ (l : List Posting). (AllPairs (λ (a : Posting) (b : Posting). a.row < b.row) l → All (λ (p : Posting). p.row ≢ row) l) → ArePositions docs term row []) (sym r)
     (subst (λ (l : List TermPostings). i < length l → (get_or l i d).term ≡ term → (AllPairs (λ (a : Posting) (b : Posting). a.row < b.row) (get_or l i d).rows → All (λ (p : Posting). p.row ≢ row) (get_or l i d).rows) → ArePositions docs term row []) (sym e)
-      (λ on same. places_of_no_row docs postings i d term row inversion on same) in' is)
+    (λ on same. places_of_no_row docs postings i d term row inversion on same) in' is)
 
 pub none_among : (postings : Postings) (entries : List TermPostings) (term : Term) → entries ≡ postings.terms → IsPostings postings.terms → (IsPostings entries → All (λ e. e.term ≢ term) entries) → All (λ e. e.term ≢ term) postings.terms
 none_among postings entries term e lawful none = subst (λ (l : List TermPostings). All (λ (g : TermPostings). g.term ≢ term) l) e (none (subst IsPostings (sym e) lawful))

@@ -66,7 +66,7 @@ holds_next words i e docs rows others kept in' r o k =
     let term = get_or words i e in
     both_rows (holds_all (take i words)) (holds_term term.field term.bytes) docs rows others kept r o k
     ∙ rows_where-agree (λ d. holds_all (take i words) d && holds_term term.field term.bytes d) (holds_all (take (i + 1) words)) docs
-      (λ d. sym (ap (λ (l : List Term). holds_all l d) (take_more words i e in') ∙ holds_all-push (take i words) term d))
+    (λ d. sym (ap (λ (l : List Term). holds_all l d) (take_more words i e in') ∙ holds_all-push (take i words) term d))
 
 -- ---- one more place
 
@@ -117,8 +117,8 @@ starts_next words i e docs row starts places kept in' h p k at =
     ∙ (λ n. h at n && p.exact (at + i) n)
     ∙ sym (at_row-and (λ doc. terms_stand_at (terms doc) (take i words) at) (λ doc. stands_at (terms doc) term.field term.bytes (at + i)) docs row)
     ∙ at_row-agree (λ doc. terms_stand_at (terms doc) (take i words) at && stands_at (terms doc) term.field term.bytes (at + i)) (λ doc. terms_stand_at (terms doc) (take (i + 1) words) at) docs row
-      (λ d. ap (λ (n : ℕ). terms_stand_at (terms d) (take i words) at && stands_at (terms d) term.field term.bytes (at + n)) (sym long)
-        ∙ sym (ap (λ (l : List Term). terms_stand_at (terms d) l at) (take_more words i e in') ∙ stand-push (terms d) (take i words) term at))
+    (λ d. ap (λ (n : ℕ). terms_stand_at (terms d) (take i words) at && stands_at (terms d) term.field term.bytes (at + n)) (sym long)
+    ∙ sym (ap (λ (l : List Term). terms_stand_at (terms d) l at) (take_more words i e in') ∙ stand-push (terms d) (take i words) term at))
 
 -- ---- a phrase
 
@@ -140,8 +140,8 @@ pub standing_rows : (words : List Term) (docs : List Document) → rows_where (�
 standing_rows words docs =
     rows_where-agree (λ d. holds_all words d && terms_stand words d) (terms_stand words) docs
     (λ d. implied (holds_all words d) (terms_stand words d) (λ h.
-      let a = Any-from_list_any (λ place. terms_stand_at (terms d) words place.position) (terms d) h in
-      stand_hold words d a.1.position a.4))
+    let a = Any-from_list_any (λ place. terms_stand_at (terms d) words place.position) (terms d) h in
+    stand_hold words d a.1.position a.4))
 
 -- they stand somewhere where there is a start
 found_start : (words : List Term) (doc : Document) (starts : List ℕ) → 0 < length words → ((at : ℕ) → has_number starts at ≡ terms_stand_at (terms doc) words at) → nat_lt 0 (length starts) ≡ terms_stand words doc
@@ -149,17 +149,17 @@ found_start [] doc starts lt h = absurd (omega arith)
 found_start (word ∷ words) doc starts lt h =
     same_bool (nat_lt 0 (length starts)) (terms_stand (word ∷ words) doc)
     (λ e.
-      let some : 0 < length starts = ltb-true 0 (length starts) e in
-      let at = get_or starts 0 0 in
-      let stand : terms_stand_at (terms doc) (word ∷ words) at ≡ true = sym (h at) ∙ has_at starts 0 at 0 some refl in
-      let parts = and_parts (stands_at (terms doc) word.field word.bytes at) (terms_stand_at (terms doc) words (at + 1)) stand in
-      let a = Any-from_list_any (λ place. is_term word.field word.bytes place && (place.position == at)) (terms doc) parts.0 in
-      let there : a.1.position ≡ at = eqb-true a.1.position at (and_parts (is_term word.field word.bytes a.1) (a.1.position == at) a.4).1 in
-      list_any_at (λ place. terms_stand_at (terms doc) (word ∷ words) place.position) (terms doc) a.0 a.1 a.2 (ap (λ (p : Place). terms_stand_at (terms doc) (word ∷ words) p.position) a.3 ∙ ap (terms_stand_at (terms doc) (word ∷ words)) there ∙ stand))
+    let some : 0 < length starts = ltb-true 0 (length starts) e in
+    let at = get_or starts 0 0 in
+    let stand : terms_stand_at (terms doc) (word ∷ words) at ≡ true = sym (h at) ∙ has_at starts 0 at 0 some refl in
+    let parts = and_parts (stands_at (terms doc) word.field word.bytes at) (terms_stand_at (terms doc) words (at + 1)) stand in
+    let a = Any-from_list_any (λ place. is_term word.field word.bytes place && (place.position == at)) (terms doc) parts.0 in
+    let there : a.1.position ≡ at = eqb-true a.1.position at (and_parts (is_term word.field word.bytes a.1) (a.1.position == at) a.4).1 in
+    list_any_at (λ place. terms_stand_at (terms doc) (word ∷ words) place.position) (terms doc) a.0 a.1 a.2 (ap (λ (p : Place). terms_stand_at (terms doc) (word ∷ words) p.position) a.3 ∙ ap (terms_stand_at (terms doc) (word ∷ words)) there ∙ stand))
     (λ e.
-      let a = Any-from_list_any (λ place. terms_stand_at (terms doc) (word ∷ words) place.position) (terms doc) e in
-      let c = contains starts a.1.position (h a.1.position ∙ a.4) in
-      lt-ltb 0 (length starts) (omega (arith, c.1)))
+    let a = Any-from_list_any (λ place. terms_stand_at (terms doc) (word ∷ words) place.position) (terms doc) e in
+    let c = contains starts a.1.position (h a.1.position ∙ a.4) in
+    lt-ltb 0 (length starts) (omega (arith, c.1)))
 
 empty_from_none : (starts : List ℕ) → ((at : ℕ) → has_number starts at ≡ false) → nat_lt 0 (length starts) ≡ false
 empty_from_none [] h = refl
@@ -209,7 +209,7 @@ all_next queries i e docs rows others kept in' r o k =
     let query = get_or queries i e in
     both_rows (all_match (trees_of (take i queries))) (matches (tree_of query)) docs rows others kept r o k
     ∙ rows_where-agree (λ d. all_match (trees_of (take i queries)) d && matches (tree_of query) d) (all_match (trees_of (take (i + 1) queries))) docs
-      (λ d. sym (ap (λ (l : List Query). all_match (trees_of l) d) (take_more queries i e in') ∙ all-push (take i queries) query d))
+    (λ d. sym (ap (λ (l : List Query). all_match (trees_of l) d) (take_more queries i e in') ∙ all-push (take i queries) query d))
 
 pub any_next : (queries : List Query) (i : ℕ) (e : Query) (docs : List Document) (rows others joined : List ℕ) → i < length queries
     → ((x : ℕ) → has_number rows x ≡ at_row (any_matches (trees_of (take i queries))) docs x) → others ≡ rows_where (matches (tree_of (get_or queries i e))) docs → joined ≡ rows ++ others
@@ -221,7 +221,7 @@ any_next queries i e docs rows others joined in' r o j x =
     ∙ (λ n. r x n || (ap (λ (l : List ℕ). has_number l x) o ∙ has_rows (matches (tree_of query)) docs x) n)
     ∙ sym (at_row-or (any_matches (trees_of (take i queries))) (matches (tree_of query)) docs x)
     ∙ at_row-agree (λ d. any_matches (trees_of (take i queries)) d || matches (tree_of query) d) (any_matches (trees_of (take (i + 1) queries))) docs x
-      (λ d. sym (ap (λ (l : List Query). any_matches (trees_of l) d) (take_more queries i e in') ∙ any-push (take i queries) query d))
+    (λ d. sym (ap (λ (l : List Query). any_matches (trees_of l) d) (take_more queries i e in') ∙ any-push (take i queries) query d))
 
 -- a loop over all
 pub all_taken : {X : Type 0} (P : List X → Type 0) (xs : List X) (i : ℕ) → length xs ≤ i → P (take i xs) → P xs

@@ -3,3 +3,4 @@ pub mod Documents
 pub mod Found
 pub mod InPostings
 pub mod Joining
+pub mod Unique

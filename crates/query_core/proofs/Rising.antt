@@ -71,6 +71,7 @@ is_found xs x r h rise = go r (searched xs x r h along)
         go' Less l = let b : get_or xs i 0 < get_or xs j 0 = rise i j 0 l lt in omega arith
         go' Equal e = let same : get_or xs i 0 ≡ get_or xs j 0 = ap (λ (k : ℕ). get_or xs k 0) e in omega arith
         go' Greater g = absurd (omega arith)
+
     go : (o : Result ℕ ℕ) → MatchResult o (λ i. (i < length xs) × (get_or xs i 0 ≡ x)) (λ i. (i ≤ length xs) × ((k : ℕ) → k < i → get_or xs k 0 < x) × ((k : ℕ) → i ≤ k → k < length xs → x < get_or xs k 0)) → is_ok o ≡ has_number xs x
     go (Ok i) m = sym (has_at xs i x 0 m.0 m.1)
     go (Err i) m = sym (lacks xs x (λ k d lt e. apart k lt (get_or_default xs k 0 d lt ∙ e)))
@@ -97,14 +98,18 @@ rising_unique (x ∷ xs) (y ∷ ys) rx ry same =
   where
     above_x : All (λ z. x < z) xs
     above_x = pairs_head (λ a b. a < b) x xs rx
+
     above_y : All (λ z. y < z) ys
     above_y = pairs_head (λ a b. a < b) y ys ry
+
     not_in : (a b : ℕ) (bs : List ℕ) → a < b → All (λ z. b < z) bs → has_number (b ∷ bs) a ≡ false
     not_in a b bs lt h = lacks (b ∷ bs) a (All-cons (λ z. z ≢ a) b bs (λ e. omega arith) (All-weaker (λ z. b < z) (λ z. z ≢ a) (λ z l e. omega arith) bs h))
+
     meet : (o : Ordering) → MatchOrdering o (x < y) (x ≡ y) (y < x) → x ≡ y
     meet Less l = absurd (let e : true ≡ false = sym (has_at (x ∷ xs) 0 x 0 (omega arith) refl) ∙ same x ∙ not_in x y ys l above_y in cc)
     meet Equal e = e
     meet Greater g = absurd (let e : false ≡ true = sym (not_in y x xs g above_x) ∙ same y ∙ has_at (y ∷ ys) 0 y 0 (omega arith) refl in cc)
+
     tails : x ≡ y → (z : ℕ) → has_number xs z ≡ has_number ys z
     tails e z = by (x == z) refl
       where

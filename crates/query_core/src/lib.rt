@@ -14,3 +14,6 @@ mod row_lists;
 pub use index::{PostingsIndex, holding_in, index_rows, places_in};
 pub use inverted::Inverted;
 pub use matching::answer;
+
+#[cfg(test)]
+mod tests;

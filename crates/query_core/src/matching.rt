@@ -79,11 +79,7 @@ fn any_of<I: Inverted>(alloc: Global, queries: &Queries, index: &I) -> Result<Ve
 }
 
 /// The rows so far, if there are any limits yet, that are among those found.
-fn narrowed(
-    alloc: Global,
-    rows: Option<Vec<u32>>,
-    found: Vec<u32>,
-) -> Result<Vec<u32>, NoMemory>
+fn narrowed(alloc: Global, rows: Option<Vec<u32>>, found: Vec<u32>) -> Result<Vec<u32>, NoMemory>
     ensures none { IfNone rows (IfOk result (λ kept. kept.items ≡ found.items)) }
     ensures some { IfSome rows (λ before. IfOk result (λ kept. IsRising found.items → kept.items ≡ filter (has_number found.items) before.items)) }
 {

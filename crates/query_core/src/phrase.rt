@@ -27,11 +27,7 @@ fn words_of(alloc: Global, field: &Name, text: &PhraseText) -> Result<Vec<Term>,
 }
 
 /// The rows that hold each of these terms.
-fn holding_all<I: Inverted>(
-    alloc: Global,
-    index: &I,
-    words: &[Term],
-) -> Result<Vec<u32>, NoMemory>
+fn holding_all<I: Inverted>(alloc: Global, index: &I, words: &[Term]) -> Result<Vec<u32>, NoMemory>
     requires { 0 < length words.now }
     ensures { IfOk result (λ rows. AreRowsWhere (I.inverts index.now) (holds_all words.now) rows.items) }
 {
@@ -62,12 +58,7 @@ fn starts<I: Inverted>(
 }
 
 /// Whether the terms stand in a row one after another.
-fn stands<I: Inverted>(
-    alloc: Global,
-    index: &I,
-    words: &[Term],
-    row: u32,
-) -> Result<bool, NoMemory>
+fn stands<I: Inverted>(alloc: Global, index: &I, words: &[Term], row: u32) -> Result<bool, NoMemory>
     requires { 0 < length words.now }
     ensures { IfOk result (λ found. (docs : _) → I.inverts index.now docs → found ≡ at_row (terms_stand words.now) docs row) }
 {

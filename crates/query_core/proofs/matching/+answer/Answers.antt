@@ -41,7 +41,7 @@ all_of-loop-query-preserved g t c = λ docs inverts.
     let i = c.loop-query.query-index in
     let query = c.query-item.result in
     let found : c.in_ok-found.found.items ≡ rows_where (matches (tree_of (get_or queries i query))) docs =
-        subst (λ (q : Query). c.in_ok-found.found.items ≡ rows_where (matches (tree_of q)) docs) c.query-item.is (c.in_ok-found.ensures docs inverts) in
+    subst (λ (q : Query). c.in_ok-found.found.items ≡ rows_where (matches (tree_of q)) docs) c.query-item.is (c.in_ok-found.ensures docs inverts) in
     narrowed_next queries i query docs c.loop-query.rows c.in_ok-found.found.items c.in_ok-narrowed.field-0.items c.loop-query-test.true
     (before_at (i ≡ 0) (g.I.Inverted.inverts c.args.index.now) (λ v ds. v.items ≡ rows_where (all_match (trees_of (take i queries))) ds) docs inverts c.loop-query.rows c.loop-query.invariant) found
     (both_cases (c.in_ok-narrowed.field-0.items ≡ c.in_ok-found.found.items) (λ v. IsRising c.in_ok-found.found.items → c.in_ok-narrowed.field-0.items ≡ filter (has_number c.in_ok-found.found.items) v.items) c.loop-query.rows c.in_ok-narrowed.ensures.none c.in_ok-narrowed.ensures.some)
@@ -54,16 +54,16 @@ answer-returns-in_ok-without-in-Bool g t c =
     let rows = c.if-is_empty.rows.items in
     let inverts = g.I.Inverted.inverts c.args.index.now in
     let chosen : (docs : List Document) → inverts docs → rows ≡ rows_where (λ d. cond (is_empty must) (any_matches should d) (all_match must d)) docs = λ docs i.
-        elim c.if-is_empty.branch [
-          answer-then-is_empty+in_ok-rows-in-Bool w ↦ ap (λ (v : Vec ℕ Global). v.items) w.rows-is ∙ w.in_ok-rows-in-Bool.ensures docs i ∙ chosen_should must should docs (sym c.is_empty.ensures ∙ w.if-is_empty.true)
-        | answer-else-is_empty+in_ok-rows-in-Bool-2 w ↦ ap (λ (v : Vec ℕ Global). v.items) w.rows-is ∙ w.in_ok-rows-in-Bool-2.ensures docs i ∙ chosen_must must should docs (sym c.is_empty.ensures ∙ w.if-is_empty.false)
-        ] in
+    elim c.if-is_empty.branch [
+      | answer-then-is_empty+in_ok-rows-in-Bool w ↦ ap (λ (v : Vec ℕ Global). v.items) w.rows-is ∙ w.in_ok-rows-in-Bool.ensures docs i ∙ chosen_should must should docs (sym c.is_empty.ensures ∙ w.if-is_empty.true)
+      | answer-else-is_empty+in_ok-rows-in-Bool-2 w ↦ ap (λ (v : Vec ℕ Global). v.items) w.rows-is ∙ w.in_ok-rows-in-Bool-2.ensures docs i ∙ chosen_must must should docs (sym c.is_empty.ensures ∙ w.if-is_empty.false)
+    ] in
     let without = c.in_ok-without-in-Bool.without.items in
     IfOk-weaker c.in_first.result _ (λ kept. AreRowsWhere inverts (matches (tree_of c.args.query.now)) kept.items)
     (λ kept h docs i.
-      bool_rows must should must_not docs rows without kept.items (chosen docs i) (c.in_ok-without-in-Bool.ensures docs i)
-      (of_slices (λ others numbers. filter (λ x. not (has_number others x)) numbers) kept.items rows without c.as_slice.result.now c.as_slice-in-Bool.result.now c.as_slice.ensures.value c.as_slice-in-Bool.ensures.value h)
-      ∙ ap (λ (q : Query). rows_where (matches (tree_of q)) docs) (sym c.in-Bool.is)) c.in_first.ensures
+    bool_rows must should must_not docs rows without kept.items (chosen docs i) (c.in_ok-without-in-Bool.ensures docs i)
+    (of_slices (λ others numbers. filter (λ x. not (has_number others x)) numbers) kept.items rows without c.as_slice.result.now c.as_slice-in-Bool.result.now c.as_slice.ensures.value c.as_slice-in-Bool.ensures.value h)
+    ∙ ap (λ (q : Query). rows_where (matches (tree_of q)) docs) (sym c.in-Bool.is)) c.in_first.ensures
 
 pub any_of-answer-requires : goal.any_of-answer-requires
 any_of-answer-requires g t c =
@@ -78,7 +78,7 @@ any_of-loop-query-preserved g t c = λ docs inverts x.
     let i = c.loop-query.query-index in
     let query = c.query-item.result in
     let found : c.in_ok-found.found.items ≡ rows_where (matches (tree_of (get_or queries i query))) docs =
-        subst (λ (q : Query). c.in_ok-found.found.items ≡ rows_where (matches (tree_of q)) docs) c.query-item.is (c.in_ok-found.ensures docs inverts) in
+    subst (λ (q : Query). c.in_ok-found.found.items ≡ rows_where (matches (tree_of q)) docs) c.query-item.is (c.in_ok-found.ensures docs inverts) in
     any_next queries i query docs c.loop-query.rows.items c.in_ok-found.found.items c.extend_from_slice.new.self.items c.loop-query-test.true (c.loop-query.invariant docs inverts) found
     (search rules) x
 
@@ -87,7 +87,7 @@ any_of-returns g t c =
     let queries = c.as_slice-query-items.result.now in
     let inverts = g.I.Inverted.inverts c.args.index.now in
     let all : (docs : List Document) → inverts docs → (x : ℕ) → has_number c.loop-query.rows.items x ≡ at_row (any_matches c.args.queries.now) docs x = λ docs i x.
-        all_taken (λ (l : List Query). has_number c.loop-query.rows.items x ≡ at_row (any_matches (trees_of l)) docs x) queries c.loop-query.query-index c.loop-query-test.false (c.loop-query.invariant docs i x)
-        ∙ ap (λ (ts : Trees). at_row (any_matches ts) docs x) c.as_slice-query-items.ensures in
+    all_taken (λ (l : List Query). has_number c.loop-query.rows.items x ≡ at_row (any_matches (trees_of l)) docs x) queries c.loop-query.query-index c.loop-query-test.false (c.loop-query.invariant docs i x)
+    ∙ ap (λ (ts : Trees). at_row (any_matches ts) docs x) c.as_slice-query-items.ensures in
     IfOk-weaker2 c.distinct.result (λ kept. IsRising kept.items) (λ kept. (x : ℕ) → has_number kept.items x ≡ has_number c.loop-query.rows.items x) (λ kept. AreRowsWhere inverts (any_matches c.args.queries.now) kept.items)
     (λ kept rise same docs i. rows_are (any_matches c.args.queries.now) docs kept.items rise (λ r. same r ∙ all docs i r)) c.distinct.ensures.rise c.distinct.ensures.same

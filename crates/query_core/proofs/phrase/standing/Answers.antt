@@ -18,8 +18,8 @@ loop-row-preserved g c = λ docs inverts.
     let in' = c.loop-row-test.true in
     let tested : c.in_ok-stands.field-0 ≡ keep x = c.in_ok-stands.ensures docs inverts in
     elim c.if-branch.branch [
-      then-branch+in_ok-push w ↦ filter_kept keep xs i x old c.if-branch.kept.items in' refl (sym tested ∙ w.if-branch.true) (c.loop-row.invariant docs inverts) (ap (λ (v : Vec ℕ _). v.items) w.kept-is ∙ w.in_ok-push.ensures.items)
-    | else-branch w ↦ filter_left keep xs i x old c.if-branch.kept.items in' refl (sym tested ∙ w.if-branch.false) (c.loop-row.invariant docs inverts) (ap (λ (v : Vec ℕ _). v.items) w.kept-is)
+      | then-branch+in_ok-push w ↦ filter_kept keep xs i x old c.if-branch.kept.items in' refl (sym tested ∙ w.if-branch.true) (c.loop-row.invariant docs inverts) (ap (λ (v : Vec ℕ _). v.items) w.kept-is ∙ w.in_ok-push.ensures.items)
+      | else-branch w ↦ filter_left keep xs i x old c.if-branch.kept.items in' refl (sym tested ∙ w.if-branch.false) (c.loop-row.invariant docs inverts) (ap (λ (v : Vec ℕ _). v.items) w.kept-is)
     ]
 
 pub returns : goal.returns

@@ -14,6 +14,6 @@ loop-number-preserved c = λ rise.
     let in' = c.loop-number-test.true in
     let tested : c.has.result ≡ has_number c.args.others.now (x + c.args.distance) = c.has.ensures rise ∙ ap (λ (y : ℕ). has_number c.args.others.now (y + c.args.distance)) c.from.ensures in
     elim c.if-has.branch [
-      then-has+in_ok-push w ↦ filter_kept keep xs i x old c.if-has.kept.items in' refl (sym tested ∙ w.if-has.true) (c.loop-number.invariant rise) (ap (λ (v : Vec ℕ _). v.items) w.kept-is ∙ w.in_ok-push.ensures.items)
-    | else-has w ↦ filter_left keep xs i x old c.if-has.kept.items in' refl (sym tested ∙ w.if-has.false) (c.loop-number.invariant rise) (ap (λ (v : Vec ℕ _). v.items) w.kept-is)
+      | then-has+in_ok-push w ↦ filter_kept keep xs i x old c.if-has.kept.items in' refl (sym tested ∙ w.if-has.true) (c.loop-number.invariant rise) (ap (λ (v : Vec ℕ _). v.items) w.kept-is ∙ w.in_ok-push.ensures.items)
+      | else-has w ↦ filter_left keep xs i x old c.if-has.kept.items in' refl (sym tested ∙ w.if-has.false) (c.loop-number.invariant rise) (ap (λ (v : Vec ℕ _). v.items) w.kept-is)
     ]

@@ -14,6 +14,6 @@ loop-number-preserved c = λ rise.
     let in' = c.loop-number-test.true in
     let tested : c.has.result ≡ has_number c.args.others.now x = c.has.ensures rise ∙ ap (λ (y : ℕ). has_number c.args.others.now y) c.from.ensures in
     elim c.if-not-has.branch [
-      then-not-has+in_ok-push w ↦ filter_kept keep xs i x old c.if-not-has.kept.items in' refl (ap not (sym tested ∙ w.if-not-has.true)) (c.loop-number.invariant rise) (ap (λ (v : Vec ℕ _). v.items) w.kept-is ∙ w.in_ok-push.ensures.items)
-    | else-not-has w ↦ filter_left keep xs i x old c.if-not-has.kept.items in' refl (ap not (sym tested ∙ w.if-not-has.false)) (c.loop-number.invariant rise) (ap (λ (v : Vec ℕ _). v.items) w.kept-is)
+      | then-not-has+in_ok-push w ↦ filter_kept keep xs i x old c.if-not-has.kept.items in' refl (ap not (sym tested ∙ w.if-not-has.true)) (c.loop-number.invariant rise) (ap (λ (v : Vec ℕ _). v.items) w.kept-is ∙ w.in_ok-push.ensures.items)
+      | else-not-has w ↦ filter_left keep xs i x old c.if-not-has.kept.items in' refl (ap not (sym tested ∙ w.if-not-has.false)) (c.loop-number.invariant rise) (ap (λ (v : Vec ℕ _). v.items) w.kept-is)
     ]
