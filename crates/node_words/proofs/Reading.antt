@@ -56,7 +56,6 @@ pub bool_fails : (e : ReadError) (bytes mid : List ℕ) (byte : ℕ) → byte �
 bool_fails Memory bytes mid byte three b h = tt
 bool_fails Foreign bytes mid byte three b h = after_three bytes mid (b ∙ ap (λ (n : ℕ). n ∷ mid) three) h
 
-
 front-of : (byte tag : ℕ) (mid rest : List ℕ) → byte ∷ mid ≡ tag ∷ rest → byte ≡ tag
 front-of byte tag mid rest e = cc
 
@@ -81,11 +80,12 @@ list_fails Foreign bytes mid rest n before p are lt m h = λ qs after is e.
 pub one_read : (items more : List Query) (q : Query) (mid rest after : List ℕ) → more ≡ items ++ q ∷ [] → AreQueries (trees_of items) → IsQuery (tree_of q)
     → mid ≡ queries_bytes (trees_of items) ++ rest → rest ≡ query_bytes (tree_of q) ++ after
     → AreQueries (trees_of more) × (count_of (trees_of more) ≡ count_of (trees_of items) + 1) × (mid ≡ queries_bytes (trees_of more) ++ after)
-one_read items more q mid rest after m are is e r =
-    ( subst (λ (xs : List Query). AreQueries (trees_of xs)) (sym m) (AreQueries-push items q are is)
-    , ap (λ (xs : List Query). count_of (trees_of xs)) m ∙ count_of-push items q
-    , e ∙ ap (λ (t : List ℕ). queries_bytes (trees_of items) ++ t) r ∙ sym (append_assoc (queries_bytes (trees_of items)) (query_bytes (tree_of q)) after)
-      ∙ ap (λ (t : List ℕ). t ++ after) (sym (queries_bytes-push items q) ∙ ap (λ (xs : List Query). queries_bytes (trees_of xs)) (sym m)) )
+one_read items more q mid rest after m are is e r = (
+  subst (λ (xs : List Query). AreQueries (trees_of xs)) (sym m) (AreQueries-push items q are is),
+  ap (λ (xs : List Query). count_of (trees_of xs)) m ∙ count_of-push items q,
+  e ∙ ap (λ (t : List ℕ). queries_bytes (trees_of items) ++ t) r ∙ sym (append_assoc (queries_bytes (trees_of items)) (query_bytes (tree_of q)) after)
+      ∙ ap (λ (t : List ℕ). t ++ after) (sym (queries_bytes-push items q) ∙ ap (λ (xs : List Query). queries_bytes (trees_of xs)) (sym m)),
+)
 
 pub left_le : (front bytes rest : List ℕ) → bytes ≡ front ++ rest → length rest ≤ length bytes
 left_le front bytes rest e = omega (arith, ap length e, length-append front rest)

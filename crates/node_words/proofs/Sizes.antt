@@ -77,7 +77,7 @@ pub list_size-more : (most size more result : ℕ) (xs : List Query) (i : ℕ) (
     → result ≡ min (4 + length (queries_bytes (trees_of (take (i + 1) xs)))) most
 list_size-more most size more result xs i x lt e s m r =
     let total : length (queries_bytes (trees_of (take (i + 1) xs))) ≡ length (queries_bytes (trees_of (take i xs))) + length (query_bytes (tree_of x)) =
-        ap length (queries_bytes-more xs i x lt e) ∙ length-append (queries_bytes (trees_of (take i xs))) (query_bytes (tree_of x)) in
+    ap length (queries_bytes-more xs i x lt e) ∙ length-append (queries_bytes (trees_of (take i xs))) (query_bytes (tree_of x)) in
     omega (arith, total)
 
 pub whole : (xs : List Query) (i : ℕ) → length xs ≤ i → take i xs ≡ xs

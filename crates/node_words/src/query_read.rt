@@ -36,10 +36,7 @@ pub(crate) fn read_query(alloc: Global, reader: &mut Reader<'_>) -> Result<Query
     }
 }
 
-fn read_phrase(
-    alloc: Global,
-    reader: &mut Reader<'_>,
-) -> Result<(Name, PhraseText), ReadError>
+fn read_phrase(alloc: Global, reader: &mut Reader<'_>) -> Result<(Name, PhraseText), ReadError>
     requires { length reader.old ≤ most_query_bytes }
     ensures { Reads (λ found. found) IsPair pair_bytes reader.old reader.new result }
 {

@@ -25,7 +25,7 @@ read_list-returns-in_err-read_query t c =
 pub read_list-loop-preserved : goal.read_list-loop-preserved
 read_list-loop-preserved t c =
     let one = one_read c.loop.items.items c.push.new.self.items c.in_ok-read_query.field-0 c.number.new.self c.loop.reader c.read_query.new.reader
-        c.in_ok-push.ensures.items c.loop.invariant.fits c.in_ok-read_query.ensures.0 c.loop.invariant.bytes c.in_ok-read_query.ensures.1 in
+    c.in_ok-push.ensures.items c.loop.invariant.fits c.in_ok-read_query.ensures.0 c.loop.invariant.bytes c.in_ok-read_query.ensures.1 in
     record { fits = one.0; count = one.1 ∙ ap (λ (n : ℕ). n + 1) c.loop.invariant.count; bytes = one.2 }
 
 pub read_lists-returns-in_err-should : goal.read_lists-returns-in_err-should
@@ -39,7 +39,7 @@ pub read_lists-returns-in_err-must_not : goal.read_lists-returns-in_err-must_not
 read_lists-returns-in_err-must_not t c =
     let p = err_from_is_err_and c.from_residual-in_err-must_not.result c.from_residual-in_err-must_not.ensures.1 in
     let rest = second_fails IsQueryList list_bytes IsQueryList list_bytes (λ (v : Trees × Trees). v.0) (λ (v : Trees × Trees). v.1) one_list c.in_err-must_not.field-0.0 c.in_ok-should.should c.read_list.new.reader c.read_list-2.new.reader
-        c.in_ok-should.ensures c.in_err-must_not.ensures in
+    c.in_ok-should.ensures c.in_err-must_not.ensures in
     rw (p.1, p.2) (second_fails IsQueryList list_bytes (λ (v : Trees × Trees). IsQueryList v.0 × IsQueryList v.1) (λ (v : Trees × Trees). list_bytes v.0 ++ list_bytes v.1)
     (λ (v : Lists). v.0) (λ (v : Lists). v.1) one_list c.in_err-must_not.field-0.0 c.in_ok-must.must c.args.reader.now c.read_list.new.reader c.in_ok-must.ensures rest)
 

@@ -13,9 +13,10 @@ pub put_list-put_query-requires : goal.put_list-put_query-requires
 put_list-put_query-requires t c =
     let xs = c.as_slice-items.result.now in
     let le = part_count_le xs c.loop-query.query-index c.query-item.result c.loop-query-test.true c.query-item.is in
-    let same = ap trees_count c.as_slice-items.ensures in
-    ( omega (arith, le, same, c.decreases)
-    , short_part xs c.args.queries.now c.loop-query.query-index c.query-item.result c.as_slice-items.ensures c.requires c.loop-query-test.true c.query-item.is )
+    let same = ap trees_count c.as_slice-items.ensures in (
+      omega (arith, le, same, c.decreases),
+      short_part xs c.args.queries.now c.loop-query.query-index c.query-item.result c.as_slice-items.ensures c.requires c.loop-query-test.true c.query-item.is,
+    )
 
 pub put_list-loop-query-preserved : goal.put_list-loop-query-preserved
 put_list-loop-query-preserved t c =
@@ -30,6 +31,7 @@ put_list-returns-clause-bytes t c =
     list_done c.args.out.now.items c.loop-query.out.items c.as_slice-items.result.now c.args.queries.now c.loop-query.query-index c.as_slice-items.ensures c.loop-query-test.false c.loop-query.invariant.bytes
 
 pub put_list-returns-clause-queries : goal.put_list-returns-clause-queries
-put_list-returns-clause-queries t c =
-    ( (short_list c.as_slice-items.result.now c.args.queries.now c.as_slice-items.ensures c.requires).1
-    , queries_done c.as_slice-items.result.now c.args.queries.now c.loop-query.query-index c.as_slice-items.ensures c.loop-query-test.false c.loop-query.invariant.queries )
+put_list-returns-clause-queries t c = (
+  (short_list c.as_slice-items.result.now c.args.queries.now c.as_slice-items.ensures c.requires).1,
+  queries_done c.as_slice-items.result.now c.args.queries.now c.loop-query.query-index c.as_slice-items.ensures c.loop-query-test.false c.loop-query.invariant.queries,
+)
