@@ -1,5 +1,5 @@
 -- Reading one value and then another.
-use Rattle.std.proofs.Common.{◌≡◌, ℕ, List, ◌++◌, refl, sym, ap, ◌∙◌, append_assoc}
+use Rattle.std.proofs.Common.{◌≡◌, ℕ, List, ◌++◌, sym, ap, ◌∙◌, append_assoc}
 use Rattle.node_words.proofs.Forms.{OneForm}
 use Rattle.node_words.specs.Reads.{Begins, Fails}
 use Rattle.node_words.specs.declared.fault.ReadError.{ReadError}

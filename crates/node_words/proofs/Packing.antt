@@ -1,11 +1,11 @@
 -- Bytes in words, and the same bytes again.
-use Rattle.std.proofs.Common.{◌≡◌, ℕ, zero, suc, ◌+◌, ◌-◌, ◌*◌, ◌/◌, ◌%◌, ◌^◌, ◌<◌, ◌≤◌, List, [], ◌∷◌, ◌++◌, length, get_or, take, drop, replicate, refl, sym, ap, subst, ◌∙◌, append_assoc, arith, length-append, inl, inr}
+use Rattle.std.proofs.Common.{◌≡◌, ℕ, zero, suc, ◌+◌, ◌-◌, ◌*◌, ◌^◌, ◌<◌, ◌≤◌, List, [], ◌∷◌, ◌++◌, length, get_or, take, drop, replicate, refl, sym, ap, subst, ◌∙◌, append_assoc, arith, length-append, inl, inr}
 use Rattle.std.proofs.lemmas.Bool.{cases_lt}
 use Rattle.std.proofs.Math.Seq.{take-length}
-use Rattle.std.proofs.lemmas.List.{take_at, drop_at, take-append-drop, length-take, length-drop, get_or-drop, get_or-take, get_or_past, get_or-replicate, get_or_append_left, get_or-append_right, length-replicate, replicate-append-replicate, nil_from_length, ext_get_or, append-nil}
+use Rattle.std.proofs.lemmas.List.{drop_at, take-append-drop, length-take, length-drop, get_or-drop, get_or-take, get_or_past, get_or-replicate, get_or_append_left, get_or-append_right, length-replicate, replicate-append-replicate, nil_from_length, ext_get_or}
 use Rattle.std.proofs.lemmas.List.Concat.{flat_map-cons}
 use Rattle.std.proofs.lemmas.Nat.{be_bytes_8}
-use Rattle.std.specs.Int.{w64, from_be_bytes, to_be_bytes}
+use Rattle.std.specs.Int.{w64, from_be_bytes}
 use Rattle.std.specs.List.{flat_map}
 use Rattle.ix_base.specs.EntryLaws.{length-words_in, head_again}
 use Rattle.ix_base.specs.Spelling.{be64}

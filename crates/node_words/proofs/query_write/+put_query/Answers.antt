@@ -1,8 +1,6 @@
-use Rattle.std.proofs.Common.{◌≡◌, ◌+◌, ◌-◌, ◌^◌, ◌≤◌, ◌++◌, ℕ, List, min, length, take, sym, subst, ap, ◌∙◌, rules, arith, append_assoc}
-use Rattle.ix_base.specs.Query.{tree_of, trees_of}
-use Rattle.ix_base.specs.QueryBytes.{queries_bytes, query_bytes, list_bytes}
-use Rattle.ix_base.specs.Tree.{Trees, tree_count, trees_count}
-use Rattle.node_words.proofs.Sizes.{part_count_le, part_le, list_size-more, length-list_bytes, length-pair, length-bool, count_of-trees, count_le, queries_bytes-more, AreQueries-more, short_list, short_part, list_more, list_done, queries_done}
+use Rattle.std.proofs.Common.{length, ap, arith}
+use Rattle.ix_base.specs.Tree.{trees_count}
+use Rattle.node_words.proofs.Sizes.{part_count_le, AreQueries-more, short_list, short_part, list_more, list_done, queries_done}
 use Rattle.ix_base.specs.Spelling.{be32}
 use Rattle.node_words.proofs.query_write.+put_query.Goals as goal
 

@@ -1,4 +1,4 @@
-use Rattle.std.proofs.Common.{ℕ, List, ◌≡◌, ◌<◌, ◌≤◌, ◌-◌, ap, sym, subst, ◌∙◌, arith, get_or, length, take, drop}
+use Rattle.std.proofs.Common.{ℕ, List, ◌-◌, ap, sym, subst, ◌∙◌, arith, get_or, length, take, drop}
 use Rattle.ix_base.specs.Words.{head_len, head_kind}
 use Rattle.node_words.proofs.Packing.{none_held, not_filled, found_held, parts, rest_fits, enough, all_fit}
 use Rattle.node_words.specs.Packed.{Holds}
