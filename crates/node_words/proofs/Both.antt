@@ -1,5 +1,5 @@
 -- Reading one value and then another.
-use Rattle.std.proofs.Common.{◌≡◌, ℕ, List, ◌++◌, refl, sym, ap, ◌∙◌, append_assoc}
+use Rattle.std.proofs.Common.{◌≡◌, ℕ, List, ◌++◌, sym, ap, ◌∙◌, append_assoc}
 use Rattle.node_words.proofs.Forms.{OneForm}
 use Rattle.node_words.specs.Reads.{Begins, Fails}
 use Rattle.node_words.specs.declared.fault.ReadError.{ReadError}
@@ -9,7 +9,6 @@ pair_of : {A B : Type 0} (v w : A × B) → v.0 ≡ w.0 → v.1 ≡ w.1 → v �
 pair_of (a, b) (c, d) p q = cc
 
 module _ {A B : Type 0} (IsA : A → Type 0) (a_bytes : A → List ℕ) (IsB : B → Type 0) (b_bytes : B → List ℕ) where
-
   pub both_begin : (a : A) (b : B) (bytes mid rest : List ℕ) → Begins IsA a_bytes a bytes mid → Begins IsB b_bytes b mid rest
       → Begins {V = A × B} (λ v. IsA v.0 × IsB v.1) (λ v. a_bytes v.0 ++ b_bytes v.1) (a, b) bytes rest
   both_begin a b bytes mid rest p q =
@@ -22,7 +21,6 @@ module _ {A B : Type 0} (IsA : A → Type 0) (a_bytes : A → List ℕ) (IsB : B
       (pair_of v w s.0 t.0, t.1)
 
   module _ {V : Type 0} (first : V → A) (second : V → B) where
-
     pub first_fails : (e : ReadError) (bytes : List ℕ) → Fails IsA a_bytes bytes e → Fails {V = V} (λ v. IsA (first v) × IsB (second v)) (λ v. a_bytes (first v) ++ b_bytes (second v)) bytes e
     first_fails Memory bytes h = tt
     first_fails Foreign bytes h = λ v rest is e. h (first v) (b_bytes (second v) ++ rest) is.0 (e ∙ append_assoc (a_bytes (first v)) (b_bytes (second v)) rest)

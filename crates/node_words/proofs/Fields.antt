@@ -1,15 +1,14 @@
 -- Reading numbers and texts from the front of bytes.
-use Rattle.std.proofs.Common.{◌≡◌, ℕ, ◌+◌, ◌<◌, ◌≤◌, ◌^◌, true, List, [], ◌∷◌, ◌++◌, length, get_or, refl, sym, ap, subst, ◌∙◌, append_assoc, arith, length-append}
-use Rattle.std.specs.Int.{w32, w64, from_be_bytes, cast_signed, cast_unsigned}
-use Rattle.std.specs.Prelude.{FitsSigned}
+use Rattle.std.proofs.Common.{◌≡◌, ℕ, ◌<◌, ◌≤◌, ◌^◌, true, List, ◌++◌, length, get_or, sym, ap, subst, ◌∙◌, append_assoc, arith, length-append}
+use Rattle.std.specs.Int.{w32, w64, from_be_bytes, cast_signed}
 use Rattle.std.specs.Str.{IsUtf8}
-use Rattle.std.proofs.lemmas.Int.{ints, of_z-to_z}
+use Rattle.std.proofs.lemmas.Int.{of_z-to_z}
 use Rattle.std.proofs.lemmas.Nat.{be_bytes_4, be_bytes_8}
-use Rattle.ix_base.specs.EntryLaws.{length-be32, length-signed64, short_name}
+use Rattle.ix_base.specs.EntryLaws.{short_name}
 use Rattle.ix_base.specs.Limits.{is_name}
 use Rattle.ix_base.specs.Spelling.{be32, signed64, text_bytes, IsText, IsName}
 use Rattle.node_words.proofs.Forms.{one_number, one_text, same_front}
-use Rattle.node_words.specs.Reads.{Begins, Fails, byte_alone}
+use Rattle.node_words.specs.Reads.{Begins, Fails}
 use Rattle.node_words.specs.declared.fault.ReadError.{ReadError}
 use Rattle.node_words.specs.declared.fault.ReadError.TheVariants.{Memory, Foreign}
 

@@ -1,11 +1,11 @@
 -- Bytes in words, and the same bytes again.
-use Rattle.std.proofs.Common.{◌≡◌, ℕ, zero, suc, ◌+◌, ◌-◌, ◌*◌, ◌/◌, ◌%◌, ◌^◌, ◌<◌, ◌≤◌, List, [], ◌∷◌, ◌++◌, length, get_or, take, drop, replicate, refl, sym, ap, subst, ◌∙◌, append_assoc, arith, length-append, inl, inr}
+use Rattle.std.proofs.Common.{◌≡◌, ℕ, zero, suc, ◌+◌, ◌-◌, ◌*◌, ◌^◌, ◌<◌, ◌≤◌, List, [], ◌∷◌, ◌++◌, length, get_or, take, drop, replicate, refl, sym, ap, subst, ◌∙◌, append_assoc, arith, length-append, inl, inr}
 use Rattle.std.proofs.lemmas.Bool.{cases_lt}
 use Rattle.std.proofs.Math.Seq.{take-length}
-use Rattle.std.proofs.lemmas.List.{take_at, drop_at, take-append-drop, length-take, length-drop, get_or-drop, get_or-take, get_or_past, get_or-replicate, get_or_append_left, get_or-append_right, length-replicate, replicate-append-replicate, nil_from_length, ext_get_or, append-nil}
+use Rattle.std.proofs.lemmas.List.{drop_at, take-append-drop, length-take, length-drop, get_or-drop, get_or-take, get_or_past, get_or-replicate, get_or_append_left, get_or-append_right, length-replicate, replicate-append-replicate, nil_from_length, ext_get_or}
 use Rattle.std.proofs.lemmas.List.Concat.{flat_map-cons}
 use Rattle.std.proofs.lemmas.Nat.{be_bytes_8}
-use Rattle.std.specs.Int.{w64, from_be_bytes, to_be_bytes}
+use Rattle.std.specs.Int.{w64, from_be_bytes}
 use Rattle.std.specs.List.{flat_map}
 use Rattle.ix_base.specs.EntryLaws.{length-words_in, head_again}
 use Rattle.ix_base.specs.Spelling.{be64}
@@ -99,7 +99,7 @@ bytes_packed (suc n) bytes fits le =
     let more = bytes_packed n (drop 8 bytes) (drop_fits bytes 8 fits) (omega (arith, length-drop 8 bytes)) in
     flat_map-cons be64 (first_word bytes) (words_in n (drop 8 bytes)) ∙ ap (λ (t : List ℕ). be64 (first_word bytes) ++ t) more
     ∙ elim (cases_lt (length bytes) 8) [
-        | inl lt ↦
+      | inl lt ↦
           let count : 8 * suc n - length bytes ≡ (8 - length bytes) + 8 * n = omega arith in
           let none = past 8 bytes (omega arith) in
           ap (λ (t : List ℕ). be64 (first_word bytes) ++ (t ++ zeros (8 * n - length t))) none
@@ -107,13 +107,13 @@ bytes_packed (suc n) bytes fits le =
           ∙ ap (λ (t : List ℕ). t ++ zeros (8 * n)) (part_first bytes fits lt)
           ∙ append_assoc bytes (zeros (8 - length bytes)) (zeros (8 * n))
           ∙ ap (λ (t : List ℕ). bytes ++ t) (replicate-append-replicate (8 - length bytes) (8 * n) 0 ∙ ap (λ (k : ℕ). zeros k) (sym count))
-        | inr ge ↦
+      | inr ge ↦
           let count : 8 * n - length (drop 8 bytes) ≡ 8 * suc n - length bytes = omega (arith, length-drop 8 bytes) in
           ap (λ (k : ℕ). be64 (first_word bytes) ++ (drop 8 bytes ++ zeros k)) count
           ∙ ap (λ (t : List ℕ). t ++ (drop 8 bytes ++ zeros (8 * suc n - length bytes))) (whole_first bytes fits ge)
           ∙ sym (append_assoc (take 8 bytes) (drop 8 bytes) (zeros (8 * suc n - length bytes)))
           ∙ ap (λ (t : List ℕ). t ++ zeros (8 * suc n - length bytes)) (take-append-drop 8 bytes)
-      ]
+    ]
 
 -- ---- words have one list of bytes
 
@@ -191,11 +191,11 @@ found_held words h rest all e fit small a short count empty =
     let size : length all ≡ 8 * length rest = ap length a ∙ length-words_bytes rest in
     let front : length (take len all) ≡ len = omega (arith, length-take len all) in
     let behind : drop len all ≡ zeros (8 * words_for len - len) =
-        ext_get_or 0 (drop len all) (zeros (8 * words_for len - len)) (omega (arith, length-drop len all, length-replicate {A = ℕ} (8 * words_for len - len) 0))
-        (λ i lt. empty i lt ∙ sym (zero_at (8 * words_for len - len) i)) in
+    ext_get_or 0 (drop len all) (zeros (8 * words_for len - len)) (omega (arith, length-drop len all, length-replicate {A = ℕ} (8 * words_for len - len) 0))
+    (λ i lt. empty i lt ∙ sym (zero_at (8 * words_for len - len) i)) in
     let fits = take_fits all len small in
     let filled : flat_map be64 (packed (take len all)) ≡ flat_map be64 rest =
-        bytes_of-packed (take len all) fits ∙ ap (λ (k : ℕ). take len all ++ zeros (8 * words_for k - k)) front ∙ ap (λ (t : List ℕ). take len all ++ t) (sym behind) ∙ take-append-drop len all ∙ a in
+    bytes_of-packed (take len all) fits ∙ ap (λ (k : ℕ). take len all ++ zeros (8 * words_for k - k)) front ∙ ap (λ (t : List ℕ). take len all ++ t) (sym behind) ∙ take-append-drop len all ∙ a in
     let same = words_same (packed (take len all)) rest (words_in_fit (words_for (length (take len all))) (take len all) fits) fit filled in
     let whole : h ≡ head (head_kind h) (length (take len all)) = omega (arith, front) in
     record {

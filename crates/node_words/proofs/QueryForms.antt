@@ -1,11 +1,11 @@
 -- No query's bytes begin another's.
-use Rattle.std.proofs.Common.{◌≡◌, ℕ, suc, ◌+◌, ◌<◌, ◌^◌, List, [], ◌∷◌, ◌++◌, length, drop, refl, sym, ap, ◌∙◌, append_assoc, arith}
+use Rattle.std.proofs.Common.{◌≡◌, ℕ, ◌<◌, List, ◌++◌, drop, refl, sym, ap, ◌∙◌, append_assoc, arith}
 use Rattle.ix_base.specs.QueryBytes.{count_of, query_bytes, queries_bytes, list_bytes, IsQuery, AreQueries, IsQueryList}
 use Rattle.ix_base.specs.Spelling.{be32, text_bytes, IsText, IsName}
 use Rattle.ix_base.specs.Tree.{Tree, all, term, phrase, bool, Trees, no_trees, tree}
 use Rattle.node_words.proofs.Both.{both_one_form}
 use Rattle.node_words.proofs.Forms.{OneForm, one_number, one_name, one_text}
-use Rattle.node_words.specs.Reads.{Pair, IsPair, pair_bytes, AreLists, lists_bytes}
+use Rattle.node_words.specs.Reads.{Pair, IsPair, pair_bytes, lists_bytes}
 
 pub one_pair : OneForm IsPair pair_bytes
 one_pair = both_one_form IsName text_bytes IsText text_bytes one_name one_text

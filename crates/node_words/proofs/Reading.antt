@@ -1,16 +1,17 @@
 -- Reading queries from the front of bytes.
-use Rattle.std.proofs.Common.{◌≡◌, ℕ, ◌+◌, ◌<◌, ◌≤◌, ◌^◌, List, [], ◌∷◌, ◌++◌, length, drop, refl, sym, ap, subst, ◌∙◌, append_assoc, arith, length-append}
+use Rattle.std.proofs.Common.{◌≡◌, ℕ, ◌+◌, ◌<◌, ◌≤◌, ◌^◌, List, [], ◌∷◌, ◌++◌, length, drop, sym, ap, subst, ◌∙◌, append_assoc, arith, length-append}
 use Rattle.ix_base.specs.EntryLaws.{length-be32}
 use Rattle.ix_base.specs.Query.{tree_of, trees_of}
 use Rattle.ix_base.specs.QueryBytes.{count_of, query_bytes, queries_bytes, list_bytes, IsQuery, AreQueries, IsQueryList}
 use Rattle.ix_base.specs.Entry.{term_bytes}
-use Rattle.ix_base.specs.Spelling.{be32, text_bytes, IsText, IsName}
-use Rattle.ix_base.specs.Tree.{Tree, all, term, phrase, bool, Trees, no_trees, tree}
+use Rattle.ix_base.specs.Spelling.{be32}
+use Rattle.ix_base.specs.Tree.{all, term, phrase, bool, Trees}
 use Rattle.ix_base.specs.declared.query.Query.{Query}
 use Rattle.node_words.proofs.Forms.{one_number}
-use Rattle.node_words.proofs.QueryForms.{goes_on}
+use Rattle.node_words.proofs.Both.{first_fails, second_fails}
+use Rattle.node_words.proofs.QueryForms.{goes_on, one_list}
 use Rattle.node_words.proofs.Sizes.{queries_bytes-push, count_of-push, AreQueries-push}
-use Rattle.node_words.specs.Reads.{Begins, Fails, byte_alone, IsPair, pair_bytes, IsTerm, AreLists, lists_bytes}
+use Rattle.node_words.specs.Reads.{Begins, Fails, byte_alone, IsPair, pair_bytes, IsTerm, Lists, AreLists, lists_bytes}
 use Rattle.node_words.specs.declared.fault.ReadError.{ReadError}
 use Rattle.node_words.specs.declared.fault.ReadError.TheVariants.{Memory, Foreign}
 
@@ -56,7 +57,6 @@ pub bool_fails : (e : ReadError) (bytes mid : List ℕ) (byte : ℕ) → byte �
 bool_fails Memory bytes mid byte three b h = tt
 bool_fails Foreign bytes mid byte three b h = after_three bytes mid (b ∙ ap (λ (n : ℕ). n ∷ mid) three) h
 
-
 front-of : (byte tag : ℕ) (mid rest : List ℕ) → byte ∷ mid ≡ tag ∷ rest → byte ≡ tag
 front-of byte tag mid rest e = cc
 
@@ -81,14 +81,40 @@ list_fails Foreign bytes mid rest n before p are lt m h = λ qs after is e.
 pub one_read : (items more : List Query) (q : Query) (mid rest after : List ℕ) → more ≡ items ++ q ∷ [] → AreQueries (trees_of items) → IsQuery (tree_of q)
     → mid ≡ queries_bytes (trees_of items) ++ rest → rest ≡ query_bytes (tree_of q) ++ after
     → AreQueries (trees_of more) × (count_of (trees_of more) ≡ count_of (trees_of items) + 1) × (mid ≡ queries_bytes (trees_of more) ++ after)
-one_read items more q mid rest after m are is e r =
-    ( subst (λ (xs : List Query). AreQueries (trees_of xs)) (sym m) (AreQueries-push items q are is)
-    , ap (λ (xs : List Query). count_of (trees_of xs)) m ∙ count_of-push items q
-    , e ∙ ap (λ (t : List ℕ). queries_bytes (trees_of items) ++ t) r ∙ sym (append_assoc (queries_bytes (trees_of items)) (query_bytes (tree_of q)) after)
-      ∙ ap (λ (t : List ℕ). t ++ after) (sym (queries_bytes-push items q) ∙ ap (λ (xs : List Query). queries_bytes (trees_of xs)) (sym m)) )
+one_read items more q mid rest after m are is e r = (
+  subst (λ (xs : List Query). AreQueries (trees_of xs)) (sym m) (AreQueries-push items q are is),
+  ap (λ (xs : List Query). count_of (trees_of xs)) m ∙ count_of-push items q,
+  e ∙ ap (λ (t : List ℕ). queries_bytes (trees_of items) ++ t) r ∙ sym (append_assoc (queries_bytes (trees_of items)) (query_bytes (tree_of q)) after)
+      ∙ ap (λ (t : List ℕ). t ++ after) (sym (queries_bytes-push items q) ∙ ap (λ (xs : List Query). queries_bytes (trees_of xs)) (sym m)),
+)
 
 pub left_le : (front bytes rest : List ℕ) → bytes ≡ front ++ rest → length rest ≤ length bytes
 left_le front bytes rest e = omega (arith, ap length e, length-append front rest)
 
 pub count_taken : (n : ℕ) (bytes rest : List ℕ) → bytes ≡ be32 n ++ rest → length rest + 4 ≡ length bytes
 count_taken n bytes rest e = omega (arith, ap length e, length-append (be32 n) rest, length-be32 n)
+
+-- ---- the three lists of a bool
+
+abbrev TwoLists : Type 0
+TwoLists = Trees × Trees
+
+abbrev AreTwo : TwoLists → Type 0
+AreTwo v = IsQueryList v.0 × IsQueryList v.1
+
+abbrev two_bytes : TwoLists → List ℕ
+two_bytes v = list_bytes v.0 ++ list_bytes v.1
+
+pub must_fails : (e : ReadError) (bytes : List ℕ) → Fails IsQueryList list_bytes bytes e → Fails AreLists lists_bytes bytes e
+must_fails e bytes h = first_fails IsQueryList list_bytes AreTwo two_bytes (λ (v : Lists). v.0) (λ (v : Lists). v.1) e bytes h
+
+pub should_fails : (e : ReadError) (must : Trees) (bytes mid : List ℕ) → Begins IsQueryList list_bytes must bytes mid → Fails IsQueryList list_bytes mid e → Fails AreLists lists_bytes bytes e
+should_fails e must bytes mid p h =
+    second_fails IsQueryList list_bytes AreTwo two_bytes (λ (v : Lists). v.0) (λ (v : Lists). v.1) one_list e must bytes mid p
+    (first_fails IsQueryList list_bytes IsQueryList list_bytes (λ (v : TwoLists). v.0) (λ (v : TwoLists). v.1) e mid h)
+
+pub must_not_fails : (e : ReadError) (must should : Trees) (bytes mid rest : List ℕ) → Begins IsQueryList list_bytes must bytes mid → Begins IsQueryList list_bytes should mid rest
+    → Fails IsQueryList list_bytes rest e → Fails AreLists lists_bytes bytes e
+must_not_fails e must should bytes mid rest p q h =
+    second_fails IsQueryList list_bytes AreTwo two_bytes (λ (v : Lists). v.0) (λ (v : Lists). v.1) one_list e must bytes mid p
+    (second_fails IsQueryList list_bytes IsQueryList list_bytes (λ (v : TwoLists). v.0) (λ (v : TwoLists). v.1) one_list e should mid rest q h)

@@ -1,5 +1,5 @@
 -- How many bytes queries have.
-use Rattle.std.proofs.Common.{◌≡◌, ℕ, ◌+◌, ◌-◌, ◌^◌, ◌<◌, ◌≤◌, min, List, [], ◌∷◌, ◌++◌, length, take, get_or, refl, sym, subst, zero, suc, ap, ◌∙◌, arith, append_assoc, length-append}
+use Rattle.std.proofs.Common.{◌≡◌, ℕ, ◌+◌, ◌^◌, ◌<◌, ◌≤◌, min, List, [], ◌∷◌, ◌++◌, length, take, get_or, refl, sym, subst, zero, suc, ap, ◌∙◌, arith, append_assoc, length-append}
 use Rattle.std.proofs.lemmas.Grind.{common_steps}
 use Rattle.std.proofs.lemmas.List.{append-nil}
 use Rattle.ix_base.specs.EntryLaws.{length-be32, length-text_bytes}
@@ -77,7 +77,7 @@ pub list_size-more : (most size more result : ℕ) (xs : List Query) (i : ℕ) (
     → result ≡ min (4 + length (queries_bytes (trees_of (take (i + 1) xs)))) most
 list_size-more most size more result xs i x lt e s m r =
     let total : length (queries_bytes (trees_of (take (i + 1) xs))) ≡ length (queries_bytes (trees_of (take i xs))) + length (query_bytes (tree_of x)) =
-        ap length (queries_bytes-more xs i x lt e) ∙ length-append (queries_bytes (trees_of (take i xs))) (query_bytes (tree_of x)) in
+    ap length (queries_bytes-more xs i x lt e) ∙ length-append (queries_bytes (trees_of (take i xs))) (query_bytes (tree_of x)) in
     omega (arith, total)
 
 pub whole : (xs : List Query) (i : ℕ) → length xs ≤ i → take i xs ≡ xs

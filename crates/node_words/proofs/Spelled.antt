@@ -1,6 +1,5 @@
 -- Words that spell an entry, and the entry that they spell.
-use Rattle.std.proofs.Common.{◌≡◌, ℕ, List, [], ◌∷◌, ◌++◌, length, Result, Ok, Err, refl, sym, ap, subst, ◌∙◌}
-use Rattle.std.proofs.lemmas.List.{append-nil}
+use Rattle.std.proofs.Common.{◌≡◌, ℕ, List, [], ◌∷◌, ◌++◌, length, Result, Ok, Err, refl, sym, ap, ◌∙◌}
 use Rattle.ix_base.specs.Entry.{Entry, kind_of, entry_bytes}
 use Rattle.ix_base.specs.Words.{head, packed, Spells, IsEntryWords}
 use Rattle.node_words.proofs.Entries.{one_entry}

@@ -1,5 +1,5 @@
 -- Reading one value from the front of bytes, or from all of them.
-use Rattle.std.specs.Prelude.{◌≡◌, ℕ, ◌<◌, ◌^◌, List, [], ◌∷◌, ◌++◌, Result, Ok, Err}
+use Rattle.std.specs.Prelude.{◌≡◌, ℕ, List, [], ◌∷◌, ◌++◌, Result, Ok, Err}
 use Rattle.ix_base.specs.Entry.{Entry, kind_of, IsEntry}
 use Rattle.ix_base.specs.QueryBytes.{list_bytes, IsQueryList}
 use Rattle.ix_base.specs.Spelling.{text_bytes, IsText, IsName}

@@ -5,12 +5,12 @@ ghost use Rattle.ix_base.specs.Refusals.{own_refusal, term_refusal};
 ghost use Rattle.ix_base.specs.Words.{Spells};
 ghost use Rattle.node_words.specs.Refused.{refused_as, Answers};
 
-use crate::{MOST_QUERY_BYTES, MOST_TERM_BYTES};
 use crate::pack::pack;
 use crate::query_size::query_size;
 use crate::query_write::put_query;
 use crate::refused::Refused;
 use crate::write::{put_name, put_signed, put_term};
+use crate::{MOST_QUERY_BYTES, MOST_TERM_BYTES};
 use ix_base::{Operation, Term};
 use std::alloc::{AllocError, Global};
 

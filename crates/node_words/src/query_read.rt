@@ -3,7 +3,7 @@ ghost use Rattle.std.specs.Prelude.{◌≤◌, length};
 ghost use Rattle.ix_base.specs.Entry.{most_query_bytes};
 ghost use Rattle.ix_base.specs.Query.{tree_of};
 ghost use Rattle.ix_base.specs.QueryBytes.{query_bytes, list_bytes, IsQuery, IsQueryList};
-ghost use Rattle.node_words.specs.Reads.{Reads, IsPair, pair_bytes, AreLists, lists_bytes};
+ghost use Rattle.node_words.specs.Reads.{Reads, IsPair, pair_bytes};
 
 use crate::fault::ReadError;
 use crate::reader::Reader;
@@ -25,7 +25,9 @@ pub(crate) fn read_query(alloc: Global, reader: &mut Reader<'_>) -> Result<Query
             Ok(Query::Phrase(field, text))
         }
         3 => {
-            let (must, should, must_not) = read_lists(alloc, reader)?;
+            let must = read_list(alloc, reader)?;
+            let should = read_list(alloc, reader)?;
+            let must_not = read_list(alloc, reader)?;
             Ok(Query::Bool {
                 must,
                 should,
@@ -36,10 +38,7 @@ pub(crate) fn read_query(alloc: Global, reader: &mut Reader<'_>) -> Result<Query
     }
 }
 
-fn read_phrase(
-    alloc: Global,
-    reader: &mut Reader<'_>,
-) -> Result<(Name, PhraseText), ReadError>
+fn read_phrase(alloc: Global, reader: &mut Reader<'_>) -> Result<(Name, PhraseText), ReadError>
     requires { length reader.old ≤ most_query_bytes }
     ensures { Reads (λ found. found) IsPair pair_bytes reader.old reader.new result }
 {
@@ -49,20 +48,6 @@ fn read_phrase(
         Some(phrase) => Ok((field, phrase)),
         None => Err(ReadError::Foreign),
     }
-}
-
-#[cycle(read_query)]
-fn read_lists(
-    alloc: Global,
-    reader: &mut Reader<'_>,
-) -> Result<(Queries, Queries, Queries), ReadError>
-    requires { length reader.old ≤ most_query_bytes }
-    ensures { Reads (λ found. (found.0, (found.1, found.2))) AreLists lists_bytes reader.old reader.new result }
-{
-    let must = read_list(alloc, reader)?;
-    let should = read_list(alloc, reader)?;
-    let must_not = read_list(alloc, reader)?;
-    Ok((must, should, must_not))
 }
 
 #[cycle(read_query)]

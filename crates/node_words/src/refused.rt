@@ -2,7 +2,7 @@
 ghost use Rattle.std.specs.Prelude.{◌≡◌};
 ghost use Rattle.node_words.specs.declared.refused.Refused.TheVariants.{NoMemory};
 
-use std::alloc::{AllocError, AllocFailed};
+use std::alloc::AllocError;
 
 /// Why an operation was refused. Sizes are in bytes.
 #[derive(Clone, Copy, Debug, PartialEq, Eq)]

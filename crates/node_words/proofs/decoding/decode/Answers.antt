@@ -1,5 +1,4 @@
-use Rattle.std.proofs.Common.{ℕ, List, ◌≡◌, ◌<◌, ◌≤◌, ap, sym, subst, refl, ◌∙◌, arith, length}
-use Rattle.std.proofs.lemmas.Result.{err_from_is_err_and}
+use Rattle.std.proofs.Common.{ap, subst, refl}
 use Rattle.node_words.proofs.decoding.decode.Goals as goal
 use Rattle.std.specs.Prelude.{Some, Err}
 use Rattle.ix_base.specs.Entry as spec

@@ -1,4 +1,4 @@
-use Rattle.std.proofs.Common.{ℕ, List, ◌≡◌, ◌<◌, ◌≤◌, ap, sym, subst, refl, ◌∙◌, arith, length}
+use Rattle.std.proofs.Common.{ℕ, List, ◌<◌, subst, arith, length}
 use Rattle.std.proofs.lemmas.Result.{err_from_is_err_and}
 use Rattle.node_words.proofs.decoding.read_entry.Goals as goal
 use Rattle.std.proofs.lemmas.Bool.Decides.{nat_tests}

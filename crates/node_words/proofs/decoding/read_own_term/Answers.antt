@@ -1,5 +1,4 @@
-use Rattle.std.proofs.Common.{ℕ, List, ◌≡◌, ◌<◌, ◌≤◌, ap, sym, subst, refl, ◌∙◌, arith, length}
-use Rattle.std.proofs.lemmas.Result.{err_from_is_err_and}
+use Rattle.std.proofs.Common.{ap, arith, length}
 use Rattle.node_words.proofs.Entries.{long_term_fails}
 use Rattle.node_words.proofs.decoding.read_own_term.Goals as goal
 

@@ -1,4 +1,3 @@
-use Rattle.std.proofs.Common.{ℕ, List, ◌≡◌, ◌<◌, ◌≤◌, ap, sym, subst, refl, ◌∙◌, arith, length}
 use Rattle.std.proofs.lemmas.Result.{err_from_is_err_and}
 use Rattle.node_words.proofs.Entries.{set_name_fails, set_value_fails}
 use Rattle.node_words.proofs.decoding.read_set_number.Goals as goal

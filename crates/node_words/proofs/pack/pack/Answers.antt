@@ -1,4 +1,4 @@
-use Rattle.std.proofs.Common.{ℕ, ◌<◌, ◌∷◌, length, arith}
+use Rattle.std.proofs.Common.{◌<◌, ◌∷◌, length, arith}
 use Rattle.std.proofs.lemmas.Bool.Decides.{nat_tests}
 use Rattle.ix_base.specs.Words.{packed}
 use Rattle.node_words.proofs.Packing.{goes_on}

@@ -7,11 +7,8 @@ use Rattle.node_words.proofs.query_read.+read_query.Given as goal
 abbrev pub decreases-read_query : goal.decreases-read_query
 decreases-read_query l = 2 * length l.reader.now
 
-abbrev pub decreases-read_lists : goal.decreases-read_lists
-decreases-read_lists l = 2 * length l.reader.now + 1
-
 abbrev pub decreases-read_list : goal.decreases-read_list
-decreases-read_list l = 2 * length l.reader.now
+decreases-read_list l = 2 * length l.reader.now + 1
 
 abbrev pub invariant-read_list-loop : goal.invariant-read_list-loop
 invariant-read_list-loop l = record {

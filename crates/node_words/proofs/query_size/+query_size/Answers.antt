@@ -1,8 +1,8 @@
-use Rattle.std.proofs.Common.{◌≡◌, ◌+◌, ◌-◌, ◌^◌, ◌≤◌, ◌++◌, ℕ, List, min, length, take, sym, subst, ap, ◌∙◌, rules, arith, append_assoc}
+use Rattle.std.proofs.Common.{◌+◌, ◌-◌, ◌^◌, ℕ, List, length, ap, ◌∙◌, arith}
 use Rattle.ix_base.specs.Query.{tree_of, trees_of}
-use Rattle.ix_base.specs.QueryBytes.{queries_bytes, query_bytes, list_bytes}
-use Rattle.ix_base.specs.Tree.{Trees, tree_count, trees_count}
-use Rattle.node_words.proofs.Sizes.{part_count_le, part_le, list_size-more, length-list_bytes, length-pair, length-bool, count_of-trees, count_le, queries_bytes-more, AreQueries-more, whole, length-term_query, length-phrase_query, exact_size}
+use Rattle.ix_base.specs.QueryBytes.{queries_bytes, query_bytes}
+use Rattle.ix_base.specs.Tree.{Trees, trees_count}
+use Rattle.node_words.proofs.Sizes.{part_count_le, list_size-more, length-list_bytes, whole, length-term_query, length-phrase_query, exact_size}
 use Rattle.ix_base.specs.declared.query.Query.{Query}
 use Rattle.node_words.proofs.query_size.+query_size.Goals as goal
 

@@ -1,8 +1,6 @@
-use Rattle.std.proofs.Common.{◌≡◌, ◌+◌, ◌-◌, ◌^◌, ◌≤◌, ◌++◌, ℕ, List, min, length, take, sym, subst, ap, ◌∙◌, rules, arith, append_assoc}
-use Rattle.ix_base.specs.Query.{tree_of, trees_of}
-use Rattle.ix_base.specs.QueryBytes.{queries_bytes, query_bytes, list_bytes}
-use Rattle.ix_base.specs.Tree.{Trees, tree_count, trees_count}
-use Rattle.node_words.proofs.Sizes.{part_count_le, part_le, list_size-more, length-list_bytes, length-pair, length-bool, count_of-trees, count_le, queries_bytes-more, AreQueries-more, short_list, short_part, list_more, list_done, queries_done}
+use Rattle.std.proofs.Common.{length, ap, arith}
+use Rattle.ix_base.specs.Tree.{trees_count}
+use Rattle.node_words.proofs.Sizes.{part_count_le, AreQueries-more, short_list, short_part, list_more, list_done, queries_done}
 use Rattle.ix_base.specs.Spelling.{be32}
 use Rattle.node_words.proofs.query_write.+put_query.Goals as goal
 
@@ -13,9 +11,10 @@ pub put_list-put_query-requires : goal.put_list-put_query-requires
 put_list-put_query-requires t c =
     let xs = c.as_slice-items.result.now in
     let le = part_count_le xs c.loop-query.query-index c.query-item.result c.loop-query-test.true c.query-item.is in
-    let same = ap trees_count c.as_slice-items.ensures in
-    ( omega (arith, le, same, c.decreases)
-    , short_part xs c.args.queries.now c.loop-query.query-index c.query-item.result c.as_slice-items.ensures c.requires c.loop-query-test.true c.query-item.is )
+    let same = ap trees_count c.as_slice-items.ensures in (
+      omega (arith, le, same, c.decreases),
+      short_part xs c.args.queries.now c.loop-query.query-index c.query-item.result c.as_slice-items.ensures c.requires c.loop-query-test.true c.query-item.is,
+    )
 
 pub put_list-loop-query-preserved : goal.put_list-loop-query-preserved
 put_list-loop-query-preserved t c =
@@ -30,6 +29,7 @@ put_list-returns-clause-bytes t c =
     list_done c.args.out.now.items c.loop-query.out.items c.as_slice-items.result.now c.args.queries.now c.loop-query.query-index c.as_slice-items.ensures c.loop-query-test.false c.loop-query.invariant.bytes
 
 pub put_list-returns-clause-queries : goal.put_list-returns-clause-queries
-put_list-returns-clause-queries t c =
-    ( (short_list c.as_slice-items.result.now c.args.queries.now c.as_slice-items.ensures c.requires).1
-    , queries_done c.as_slice-items.result.now c.args.queries.now c.loop-query.query-index c.as_slice-items.ensures c.loop-query-test.false c.loop-query.invariant.queries )
+put_list-returns-clause-queries t c = (
+  (short_list c.as_slice-items.result.now c.args.queries.now c.as_slice-items.ensures c.requires).1,
+  queries_done c.as_slice-items.result.now c.args.queries.now c.loop-query.query-index c.as_slice-items.ensures c.loop-query-test.false c.loop-query.invariant.queries,
+)

@@ -1,6 +1,5 @@
-use Rattle.std.proofs.Common.{sym, ap, ◌∙◌, arith}
-use Rattle.ix_base.specs.Spelling.{signed64}
-use Rattle.node_words.proofs.Fields.{be32-again, signed64-again}
+use Rattle.std.proofs.Common.{arith}
+use Rattle.node_words.proofs.Fields.{be32-again}
 use Rattle.node_words.proofs.reader.number_of.Goals as goal
 
 pub returns : goal.returns

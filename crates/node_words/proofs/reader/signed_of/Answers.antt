@@ -3,7 +3,7 @@ use Rattle.std.specs.Prelude.{FitsSigned}
 use Rattle.std.specs.Int.{w64}
 use Rattle.std.proofs.lemmas.Int.{to_z-of_z}
 use Rattle.ix_base.specs.Spelling.{signed64}
-use Rattle.node_words.proofs.Fields.{be32-again, signed64-again}
+use Rattle.node_words.proofs.Fields.{signed64-again}
 use Rattle.node_words.proofs.reader.signed_of.Goals as goal
 
 pub returns : goal.returns

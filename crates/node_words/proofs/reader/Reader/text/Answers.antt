@@ -1,13 +1,8 @@
-use Rattle.std.proofs.Common.{◌≡◌, ℕ, List, ◌<◌, ◌≤◌, ◌^◌, ◌+◌, ◌++◌, length, get_or, sym, subst, ap, ◌∙◌, arith, length-append}
+use Rattle.std.proofs.Common.{ℕ, ◌<◌, ◌^◌, sym, subst}
 use Rattle.std.proofs.lemmas.Result.{err_from_is_err_and}
-use Rattle.std.specs.Int.{w32, w64, from_be_bytes, cast_signed}
-use Rattle.std.specs.Prelude.{FitsSigned}
-use Rattle.ix_base.specs.EntryLaws.{length-be32, length-signed64}
-use Rattle.ix_base.specs.Spelling.{be32, signed64, text_bytes, IsText, IsName}
-use Rattle.node_words.specs.Reads.{Begins, Fails}
-use Rattle.node_words.proofs.Both.{second_fails}
-use Rattle.node_words.proofs.Forms.{one_name}
-use Rattle.node_words.proofs.Fields.{short_fails, be32-again, signed64-again, text_short, text_foreign, name_foreign}
+use Rattle.ix_base.specs.Spelling.{be32}
+use Rattle.node_words.specs.Reads.{Begins}
+use Rattle.node_words.proofs.Fields.{text_short, text_foreign}
 use Rattle.node_words.proofs.reader.Reader.text.Goals as goal
 
 pub returns-in_err-front : goal.returns-in_err-front
