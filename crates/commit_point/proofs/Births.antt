@@ -1,7 +1,7 @@
 -- Births in lists of rows: how often each stands there, and in which order.
-use Rattle.std.proofs.Common.{◌≡◌, ◌≢◌, ℕ, zero, suc, ◌+◌, ◌^◌, ◌<◌, ◌≤◌, Bool, true, false, cond, eqb, List, [], ◌∷◌, ◌++◌, length, get_or, refl, sym, ap, subst, ◌∙◌, inl, inr, arith}
-use Rattle.std.specs.Prelude.{◌⊎◌, ◌||◌, ⊤, All, Contains, IsPermutation, sum_by}
-use Rattle.std.specs.List.{flat_map, AllByRecursion}
+use Rattle.std.proofs.Common.{◌≡◌, ◌≢◌, ℕ, zero, suc, ◌+◌, ◌<◌, ◌≤◌, Bool, true, false, cond, eqb, List, [], ◌∷◌, ◌++◌, length, get_or, refl, sym, ap, subst, ◌∙◌, inl, inr, arith}
+use Rattle.std.specs.Prelude.{◌⊎◌, ◌||◌, All, Contains, IsPermutation, sum_by}
+use Rattle.std.specs.List.{AllByRecursion}
 use Rattle.std.specs.List.Sorted.{IsNonDecreasingBy}
 use Rattle.std.proofs.lemmas.Bool.{eqb-true, eq-eqb}
 use Rattle.std.proofs.lemmas.List.Elements.{All-from_recursion}
@@ -64,6 +64,7 @@ absent b (r ∷ rs) e =
   where
     clash : eqb r.birth b ≡ true → (eqb r.birth b || has_birth rs b) ≡ false → ⊥
     clash h e = let t : true ≡ false = rw h at e in cc
+
     rest : eqb r.birth b ≡ false → (eqb r.birth b || has_birth rs b) ≡ false → has_birth rs b ≡ false
     rest h e = rw h at e
 
@@ -98,12 +99,11 @@ once s known [] rise unknown b = (omega arith, λ e. refl)
 once s known (p ∷ ps) rise unknown b =
     let more = once s (λ x. known x || has_birth p x) ps rise.1 unknown.1 b in
     let sum = births_append b p (all_rows ps) in
-    let here = at_most_one 1 s b p rise.0 in
-    (
+    let here = at_most_one 1 s b p rise.0 in (
       by_bool (has_birth p b)
-      (λ e. omega (arith, sum, here, more.1 (or_right (known b) (has_birth p b) e)))
-      (λ e. omega (arith, sum, absent b p e, more.0)),
-      λ e. omega (arith, sum, unknown_none known b p unknown.0 e, more.1 (or_left (known b) (has_birth p b) e))
+          (λ e. omega (arith, sum, here, more.1 (or_right (known b) (has_birth p b) e)))
+          (λ e. omega (arith, sum, absent b p e, more.0)),
+      λ e. omega (arith, sum, unknown_none known b p unknown.0 e, more.1 (or_left (known b) (has_birth p b) e)),
     )
 
 all_unknown : (known : ℕ → Bool) (rows : List Row) → ((b : ℕ) → known b ≡ true → births_at b rows ≡ 0) → AllByRecursion (λ (r : Row). known r.birth ≡ false) rows
@@ -113,14 +113,13 @@ all_unknown known (r ∷ rs) h =
 
 pub unknown_from : (known : ℕ → Bool) (parts : List (List Row)) → ((b : ℕ) → births_at b (all_rows parts) ≤ 1) → ((b : ℕ) → known b ≡ true → births_at b (all_rows parts) ≡ 0) → Unknown known parts
 unknown_from known [] one none = tt
-unknown_from known (p ∷ ps) one none =
-    (
-      all_unknown known p (λ b e. omega (arith, births_append b p (all_rows ps), none b e)),
-      unknown_from (λ b. known b || has_birth p b) ps (λ b. omega (arith, births_append b p (all_rows ps), one b))
+unknown_from known (p ∷ ps) one none = (
+  all_unknown known p (λ b e. omega (arith, births_append b p (all_rows ps), none b e)),
+  unknown_from (λ b. known b || has_birth p b) ps (λ b. omega (arith, births_append b p (all_rows ps), one b))
       (λ b e. by_bool (known b)
-        (λ k. omega (arith, births_append b p (all_rows ps), none b k))
-        (λ k. let has : has_birth p b ≡ true = rw k at e in omega (arith, births_append b p (all_rows ps), one b, present b p has)))
-    )
+      (λ k. omega (arith, births_append b p (all_rows ps), none b k))
+      (λ k. let has : has_birth p b ≡ true = rw k at e in omega (arith, births_append b p (all_rows ps), one b, present b p has))),
+)
 
 -- ---- the rows in order
 
@@ -150,9 +149,9 @@ sorted_rises low s (r ∷ rs) between sorted one =
     let first = between 0 r (omega arith) in
     let none : births_at r.birth rs ≡ 0 = omega (arith, one r.birth, one_true r.birth r (eq-eqb r.birth r.birth refl)) in
     let later : All (Between (r.birth + 1) s) rs = λ k d lt.
-      let le : r.birth ≤ (get_or rs k d).birth = sorted 0 (suc k) d (omega arith) (omega arith) in
-      let other = none_at r.birth rs k d none lt in
-      (omega (arith, le, other), (between (suc k) d (omega arith)).1) in
+    let le : r.birth ≤ (get_or rs k d).birth = sorted 0 (suc k) d (omega arith) (omega arith) in
+    let other = none_at r.birth rs k d none lt in
+    (omega (arith, le, other), (between (suc k) d (omega arith)).1) in
     (first.0, first.1, sorted_rises (r.birth + 1) s rs later (λ i j d le lt. sorted (suc i) (suc j) d (omega arith) (omega arith)) (λ b. omega (arith, one b)))
 
 -- rows of parts, in order of birth, rise
@@ -198,17 +197,19 @@ same_rows l m s t (x ∷ xs) [] p q there back = absurd (there x (inl refl))
 same_rows l m s t (x ∷ xs) (y ∷ ys) p q there back =
     let first : x ≡ y = head_is (there x (inl refl)) (back y (inl refl)) in
     let rest : xs ≡ ys = same_rows (x.birth + 1) (y.birth + 1) s t xs ys p.2 q.2
-      (λ z h. tail_of (in_above (x.birth + 1) s xs z p.2 h) first (there z (inr h)))
-      (λ z h. tail_back (in_above (y.birth + 1) t ys z q.2 h) first (back z (inr h))) in
+    (λ z h. tail_of (in_above (x.birth + 1) s xs z p.2 h) first (there z (inr h)))
+    (λ z h. tail_back (in_above (y.birth + 1) t ys z q.2 h) first (back z (inr h))) in
     cc
   where
     head_is : (y ≡ x) ⊎ IsIn x ys → (x ≡ y) ⊎ IsIn y xs → x ≡ y
     head_is (inl e) other = sym e
     head_is (inr h) (inl e) = e
     head_is (inr h) (inr k) = absurd (omega (arith, in_above (y.birth + 1) t ys x q.2 h, in_above (x.birth + 1) s xs y p.2 k))
+
     tail_of : {z : Row} → x.birth + 1 ≤ z.birth → x ≡ y → (y ≡ z) ⊎ IsIn z ys → IsIn z ys
     tail_of above is (inl e) = absurd (omega (arith, ap (λ (r : Row). r.birth) (is ∙ e)))
     tail_of above is (inr h) = h
+
     tail_back : {z : Row} → y.birth + 1 ≤ z.birth → x ≡ y → (x ≡ z) ⊎ IsIn z xs → IsIn z xs
     tail_back above is (inl e) = absurd (omega (arith, ap (λ (r : Row). r.birth) (sym is ∙ e)))
     tail_back above is (inr h) = h

@@ -1,6 +1,6 @@
 -- The commits in a list of names.
-use Rattle.std.proofs.Common.{◌≡◌, ℕ, zero, suc, ◌+◌, ◌<◌, ◌≤◌, Bool, true, false, eqb, List, [], ◌∷◌, length, get_or, Option, Some, None, refl, sym, ap, subst, ◌∙◌, arith}
-use Rattle.std.specs.Prelude.{◌↔◌, ◌||◌, All, AllPairs, Contains, IfSome, IsSome, IsTrue}
+use Rattle.std.proofs.Common.{◌≡◌, ℕ, zero, suc, ◌<◌, Bool, true, false, List, [], ◌∷◌, length, get_or, Option, Some, None, refl, sym, ap, subst, ◌∙◌, arith}
+use Rattle.std.specs.Prelude.{◌↔◌, ◌||◌, All, AllPairs, Contains, IfSome, IsSome}
 use Rattle.std.specs.BTreeSet.{BTreeSet, contains}
 use Rattle.std.specs.List.{list_any}
 use Rattle.std.specs.List.Sorted.{IsStrictlySortedBy}
@@ -41,10 +41,9 @@ commit_any s (n ∷ ns) (suc k) lt e = or_right (is_commit s n) (list_any (is_co
 
 pub among : (numbers : BTreeSet ℕ) (items : List ℕ) (names : List FileName) → items ≡ numbers.keys → ((s : ℕ) → contains nat_cmp numbers s ≡ list_any (is_commit s) names) → (s : ℕ) → Contains items s ↔ Contains names (Commit s)
 among numbers items names is same s =
-    let iff = btree_set_contains_iff nat_cmp_total exact_unsigned numbers s in
-    (
+    let iff = btree_set_contains_iff nat_cmp_total exact_unsigned numbers s in (
       (λ c. any_commit s names (sym (same s) ∙ iff.1 (subst (λ (xs : List ℕ). Contains xs s) is c))),
-      (λ c. subst (λ (xs : List ℕ). Contains xs s) (sym is) (iff.0 (same s ∙ commit_any s names c.0 c.1 c.2)))
+      (λ c. subst (λ (xs : List ℕ). Contains xs s) (sym is) (iff.0 (same s ∙ commit_any s names c.0 c.1 c.2))),
     )
 
 pub rise : (keys items : List ℕ) → items ≡ keys → IsStrictlySortedBy nat_cmp keys → AllPairs ◌<◌ items
@@ -53,9 +52,10 @@ rise keys items is sorted = subst (AllPairs ◌<◌) (sym is) (λ i j d lt below
 pub listed : (told : Option Files) (names seen : List FileName) (numbers : List ℕ) → seen ≡ names → IfSome told (λ here. Lists here names) → ((s : ℕ) → Contains numbers s ↔ Contains seen (Commit s))
     → IfSome told (λ files. (s : ℕ) → Contains numbers s ↔ IsSome (files (Commit s)))
 listed None names seen numbers is lists same = tt
-listed (Some files) names seen numbers is lists same = λ s.
-    ((λ c. (lists.each (Commit s)).0 (subst (λ (xs : List FileName). Contains xs (Commit s)) is ((same s).0 c))),
-      (λ c. (same s).1 (subst (λ (xs : List FileName). Contains xs (Commit s)) (sym is) ((lists.each (Commit s)).1 c))))
+listed (Some files) names seen numbers is lists same = λ s. (
+  (λ c. (lists.each (Commit s)).0 (subst (λ (xs : List FileName). Contains xs (Commit s)) is ((same s).0 c))),
+  (λ c. (same s).1 (subst (λ (xs : List FileName). Contains xs (Commit s)) (sym is) ((lists.each (Commit s)).1 c))),
+)
 
 pub counted : (names seen : List FileName) (numbers : List ℕ) → seen ≡ names → All IsName names → ((s : ℕ) → Contains numbers s ↔ Contains seen (Commit s)) → (s : ℕ) → Contains numbers s → IsCounted s
 counted names seen numbers is real same s c =

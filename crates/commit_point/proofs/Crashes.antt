@@ -1,5 +1,5 @@
 -- What a crash may leave after one call, and after one call and another.
-use Rattle.std.proofs.Common.{◌≡◌, ℕ, ◌≤◌, Result, Ok, Err, refl, inl, inr, ◌∙◌, arith}
+use Rattle.std.proofs.Common.{ℕ, Result, Ok, Err, refl, inl, inr, ◌∙◌, arith}
 use Rattle.std.specs.Prelude.{◌⊎◌}
 use Rattle.ix_base.specs.declared.file_name.FileName.{FileName}
 use Rattle.ix_outside.specs.declared.store.StoreFault.{StoreFault}

@@ -1,5 +1,5 @@
 -- A document that is read is the one that was written, and what was written is read again.
-use Rattle.std.proofs.Common.{◌≡◌, ℕ, zero, suc, ◌+◌, ◌^◌, ◌<◌, ◌≤◌, Bool, true, false, not, cond, List, [], ◌∷◌, ◌++◌, length, map, Option, Some, None, Result, Ok, Err, refl, sym, ap, subst, ◌∙◌, append_assoc, arith}
+use Rattle.std.proofs.Common.{◌≡◌, ℕ, ◌^◌, ◌<◌, Bool, true, false, not, cond, List, [], ◌∷◌, ◌++◌, length, map, Option, Some, None, Ok, Err, refl, sym, ap, subst, ◌∙◌, append_assoc, arith}
 use Rattle.std.specs.Prelude.{ℤ, ◌&&◌, ◌||◌, codes}
 use Rattle.std.specs.Bool.{one_answer}
 use Rattle.std.specs.Cmp.Derive.{both_true}
@@ -10,7 +10,7 @@ use Rattle.std.proofs.lemmas.Slice.Eq.{bytes_eq-Decides}
 use Rattle.ix_base.specs.Limits.{text_lt, rise_after, names_rise, is_among, share_name, names_are_apart}
 use Rattle.ix_base.specs.declared.document.Document.{Document}
 use Rattle.commit_point.specs.Spelling.{be32, be64, signed64, text, field, fields, number, numbers, document}
-use Rattle.commit_point.specs.Fits.{TextFits, FieldFits, NumberFits, DocumentFits}
+use Rattle.commit_point.specs.Fits.{FieldFits, NumberFits, DocumentFits}
 use Rattle.commit_point.specs.Fields.{◌>>=◌, number_at, signed_at, text_at, name_at, name_where, items_at, comes_after, is_key, is_free_name, may_name, field_at, fields_at, numbered_at, numbers_at, document_at}
 use Rattle.commit_point.proofs.NumberLaws.{IsBytes, bind_ok, ok_is, passes, Takes, Takes-then, u32_takes, u32_again, u64_takes, u64_again, signed_takes, signed_again, text_takes, text_again, name_takes, name_again, and_parts}
 use Rattle.commit_point.proofs.ItemLaws.{AllGood, TakesItem, GivesItem, items_take, items_again, items_have}
@@ -266,21 +266,23 @@ document_takes bytes x fits e =
     let e13 = Takes-then a.0.1 (fields b.0.0) b.0.1 (fields c.0.0 ++ numbers d.0.0) d.0.1 t1.0 e23 in
     let e03 = Takes-then bytes (text a.0.0) a.0.1 (fields b.0.0 ++ (fields c.0.0 ++ numbers d.0.0)) d.0.1 t0.0 e13 in
     let made : Document × List ℕ = (record { key = a.0.0; text = b.0.0; exact = c.0.0; num = d.0.0 }, d.0.1) in
-    subst (λ (y : Document × List ℕ). Takes bytes (document y.0) y.1 × DocumentFits y.0) (ok_is made x d.2)
-    (e03, record {
-      key = t0.1;
-      text_count = t1.1;
-      text = good_each (FieldGood []) FieldFits own_name (λ s p g. g.fits) None b.0.0 t1.2;
-      text_rises = rise_of b.0.0 (good_onto (FieldGood []) Comes own_name (λ s p g. (and_parts (comes_after s p.0) (is_free_name [] p.0) g.named).0) None b.0.0 t1.2);
-      exact_count = t2.1;
-      exact = good_each (FieldGood (names b.0.0)) FieldFits own_name (λ s p g. g.fits) None c.0.0 t2.2;
-      exact_rises = rise_of c.0.0 (good_onto (FieldGood (names b.0.0)) Comes own_name (λ s p g. (and_parts (comes_after s p.0) (is_free_name (names b.0.0) p.0) g.named).0) None c.0.0 t2.2);
-      num_count = t3.1;
-      num = good_each NumberGood NumberFits own_name (λ s p g. g.fits) None d.0.0 t3.2;
-      num_rises = rise_of d.0.0 (good_onto NumberGood Comes own_name (λ s p g. g.named) None d.0.0 t3.2);
-      apart = apart_of b.0.0 c.0.0 (good_each (FieldGood []) (λ p. is_free_name [] p.0 ≡ true) own_name (λ s p g. (and_parts (comes_after s p.0) (is_free_name [] p.0) g.named).1) None b.0.0 t1.2)
-        (good_each (FieldGood (names b.0.0)) (λ p. is_free_name (names b.0.0) p.0 ≡ true) own_name (λ s p g. (and_parts (comes_after s p.0) (is_free_name (names b.0.0) p.0) g.named).1) None c.0.0 t2.2);
-    })
+    subst (λ (y : Document × List ℕ). Takes bytes (document y.0) y.1 × DocumentFits y.0) (ok_is made x d.2) (
+      e03,
+      record {
+        key = t0.1;
+        text_count = t1.1;
+        text = good_each (FieldGood []) FieldFits own_name (λ s p g. g.fits) None b.0.0 t1.2;
+        text_rises = rise_of b.0.0 (good_onto (FieldGood []) Comes own_name (λ s p g. (and_parts (comes_after s p.0) (is_free_name [] p.0) g.named).0) None b.0.0 t1.2);
+        exact_count = t2.1;
+        exact = good_each (FieldGood (names b.0.0)) FieldFits own_name (λ s p g. g.fits) None c.0.0 t2.2;
+        exact_rises = rise_of c.0.0 (good_onto (FieldGood (names b.0.0)) Comes own_name (λ s p g. (and_parts (comes_after s p.0) (is_free_name (names b.0.0) p.0) g.named).0) None c.0.0 t2.2);
+        num_count = t3.1;
+        num = good_each NumberGood NumberFits own_name (λ s p g. g.fits) None d.0.0 t3.2;
+        num_rises = rise_of d.0.0 (good_onto NumberGood Comes own_name (λ s p g. g.named) None d.0.0 t3.2);
+        apart = apart_of b.0.0 c.0.0 (good_each (FieldGood []) (λ p. is_free_name [] p.0 ≡ true) own_name (λ s p g. (and_parts (comes_after s p.0) (is_free_name [] p.0) g.named).1) None b.0.0 t1.2)
+            (good_each (FieldGood (names b.0.0)) (λ p. is_free_name (names b.0.0) p.0 ≡ true) own_name (λ s p g. (and_parts (comes_after s p.0) (is_free_name (names b.0.0) p.0) g.named).1) None c.0.0 t2.2);
+      },
+    )
 
 fields_good : (taken : List (List ℕ)) (pairs : List (List ℕ × List ℕ)) → AllByRecursion FieldFits pairs → names_rise (names pairs) ≡ true → AllFree taken pairs → AllGood (FieldGood taken) own_name None pairs
 fields_good taken pairs fits rises free =
@@ -294,9 +296,9 @@ pub document_again : (doc : Document) (rest : List ℕ) → DocumentFits doc →
 unfolding document_at
 document_again doc rest fits =
     let regrouped : document doc ++ rest ≡ text doc.key ++ (fields doc.text ++ (fields doc.exact ++ (numbers doc.num ++ rest))) =
-      append_assoc (text doc.key) (fields doc.text ++ (fields doc.exact ++ numbers doc.num)) rest
-      ∙ ap (λ (x : List ℕ). text doc.key ++ x) (append_assoc (fields doc.text) (fields doc.exact ++ numbers doc.num) rest)
-      ∙ ap (λ (x : List ℕ). text doc.key ++ (fields doc.text ++ x)) (append_assoc (fields doc.exact) (numbers doc.num) rest) in
+    append_assoc (text doc.key) (fields doc.text ++ (fields doc.exact ++ numbers doc.num)) rest
+    ∙ ap (λ (x : List ℕ). text doc.key ++ x) (append_assoc (fields doc.text) (fields doc.exact ++ numbers doc.num) rest)
+    ∙ ap (λ (x : List ℕ). text doc.key ++ (fields doc.text ++ x)) (append_assoc (fields doc.exact) (numbers doc.num) rest) in
     let free = free_of doc.text doc.exact fits.apart in
     let after_exact = numbers doc.num ++ rest in
     let after_text = fields doc.exact ++ after_exact in
@@ -304,5 +306,5 @@ document_again doc rest fits =
       text_again doc.key (fields doc.text ++ after_text) fits.key,
       fields_again [] doc.text after_text fits.text_count (fields_good [] doc.text fits.text fits.text_rises free.0),
       fields_again (names doc.text) doc.exact after_exact fits.exact_count (fields_good (names doc.text) doc.exact fits.exact fits.exact_rises free.1),
-      numbers_again doc.num rest fits.num_count (numbers_good doc.num fits.num fits.num_rises)
+      numbers_again doc.num rest fits.num_count (numbers_good doc.num fits.num fits.num_rises),
     ) refl

@@ -1,5 +1,5 @@
 -- A file that is read is the one that was written, and what was written is read again.
-use Rattle.std.proofs.Common.{◌≡◌, ℕ, zero, suc, ◌+◌, ◌^◌, ◌<◌, ◌≤◌, Bool, true, false, not, cond, eqb, leb, ltb, List, [], ◌∷◌, ◌++◌, length, Result, Ok, Err, refl, sym, ap, subst, ◌∙◌, append_assoc, arith}
+use Rattle.std.proofs.Common.{◌≡◌, ℕ, ◌+◌, ◌^◌, ◌<◌, ◌≤◌, Bool, true, false, not, eqb, leb, ltb, List, [], ◌∷◌, ◌++◌, length, Result, Ok, Err, refl, sym, ap, subst, ◌∙◌, append_assoc, arith}
 use Rattle.std.specs.Prelude.{◌&&◌, IfOk}
 use Rattle.std.specs.Cmp.Derive.{both_true}
 use Rattle.std.specs.Int.{w32, w64}
@@ -13,12 +13,12 @@ use Rattle.commit_point.specs.declared.heads.Head.{Head}
 use Rattle.commit_point.specs.declared.fault.Damaged.{Damaged}
 use Rattle.commit_point.specs.declared.fault.FileFault.{FileFault}
 use Rattle.commit_point.specs.Spelling.{be32, be64, rows_mark, commit_mark, document, row, rows_file, entry, commit_file}
-use Rattle.commit_point.specs.Fits.{DocumentFits, BirthsRise, RowsFit, IdsRise, EntryFits, HeadFits, IsSegment}
+use Rattle.commit_point.specs.Fits.{DocumentFits, BirthsRise, IdsRise, EntryFits, HeadFits, IsSegment}
 use Rattle.commit_point.specs.Fields.{◌>>=◌, number_at, number_where, mark_at, items_at, document_at}
 use Rattle.commit_point.specs.Reading.{ended, row_at, rows_in, entry_at, head_in, placed, GivesFile}
 use Rattle.commit_point.proofs.NumberLaws.{IsBytes, bind_ok, ok_is, passes, Takes, Takes-then, u32_where_takes, u32_where_again, u64_takes, u64_again, u64_where_takes, u64_where_again, mark_takes, mark_again, and_parts}
 use Rattle.commit_point.proofs.ItemLaws.{AllGood, TakesItem, GivesItem, items_take, items_again}
-use Rattle.commit_point.proofs.DocumentLaws.{good_each, good_both, document_takes, document_again}
+use Rattle.commit_point.proofs.DocumentLaws.{good_each, document_takes, document_again}
 
 not_true : (b : Bool) → not b ≡ true → b ≡ false
 not_true true e = absurd cc
@@ -101,12 +101,14 @@ rows_take id n s known bytes rows fits e =
     let whole : bytes ≡ spelled = e03.parts ∙ ap (λ (r : List ℕ). spelled ++ r) z.0 ∙ append-nil spelled in
     let one : bytes ≡ rows_mark ++ (be64 id ++ (be32 c.0.0 ++ flat_map row d.0.0)) = whole ∙ ap (λ (i : ℕ). rows_mark ++ (be64 i ++ (be32 c.0.0 ++ flat_map row d.0.0))) id-is in
     let two : bytes ≡ rows_file id d.0.0 = one ∙ ap (λ (i : ℕ). rows_mark ++ (be64 id ++ (be32 i ++ flat_map row d.0.0))) (n-is ∙ sym t3.1) in
-    subst (λ (rs : List Row). IsSegment s n known rs × (bytes ≡ rows_file id rs)) z.1
-    (record {
-      fits = record { some = omega (arith, t3.1, n-is); count = omega (arith, t3.1, n-is, t2.1); births = births_of s known 1 d.0.0 t3.2; documents = good_each (RowGood s known) (λ (r : Row). DocumentFits r.doc) after_birth (λ low r g. g.fits) 1 d.0.0 t3.2 };
-      count = t3.1;
-      unknown = good_each (RowGood s known) (λ (r : Row). known r.birth ≡ false) after_birth (λ low r g. g.unknown) 1 d.0.0 t3.2;
-    }, two)
+    subst (λ (rs : List Row). IsSegment s n known rs × (bytes ≡ rows_file id rs)) z.1 (
+      record {
+        fits = record { some = omega (arith, t3.1, n-is); count = omega (arith, t3.1, n-is, t2.1); births = births_of s known 1 d.0.0 t3.2; documents = good_each (RowGood s known) (λ (r : Row). DocumentFits r.doc) after_birth (λ low r g. g.fits) 1 d.0.0 t3.2 };
+        count = t3.1;
+        unknown = good_each (RowGood s known) (λ (r : Row). known r.birth ≡ false) after_birth (λ low r g. g.unknown) 1 d.0.0 t3.2;
+      },
+      two,
+    )
 
 pub rows_again : (id n s : ℕ) (known : ℕ → Bool) (rows : List Row) → id < 2 ^ 64 → s < 2 ^ 64 → IsSegment s n known rows → rows_in id n s known (rows_file id rows) ≡ Ok rows
 unfolding rows_in rows_mark
@@ -114,9 +116,9 @@ rows_again id n s known rows id_fits s_fits segment =
     let good = rows_good s known 1 rows segment.fits.births segment.fits.documents segment.unknown in
     let counted = be32 (length rows) ++ flat_map row rows in
     let items : items_at (row_at s known) after_birth 1 n (flat_map row rows) ≡ Ok (rows, []) =
-      ap (λ (k : ℕ). items_at (row_at s known) after_birth 1 k (flat_map row rows)) (sym segment.count)
-      ∙ ap (items_at (row_at s known) after_birth 1 (length rows)) (sym (append-nil (flat_map row rows)))
-      ∙ items_again (row_at s known) after_birth row (RowGood s known) (row_again s known s_fits) 1 rows [] good in
+    ap (λ (k : ℕ). items_at (row_at s known) after_birth 1 k (flat_map row rows)) (sym segment.count)
+    ∙ ap (items_at (row_at s known) after_birth 1 (length rows)) (sym (append-nil (flat_map row rows)))
+    ∙ items_again (row_at s known) after_birth row (RowGood s known) (row_again s known s_fits) 1 rows [] good in
     let test : count_test n (length rows) ≡ true = both_true (eq-eqb _ _ segment.count) (le-leb _ _ segment.fits.some) in
     rw (mark_again rows_mark (be64 id ++ counted) refl, u64_where_again (λ x. eqb x id) id counted id_fits (eq-eqb id id refl), u32_where_again (count_test n) (length rows) (flat_map row rows) segment.fits.count test, items) refl
 
@@ -159,7 +161,7 @@ entry_again s next lt low e rest good =
     ap (entry_at s next low) regrouped ∙ rw (
       u64_where_again (id_test next low) e.id (be32 e.n ++ (be64 e.v ++ rest)) good.short (both_true (le-leb _ _ good.low_is) (lt-ltb _ _ good.below)),
       u32_where_again (λ x. leb 1 x) e.n (be64 e.v ++ rest) good.fits.count (le-leb _ _ good.fits.rows),
-      u64_where_again (v_test s) e.v rest v_short (both_true (le-leb _ _ good.fits.some) (le-leb _ _ good.fits.not_later))
+      u64_where_again (v_test s) e.v rest v_short (both_true (le-leb _ _ good.fits.some) (le-leb _ _ good.fits.not_later)),
     ) refl
 
 abbrev after_id : HeadSegment → ℕ
@@ -209,12 +211,20 @@ head_take s bytes head fits e =
     let spelled : List ℕ = commit_mark ++ (be64 b.0.0 ++ (be64 c.0.0 ++ (be64 d.0.0 ++ (be64 f.0.0 ++ listed)))) in
     let whole : bytes ≡ spelled = e05.parts ∙ ap (λ (r : List ℕ). spelled ++ r) z.0 ∙ append-nil spelled in
     let counted : bytes ≡ commit_file (made b.0.0 c.0.0 d.0.0 g.0.0) = whole ∙ ap (λ (i : ℕ). commit_mark ++ (be64 b.0.0 ++ (be64 c.0.0 ++ (be64 d.0.0 ++ (be64 i ++ listed))))) (sym t5.1) in
-    subst (λ (x : Head). (x.number ≡ s) × HeadFits x × (bytes ≡ commit_file x)) z.1
-    (s-is, record {
-      some = leb-true _ _ h.1; number = t1.1; docs = t2.1; next_some = leb-true _ _ k.0; next = leb-true _ _ k.1; count = omega (arith, t5.1, t4.1);
-      ids = ids_of s d.0.0 1 g.0.0 t5.2;
-      entries = subst (λ (i : ℕ). AllByRecursion (EntryFits i) g.0.0) (sym s-is) (good_each (EntryGood s d.0.0) (EntryFits s) after_id (λ low x y. y.fits) 1 g.0.0 t5.2);
-    }, counted)
+    subst (λ (x : Head). (x.number ≡ s) × HeadFits x × (bytes ≡ commit_file x)) z.1 (
+      s-is,
+      record {
+        some = leb-true _ _ h.1;
+        number = t1.1;
+        docs = t2.1;
+        next_some = leb-true _ _ k.0;
+        next = leb-true _ _ k.1;
+        count = omega (arith, t5.1, t4.1);
+        ids = ids_of s d.0.0 1 g.0.0 t5.2;
+        entries = subst (λ (i : ℕ). AllByRecursion (EntryFits i) g.0.0) (sym s-is) (good_each (EntryGood s d.0.0) (EntryFits s) after_id (λ low x y. y.fits) 1 g.0.0 t5.2);
+      },
+      counted,
+    )
 
 pub head_again : (head : Head) → HeadFits head → head_in head.number (commit_file head) ≡ Ok head
 unfolding head_in commit_mark
@@ -223,8 +233,8 @@ head_again head fits =
     let counted = be64 (length head.segments) ++ listed in
     let s = head.number in
     let items : items_at (entry_at s head.next_id) after_id 1 (length head.segments) listed ≡ Ok (head.segments, []) =
-      ap (items_at (entry_at s head.next_id) after_id 1 (length head.segments)) (sym (append-nil listed))
-      ∙ items_again (entry_at s head.next_id) after_id entry (EntryGood s head.next_id) (entry_again s head.next_id fits.number) 1 head.segments [] (entries_good s head.next_id 1 head.segments fits.next fits.ids fits.entries) in
+    ap (items_at (entry_at s head.next_id) after_id 1 (length head.segments)) (sym (append-nil listed))
+    ∙ items_again (entry_at s head.next_id) after_id entry (EntryGood s head.next_id) (entry_again s head.next_id fits.number) 1 head.segments [] (entries_good s head.next_id 1 head.segments fits.next fits.ids fits.entries) in
     let short : head.next_id < 2 ^ 64 = omega (arith, fits.next) in
     rw (
       mark_again commit_mark (be64 s ++ (be64 head.docs ++ (be64 head.next_id ++ counted))) refl,
@@ -232,7 +242,7 @@ head_again head fits =
       u64_again head.docs (be64 head.next_id ++ counted) fits.docs,
       u64_where_again next_test head.next_id counted short (both_true (le-leb _ _ fits.next_some) (le-leb _ _ fits.next)),
       u64_again (length head.segments) listed fits.count,
-      items
+      items,
     ) refl
 
 -- ---- what the decoders give

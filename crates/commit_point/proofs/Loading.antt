@@ -1,11 +1,7 @@
 -- Where a loop stands that reads the segments of a commit.
-use Rattle.std.proofs.Common.{◌≡◌, ◌≢◌, ℕ, zero, suc, ◌+◌, ◌^◌, ◌<◌, ◌≤◌, Bool, true, false, List, [], ◌∷◌, ◌++◌, length, get_or, take, drop, Option, Some, None, Result, Ok, Err, refl, sym, ap, subst, ◌∙◌, append_assoc, arith}
+use Rattle.std.proofs.Common.{◌≡◌, ℕ, zero, suc, ◌+◌, ◌<◌, ◌≤◌, Bool, false, List, [], ◌∷◌, ◌++◌, length, get_or, take, drop, Option, Some, Err, refl, sym, ap, subst, ◌∙◌, append_assoc, arith}
 use Rattle.std.specs.Prelude.{◌||◌}
-use Rattle.std.specs.BTreeSet.{BTreeSet, contains}
-use Rattle.std.specs.List.{AllByRecursion}
-use Rattle.std.specs.Ordering.{nat_cmp}
-use Rattle.std.proofs.lemmas.List.{take_more, take_all, take-append-drop, length-append}
-use Rattle.ix_base.specs.declared.file_name.FileName.{FileName}
+use Rattle.std.proofs.lemmas.List.{take_more, take_all, take-append-drop}
 use Rattle.ix_base.specs.declared.file_name.FileName.TheVariants.{Commit, Rows}
 use Rattle.ix_base.specs.declared.document.Row.{Row}
 use Rattle.ix_outside.specs.Files.{Files, Was, Reads}
@@ -72,9 +68,9 @@ one_more told head before i earlier now rows e part fits lt is so reads segment 
       commit = see.others (Commit head.number) (λ q. cc) ∙ so.commit;
       parts = so.parts ++ part ∷ [];
       each = subst (λ (es : List HeadSegment). HaveRows see.files head.number es (so.parts ++ part ∷ [])) (sym (taken head.segments i e lt is))
-        (have_push see.files head.number (take i head.segments) so.parts e part kept see.there (sym segment.count) segment.fits);
+          (have_push see.files head.number (take i head.segments) so.parts e part kept see.there (sym segment.count) segment.fits);
       unknown = unknown_push (λ b. false) so.parts part so.unknown
-        (all_congr earlier (λ b. has_birth (all_rows so.parts) b) part (known_so_far told head before i earlier rows so) segment.unknown);
+          (all_congr earlier (λ b. has_birth (all_rows so.parts) b) part (known_so_far told head before i earlier rows so) segment.unknown);
       all = all_rows_push so.parts part ∙ ap (λ (rs : List Row). rs ++ part) so.all;
       known = λ b. more b ∙ ap (λ (t : Bool). t || has_birth part b) (so.known b) ∙ sym (has_append rows part b);
     }
@@ -90,13 +86,13 @@ breaks told head before i earlier rows e d fits lt is so broken =
     let at_e' : segment_from see.files head.number (λ b. has_birth (all_rows so.parts) b) e ≡ Err d = subst (λ (k : ℕ → Bool). segment_from see.files head.number k e ≡ Err d) same at_e in
     let below : e.id < head.next_id = subst (λ (x : HeadSegment). x.id < head.next_id) (sym is) (id_below 1 head.next_id head.segments i e lt fits.ids) in
     let whole : take i head.segments ++ e ∷ drop (i + 1) head.segments ≡ head.segments =
-      sym (append_assoc (take i head.segments) (e ∷ []) (drop (i + 1) head.segments)) ∙ ap (λ (es : List HeadSegment). es ++ drop (i + 1) head.segments) (sym (taken head.segments i e lt is)) ∙ take-append-drop (i + 1) head.segments in
+    sym (append_assoc (take i head.segments) (e ∷ []) (drop (i + 1) head.segments)) ∙ ap (λ (es : List HeadSegment). es ++ drop (i + 1) head.segments) (sym (taken head.segments i e lt is)) ∙ take-append-drop (i + 1) head.segments in
     record {
       files = see.files;
       was = see.was;
       commit = see.others (Commit head.number) (λ q. cc) ∙ so.commit;
       broken = ap (segments_from see.files head.number (λ b. false)) (sym whole)
-        ∙ segments_break see.files head.number 1 e.id (λ b. false) (take i head.segments) so.parts e (drop (i + 1) head.segments) d fits.number (omega (arith, below, fits.next)) ids kept so.unknown at_e';
+          ∙ segments_break see.files head.number 1 e.id (λ b. false) (take i head.segments) so.parts e (drop (i + 1) head.segments) d fits.number (omega (arith, below, fits.next)) ids kept so.unknown at_e';
     }
 
 pub all_read : (told : Option Files) (head : Head) (before : Files) (i : ℕ) (earlier : ℕ → Bool) (rows : List Row) → length head.segments ≤ i → SoFar told head before i earlier rows → AreRead told head before rows

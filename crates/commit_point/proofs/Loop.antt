@@ -36,7 +36,7 @@ unfolding items_at
 goes_on item leaves start front count i bytes x after total lt h so =
     let k : count - i ≡ suc (count - (i + 1)) = omega arith in
     let one : so_far item leaves start front (count - i) bytes ≡ with_front (front ++ x ∷ []) (items_at item leaves (leaves x) (count - (i + 1)) after) =
-        rw (k, h) (regroup front x (items_at item leaves (leaves x) (count - (i + 1)) after)) in
+    rw (k, h) (regroup front x (items_at item leaves (leaves x) (count - (i + 1)) after)) in
     rw (left_by-push leaves start front x) (sym one ∙ so)
 
 pub ends : {X S : Type 0} (item : S → List ℕ → Result (X × List ℕ) ℕ) (leaves : X → S) (start : S) (e : Broken) (front : List X) (count i : ℕ) (bytes : List ℕ) (total : Result (List X × List ℕ) ℕ)

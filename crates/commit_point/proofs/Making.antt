@@ -1,11 +1,10 @@
 -- What the steps of making a commit come to.
-use Rattle.std.proofs.Common.{◌≡◌, ◌≢◌, ℕ, ◌+◌, ◌<◌, ◌≤◌, ◌^◌, List, [], ◌∷◌, length, Option, Some, None, refl, sym, subst, ap, ◌∙◌, inl, inr, arith}
-use Rattle.std.specs.Prelude.{◌⊎◌, ◌↔◌, IsSome, IsTrue, IsPermutation, IfErr, Result, Ok, Err}
+use Rattle.std.proofs.Common.{◌≡◌, ◌≢◌, ℕ, ◌<◌, ◌≤◌, ◌^◌, List, [], ◌∷◌, length, Option, Some, None, refl, sym, subst, ◌∙◌, inl, inr, arith}
+use Rattle.std.specs.Prelude.{◌⊎◌, ◌↔◌, IsSome, IsTrue, IfErr, Result, Ok, Err}
 use Rattle.std.specs.Result.{IsErrAnd}
-use Rattle.std.specs.List.{flat_map, AllByRecursion}
+use Rattle.std.specs.List.{AllByRecursion}
 use Rattle.std.proofs.lemmas.List.{append-nil}
 use Rattle.std.proofs.lemmas.List.Sorted.{IsPermutation-refl}
-use Rattle.ix_base.specs.declared.file_name.FileName.{FileName}
 use Rattle.ix_base.specs.declared.file_name.FileName.TheVariants.{Commit, Pending, Rows}
 use Rattle.ix_base.specs.declared.document.Row.{Row}
 use Rattle.ix_outside.specs.Files.{Files, Changes, SameBut, then}
@@ -14,11 +13,11 @@ use Rattle.ix_outside.specs.Calls.{LeavesOnly}
 use Rattle.ix_outside.specs.declared.store.StoreFault.TheVariants.{NoMemory}
 use Rattle.commit_point.specs.declared.fault.CommitRefused.{CommitRefused}
 use Rattle.commit_point.specs.declared.heads.Head.{Head}
-use Rattle.commit_point.specs.Fits.{BirthsRise, DocumentFits, EntryFits, HeadFits}
-use Rattle.commit_point.specs.Holds.{Holds, HaveRows}
+use Rattle.commit_point.specs.Fits.{BirthsRise, DocumentFits}
+use Rattle.commit_point.specs.Holds.{Holds}
 use Rattle.commit_point.specs.Putting.{Reaches, PutsRows, PutsCommit, MayPutCommit, head_of}
 use Rattle.commit_point.specs.Spelling.{rows_file, commit_file}
-use Rattle.commit_point.specs.Writing.{Commits, MayCommit, SameElsewhere, next_after}
+use Rattle.commit_point.specs.Writing.{Commits, MayCommit, next_after}
 use Rattle.commit_point.proofs.Crashes.{leaves_then}
 
 -- rows that may be written as a commit
@@ -53,7 +52,12 @@ holds_new s id (r ∷ rs) files new commit file =
         file = commit;
         number = refl;
         fits = record {
-          some = new.number; number = new.fits; docs = omega (arith, new.count); next_some = omega (arith, new.some_id); next = omega (arith, new.room); count = omega arith;
+          some = new.number;
+          number = new.fits;
+          docs = omega (arith, new.count);
+          next_some = omega (arith, new.some_id);
+          next = omega (arith, new.room);
+          count = omega arith;
           ids = (new.some_id, omega arith, tt);
           entries = (record { rows = some; count = new.count; some = new.number; not_later = omega arith }, tt);
         };

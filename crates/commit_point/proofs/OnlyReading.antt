@@ -1,5 +1,5 @@
 -- Calls that only read, one after another.
-use Rattle.std.proofs.Common.{◌≡◌, ℕ, ◌≤◌, Option, inl, inr, ◌∙◌, arith}
+use Rattle.std.proofs.Common.{ℕ, Option, inl, inr, ◌∙◌, arith}
 use Rattle.std.specs.Prelude.{◌⊎◌}
 use Rattle.ix_base.specs.declared.file_name.FileName.{FileName}
 use Rattle.ix_outside.specs.Files.{Files}
@@ -18,7 +18,7 @@ reads_then files to_sync images moment left_since a b c first second = record {
   time = record {
     later = omega (arith, first.time.later, second.time.later);
     nothing_else = λ t x le since.
-      either (λ left. first.time.nothing_else t x le left) (λ image. inr (first.crash x image)) (second.time.nothing_else t x (omega (arith, first.time.later)) since);
+        either (λ left. first.time.nothing_else t x le left) (λ image. inr (first.crash x image)) (second.time.nothing_else t x (omega (arith, first.time.later)) since);
     keeps = λ t x le past. second.time.keeps t x (omega (arith, first.time.later)) (first.time.keeps t x le past);
   };
 }

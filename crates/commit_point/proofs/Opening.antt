@@ -1,5 +1,5 @@
 -- What the reads of a whole commit come to.
-use Rattle.std.proofs.Common.{◌≡◌, ◌≢◌, ℕ, ◌<◌, ◌≤◌, ◌^◌, Bool, true, false, eqb, List, length, Option, Some, None, Result, Ok, Err, refl, sym, ap, subst, ◌∙◌, inl, inr, arith}
+use Rattle.std.proofs.Common.{◌≡◌, ◌≢◌, ℕ, ◌<◌, ◌^◌, false, eqb, List, length, Option, Some, Result, Ok, Err, refl, sym, ap, subst, ◌∙◌, inl, inr}
 use Rattle.std.specs.Prelude.{◌⊎◌, IsPermutation, IfOk, IfErr}
 use Rattle.std.specs.List.Sorted.{IsNonDecreasingBy}
 use Rattle.std.proofs.lemmas.Bool.{ne_eqb}
@@ -14,8 +14,8 @@ use Rattle.commit_point.specs.declared.open.Opened.{Opened}
 use Rattle.commit_point.specs.declared.heads.Head.{Head}
 use Rattle.commit_point.specs.Spelling.{commit_file}
 use Rattle.commit_point.specs.Fits.{HeadFits}
-use Rattle.commit_point.specs.Holds.{Holds, HaveRows, HasHead}
-use Rattle.commit_point.specs.Loading.{IsBroken, AreRead, BreakAt, Unknown}
+use Rattle.commit_point.specs.Holds.{Holds, HaveRows}
+use Rattle.commit_point.specs.Loading.{IsBroken, AreRead, BreakAt}
 use Rattle.commit_point.specs.Reading.{of_file, head_in, head_from, segments_from, reading, all_rows}
 use Rattle.commit_point.proofs.Births.{merged_rises, one_order}
 use Rattle.commit_point.proofs.Segments.{Seen, sees, some_files, head_reads, segments_read, holds_reads, each_rises}
@@ -38,17 +38,20 @@ opens told next_told s head all rows same reads number fits each docs moved sort
     let read : AreRead next_told head seen.0 all = each seen.0 (subst (λ (o : Option Files). Was o seen.0) (sym same) seen.1) in
     let there : read.files (Commit s) ≡ Some (commit_file head) = subst (λ (n : ℕ). read.files (Commit n) ≡ seen.0 (Commit n)) number read.commit ∙ seen.2 in
     let have : HaveRows read.files s head.segments read.parts = subst (λ (n : ℕ). HaveRows read.files n head.segments read.parts) number read.each in
-    let moved' : IsPermutation (all_rows read.parts) rows = subst (λ (rs : List Row). IsPermutation rs rows) (sym read.all) moved in
-    (read.files, subst (λ (o : Option Files). Was o read.files) same read.was, record {
-      head = head;
-      parts = read.parts;
-      has_head = record { file = there; number = number; fits = fits };
-      next_id = refl;
-      docs = sym docs ∙ sym (length_permutation all rows moved);
-      each = have;
-      merged = moved';
-      births = merged_rises s read.parts rows (each_rises read.files s head.segments read.parts have) read.unknown moved' sorted;
-    })
+    let moved' : IsPermutation (all_rows read.parts) rows = subst (λ (rs : List Row). IsPermutation rs rows) (sym read.all) moved in (
+      read.files,
+      subst (λ (o : Option Files). Was o read.files) same read.was,
+      record {
+        head = head;
+        parts = read.parts;
+        has_head = record { file = there; number = number; fits = fits };
+        next_id = refl;
+        docs = sym docs ∙ sym (length_permutation all rows moved);
+        each = have;
+        merged = moved';
+        births = merged_rises s read.parts rows (each_rises read.files s head.segments read.parts have) read.unknown moved' sorted;
+      },
+    )
 
 pub head_breaks : (told : Option Files) (s : ℕ) (d : Damaged) → IsBroken told (Commit s) (head_in s) d → (files : Files) × Was told files × (reading files s ≡ Err d)
 unfolding reading head_from
@@ -77,9 +80,11 @@ docs_break told next_told s head all same reads number fits each other =
     let there : read.files (Commit s) ≡ Some (commit_file head) = subst (λ (n : ℕ). read.files (Commit n) ≡ seen.0 (Commit n)) number read.commit ∙ seen.2 in
     let have : HaveRows read.files s head.segments read.parts = subst (λ (n : ℕ). HaveRows read.files n head.segments read.parts) number read.each in
     let s_fits : s < 2 ^ 64 = subst (λ (n : ℕ). n < 2 ^ 64) number fits.number in
-    let wrong : eqb head.docs (length (all_rows read.parts)) ≡ false = ne_eqb _ _ (λ e. other (ap length (sym read.all) ∙ sym e)) in
-    (read.files, subst (λ (o : Option Files). Was o read.files) same read.was,
-      rw (head_reads read.files s head there number fits, segments_read read.files s 1 head.next_id (λ b. false) head.segments read.parts s_fits fits.next fits.ids have read.unknown, wrong) refl)
+    let wrong : eqb head.docs (length (all_rows read.parts)) ≡ false = ne_eqb _ _ (λ e. other (ap length (sym read.all) ∙ sym e)) in (
+      read.files,
+      subst (λ (o : Option Files). Was o read.files) same read.was,
+      rw (head_reads read.files s head there number fits, segments_read read.files s 1 head.next_id (λ b. false) head.segments read.parts s_fits fits.next fits.ids have read.unknown, wrong) refl,
+    )
 
 -- files spell one commit of a number
 pub one_commit : (files : Files) (s n m : ℕ) (xs ys : List Row) → Holds files s n xs → Holds files s m ys → (n ≡ m) × (xs ≡ ys)

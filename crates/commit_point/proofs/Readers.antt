@@ -1,5 +1,5 @@
 -- What single readers give.
-use Rattle.std.proofs.Common.{◌≡◌, ℕ, ◌≤◌, Bool, true, false, List, length, take, drop, Option, Some, None, Result, Ok, Err, refl, sym, ap, subst, ◌∙◌, arith}
+use Rattle.std.proofs.Common.{◌≡◌, ℕ, Bool, true, false, List, length, take, drop, Ok, Err, refl, sym, ap, subst, ◌∙◌}
 use Rattle.std.specs.Prelude.{IsUtf8, [], ◌∷◌, map, not, codes, ◌||◌}
 use Rattle.std.specs.List.{list_any}
 use Rattle.ix_base.specs.Limits.{is_among}

@@ -1,8 +1,7 @@
 -- Reading the segments of a commit one after the other.
-use Rattle.std.proofs.Common.{◌≡◌, ◌≢◌, ℕ, zero, suc, ◌+◌, ◌^◌, ◌<◌, ◌≤◌, Bool, true, false, cond, eqb, List, [], ◌∷◌, ◌++◌, length, get_or, take, Option, Some, None, Result, Ok, Err, refl, sym, ap, subst, ◌∙◌, append_assoc, arith}
-use Rattle.std.specs.Prelude.{◌||◌, ◌&&◌, ⊤, IsPermutation}
-use Rattle.std.specs.List.{flat_map, AllByRecursion}
-use Rattle.std.specs.List.Sorted.{IsNonDecreasingBy}
+use Rattle.std.proofs.Common.{◌≡◌, ◌≢◌, ℕ, ◌+◌, ◌^◌, ◌<◌, ◌≤◌, Bool, true, false, cond, eqb, List, [], ◌∷◌, ◌++◌, length, Option, Some, None, Ok, Err, refl, sym, ap, ◌∙◌, append_assoc, arith}
+use Rattle.std.specs.Prelude.{◌||◌, ◌&&◌}
+use Rattle.std.specs.List.{AllByRecursion}
 use Rattle.std.proofs.lemmas.Bool.{eqb-true, eq-eqb}
 use Rattle.std.proofs.lemmas.List.{append-nil}
 use Rattle.std.proofs.lemmas.List.Sorted.{length_permutation}
@@ -14,12 +13,12 @@ use Rattle.commit_point.specs.declared.fault.Damaged.{Damaged}
 use Rattle.commit_point.specs.declared.heads.HeadSegment.{HeadSegment}
 use Rattle.commit_point.specs.declared.heads.Head.{Head}
 use Rattle.commit_point.specs.Spelling.{rows_file, commit_file}
-use Rattle.commit_point.specs.Fits.{BirthsRise, RowsFit, IdsRise, HeadFits, IsSegment}
-use Rattle.commit_point.specs.Holds.{HaveRows, HasHead, Holds}
-use Rattle.commit_point.specs.Reading.{◌then◌, placed, of_file, head_in, rows_in, head_from, segment_from, segments_from, reading, has_birth, all_rows}
+use Rattle.commit_point.specs.Fits.{RowsFit, IdsRise, HeadFits}
+use Rattle.commit_point.specs.Holds.{HaveRows, Holds}
+use Rattle.commit_point.specs.Reading.{placed, of_file, head_in, rows_in, head_from, segment_from, segments_from, reading, has_birth, all_rows}
 use Rattle.commit_point.specs.Loading.{Unknown}
 use Rattle.commit_point.proofs.FileLaws.{rows_again, head_again}
-use Rattle.commit_point.proofs.Births.{EachRises, once, unknown_of, merged_rises, one_order}
+use Rattle.commit_point.proofs.Births.{EachRises, unknown_of}
 
 -- ---- files that are given by what was read of them
 
@@ -146,9 +145,11 @@ unknown_push known [] rows unknown all = (all_congr (λ b. known b || false) kno
     or_false : (b : Bool) → (b || false) ≡ b
     or_false true = refl
     or_false false = refl
-unknown_push known (p ∷ ps) rows unknown all =
-    (unknown.0, unknown_push (λ b. known b || has_birth p b) ps rows unknown.1
-      (all_congr (λ b. known b || has_birth (all_rows (p ∷ ps)) b) (λ b. (known b || has_birth p b) || has_birth (all_rows ps) b) rows (λ b. sym (known_more known p ps b)) all))
+unknown_push known (p ∷ ps) rows unknown all = (
+  unknown.0,
+  unknown_push (λ b. known b || has_birth p b) ps rows unknown.1
+      (all_congr (λ b. known b || has_birth (all_rows (p ∷ ps)) b) (λ b. (known b || has_birth p b) || has_birth (all_rows ps) b) rows (λ b. sym (known_more known p ps b)) all),
+)
 
 -- one segment that is there is read
 segment_reads : (files : Files) (s : ℕ) (known : ℕ → Bool) (e : HeadSegment) (rows : List Row) → e.id < 2 ^ 64 → s < 2 ^ 64 → files (Rows e.id) ≡ Some (rows_file e.id rows) → e.n ≡ length rows → RowsFit s rows
@@ -165,8 +166,10 @@ segments_read files s low limit known [] [] s_fits room ids have unknown = refl
 segments_read files s low limit known [] (p ∷ ps) s_fits room ids have unknown = absurd have
 segments_read files s low limit known (e ∷ es) [] s_fits room ids have unknown = absurd have
 segments_read files s low limit known (e ∷ es) (p ∷ ps) s_fits room ids have unknown =
-    rw (segment_reads files s known e p (omega (arith, ids.1)) s_fits have.0 have.1 have.2 unknown.0,
-      segments_read files s (e.id + 1) limit (λ b. known b || has_birth p b) es ps s_fits room ids.2 have.3 unknown.1) refl
+    rw (
+      segment_reads files s known e p (omega (arith, ids.1)) s_fits have.0 have.1 have.2 unknown.0,
+      segments_read files s (e.id + 1) limit (λ b. known b || has_birth p b) es ps s_fits room ids.2 have.3 unknown.1,
+    ) refl
 
 -- a segment that is broken, after segments that are there
 pub segments_break : (files : Files) (s low limit : ℕ) (known : ℕ → Bool) (es : List HeadSegment) (parts : List (List Row)) (e : HeadSegment) (rest : List HeadSegment) (d : Damaged) → s < 2 ^ 64 → limit ≤ 2 ^ 62 → IdsRise low limit es
@@ -185,8 +188,10 @@ segments_break files s low limit known (g ∷ gs) [] e rest d s_fits room ids ha
 segments_break files s low limit known (g ∷ gs) (p ∷ ps) e rest d s_fits room ids have unknown broken =
     let same : (λ b. (known b || has_birth p b) || has_birth (all_rows ps) b) ≡ (λ b. known b || has_birth (all_rows (p ∷ ps)) b) = λ i b. known_more known p ps b i in
     let h : segment_from files s (λ b. (known b || has_birth p b) || has_birth (all_rows ps) b) e ≡ Err d = ap (λ (k : ℕ → Bool). segment_from files s k e) same ∙ broken in
-    rw (segment_reads files s known g p (omega (arith, ids.1)) s_fits have.0 have.1 have.2 unknown.0,
-      segments_break files s (g.id + 1) limit (λ b. known b || has_birth p b) gs ps e rest d s_fits room ids.2 have.3 unknown.1 h) refl
+    rw (
+      segment_reads files s known g p (omega (arith, ids.1)) s_fits have.0 have.1 have.2 unknown.0,
+      segments_break files s (g.id + 1) limit (λ b. known b || has_birth p b) gs ps e rest d s_fits room ids.2 have.3 unknown.1 h,
+    ) refl
 
 -- ---- whole commits
 
@@ -203,5 +208,9 @@ holds_reads files s next rows h =
     let unknown = unknown_of s h.parts rows h.merged h.births in
     let count : length rows ≡ length (all_rows h.parts) = length_permutation (all_rows h.parts) rows h.merged in
     let docs : eqb h.head.docs (length (all_rows h.parts)) ≡ true = eq-eqb _ _ (h.docs ∙ count) in
-    rw (head_reads files s h.head h.has_head.file h.has_head.number h.has_head.fits,
-      segments_read files s 1 h.head.next_id (λ b. false) h.head.segments h.parts fits h.has_head.fits.next h.has_head.fits.ids h.each unknown, docs, h.next_id) refl
+    rw (
+      head_reads files s h.head h.has_head.file h.has_head.number h.has_head.fits,
+      segments_read files s 1 h.head.next_id (λ b. false) h.head.segments h.parts fits h.has_head.fits.next h.has_head.fits.ids h.each unknown,
+      docs,
+      h.next_id,
+    ) refl

@@ -12,7 +12,6 @@ use Rattle.commit_point.specs.Fits.{HeadFits}
 use Rattle.commit_point.specs.Holds.{HasHead}
 use Rattle.commit_point.specs.Loading.{IsBroken}
 use Rattle.commit_point.specs.Reading.{of_file, head_in, head_from}
-use Rattle.commit_point.proofs.FileLaws.{head_again}
 use Rattle.commit_point.proofs.Segments.{Seen, sees, some_files, head_reads}
 
 abbrev Tells : Option Files → ℕ → Bool → Type 0

@@ -1,6 +1,6 @@
 -- Reading fields from left to right. A field is broken where it is cut short or breaks a rule; the
 -- first broken field is told by how many bytes are left from its first byte on.
-use Rattle.std.specs.Prelude.{◌≡◌, ℕ, zero, suc, ℤ, List, [], ◌∷◌, length, take, drop, Bool, true, not, ◌&&◌, Option, Some, None, Result, Ok, Err, map, codes, nat_lt, ◌==◌, if◌then◌else◌, ⊤}
+use Rattle.std.specs.Prelude.{◌≡◌, ℕ, zero, suc, ℤ, List, [], ◌∷◌, length, take, drop, Bool, true, not, ◌&&◌, Option, Some, None, Result, Ok, Err, map, codes, nat_lt, if◌then◌else◌, ⊤}
 use Rattle.std.specs.Int.{Width, w32, w64, byte_len, from_be_bytes, cast_signed}
 use Rattle.std.specs.Str.{bytes_eq, is_utf8}
 use Rattle.ix_base.specs.Limits.{is_name, text_lt, is_among}

@@ -1,5 +1,5 @@
 -- What the files of a commit spell, as a relation on bytes apart from any code.
-use Rattle.std.specs.Prelude.{◌≡◌, ◌≢◌, ◌⊎◌, ℕ, ◌+◌, ◌<◌, ◌≤◌, ◌^◌, List, [], ◌∷◌, length, Some, IsSome, ⊤, IsPermutation, Contains}
+use Rattle.std.specs.Prelude.{◌≡◌, ◌⊎◌, ℕ, ◌<◌, ◌≤◌, ◌^◌, List, [], ◌∷◌, length, Some, IsSome, ⊤, IsPermutation, Contains}
 use Rattle.std.specs.List.{flat_map}
 use Rattle.ix_base.specs.declared.file_name.FileName.{FileName}
 use Rattle.ix_base.specs.declared.file_name.FileName.TheVariants.{Commit, Rows}

@@ -1,13 +1,13 @@
 -- What the reads of a commit tell, of the files where a store tells them and else of files that the reads fit.
-use Rattle.std.specs.Prelude.{◌≡◌, ◌↔◌, ℕ, List, [], ◌∷◌, Bool, true, false, ◌==◌, ◌||◌, ⊤, Option, Some, Result, Ok, Err}
+use Rattle.std.specs.Prelude.{◌≡◌, ℕ, List, [], ◌∷◌, Bool, false, ◌==◌, ◌||◌, ⊤, Option, Result, Err}
 use Rattle.std.specs.List.{AllByRecursion}
 use Rattle.ix_base.specs.declared.file_name.FileName.{FileName}
-use Rattle.ix_base.specs.declared.file_name.FileName.TheVariants.{Commit, Pending, Rows, Posts, Live, Values}
+use Rattle.ix_base.specs.declared.file_name.FileName.TheVariants.{Commit}
 use Rattle.ix_base.specs.declared.document.Row.{Row}
 use Rattle.ix_outside.specs.Files.{Files, Was, Reads}
 use Rattle.commit_point.specs.declared.fault.Damaged.{Damaged}
 use Rattle.commit_point.specs.declared.heads.Head.{Head}
-use Rattle.commit_point.specs.Holds.{HaveRows, Holds}
+use Rattle.commit_point.specs.Holds.{HaveRows}
 use Rattle.commit_point.specs.Reading.{of_file, segments_from, has_birth, all_rows}
 
 -- the name is that of the commit s

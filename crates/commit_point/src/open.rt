@@ -124,11 +124,7 @@ pub fn head<S: Store>(alloc: Global, store: &mut S, number: u64) -> Result<Head,
 }
 
 /// Reads the commit of this number. `NoSuch` comes where the store's list lacks the number.
-pub fn open_commit<S: Store>(
-    alloc: Global,
-    store: &mut S,
-    number: u64,
-) -> Result<Opened, OpenFault>
+pub fn open_commit<S: Store>(alloc: Global, store: &mut S, number: u64) -> Result<Opened, OpenFault>
     ensures number { IfOk result (λ opened. opened.number ≡ number) }
     // What is read is what the files spell.
     ensures found { IfOk result (λ opened. (files : Files) × Was (S.files store.old) files × Holds files number opened.next_id opened.rows) }

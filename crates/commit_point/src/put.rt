@@ -20,7 +20,11 @@ use ix_outside::{Store, StoreFault};
 use std::alloc::Global;
 
 /// Writes a file, and puts its bytes on the disk.
-pub(crate) fn put_file<S: Store>(store: &mut S, name: FileName, bytes: &[u8]) -> Result<(), StoreFault>
+pub(crate) fn put_file<S: Store>(
+    store: &mut S,
+    name: FileName,
+    bytes: &[u8],
+) -> Result<(), StoreFault>
     requires { IsName name }
     ensures ok { OnOk result (Changes (Puts name bytes.now) (S.files store.old) (S.files store.new)) }
     ensures err { OnErr result (Changes (SameBut name) (S.files store.old) (S.files store.new)) }

@@ -95,11 +95,7 @@ fn numbered_of<'a>(
     Ok(((name, value), rest))
 }
 
-fn number_list(
-    alloc: Global,
-    count: u64,
-    bytes: &[u8],
-) -> Result<(Numbers, &[u8]), Broken>
+fn number_list(alloc: Global, count: u64, bytes: &[u8]) -> Result<(Numbers, &[u8]), Broken>
     ensures { Gives (λ x. (x.0, x.1.now)) result (items_at numbered_at (λ pair. Some pair.0) None count bytes.now) }
 {
     let mut pairs = Vec::new(alloc);

@@ -6,14 +6,14 @@ use std::test::*;
 
 // The files of a commit numbered 2 of one document, whose key is `a1`.
 const COMMIT: [u8; 60] = [
-    0x49, 0x58, 0x43, 0x4f, 0x4d, 0x30, 0x30, 0x31, 0, 0, 0, 0, 0, 0, 0, 2, 0, 0, 0, 0, 0, 0, 0, 1, 0,
-    0, 0, 0, 0, 0, 0, 2, 0, 0, 0, 0, 0, 0, 0, 1, 0, 0, 0, 0, 0, 0, 0, 1, 0, 0, 0, 1, 0, 0, 0, 0, 0, 0,
-    0, 2,
+    0x49, 0x58, 0x43, 0x4f, 0x4d, 0x30, 0x30, 0x31, 0, 0, 0, 0, 0, 0, 0, 2, 0, 0, 0, 0, 0, 0, 0, 1,
+    0, 0, 0, 0, 0, 0, 0, 2, 0, 0, 0, 0, 0, 0, 0, 1, 0, 0, 0, 0, 0, 0, 0, 1, 0, 0, 0, 1, 0, 0, 0, 0,
+    0, 0, 0, 2,
 ];
 
 const ROWS: [u8; 50] = [
-    0x49, 0x58, 0x52, 0x4f, 0x57, 0x30, 0x30, 0x31, 0, 0, 0, 0, 0, 0, 0, 1, 0, 0, 0, 1, 0, 0, 0, 0, 0,
-    0, 0, 1, 0, 0, 0, 2, 0x61, 0x31, 0, 0, 0, 0, 0, 0, 0, 0, 0, 0, 0, 0, 0, 0, 0, 0,
+    0x49, 0x58, 0x52, 0x4f, 0x57, 0x30, 0x30, 0x31, 0, 0, 0, 0, 0, 0, 0, 1, 0, 0, 0, 1, 0, 0, 0, 0,
+    0, 0, 0, 1, 0, 0, 0, 2, 0x61, 0x31, 0, 0, 0, 0, 0, 0, 0, 0, 0, 0, 0, 0, 0, 0, 0, 0,
 ];
 
 // Where the fields of each begin.
@@ -80,11 +80,18 @@ fn spells_one_document(rt: HostRuntime) -> Result<(), Fail> {
 #[test]
 fn reads_one_document(rt: HostRuntime) -> Result<(), Fail> {
     let alloc = rt.alloc();
-    let head = decode_commit(alloc, &COMMIT, 2).ok().ok_or("the bytes are a commit file")?;
+    let head = decode_commit(alloc, &COMMIT, 2)
+        .ok()
+        .ok_or("the bytes are a commit file")?;
     assert_eq!(rt; head.docs, 1);
     assert_eq!(rt; head.next_id, 2);
-    assert_eq!(rt; head.segments.as_slice(), [HeadSegment { id: 1, n: 1, v: 2 }].as_slice());
-    let rows = decode_row(alloc, &ROWS, 1, 1, 2, &BTreeSet::new(alloc)).ok().ok_or("the bytes are rows")?;
+    assert_eq!(rt;
+        head.segments.as_slice(),
+        [HeadSegment { id: 1, n: 1, v: 2 }].as_slice()
+    );
+    let rows = decode_row(alloc, &ROWS, 1, 1, 2, &BTreeSet::new(alloc))
+        .ok()
+        .ok_or("the bytes are rows")?;
     assert_eq!(rt; rows.len(), 1);
     for row in rows.as_slice() {
         assert_eq!(rt; row.birth, 1);
@@ -97,10 +104,16 @@ fn reads_one_document(rt: HostRuntime) -> Result<(), Fail> {
 fn cut_files_name_the_field(rt: HostRuntime) {
     let alloc = rt.alloc();
     for len in 0..60 {
-        assert_eq!(rt; commit_place(alloc, &COMMIT[..len]), field_at(&COMMIT_FIELDS, len as u64));
+        assert_eq!(rt;
+            commit_place(alloc, &COMMIT[..len]),
+            field_at(&COMMIT_FIELDS, len as u64)
+        );
     }
     for len in 0..50 {
-        assert_eq!(rt; rows_place(alloc, &ROWS[..len], 1), field_at(&ROWS_FIELDS, len as u64));
+        assert_eq!(rt;
+            rows_place(alloc, &ROWS[..len], 1),
+            field_at(&ROWS_FIELDS, len as u64)
+        );
     }
 }
 
@@ -109,11 +122,17 @@ fn changed_files_name_the_field(rt: HostRuntime) -> Result<(), Fail> {
     let alloc = rt.alloc();
     // next id 1, next id above 2^62, v 3, and one more segment than there is
     for (at, to, place) in [(31, 1, 40), (24, 0x40, 24), (59, 3, 52), (39, 2, 60)] {
-        assert_eq!(rt; commit_place(alloc, &changed(alloc, &COMMIT, at, to)?), Some(place));
+        assert_eq!(rt;
+            commit_place(alloc, &changed(alloc, &COMMIT, at, to)?),
+            Some(place)
+        );
     }
     // births 0 and 3, another id, and a key that is not UTF-8
     for (at, to, place) in [(27, 0, 20), (27, 3, 20), (15, 2, 8), (32, 0xff, 28)] {
-        assert_eq!(rt; rows_place(alloc, &changed(alloc, &ROWS, at, to)?, 1), Some(place));
+        assert_eq!(rt;
+            rows_place(alloc, &changed(alloc, &ROWS, at, to)?, 1),
+            Some(place)
+        );
     }
     assert_eq!(rt; rows_place(alloc, &ROWS, 0xffff_ffff), Some(16));
     let mut longer = Vec::from_slice(alloc, &COMMIT)?;
@@ -124,6 +143,11 @@ fn changed_files_name_the_field(rt: HostRuntime) -> Result<(), Fail> {
     assert_eq!(rt; rows_place(alloc, &longer, 1), Some(50));
     let mut earlier = BTreeSet::new(alloc);
     earlier.insert(1)?;
-    assert!(rt; matches!(decode_row(alloc, &ROWS, 1, 1, 2, &earlier), Err(FileFault::Damaged(Damaged { at: 20, .. }))));
+    assert!(rt;
+        matches!(
+            decode_row(alloc, &ROWS, 1, 1, 2, &earlier),
+            Err(FileFault::Damaged(Damaged { at: 20, .. }))
+        )
+    );
     Ok(())
 }

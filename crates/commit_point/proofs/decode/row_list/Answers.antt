@@ -1,10 +1,9 @@
-use Rattle.std.proofs.Common.{◌≡◌, ◌+◌, ◌++◌, ◌∷◌, [], sym}
+use Rattle.std.proofs.Common.{◌+◌, sym}
 use Rattle.std.proofs.lemmas.Result.{err_from_is_err_and}
 use Rattle.std.specs.BTreeSet.{contains}
 use Rattle.std.specs.Ordering.{nat_cmp}
 use Rattle.ix_base.specs.declared.document.Row.{Row}
 use Rattle.commit_point.specs.Reading.{row_at}
-use Rattle.commit_point.specs.Fields.{left_by}
 use Rattle.commit_point.proofs.Loop.{goes_on_from, ends_from, is_done, left_by-push}
 use Rattle.commit_point.proofs.decode.row_list.Goals as goal
 
@@ -12,7 +11,7 @@ pub returns-in_err-row : goal.returns-in_err-row
 returns-in_err-row c =
     let p = err_from_is_err_and c.from_residual.result c.from_residual.ensures.1 in
     rw (p.1, p.2) (ends_from (row_at c.args.number (contains nat_cmp c.args.earlier.now)) (λ (r : Row). r.birth + 1) 1 (c.loop.last + 1) c.in_err-row.field-0.0 c.loop.rows.items c.args.count c.loop.counter c.loop.rest.now _
-      c.loop.invariant.last c.loop-test.true c.in_err-row.ensures c.loop.invariant.items)
+    c.loop.invariant.last c.loop-test.true c.in_err-row.ensures c.loop.invariant.items)
 
 pub loop-preserved : goal.loop-preserved
 loop-preserved c = record {

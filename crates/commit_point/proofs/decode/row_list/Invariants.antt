@@ -10,6 +10,6 @@ use Rattle.commit_point.proofs.decode.row_list.Given as goal
 abbrev pub invariant-loop : goal.invariant-loop
 invariant-loop l = record {
   items : so_far (row_at l.number (contains nat_cmp l.earlier)) (λ (r : Row). r.birth + 1) 1 l.rows.items (l.count - l.counter) l.rest
-    ≡ items_at (row_at l.number (contains nat_cmp l.earlier)) (λ (r : Row). r.birth + 1) 1 l.count l.bytes;
-  last : l.last + 1 ≡ left_by (λ (r : Row). r.birth + 1) 1 l.rows.items
+      ≡ items_at (row_at l.number (contains nat_cmp l.earlier)) (λ (r : Row). r.birth + 1) 1 l.count l.bytes;
+  last : l.last + 1 ≡ left_by (λ (r : Row). r.birth + 1) 1 l.rows.items;
 }

@@ -1,6 +1,5 @@
-use Rattle.std.proofs.Common.{subst, rules}
+use Rattle.std.proofs.Common.{subst}
 use Rattle.std.specs.Prelude.{IsUtf8}
-use Rattle.commit_point.specs.Fits.{TextFits, DocumentFits}
 use Rattle.commit_point.proofs.documents.put_document.Goals as goal
 
 pub returns-clause-fits : goal.returns-clause-fits

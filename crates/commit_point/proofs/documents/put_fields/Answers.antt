@@ -1,4 +1,4 @@
-use Rattle.std.proofs.Common.{length, rules, arith}
+use Rattle.std.proofs.Common.{length, rules}
 use Rattle.commit_point.specs.Spelling.{be32, field}
 use Rattle.commit_point.specs.Fits.{FieldFits}
 use Rattle.commit_point.proofs.Loops.{one_more, all_done, all_more, all_over}

@@ -7,5 +7,5 @@ use Rattle.commit_point.proofs.documents.put_fields.Given as goal
 abbrev pub invariant-loop-pair : goal.invariant-loop-pair
 invariant-loop-pair l = record {
   bytes : l.out.items ≡ l.fn.out.items ++ (be32 (length l.pairs-2) ++ flat_map field (take l.pair-index l.pairs-2));
-  fits : AllByRecursion FieldFits (take l.pair-index l.pairs-2)
+  fits : AllByRecursion FieldFits (take l.pair-index l.pairs-2);
 }

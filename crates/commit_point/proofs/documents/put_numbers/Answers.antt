@@ -1,4 +1,4 @@
-use Rattle.std.proofs.Common.{length, rules, arith}
+use Rattle.std.proofs.Common.{length, rules}
 use Rattle.commit_point.specs.Spelling.{be64, number}
 use Rattle.commit_point.specs.Fits.{NumberFits}
 use Rattle.commit_point.proofs.Loops.{one_more, all_done, all_more, all_over}

@@ -7,5 +7,5 @@ use Rattle.commit_point.proofs.documents.put_numbers.Given as goal
 abbrev pub invariant-loop-pair : goal.invariant-loop-pair
 invariant-loop-pair l = record {
   bytes : l.out.items ≡ l.fn.out.items ++ (be64 (length l.pairs-2) ++ flat_map number (take l.pair-index l.pairs-2));
-  fits : AllByRecursion NumberFits (take l.pair-index l.pairs-2)
+  fits : AllByRecursion NumberFits (take l.pair-index l.pairs-2);
 }

@@ -8,5 +8,5 @@ use Rattle.commit_point.proofs.encode.put_rows.Given as goal
 abbrev pub invariant-loop-row : goal.invariant-loop-row
 invariant-loop-row l = record {
   bytes : l.out.items ≡ l.fn.out.items ++ (rows_mark ++ (be64 l.id ++ (be32 (length l.rows) ++ flat_map row (take l.row-index l.rows))));
-  fits : AllByRecursion (λ (r : Row). DocumentFits r.doc) (take l.row-index l.rows)
+  fits : AllByRecursion (λ (r : Row). DocumentFits r.doc) (take l.row-index l.rows);
 }

@@ -1,4 +1,4 @@
-use Rattle.std.proofs.Common.{◌≡◌, ◌≤◌, List, length, Err, sym, subst, ◌∙◌, arith}
+use Rattle.std.proofs.Common.{◌≤◌, List, length, subst, ◌∙◌, arith}
 use Rattle.std.specs.BTreeSet.{contains}
 use Rattle.std.specs.Ordering.{nat_cmp}
 use Rattle.std.proofs.lemmas.Result.{err_from_is_err_and}
@@ -23,10 +23,10 @@ pub loop-segment-preserved : goal.loop-segment-preserved
 loop-segment-preserved g c = record {
   same = c.in_ok-part.ensures.reads.same ∙ c.loop-segment.invariant.same;
   reads = reads_then {S = g.row.S.Denot} g.S.Store.files g.S.Store.unsynced g.S.Store.images g.S.Store.moment g.S.Store.left_since c.args.store.now c.loop-segment.store c.read_segment.new.store
-    c.loop-segment.invariant.reads c.in_ok-part.ensures.reads;
+      c.loop-segment.invariant.reads c.in_ok-part.ensures.reads;
   later = omega (arith, c.loop-segment.invariant.later, c.in_ok-part.ensures.later);
   found = λ before was.
-    one_more_seen (g.S.Store.files c.args.store.now) (g.S.Store.files c.loop-segment.store) c.args.head.now before c.loop-segment.segment-index (contains nat_cmp c.loop-segment.earlier) (contains nat_cmp c.take_in.new.earlier)
-    c.loop-segment.rows.items c.take_in.new.rows.items c.as_slice-segments.result.now (record { id = 0; n = 0; v = 0 }) c.in_ok-part.part c.requires c.loop-segment.invariant.same c.as_slice-segments.ensures c.loop-segment-test.true
-    (c.loop-segment.invariant.found before was) c.in_ok-part.ensures.found.0 c.in_ok-part.ensures.found.1 c.in_ok-take_in.ensures.births c.in_ok-take_in.ensures.rows;
+      one_more_seen (g.S.Store.files c.args.store.now) (g.S.Store.files c.loop-segment.store) c.args.head.now before c.loop-segment.segment-index (contains nat_cmp c.loop-segment.earlier) (contains nat_cmp c.take_in.new.earlier)
+      c.loop-segment.rows.items c.take_in.new.rows.items c.as_slice-segments.result.now (record { id = 0; n = 0; v = 0 }) c.in_ok-part.part c.requires c.loop-segment.invariant.same c.as_slice-segments.ensures c.loop-segment-test.true
+      (c.loop-segment.invariant.found before was) c.in_ok-part.ensures.found.0 c.in_ok-part.ensures.found.1 c.in_ok-take_in.ensures.births c.in_ok-take_in.ensures.rows;
 }

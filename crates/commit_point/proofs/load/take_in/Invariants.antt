@@ -8,5 +8,5 @@ use Rattle.commit_point.proofs.load.take_in.Given as goal
 abbrev pub invariant-loop-row : goal.invariant-loop-row
 invariant-loop-row l = record {
   rows : l.rows.items ≡ l.fn.rows.items ++ l.yielded;
-  births : (b : ℕ) → contains nat_cmp l.earlier b ≡ (contains nat_cmp l.fn.earlier b || has_birth l.yielded b)
+  births : (b : ℕ) → contains nat_cmp l.earlier b ≡ (contains nat_cmp l.fn.earlier b || has_birth l.yielded b);
 }

@@ -1,4 +1,4 @@
-use Rattle.std.proofs.Common.{◌≡◌, Some, None, not, ap, sym, ◌∙◌}
+use Rattle.std.proofs.Common.{◌≡◌, None, not, ap}
 use Rattle.ix_base.specs.declared.file_name.FileName.TheVariants.{Commit}
 use Rattle.commit_point.proofs.Telling.{not_there, is_there, head_is_found, head_only_it, head_is_broken, head_whole}
 use Rattle.commit_point.proofs.open.head.Goals as goal

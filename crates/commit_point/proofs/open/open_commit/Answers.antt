@@ -1,4 +1,4 @@
-use Rattle.std.proofs.Common.{◌≡◌, Some, None, not, ap, sym, ◌∙◌}
+use Rattle.std.proofs.Common.{◌≡◌, None, not, ap, ◌∙◌}
 use Rattle.ix_base.specs.declared.file_name.FileName.TheVariants.{Commit}
 use Rattle.commit_point.proofs.Telling.{not_there, is_there}
 use Rattle.commit_point.proofs.open.open_commit.Goals as goal

@@ -1,6 +1,5 @@
-use Rattle.std.proofs.Common.{◌≡◌, ◌∙◌, sym, ap, subst, ℕ, List, Err, arith}
+use Rattle.std.proofs.Common.{◌≡◌, sym, subst, List, Err, arith}
 use Rattle.std.proofs.lemmas.Result.{err_from_is_err_and}
-use Rattle.ix_outside.specs.Files.{Files, Was}
 use Rattle.commit_point.specs.Holds.{Holds}
 use Rattle.commit_point.specs.Reading.{reading}
 use Rattle.commit_point.specs.declared.fault.Damaged.{Damaged}
@@ -24,7 +23,7 @@ returns-in_err-rows-clause-damaged g c damaged e =
 pub returns-then-len-head-clause-damaged : goal.returns-then-len-head-clause-damaged
 returns-then-len-head-clause-damaged g c damaged e =
     let at = docs_break (g.S.Store.files c.args.store.now) (g.S.Store.files c.read_head.new.store) c.args.number c.in_ok-head.head c.in_ok-rows.rows.items c.in_ok-head.ensures.reads.same
-      c.in_ok-head.ensures.found.0 c.in_ok-head.ensures.found.1 c.in_ok-head.ensures.found.2 c.in_ok-rows.ensures.found (λ q. absurd (omega (arith, q))) in
+    c.in_ok-head.ensures.found.0 c.in_ok-head.ensures.found.1 c.in_ok-head.ensures.found.2 c.in_ok-rows.ensures.found (λ q. absurd (omega (arith, q))) in
     let place : Damaged = record { file = Commit c.args.number; at = 16 } in
     let same : place ≡ damaged = cc in
     (at.0, at.1, subst (λ (d : Damaged). reading at.0 c.args.number ≡ Err d) same at.2)
@@ -32,5 +31,5 @@ returns-then-len-head-clause-damaged g c damaged e =
 pub returns-clause-found : goal.returns-clause-found
 returns-clause-found g c =
     let at = opens (g.S.Store.files c.args.store.now) (g.S.Store.files c.read_head.new.store) c.args.number c.in_ok-head.head c.in_ok-rows.rows.items c.sort_by_birth.new.rows.items c.in_ok-head.ensures.reads.same
-      c.in_ok-head.ensures.found.0 c.in_ok-head.ensures.found.1 c.in_ok-head.ensures.found.2 c.in_ok-rows.ensures.found (omega arith) c.sort_by_birth.ensures.moved c.sort_by_birth.ensures.sorted in
+    c.in_ok-head.ensures.found.0 c.in_ok-head.ensures.found.1 c.in_ok-head.ensures.found.2 c.in_ok-rows.ensures.found (omega arith) c.sort_by_birth.ensures.moved c.sort_by_birth.ensures.sorted in
     (at.0, at.1, subst (λ (rows : List Row). Holds at.0 c.args.number c.in_ok-head.head.next_id rows) (sym c.from_vec.ensures) at.2)

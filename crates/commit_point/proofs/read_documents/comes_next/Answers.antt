@@ -1,6 +1,5 @@
-use Rattle.std.proofs.Common.{◌≡◌, ℕ, List, Option, Some, None, ◌∙◌, sym, ap}
+use Rattle.std.proofs.Common.{ℕ, List, Some, None, ◌∙◌, ap}
 use Rattle.ix_base.specs.Limits.{text_lt}
-use Rattle.commit_point.specs.Fields.{comes_after, left_by}
 use Rattle.commit_point.proofs.Loop.{left_by-last}
 use Rattle.commit_point.proofs.read_documents.comes_next.Goals as goal
 

@@ -1,4 +1,4 @@
-use Rattle.std.proofs.Common.{◌≡◌, ◌-◌, ℕ, List, Option, Some, None}
+use Rattle.std.proofs.Common.{◌≡◌, ◌-◌, ℕ, List, Some, None}
 use Rattle.std.specs.Prelude.{ℤ}
 use Rattle.commit_point.specs.Fields.{numbered_at, items_at}
 use Rattle.commit_point.proofs.Loop.{so_far}
