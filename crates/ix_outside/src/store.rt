@@ -20,6 +20,7 @@ pub enum StoreFault {
 
 impl From<NoMemory> for StoreFault {
     ghost use Rattle.ix_outside.specs.declared.store.StoreFault.TheVariants.{NoMemory as WantOfMemory};
+
     ghost from_gives = { λ _ fault. fault ≡ WantOfMemory };
 
     fn from(_error: NoMemory) -> StoreFault {
@@ -29,6 +30,7 @@ impl From<NoMemory> for StoreFault {
 
 impl From<AllocError> for StoreFault {
     ghost use Rattle.ix_outside.specs.declared.store.StoreFault.TheVariants.{NoMemory as WantOfMemory};
+
     ghost from_gives = { λ _ fault. fault ≡ WantOfMemory };
 
     fn from(_error: AllocError) -> StoreFault {
@@ -38,6 +40,7 @@ impl From<AllocError> for StoreFault {
 
 impl<T: Drop> From<AllocFailed<T>> for StoreFault {
     ghost use Rattle.ix_outside.specs.declared.store.StoreFault.TheVariants.{NoMemory as WantOfMemory};
+
     ghost from_gives = { λ _ fault. fault ≡ WantOfMemory };
 
     fn from(_error: AllocFailed<T>) -> StoreFault {
