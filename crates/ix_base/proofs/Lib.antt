@@ -1,1 +1,2 @@
 pub mod TermOrder
+mod Examples

@@ -23,3 +23,6 @@ pub use memory::NoMemory;
 pub use postings::{Analysed, Posting, Postings, TermPostings};
 pub use query::{Queries, Query};
 pub use text::{Name, PhraseText, Text};
+
+#[cfg(test)]
+mod tests;

@@ -1,0 +1,334 @@
+//! What no clause says: that each call which may want memory succeeds where there is enough, and
+//! which names of files are read.
+use crate::{
+    Analysed, Document, Fields, FileName, List, Name, Numbers, Operation, PhraseText, Posting,
+    Postings, Queries, Query, Row, Term, TermPostings, Text,
+};
+use std::alloc::Global;
+use std::fmt::Write;
+use std::test::Fail;
+
+fn text_of(alloc: Global, text: &str) -> Result<Text, Fail> {
+    Ok(Text::new(String::from_str(alloc, text)?).ok_or("long")?)
+}
+
+fn name_of(alloc: Global, name: &str) -> Result<Name, Fail> {
+    Ok(Name::new(text_of(alloc, name)?).ok_or("no name")?)
+}
+
+fn phrase_of(alloc: Global, phrase: &str) -> Result<PhraseText, Fail> {
+    Ok(PhraseText::new(text_of(alloc, phrase)?).ok_or("long")?)
+}
+
+fn term_of(alloc: Global, field: &str, bytes: &str) -> Result<Term, Fail> {
+    let field = name_of(alloc, field)?;
+    let bytes = text_of(alloc, bytes)?;
+    Ok(Term { field, bytes })
+}
+
+fn fields_of(alloc: Global, name: &str, text: &str) -> Result<Fields, Fail> {
+    let pair = (name_of(alloc, name)?, text_of(alloc, text)?);
+    Ok(Fields::from_vec(vec![in alloc; pair]?))
+}
+
+/// A document with each part filled.
+fn letter(alloc: Global) -> Result<Document, Fail> {
+    let pair = (name_of(alloc, "price")?, -7);
+    Ok(Document {
+        key: text_of(alloc, "a1")?,
+        text: fields_of(alloc, "body", "Quick FOX")?,
+        exact: fields_of(alloc, "tag", "x")?,
+        num: Numbers::from_vec(vec![in alloc; pair]?),
+    })
+}
+
+/// The term `key:a1` in row 3 at the positions 0 and 2.
+fn key_postings(alloc: Global) -> Result<TermPostings, Fail> {
+    let posting = Posting {
+        row: 3,
+        positions: List::from_vec(vec![in alloc; 0, 2]?),
+    };
+    Ok(TermPostings {
+        term: term_of(alloc, "key", "a1")?,
+        rows: List::from_vec(vec![in alloc; posting]?),
+    })
+}
+
+/// A query in a query.
+fn nested(alloc: Global) -> Result<Query, Fail> {
+    let inner = Query::Bool {
+        must: Queries::from_vec(Vec::new(alloc)),
+        should: Queries::from_vec(vec![in alloc; Query::All]?),
+        must_not: Queries::from_vec(vec![in alloc;
+            Query::Phrase(name_of(alloc, "body")?, phrase_of(alloc, "a b")?),
+        ]?),
+    };
+    Ok(Query::Bool {
+        must: Queries::from_vec(vec![in alloc; Query::Term(term_of(alloc, "key", "a1")?), inner]?),
+        should: Queries::from_vec(vec![in alloc; Query::All]?),
+        must_not: Queries::from_vec(Vec::new(alloc)),
+    })
+}
+
+fn show_term(out: &mut String, term: &Term) -> Result<(), Fail> {
+    let field = term.field.as_str();
+    let bytes = term.bytes.as_str();
+    write!(out, "{field}:{bytes}")?;
+    Ok(())
+}
+
+fn show_fields(out: &mut String, fields: &Fields) -> Result<(), Fail> {
+    for (name, text) in fields.as_slice() {
+        let name = name.as_str();
+        let text = text.as_str();
+        write!(out, " {name}={text}")?;
+    }
+    Ok(())
+}
+
+fn show_numbers(out: &mut String, numbers: &Numbers) -> Result<(), Fail> {
+    for (name, value) in numbers.as_slice() {
+        let name = name.as_str();
+        write!(out, " {name}={value}")?;
+    }
+    Ok(())
+}
+
+fn show_document(out: &mut String, doc: &Document) -> Result<(), Fail> {
+    out.push_str(doc.key.as_str())?;
+    out.push_str(" text")?;
+    show_fields(out, &doc.text)?;
+    out.push_str(" exact")?;
+    show_fields(out, &doc.exact)?;
+    out.push_str(" num")?;
+    show_numbers(out, &doc.num)
+}
+
+fn show_term_postings(out: &mut String, entry: &TermPostings) -> Result<(), Fail> {
+    show_term(out, &entry.term)?;
+    for posting in entry.rows.as_slice() {
+        let row = posting.row;
+        let positions = posting.positions.as_slice();
+        write!(out, " {row}@{positions:?}")?;
+    }
+    Ok(())
+}
+
+fn show_postings(out: &mut String, postings: &Postings) -> Result<(), Fail> {
+    for entry in postings.terms.as_slice() {
+        show_term_postings(out, entry)?;
+        out.push_str(";")?;
+    }
+    Ok(())
+}
+
+/// Writes a query that is nested at most so deep.
+fn show_query(out: &mut String, query: &Query, depth: u32) -> Result<(), Fail> {
+    match query {
+        Query::All => out.push_str("all")?,
+        Query::Term(term) => show_term(out, term)?,
+        Query::Phrase(field, text) => {
+            let field = field.as_str();
+            let text = text.as_text().as_str();
+            write!(out, "{field}~{text}")?;
+        }
+        Query::Bool {
+            must,
+            should,
+            must_not,
+        } => {
+            let depth = depth.checked_sub(1).ok_or("too deep")?;
+            for (mark, queries) in [("+", must), ("|", should), ("-", must_not)] {
+                out.push_str(mark)?;
+                for query in queries.as_slice() {
+                    out.push_str("(")?;
+                    show_query(out, query, depth)?;
+                    out.push_str(")")?;
+                }
+            }
+        }
+    }
+    Ok(())
+}
+
+fn show_operation(out: &mut String, operation: &Operation) -> Result<(), Fail> {
+    match operation {
+        Operation::Add(doc) => show_document(out, doc),
+        Operation::Update(term, doc) => {
+            show_term(out, term)?;
+            out.push_str(" by ")?;
+            show_document(out, doc)
+        }
+        Operation::DeleteTerm(term) => show_term(out, term),
+        Operation::DeleteQuery(query) => show_query(out, query, 2),
+        Operation::SetNumber { term, num, value } => {
+            show_term(out, term)?;
+            let num = num.as_str();
+            write!(out, " {num}={value}")?;
+            Ok(())
+        }
+        Operation::Commit => {
+            out.push_str("commit")?;
+            Ok(())
+        }
+    }
+}
+
+#[test]
+fn copies_of_texts(rt: HostRuntime) -> Result<(), Fail> {
+    let alloc = rt.alloc();
+    let text = Text::copy_of(alloc, "Stra\u{DF}e")?;
+    assert_eq!(rt; text.clone_in(alloc)?.as_str(), "Stra\u{DF}e");
+    let name = name_of(alloc, "body")?;
+    assert_eq!(rt; name.clone_in(alloc)?.as_str(), "body");
+    let phrase = phrase_of(alloc, "quick fox")?;
+    assert_eq!(rt; phrase.clone_in(alloc)?.as_text().as_str(), "quick fox");
+    Ok(())
+}
+
+#[test]
+fn names_have_1_to_255_bytes(rt: HostRuntime) -> Result<(), Fail> {
+    let alloc = rt.alloc();
+    for (count, want) in [(0, false), (1, true), (255, true), (256, false)] {
+        let text = text_of(alloc, "a".repeat(alloc, count)?.as_str())?;
+        assert_eq!(rt; Name::new(text).is_some(), want, "a name of {count}");
+    }
+    Ok(())
+}
+
+#[test]
+fn copies_of_documents(rt: HostRuntime) -> Result<(), Fail> {
+    let alloc = rt.alloc();
+    let mut out = String::new(alloc);
+    show_document(&mut out, &letter(alloc)?.clone_in(alloc)?)?;
+    assert_eq!(rt;
+        out.as_str(),
+        "a1 text body=Quick FOX exact tag=x num price=-7"
+    );
+
+    let row = Row {
+        birth: 9,
+        doc: Document::of_key(alloc, text_of(alloc, "a2")?),
+    };
+    let row = row.clone_in(alloc)?;
+    out.clear();
+    show_document(&mut out, &row.doc)?;
+    assert_eq!(rt; row.birth, 9);
+    assert_eq!(rt; out.as_str(), "a2 text exact num");
+    Ok(())
+}
+
+#[test]
+fn copies_of_operations(rt: HostRuntime) -> Result<(), Fail> {
+    let alloc = rt.alloc();
+    let set = Operation::SetNumber {
+        term: term_of(alloc, "tag", "x")?,
+        num: name_of(alloc, "n")?,
+        value: i64::MIN,
+    };
+    let operations = vec![in alloc;
+        Operation::Add(letter(alloc)?),
+        Operation::Update(
+            term_of(alloc, "tag", "x")?,
+            Document::of_key(alloc, text_of(alloc, "a2")?)
+        ),
+        Operation::DeleteTerm(term_of(alloc, "key", "a1")?),
+        Operation::DeleteQuery(nested(alloc)?),
+        set,
+        Operation::Commit,
+    ]?;
+    let mut out = String::new(alloc);
+    for operation in &operations {
+        show_operation(&mut out, &operation.clone_in(alloc)?)?;
+        out.push_str(";")?;
+    }
+    let want =
+        "a1 text body=Quick FOX exact tag=x num price=-7;tag:x by a2 text exact num;key:a1;+(key:a1)(+|(all)-(body~a b))|(all)-;tag:x n=-9223372036854775808;commit;";
+    assert_eq!(rt; out.as_str(), want);
+    Ok(())
+}
+
+#[test]
+fn copies_of_queries_and_postings(rt: HostRuntime) -> Result<(), Fail> {
+    let alloc = rt.alloc();
+    let queries = Queries::from_vec(vec![in alloc; Query::All, nested(alloc)?]?);
+    let queries = queries.clone_in(alloc)?;
+    let mut out = String::new(alloc);
+    for query in queries.as_slice() {
+        show_query(&mut out, query, 2)?;
+        out.push_str(" ")?;
+    }
+    let postings = Postings {
+        terms: List::from_vec(vec![in alloc; key_postings(alloc)?]?),
+    };
+    let analysed = Analysed {
+        doc: letter(alloc)?,
+        postings,
+    };
+    let analysed = analysed.clone_in(alloc)?;
+    show_postings(&mut out, &analysed.postings)?;
+    show_document(&mut out, &analysed.doc)?;
+    let want =
+        "all +(key:a1)(+|(all)-(body~a b))|(all)- key:a1 3@[0, 2];a1 text body=Quick FOX exact tag=x num price=-7";
+    assert_eq!(rt; out.as_str(), want);
+    Ok(())
+}
+
+#[test]
+fn lists_of_numbers(rt: HostRuntime) -> Result<(), Fail> {
+    let alloc = rt.alloc();
+    let mut list = List::<u32>::new(alloc);
+    list.push(7)?;
+    list.push(5)?;
+    assert_eq!(rt; list.len(), 2);
+    assert_eq!(rt; list.as_slice(), [7, 5].as_slice());
+    assert_eq!(rt; list.into_vec().as_slice(), [7, 5].as_slice());
+    Ok(())
+}
+
+/// Each kind of name is shown and read again.
+#[test]
+fn names_of_files(rt: HostRuntime) {
+    let cases = [
+        (FileName::Commit(2), "segments_2"),
+        (FileName::Pending(10), "pending_segments_10"),
+        (FileName::Rows(1), "seg_1.row"),
+        (FileName::Posts(1), "seg_1.pst"),
+        (FileName::Live(1, 2), "seg_1_2.liv"),
+        (
+            FileName::Values(u64::MAX, u64::MAX),
+            "seg_18446744073709551615_18446744073709551615.val",
+        ),
+    ];
+    for (name, text) in cases {
+        assert_eq!(rt; name.text().as_str(), text);
+        assert_eq!(rt; FileName::parse(text), Some(name));
+    }
+}
+
+#[test]
+fn foreign_names(rt: HostRuntime) {
+    let cases = [
+        "",
+        "segments_",
+        "segments_0",
+        "segments_02",
+        "segments_+2",
+        "segments_2 ",
+        "segments_18446744073709551616",
+        "Segments_2",
+        "pending_segments_0",
+        "pending_segments_2.tmp",
+        "seg_1",
+        "seg_0.row",
+        "seg_1.ROW",
+        "seg_1_2.row",
+        "seg_1.liv",
+        "seg_1_0.liv",
+        "seg_01_2.val",
+        "seg_1_2_3.val",
+    ];
+    for text in cases {
+        assert_eq!(rt; FileName::parse(text), None, "{text}");
+    }
+}
