@@ -1,0 +1,196 @@
+-- The last commit of a store, and what a run finds there.
+use Rattle.std.proofs.Common.{◌≡◌, ◌≢◌, ◌⊎◌, inl, inr, ◌∙◌, ℕ, zero, suc, ◌+◌, ◌-◌, ◌<◌, ◌≤◌, ◌^◌, Bool, true, false, cond, eqb, Ok, List, [], ◌∷◌, ◌++◌, length, get_or, refl, sym, ap, subst, arith}
+use Rattle.std.specs.Prelude.{Option, Some, None, IsSome, IfSome, All, AllPairs, Contains, ◌↔◌, slice_get, unwrap_or, map, IsPermutation}
+use Rattle.std.specs.List.{AllByRecursion, flat_map}
+use Rattle.std.proofs.lemmas.Bool.{cases_lt, eq-eqb}
+use Rattle.std.proofs.lemmas.Bool.Decides.{eqb_tells}
+use Rattle.std.proofs.lemmas.List.Elements.{All-from_recursion, All-append}
+use Rattle.std.proofs.lemmas.List.Sorted.{All-permutation}
+use Rattle.ix_base.specs.declared.file_name.FileName.{FileName}
+use Rattle.ix_base.specs.declared.file_name.FileName.TheVariants.{Commit, Pending, Rows, Posts, Live, Values}
+use Rattle.ix_base.specs.declared.document.Row.{Row}
+use Rattle.ix_outside.specs.Files.{Files, Was}
+use Rattle.commit_point.specs.declared.heads.HeadSegment.{HeadSegment}
+use Rattle.commit_point.specs.declared.heads.Head.{Head}
+use Rattle.commit_point.specs.Spelling.{commit_file}
+use Rattle.commit_point.specs.Reading.{head_in}
+use Rattle.commit_point.proofs.FileLaws.{head_again}
+use Rattle.commit_point.specs.Fits.{RowsFit, DocumentFits, IdsRise}
+use Rattle.commit_point.specs.Holds.{Holds, HaveRows, HasHead, ListsId, IsLawful}
+use Rattle.op_script.specs.Shape.{is_apart}
+use Rattle.index_run.specs.declared.writer.Writer.{Writer}
+use Rattle.index_run.specs.Headline.{IsLast, Begins, Starts}
+use Rattle.index_run.specs.Beginning.{last_or_zero, IsOn}
+use Rattle.index_run.specs.Writer.{CanBegin}
+use Rattle.index_run.proofs.Kept.{nat_or}
+
+none_of : {A : Type 0} (o : Option A) → (IsSome o → ⊥) → o ≡ None
+none_of None h = refl
+none_of (Some x) h = absurd (h refl)
+
+get_last : (n : ℕ) (ns : List ℕ) → last_or_zero (n ∷ ns) ≡ get_or (n ∷ ns) (length ns) 0
+get_last n ns =
+    let at : length (n ∷ ns) - 1 ≡ length ns = omega arith in
+    ap (λ (i : ℕ). unwrap_or (slice_get (n ∷ ns) i) 0) at ∙ within (n ∷ ns) (length ns) (omega arith)
+  where
+    within : (xs : List ℕ) (i : ℕ) → i < length xs → unwrap_or (slice_get xs i) 0 ≡ get_or xs i 0
+    within [] i lt = absurd (omega arith)
+    within (x ∷ xs) zero lt = refl
+    within (x ∷ xs) (suc i) lt = within xs i (omega arith)
+
+-- the last of rising numbers is the greatest
+greatest : (numbers : List ℕ) (s : ℕ) → AllPairs ◌<◌ numbers → Contains numbers s → s ≤ last_or_zero numbers
+greatest [] s rise has = absurd (omega (arith, has.1))
+greatest (n ∷ ns) s rise has =
+    let last = get_last n ns in
+    elim (nat_or has.0 (length ns)) [
+      | inl e ↦ omega (arith, last, at_last e)
+      | inr ne ↦
+          let below : has.0 < length ns = omega (arith, ne, has.1) in
+          let less = rise has.0 (length ns) s below (omega arith) in
+          omega (arith, last, has.2, less, default (n ∷ ns) (length ns) s (omega arith))
+    ]
+  where
+    default : (xs : List ℕ) (i d : ℕ) → i < length xs → get_or xs i d ≡ get_or xs i 0
+    default [] i d lt = absurd (omega arith)
+    default (x ∷ xs) zero d lt = refl
+    default (x ∷ xs) (suc i) d lt = default xs i d (omega arith)
+
+    at_last : has.0 ≡ length ns → s ≡ get_or (n ∷ ns) (length ns) 0
+    at_last e = sym has.2 ∙ ap (λ (i : ℕ). get_or (n ∷ ns) i s) e ∙ default (n ∷ ns) (length ns) s (omega arith)
+
+last_in : (numbers : List ℕ) → last_or_zero numbers ≢ 0 → Contains numbers (last_or_zero numbers)
+last_in [] ne = absurd (ne refl)
+last_in (n ∷ ns) ne = (length ns, omega arith, here (n ∷ ns) (length ns) (last_or_zero (n ∷ ns)) (omega arith) (get_last n ns))
+  where
+    here : (xs : List ℕ) (i d : ℕ) → i < length xs → d ≡ get_or xs i 0 → get_or xs i d ≡ d
+    here [] i d lt is = absurd (omega arith)
+    here (x ∷ xs) zero d lt is = sym is
+    here (x ∷ xs) (suc i) d lt is = here xs i d (omega arith) is
+
+-- the files that have one commit and nothing else
+one_commit : ℕ → Files
+one_commit n (Commit s) = cond (eqb s n) (Some []) None
+one_commit n name = None
+
+eqb_not : (a b : ℕ) → a ≢ b → eqb a b ≡ false
+eqb_not a b ne = elim (eqb_tells a b) [ inl e ↦ absurd (ne e.1) | inr e ↦ e.0 ]
+
+last_alone : (n : ℕ) → IsLast (one_commit n) n
+unfolding one_commit
+last_alone n = record {
+  there = λ some. rw (eq-eqb n n refl) refl;
+  none_above = λ s above. rw (eqb_not s n (λ e. absurd (omega (arith, e, above)))) refl;
+}
+
+pub last_told : (told : Option Files) (numbers : List ℕ) → IfSome told (λ files. (s : ℕ) → Contains numbers s ↔ IsSome (files (Commit s))) → AllPairs ◌<◌ numbers
+    → (files : Files) × Was told files × IsLast files (last_or_zero numbers)
+last_told (Some files) numbers each rise = (
+  files,
+  refl,
+  record {
+    there = λ some. (each (last_or_zero numbers)).0 (last_in numbers some);
+    none_above = λ s above. none_of (files (Commit s)) (λ there. absurd (omega (arith, above, greatest numbers s rise ((each s).1 there))));
+  },
+)
+last_told None numbers each rise = (one_commit (last_or_zero numbers), tt, last_alone (last_or_zero numbers))
+
+pub last_one : (files : Files) (a b : ℕ) → IsLast files a → IsLast files b → a ≡ b
+last_one files a b p q = elim (nat_or a b) [
+  | inl e ↦ e
+  | inr ne ↦ elim (cases_lt a b) [ inl lt ↦ absurd (not_both a b p q lt) | inr ge ↦ absurd (not_both b a q p (omega (arith, ne, ge))) ]
+]
+  where
+    not_both : (x y : ℕ) → IsLast files x → IsLast files y → x < y → ⊥
+    not_both x y h k lt =
+        let gone : files (Commit y) ≡ None = h.none_above y lt in
+        let none : IsSome {T = List ℕ} None = subst (λ (o : Option (List ℕ)). IsSome o) gone (k.there (λ e. absurd (omega (arith, e, lt)))) in
+        cc
+
+apart_documents : (rows : List Row) → AllByRecursion (λ (r : Row). DocumentFits r.doc) rows → AllByRecursion (λ (r : Row). is_apart r.doc ≡ true) rows
+apart_documents [] h = tt
+apart_documents (r ∷ rows) h = (h.0.apart, apart_documents rows h.1)
+
+apart_parts : (files : Files) (s : ℕ) (segments : List HeadSegment) (parts : List (List Row)) → HaveRows files s segments parts
+    → All (λ (r : Row). is_apart r.doc ≡ true) (flat_map (λ (part : List Row). part) parts)
+apart_parts files s [] [] have = λ k d lt. absurd (omega (arith, lt))
+apart_parts files s [] (p ∷ ps) have = absurd have
+apart_parts files s (e ∷ es) [] have = absurd have
+apart_parts files s (e ∷ es) (p ∷ ps) have =
+    All-append (λ (r : Row). is_apart r.doc ≡ true) p (flat_map (λ (part : List Row). part) ps)
+    (All-from_recursion (λ (r : Row). is_apart r.doc ≡ true) p (apart_documents p have.2.documents)) (apart_parts files s es ps have.3)
+
+pub holds_apart : (files : Files) (s next : ℕ) (rows : List Row) → Holds files s next rows → All (λ (r : Row). is_apart r.doc ≡ true) rows
+holds_apart files s next rows h = All-permutation (λ (r : Row). is_apart r.doc ≡ true) (flat_map (λ (part : List Row). part) h.parts) rows h.merged (apart_parts files s h.head.segments h.parts h.each)
+
+pub can_begin : (files : Files) (s next : ℕ) (rows : List Row) → s ≤ 2 ^ 61 → Holds files s next rows → CanBegin (record { rows = rows; number = s; next_id = next })
+can_begin files s next rows low h = record {
+  number = low;
+  some_id = omega (arith, h.has_head.fits.next_some, h.next_id);
+  next_id = omega (arith, h.has_head.fits.next, h.next_id);
+  births = h.births;
+  apart = holds_apart files s next rows h;
+}
+
+pub same_writer : (rows rows' : List Row) (base base' next next' : ℕ) → rows ≡ rows' → base ≡ base' → next ≡ next'
+    → (let a : Writer = record { rows = rows; number = base; next_id = next } in let b : Writer = record { rows = rows'; number = base'; next_id = next' } in a ≡ b)
+same_writer rows rows' base base' next next' p q r = cc
+
+-- ids of one commit file rise below its next id
+in_range : (low limit : ℕ) (segments : List HeadSegment) (k : ℕ) (d : HeadSegment) → IdsRise low limit segments → k < length segments → (get_or segments k d).id < limit
+in_range low limit [] k d rise lt = absurd (omega arith)
+in_range low limit (e ∷ es) zero d rise lt = rise.1
+in_range low limit (e ∷ es) (suc k) d rise lt = in_range (e.id + 1) limit es k d rise.2 (omega arith)
+
+-- a commit file spells one head
+one_head : (files : Files) (s : ℕ) (a b : Head) → HasHead files s a → HasHead files s b → a ≡ b
+one_head files s a b p q =
+    let bytes : commit_file a ≡ commit_file b = (let one = p.file in let two = q.file in cc) in
+    let first : head_in s (commit_file a) ≡ Ok a = subst (λ (n : ℕ). head_in n (commit_file a) ≡ Ok a) p.number (head_again a p.fits) in
+    let second : head_in s (commit_file b) ≡ Ok b = subst (λ (n : ℕ). head_in n (commit_file b) ≡ Ok b) q.number (head_again b q.fits) in
+    cc
+
+listed_below : (head : Head) (segment : HeadSegment) → IdsRise 1 head.next_id head.segments → Contains head.segments segment → segment.id < head.next_id
+listed_below head segment rise has =
+    subst (λ (e : HeadSegment). e.id < head.next_id) has.2 (in_range 1 head.next_id head.segments has.0 segment rise has.1)
+
+-- a run that begins on a lawful commit, or on nothing, finds no commit above it and no id from its next id on
+pub begins_starts : (files : Files) (base next : ℕ) (rows : List Row) → Begins files base next rows → Starts files base next
+begins_starts files base next rows begins = record {
+  none_above = begins.0.none_above;
+  ids_below = λ s id lists. below s id lists begins.1;
+}
+  where
+    not_above : (s id : ℕ) → ListsId files s id → base < s → ⊥
+    not_above s id lists above = let gone = begins.0.none_above s above in let here = lists.has_head.file in cc
+
+    own_id : (s id : ℕ) → ListsId files s id → Holds files base next rows → s ≡ base → id < next
+    own_id s id lists holds e =
+        let at_base : HasHead files base lists.head = subst (λ (n : ℕ). HasHead files n lists.head) e lists.has_head in
+        let same : lists.head ≡ holds.head = one_head files base lists.head holds.head at_base holds.has_head in
+        let next_is : lists.head.next_id ≡ next = ap (λ (h : Head). h.next_id) same ∙ holds.next_id in
+        omega (arith, listed_below lists.head lists.segment lists.has_head.fits.ids lists.listed, lists.is, next_is)
+
+    below : (s id : ℕ) → ListsId files s id → ((base ≡ 0) × (next ≡ 1) × (rows ≡ [])) ⊎ ((1 ≤ base) × IsLawful files base next rows) → id < next
+    below s id lists (inl none) =
+        let some = lists.has_head.fits.some in
+        let number = lists.has_head.number in
+        absurd (not_above s id lists (omega (arith, none.0, some, number)))
+    below s id lists (inr on) = elim (nat_or s base) [
+      | inl e ↦ own_id s id lists on.1.holds e
+      | inr ne ↦ elim (cases_lt s base) [ inl lt ↦ on.1.above s id lt lists | inr ge ↦ absurd (not_above s id lists (omega (arith, ne, ge))) ]
+    ]
+
+pub begins_on : (files : Files) (base next : ℕ) (rows : List Row) → Begins files base next rows → IsOn files base next rows
+begins_on files base next rows begins = by_case begins.1
+  where
+    by_case : ((base ≡ 0) × (next ≡ 1) × (rows ≡ [])) ⊎ ((1 ≤ base) × IsLawful files base next rows) → IsOn files base next rows
+    by_case (inl none) = inl none
+    by_case (inr on) = inr (on.0, on.1.holds)
+
+pub begins_room : (files : Files) (base next : ℕ) (rows : List Row) → Begins files base next rows → next ≤ 2 ^ 61
+begins_room files base next rows begins = by_case begins.1
+  where
+    by_case : ((base ≡ 0) × (next ≡ 1) × (rows ≡ [])) ⊎ ((1 ≤ base) × IsLawful files base next rows) → next ≤ 2 ^ 61
+    by_case (inl none) = omega (arith, none.1)
+    by_case (inr on) = on.1.room

@@ -1,0 +1,27 @@
+use Rattle.std.proofs.Common.{◌≡◌, ◌∙◌, ℕ, List, inl, inr, sym, subst}
+use Rattle.ix_base.specs.declared.document.Row.{Row}
+use Rattle.ix_outside.specs.Files.{Files}
+use Rattle.commit_point.specs.Holds.{Holds}
+use Rattle.std.specs.Prelude.{IfOk}
+use Rattle.index_run.specs.declared.writer.Writer.{Writer}
+use Rattle.index_run.proofs.begin.begin.Goals as goal
+
+pub returns-clause-on : goal.returns-clause-on
+returns-clause-on g c = λ files base next rows told last on.
+    let same : c.in-Ok.base ≡ base = c.in-Ok.ensures.only files base told last in
+    let still = c.last_commit.ensures.reads.same ∙ told in
+    elim on [
+      | inl none ↦ absurd (c.if-base-eq0.false (same ∙ none.0))
+      | inr held ↦
+          subst (λ (n : ℕ). IfOk c.begin_on.result (λ (writer : Writer). writer ≡ record { rows = rows; number = n; next_id = next })) same
+          (c.begin_on.ensures.on files next rows still (subst (λ (n : ℕ). Holds files n next rows) (sym same) held.1))
+    ]
+
+pub returns-clause-whole : goal.returns-clause-whole
+returns-clause-whole g c = λ files base next rows told last on low.
+    let same : c.in-Ok.base ≡ base = c.in-Ok.ensures.only files base told last in
+    let still = c.last_commit.ensures.reads.same ∙ told in
+    elim on [
+      | inl none ↦ absurd (c.if-base-eq0.false (same ∙ none.0))
+      | inr held ↦ c.begin_on.ensures.whole files next rows still (subst (λ (n : ℕ). Holds files n next rows) (sym same) held.1)
+    ]

@@ -1,0 +1,71 @@
+use Rattle.std.proofs.Common.{◌≡◌, ◌∙◌, ◌+◌, ◌≤◌, ◌^◌, ℕ, List, [], ◌∷◌, length, refl, ap, sym, subst, inl, inr}
+use Rattle.std.specs.Prelude.{Option}
+use Rattle.ix_base.specs.declared.document.Row.{Row}
+use Rattle.ix_outside.specs.Files.{Files, Changes}
+use Rattle.commit_point.specs.Holds.{KeepsCommits}
+use Rattle.index_run.specs.declared.outcome.Outcome.{Outcome}
+use Rattle.index_run.specs.declared.writer.Writer.{Writer}
+use Rattle.index_run.specs.declared.stop.Stop.{Stop}
+use Rattle.index_run.specs.Causes.{IsOneOf, stop_status}
+use Rattle.index_run.specs.Numbering.{numbered, commit_numbers}
+use Rattle.index_run.specs.Outcomes.{outcomes_from, texts}
+use Rattle.index_run.specs.Headline.{HasCommits, Starts}
+use Rattle.index_run.specs.Searching.{CanSearch}
+use Rattle.index_run.proofs.Beginnings.{begins_starts, begins_on, begins_room}
+use Rattle.index_run.proofs.Finish.{done_in, whole_in, kept_in}
+use Rattle.index_run.proofs.doing.do_script.Goals as goal
+
+pub returns-in-Err-clause-whole : goal.returns-in-Err-clause-whole
+returns-in-Err-clause-whole g c = λ files base next rows told last on low room.
+    let listed : Stop → Type 0 = λ s. IsOneOf (stop_status s) (4 ∷ 7 ∷ []) in
+    elim (c.in-Err.ensures.whole files base next rows told last on low) [ inl e ↦ subst listed (sym e) refl | inr e ↦ subst listed (sym e) refl ]
+
+pub returns-in-Err-Failed-clause-kept : goal.returns-in-Err-Failed-clause-kept
+returns-in-Err-Failed-clause-kept g c = λ files base next rows told begins.
+    let w = c.in-Ok.writer in
+    let is = c.in-Ok.ensures.on files base next rows told begins.0 (begins_on files base next rows begins) in
+    let starts : Starts files w.number w.next_id = subst (λ (v : Writer). Starts files v.number v.next_id) (sym is) (begins_starts files base next rows begins) in
+    let room : w.next_id ≤ 2 ^ 61 = subst (λ (v : Writer). v.next_id ≤ 2 ^ 61) (sym is) (begins_room files base next rows begins) in
+    kept_in _ _ _ _ c.begin.ensures.reads.same refl (c.do_lines.ensures.kept files (c.begin.ensures.reads.same ∙ told) starts room)
+
+pub returns-in-Err-NoMemory-clause-kept : goal.returns-in-Err-NoMemory-clause-kept
+returns-in-Err-NoMemory-clause-kept g c = λ files base next rows told begins.
+    let w = c.in-Ok.writer in
+    let is = c.in-Ok.ensures.on files base next rows told begins.0 (begins_on files base next rows begins) in
+    let starts : Starts files w.number w.next_id = subst (λ (v : Writer). Starts files v.number v.next_id) (sym is) (begins_starts files base next rows begins) in
+    let room : w.next_id ≤ 2 ^ 61 = subst (λ (v : Writer). v.next_id ≤ 2 ^ 61) (sym is) (begins_room files base next rows begins) in
+    kept_in _ _ _ _ c.begin.ensures.reads.same refl (c.do_lines.ensures.kept files (c.begin.ensures.reads.same ∙ told) starts room)
+
+pub returns-clause-kept : goal.returns-clause-kept
+returns-clause-kept g c = λ files base next rows told begins.
+    let w = c.in-Ok.writer in
+    let is = c.in-Ok.ensures.on files base next rows told begins.0 (begins_on files base next rows begins) in
+    let starts : Starts files w.number w.next_id = subst (λ (v : Writer). Starts files v.number v.next_id) (sym is) (begins_starts files base next rows begins) in
+    let room : w.next_id ≤ 2 ^ 61 = subst (λ (v : Writer). v.next_id ≤ 2 ^ 61) (sym is) (begins_room files base next rows begins) in
+    kept_in _ _ _ _ c.begin.ensures.reads.same c.report.ensures.reads.same (c.do_lines.ensures.kept files (c.begin.ensures.reads.same ∙ told) starts room)
+
+pub returns-clause-done : goal.returns-clause-done
+returns-clause-done g c = λ files base next rows told begins.
+    let w = c.in-Ok.writer in
+    let lines = c.args.lines in
+    let began = g.S.Store.files c.begin.new.store in
+    let did = g.S.Store.files c.do_lines.new.store in
+    let is = c.in-Ok.ensures.on files base next rows told begins.0 (begins_on files base next rows begins) in
+    let starts : Starts files w.number w.next_id = subst (λ (v : Writer). Starts files v.number v.next_id) (sym is) (begins_starts files base next rows begins) in
+    let room : w.next_id ≤ 2 ^ 61 = subst (λ (v : Writer). v.next_id ≤ 2 ^ 61) (sym is) (begins_room files base next rows begins) in
+    let made = subst (λ (v : Writer). Changes (HasCommits v.number v.next_id v.rows (numbered lines) (commit_numbers v.number (numbered lines)) (v.next_id + length (numbered lines))) began did) is (c.in-Ok-do_lines.ensures.commits room) in
+    let outcomes = subst (λ (v : Writer). c.as_slice.result.now ≡ outcomes_from v.number v.rows [] lines) is (c.as_slice.ensures.value ∙ c.in-Ok-do_lines.ensures.outcomes) in
+    done_in base next rows lines files _ began did _ c.as_slice.result.now c.report.result told c.begin.ensures.reads.same c.report.ensures.reads.same c.requires.rise (begins_on files base next rows begins) outcomes
+    made (c.do_lines.ensures.kept files (c.begin.ensures.reads.same ∙ told) starts room) c.report.ensures.text
+
+pub returns-clause-whole : goal.returns-clause-whole
+returns-clause-whole g c = λ files base next rows told last on low room.
+    let w = c.in-Ok.writer in
+    let lines = c.args.lines in
+    let began = g.S.Store.files c.begin.new.store in
+    let did = g.S.Store.files c.do_lines.new.store in
+    let is = c.in-Ok.ensures.on files base next rows told last on in
+    let le : w.next_id ≤ 2 ^ 61 = subst (λ (v : Writer). v.next_id ≤ 2 ^ 61) (sym is) room in
+    let made = subst (λ (v : Writer). Changes (HasCommits v.number v.next_id v.rows (numbered lines) (commit_numbers v.number (numbered lines)) (v.next_id + length (numbered lines))) began did) is (c.in-Ok-do_lines.ensures.commits le) in
+    let outcomes = subst (λ (v : Writer). c.as_slice.result.now ≡ outcomes_from v.number v.rows [] lines) is (c.as_slice.ensures.value ∙ c.in-Ok-do_lines.ensures.outcomes) in
+    whole_in base next rows lines files _ began did c.as_slice.result.now c.report.result told c.begin.ensures.reads.same on outcomes made c.report.ensures.whole

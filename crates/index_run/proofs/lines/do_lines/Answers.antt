@@ -1,0 +1,90 @@
+use Rattle.std.proofs.Common.{◌≡◌, ◌+◌, ◌≤◌, ◌<◌, ◌^◌, ℕ, List, [], ◌∷◌, ◌++◌, length, get_or, Some, refl, sym, ap, subst, ◌∙◌, append_assoc, arith}
+use Rattle.std.specs.Prelude.{Option}
+use Rattle.std.specs.Vec.Iter.{into_iter_items}
+use Rattle.ix_outside.specs.Files.{Files, Changes}
+use Rattle.op_script.specs.declared.script.Line.{Line}
+use Rattle.index_run.specs.Doing.{writer_after, lasts_after, answer_by}
+use Rattle.index_run.specs.declared.writer.Writer.{Writer}
+use Rattle.index_run.specs.declared.outcome.Outcome.{Outcome}
+use Rattle.index_run.specs.Outcomes.{outcomes_from}
+use Rattle.index_run.proofs.Far.{Far, SoFar, far_start, made_start, kept_start, act_known, can_go_on, room_left, far_line, files_line, kept_line, elsewhere_of, all_done, commits_done}
+use Rattle.index_run.proofs.lines.do_lines.Goals as goal
+
+pub loop-line-init : goal.loop-line-init
+loop-line-init g c = record {
+  items = c.into_iter-line-iterator.ensures.into_iter_gives.0 ∙ c.into_vec-line-items.ensures;
+  count =
+      let items = ap (λ (ls : List Line). length ls) c.into_iter-line-iterator.ensures.into_iter_gives.0 in
+      let len = c.into_iter-line-iterator.ensures.into_iter_gives.1 in
+      let whole = c.into_vec-line-items.result.ok in
+      omega arith;
+  far = rw c.new-outcomes.ensures.items (far_start c.args.writer c.requires.ready);
+  made = λ room. made_start c.args.writer.number c.args.writer.next_id c.args.writer.rows c.args.lines (g.S.Store.files c.args.store.now);
+  kept = λ files told starts room. kept_start (g.S.Store.files c.args.store.now);
+  later = omega arith;
+}
+
+pub do_line-requires-clause-ready : goal.do_line-requires-clause-ready
+do_line-requires-clause-ready g c = λ κs outlives.
+    let at = c.loop-line in
+    can_go_on c.args.writer.number c.args.writer.next_id c.args.writer.rows c.args.lines at.yielded (into_iter_items at.line-iterator) at.writer at.lasts at.outcomes.items (sym at.invariant.items) c.requires.script.few c.requires.base.0 c.requires.ready.some_id c.requires.base.1 at.invariant.far
+
+pub do_line-requires-clause-known : goal.do_line-requires-clause-known
+do_line-requires-clause-known g c = λ κs outlives.
+    let at = c.loop-line in
+    let next : c.args.lines ≡ at.yielded ++ c.in-Some.line ∷ into_iter_items c.next.new.self = sym at.invariant.items ∙ ap (λ (ls : List Line). at.yielded ++ ls) c.in-Some.ensures.steps.0 in
+    (act_known c.args.lines at.yielded (into_iter_items c.next.new.self) c.in-Some.line next c.requires.script.acts).0
+
+pub loop-line-preserved : goal.loop-line-preserved
+loop-line-preserved g c =
+    let at = c.loop-line in
+    let w = c.args.writer in
+    let line = c.in-Some.line in
+    let rest = into_iter_items c.next.new.self in
+    let start = g.S.Store.files c.args.store.now in
+    let next : c.args.lines ≡ at.yielded ++ line ∷ rest = sym at.invariant.items ∙ ap (λ (ls : List Line). at.yielded ++ ls) c.in-Some.ensures.steps.0 in
+    let known = act_known c.args.lines at.yielded rest line next c.requires.script.acts in
+    let more = far_line w.number w.next_id w.rows at.yielded line line.act at.writer at.lasts at.outcomes.items refl known.0 known.1 at.invariant.far in
+    let answer = answer_by at.writer (get_or at.lasts line.caller 0) line.act in
+    let pushed : c.push.new.self.items ≡ at.outcomes.items ++ record { line = line.line; answer = answer } ∷ [] =
+    c.in_ok-push.ensures.items ∙ ap (λ (o : Outcome). at.outcomes.items ++ o ∷ []) c.in_ok-outcome.ensures.outcome in
+    let writer : c.do_line.new.writer ≡ writer_after at.writer line.act = c.in_ok-outcome.ensures.writer in
+    let room = λ (h : w.next_id ≤ 2 ^ 61). room_left w.number w.next_id w.rows c.args.lines at.yielded (into_iter_items at.line-iterator) at.writer at.lasts at.outcomes.items (sym at.invariant.items) c.requires.script.few h at.invariant.far in
+    record {
+      items = append_assoc at.yielded (line ∷ []) rest ∙ sym next;
+      count =
+          let was = at.invariant.count in
+          let gone = c.in-Some.ensures.steps.1 in
+          let short = ap (λ (ls : List Line). length ls) c.in-Some.ensures.steps.0 in
+          omega arith;
+      far = subst (λ (os : List Outcome). Far w.number w.next_id w.rows (at.yielded ++ line ∷ []) c.do_line.new.writer c.do_line.new.lasts os) (sym pushed)
+          (subst (λ (ls : List ℕ). Far w.number w.next_id w.rows (at.yielded ++ line ∷ []) c.do_line.new.writer ls (at.outcomes.items ++ record { line = line.line; answer = answer } ∷ [])) (sym c.in_ok-outcome.ensures.lasts)
+          (subst (λ (v : Writer). Far w.number w.next_id w.rows (at.yielded ++ line ∷ []) v (lasts_after at.writer line.caller line.act at.lasts) (at.outcomes.items ++ record { line = line.line; answer = answer } ∷ [])) (sym writer) more));
+      made = λ le. subst (λ (v : Writer). Changes (SoFar w.number w.next_id w.rows c.args.lines (at.yielded ++ line ∷ []) v.next_id) start (g.S.Store.files c.do_line.new.store)) (sym writer)
+          (files_line w.number w.next_id w.rows c.args.lines at.yielded rest line line.act at.writer at.lasts at.outcomes.items start (g.S.Store.files at.store) (g.S.Store.files c.do_line.new.store)
+          next refl known.0 (room le) at.invariant.far c.in_ok-outcome.ensures.files (at.invariant.made le));
+      kept = λ files told starts le. kept_line w.number w.next_id (at.writer.number + 1) at.writer.next_id files start (g.S.Store.files at.store) (g.S.Store.files c.do_line.new.store) told starts (omega (arith, at.invariant.far.number)) at.invariant.far.low
+          (elsewhere_of at.writer line.act (g.S.Store.files at.store) (g.S.Store.files c.do_line.new.store) (room le) c.in_ok-outcome.ensures.files) (at.invariant.kept files told starts le);
+      later = omega (arith, at.invariant.later, c.do_line.ensures.later);
+    }
+
+pub returns-in_err-outcome-clause-kept : goal.returns-in_err-outcome-clause-kept
+returns-in_err-outcome-clause-kept g c = λ files told starts le.
+    let at = c.loop-line in
+    kept_line c.args.writer.number c.args.writer.next_id (at.writer.number + 1) at.writer.next_id files (g.S.Store.files c.args.store.now) (g.S.Store.files at.store) (g.S.Store.files c.do_line.new.store) told starts (omega (arith, at.invariant.far.number)) at.invariant.far.low
+    c.in_err-outcome.ensures.err (at.invariant.kept files told starts le)
+
+pub returns-in_err-push-clause-kept : goal.returns-in_err-push-clause-kept
+returns-in_err-push-clause-kept g c = λ files told starts le.
+    let at = c.loop-line in
+    let w = c.args.writer in
+    let room = room_left w.number w.next_id w.rows c.args.lines at.yielded (into_iter_items at.line-iterator) at.writer at.lasts at.outcomes.items (sym at.invariant.items) c.requires.script.few le at.invariant.far in
+    kept_line w.number w.next_id (at.writer.number + 1) at.writer.next_id files (g.S.Store.files c.args.store.now) (g.S.Store.files at.store) (g.S.Store.files c.do_line.new.store) told starts (omega (arith, at.invariant.far.number)) at.invariant.far.low
+    (elsewhere_of at.writer c.in-Some.line.act (g.S.Store.files at.store) (g.S.Store.files c.do_line.new.store) room c.in_ok-outcome.ensures.files) (at.invariant.kept files told starts le)
+
+pub returns-clause-commits : goal.returns-clause-commits
+returns-clause-commits g c = λ le.
+    let at = c.loop-line in
+    let w = c.args.writer in
+    let all = all_done c.args.lines at.yielded (into_iter_items at.line-iterator) _ at.invariant.items at.invariant.count c.in-None.ensures.steps.0 in
+    commits_done w.number w.next_id w.rows c.args.lines at.yielded at.writer at.lasts at.outcomes.items (g.S.Store.files c.args.store.now) (g.S.Store.files at.store) all at.invariant.far (at.invariant.made le)

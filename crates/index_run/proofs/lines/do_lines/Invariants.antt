@@ -1,0 +1,20 @@
+use Rattle.std.proofs.Common.{◌≡◌, ◌≤◌, ◌^◌, ◌++◌, List, length, Some}
+use Rattle.std.specs.Vec.Iter.{into_iter_items, into_iter_len}
+use Rattle.ix_outside.specs.Files.{Files, Changes}
+use Rattle.commit_point.specs.Holds.{KeepsCommits}
+use Rattle.index_run.specs.Headline.{Starts}
+use Rattle.index_run.proofs.Far.{Far, SoFar}
+use Rattle.index_run.proofs.lines.do_lines.Given as goal
+
+abbrev pub invariant-loop-line : goal.invariant-loop-line
+invariant-loop-line g l =
+    let start = g.S.Store.files l.fn.store in
+    let w = l.fn.writer in
+    record {
+      items : l.yielded ++ into_iter_items l.line-iterator ≡ l.fn.lines;
+      count : into_iter_len l.line-iterator ≡ length (into_iter_items l.line-iterator);
+      far : Far w.number w.next_id w.rows l.yielded l.writer l.lasts l.outcomes.items;
+      made : w.next_id ≤ 2 ^ 61 → Changes (SoFar w.number w.next_id w.rows l.fn.lines l.yielded l.writer.next_id) start (g.S.Store.files l.store);
+      kept : (files : Files) → start ≡ Some files → Starts files w.number w.next_id → w.next_id ≤ 2 ^ 61 → Changes KeepsCommits start (g.S.Store.files l.store);
+      later : g.S.Store.fault_count l.fn.store ≤ g.S.Store.fault_count l.store;
+    }

@@ -1,0 +1,13 @@
+pub mod Words
+pub mod Numbering
+pub mod Report
+pub mod Faults
+pub mod Outcomes
+pub mod Headline
+pub mod Causes
+pub mod Writer
+pub mod Doing
+pub mod Searching
+pub mod Assembling
+pub mod Beginning
+pub mod Script

@@ -1,0 +1,69 @@
+-- What becomes of the lines of a script that are done in its order.
+use Rattle.std.specs.Prelude.{◌≡◌, ℕ, ◌+◌, List, [], ◌∷◌, ◌++◌, length, ◌&&◌, ◌==◌, if◌then◌else◌, Option, Some, None}
+use Rattle.std.specs.List.{flat_map}
+use Rattle.ix_base.specs.declared.document.Operation.{Operation}
+use Rattle.ix_base.specs.declared.document.Operation.TheVariants.{Add, Update, DeleteTerm, DeleteQuery, SetNumber, Commit}
+use Rattle.ix_base.specs.declared.document.Row.{Row}
+use Rattle.ix_base.specs.declared.query.Query.{Query}
+use Rattle.ix_base.specs.Refusals.{Refusal, long_term, long_query, refusal}
+use Rattle.ix_base.specs.Steps.{after}
+use Rattle.op_script.specs.declared.script.Line.{Line}
+use Rattle.op_script.specs.declared.script.Act.{Act}
+use Rattle.op_script.specs.declared.script.Act.TheVariants.{Do, Search}
+use Rattle.index_run.specs.declared.outcome.Outcome.{Outcome}
+use Rattle.index_run.specs.declared.outcome.Answer.{Answer}
+use Rattle.index_run.specs.declared.outcome.Answer.TheVariants.{Numbered, Committed, RefusedTerm, RefusedQuery, Searched}
+use Rattle.index_run.specs.Numbering.{is_numbered, is_commit, numbered, operations}
+use Rattle.index_run.specs.Report.{text_line, write_value, commit_value, refused_value, search_value, matching}
+
+-- the last number after these lines
+abbrev pub number_after : ℕ → List Line → ℕ
+number_after base done = base + length (numbered done)
+
+-- the rows after these lines
+abbrev pub rows_after : ℕ → List Row → List Line → List Row
+rows_after base rows done = after rows base (operations (numbered done))
+
+-- the number of the caller's last commit line after these lines, of which the first has the number after `last`
+abbrev pub commit_after : ℕ → ℕ → ℕ → List Line → ℕ
+commit_after last caller found [] = found
+commit_after last caller found (l ∷ ls) =
+    if is_numbered l.act then commit_after (last + 1) caller (if (l.caller == caller) && is_commit l.act then last + 1 else found) ls
+    else commit_after last caller found ls
+
+-- what becomes of a line that gets its number
+abbrev pub done_answer : ℕ → ℕ → Operation → Answer
+done_answer s docs Commit = Committed s docs
+done_answer s docs op = Numbered s
+
+-- what becomes of a line that is refused, and otherwise this
+abbrev pub told_answer : Option Refusal → Answer → Answer
+told_answer (Some (long_term size)) answer = RefusedTerm size
+told_answer (Some (long_query size)) answer = RefusedQuery size
+told_answer None answer = answer
+
+-- what becomes of a line after those that were done
+abbrev pub answer_of : ℕ → List Row → List Line → Line → Act → Answer
+answer_of base rows done l (Search query) = Searched (commit_after base l.caller base done) query
+answer_of base rows done l (Do op) = told_answer (refusal op) (done_answer (number_after base done + 1) (length (rows_after base rows done)) op)
+
+abbrev pub outcome_of : ℕ → List Row → List Line → Line → Outcome
+outcome_of base rows done l = record { line = l.line; answer = answer_of base rows done l l.act }
+
+abbrev pub outcomes_from : ℕ → List Row → List Line → List Line → List Outcome
+outcomes_from base rows done [] = []
+outcomes_from base rows done (l ∷ ls) = outcome_of base rows done l ∷ outcomes_from base rows (done ++ l ∷ []) ls
+
+-- the text of an outcome, where the rows of each commit are known
+abbrev pub answer_text : (ℕ → List Row) → ℕ → Answer → List ℕ
+answer_text rows_of line (Numbered s) = text_line (write_value line s)
+answer_text rows_of line (Committed s docs) = text_line (commit_value docs line s)
+answer_text rows_of line (RefusedTerm size) = text_line (refused_value line (long_term size))
+answer_text rows_of line (RefusedQuery size) = text_line (refused_value line (long_query size))
+answer_text rows_of line (Searched s query) = text_line (search_value s (matching query (rows_of s)) line)
+
+abbrev pub outcome_text : (ℕ → List Row) → Outcome → List ℕ
+outcome_text rows_of o = answer_text rows_of o.line o.answer
+
+abbrev pub texts : (ℕ → List Row) → List Outcome → List ℕ
+texts rows_of = flat_map (outcome_text rows_of)

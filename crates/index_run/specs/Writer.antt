@@ -1,0 +1,30 @@
+-- What a writer keeps, so that it can go on.
+use Rattle.std.specs.Prelude.{◌≡◌, ℕ, ◌+◌, ◌<◌, ◌≤◌, ◌^◌, List, true, All}
+use Rattle.ix_base.specs.declared.document.Row.{Row}
+use Rattle.commit_point.specs.Fits.{BirthsRise}
+use Rattle.op_script.specs.Shape.{is_apart}
+use Rattle.index_run.specs.declared.writer.Writer.{Writer}
+
+-- the next line can be done
+pub record CanGoOn (w : Writer) : Type 0 where
+  pub number : w.number < 2 ^ 62
+  pub some_id : 1 ≤ w.next_id
+  pub room : w.next_id < 2 ^ 62 + 2 ^ 62
+  pub births : BirthsRise 1 w.number w.rows
+  pub apart : All (λ row. is_apart row.doc ≡ true) w.rows
+
+-- the rows can be written as a commit of the last number
+pub record CanCommit (w : Writer) : Type 0 where
+  pub some : 1 ≤ w.number
+  pub some_id : 1 ≤ w.next_id
+  pub room : w.next_id < 2 ^ 62 + 2 ^ 62
+  pub births : BirthsRise 1 w.number w.rows
+  pub apart : All (λ row. is_apart row.doc ≡ true) w.rows
+
+-- a run can begin: the number and the next id leave room for a whole script
+pub record CanBegin (w : Writer) : Type 0 where
+  pub number : w.number ≤ 2 ^ 61
+  pub some_id : 1 ≤ w.next_id
+  pub next_id : w.next_id ≤ 2 ^ 62
+  pub births : BirthsRise 1 w.number w.rows
+  pub apart : All (λ row. is_apart row.doc ≡ true) w.rows

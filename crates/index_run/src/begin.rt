@@ -1,0 +1,108 @@
+//! The commit that a run begins on.
+ghost use Rattle.std.specs.Prelude.{◌≡◌, ◌⊎◌, ◌<◌, ◌≤◌, ◌^◌, ℕ, List, [], ◌∷◌, IfOk, IfErr, IsErrAnd, Err, Some};
+ghost use Rattle.ix_base.specs.declared.document.Row.{Row};
+ghost use Rattle.ix_outside.specs.Causes.{Rose};
+ghost use Rattle.ix_outside.specs.Calls.{OnlyReads};
+ghost use Rattle.ix_outside.specs.Files.{Files, Was};
+ghost use Rattle.commit_point.specs.Holds.{Holds};
+ghost use Rattle.commit_point.specs.declared.fault.Damaged.{Damaged};
+ghost use Rattle.index_run.specs.Headline.{IsLast};
+ghost use Rattle.index_run.specs.Causes.{IsOneOf, stop_status};
+ghost use Rattle.index_run.specs.Searching.{IsDamagedIn};
+ghost use Rattle.index_run.specs.Beginning.{IsOn, IsHighBase, last_or_zero};
+ghost use Rattle.index_run.specs.Writer.{CanBegin};
+
+use crate::fault::Fault;
+use crate::stop::Stop;
+use crate::writer::Writer;
+use commit_point::{OpenFault, list_commits, read_commit};
+use ix_base::List;
+use ix_outside::{Store, StoreFault};
+use std::alloc::Global;
+
+/// No run begins on a commit whose number is above this: 2^61.
+pub const MOST_BASE: u64 = 2_305_843_009_213_693_952;
+
+/// The number of the store's last commit, or 0 where there is none.
+fn last_commit<S: Store>(alloc: Global, store: &mut S) -> Result<u64, Stop>
+    ensures last { IfOk result (λ base. (files : Files) × Was (S.files store.old) files × IsLast files base) }
+    ensures only { (files : Files) (base : ℕ) → S.files store.old ≡ Some files → IsLast files base → IfOk result (λ found. found ≡ base) }
+    ensures reads { OnlyReads S.files S.unsynced S.images S.moment S.left_since store.old store.new }
+    ensures later { S.fault_count store.old ≤ S.fault_count store.new }
+    ensures failed { result ≡ Err (Stop.Fault Fault.Store) → Rose (S.fault_count store.old) (S.fault_count store.new) }
+    ensures others { IfErr result (λ stop. (stop ≡ Stop.Fault Fault.Store) ⊎ (stop ≡ Stop.NoMemory)) }
+{
+    match list_commits(alloc, store) {
+        Ok(numbers) => Ok(last_of(numbers.as_slice())),
+        Err(StoreFault::Failed) => Err(Stop::Fault(Fault::Store)),
+        Err(StoreFault::NoMemory) => Err(Stop::NoMemory),
+    }
+}
+
+/// The last of rising numbers, or 0.
+fn last_of(numbers: &[u64]) -> u64
+    ensures { result ≡ last_or_zero numbers.now }
+{
+    numbers.last().copied().unwrap_or(0)
+}
+
+/// The writer on the store's last commit: its rows, its number and its next id; without a commit no
+/// row, 0 and 1.
+pub fn begin<S: Store>(alloc: Global, store: &mut S) -> Result<Writer, Stop>
+    ensures ready { IfOk result CanBegin }
+    ensures on { (files : Files) (base next : ℕ) (rows : List Row) → S.files store.old ≡ Some files → IsLast files base → IsOn files base next rows
+        → IfOk result (λ writer. writer ≡ record { rows = rows; number = base; next_id = next }) }
+    ensures base { (base : ℕ) → result ≡ Err (Stop.Fault (Fault.Base base)) → IsHighBase (S.files store.old) base }
+    ensures high { (files : Files) (base : ℕ) → S.files store.old ≡ Some files → IsLast files base → 2 ^ 61 < base
+        → IsErrAnd result (λ stop. (stop ≡ Stop.Fault (Fault.Base base)) ⊎ ((stop ≡ Stop.Fault Fault.Store) ⊎ (stop ≡ Stop.NoMemory))) }
+    ensures whole { (files : Files) (base next : ℕ) (rows : List Row) → S.files store.old ≡ Some files → IsLast files base → IsOn files base next rows → base ≤ 2 ^ 61
+        → IfErr result (λ stop. (stop ≡ Stop.Fault Fault.Store) ⊎ (stop ≡ Stop.NoMemory)) }
+    ensures damaged { (damaged : Damaged) → result ≡ Err (Stop.Fault (Fault.Damaged damaged)) → IsDamagedIn (S.files store.old) damaged }
+    ensures reads { OnlyReads S.files S.unsynced S.images S.moment S.left_since store.old store.new }
+    ensures later { S.fault_count store.old ≤ S.fault_count store.new }
+    ensures failed { result ≡ Err (Stop.Fault Fault.Store) → Rose (S.fault_count store.old) (S.fault_count store.new) }
+    ensures others { IfErr result (λ stop. IsOneOf (stop_status stop) (4 ∷ 7 ∷ 8 ∷ 10 ∷ [])) }
+{
+    let base = match last_commit(alloc, store) {
+        Ok(base) => base,
+        Err(stop) => return Err(stop),
+    };
+    if base > MOST_BASE {
+        return Err(Stop::Fault(Fault::Base(base)));
+    }
+    if base == 0 {
+        return Ok(Writer {
+            rows: List::new(alloc),
+            number: 0,
+            next_id: 1,
+        });
+    }
+    begin_on(alloc, store, base)
+}
+
+/// The writer on the commit of this number.
+fn begin_on<S: Store>(alloc: Global, store: &mut S, base: u64) -> Result<Writer, Stop>
+    requires { (1 ≤ base) × (base ≤ 2 ^ 61) }
+    ensures ready { IfOk result CanBegin }
+    ensures on { (files : Files) (next : ℕ) (rows : List Row) → S.files store.old ≡ Some files → Holds files base next rows
+        → IfOk result (λ writer. writer ≡ record { rows = rows; number = base; next_id = next }) }
+    ensures whole { (files : Files) (next : ℕ) (rows : List Row) → S.files store.old ≡ Some files → Holds files base next rows
+        → IfErr result (λ stop. (stop ≡ Stop.Fault Fault.Store) ⊎ (stop ≡ Stop.NoMemory)) }
+    ensures damaged { (damaged : Damaged) → result ≡ Err (Stop.Fault (Fault.Damaged damaged)) → IsDamagedIn (S.files store.old) damaged }
+    ensures reads { OnlyReads S.files S.unsynced S.images S.moment S.left_since store.old store.new }
+    ensures later { S.fault_count store.old ≤ S.fault_count store.new }
+    ensures failed { result ≡ Err (Stop.Fault Fault.Store) → Rose (S.fault_count store.old) (S.fault_count store.new) }
+    ensures others { IfErr result (λ stop. (stop ≡ Stop.Fault Fault.Store) ⊎ ((stop ≡ Stop.NoMemory) ⊎ ((damaged : Damaged) × (stop ≡ Stop.Fault (Fault.Damaged damaged))))) }
+{
+    match read_commit(alloc, store, base) {
+        Ok(opened) => Ok(Writer {
+            rows: opened.rows,
+            number: base,
+            next_id: opened.next_id,
+        }),
+        Err(OpenFault::Store) => Err(Stop::Fault(Fault::Store)),
+        Err(OpenFault::Damaged(damaged)) => Err(Stop::Fault(Fault::Damaged(damaged))),
+        Err(OpenFault::NoSuch { number: _ }) => Err(Stop::NoMemory),
+        Err(OpenFault::NoMemory) => Err(Stop::NoMemory),
+    }
+}

@@ -1,0 +1,59 @@
+//! A script's lines done over a store, and their report made.
+ghost use Rattle.std.specs.Prelude.{◌≡◌, ◌⊎◌, ◌<◌, ◌≤◌, ◌^◌, ◌∷◌, [], ℕ, List, IfOk, IfErr, IsErrAnd, Err, Some};
+ghost use Rattle.ix_base.specs.declared.document.Row.{Row};
+ghost use Rattle.ix_outside.specs.Causes.{Rose};
+ghost use Rattle.ix_outside.specs.Files.{Files, Changes};
+ghost use Rattle.commit_point.specs.Holds.{KeepsCommits};
+ghost use Rattle.commit_point.specs.declared.fault.Damaged.{Damaged};
+ghost use Rattle.op_script.specs.Shape.{AreScriptLines};
+ghost use Rattle.index_run.specs.Beginning.{IsOn, IsHighBase};
+ghost use Rattle.index_run.specs.Causes.{IsOneOf, stop_status};
+ghost use Rattle.index_run.specs.Headline.{Begins, IsLast};
+ghost use Rattle.index_run.specs.Script.{DoesScript};
+ghost use Rattle.index_run.specs.Searching.{IsDamagedIn};
+
+use crate::begin::begin;
+use crate::fault::Fault;
+use crate::lines::do_lines;
+use crate::report::report;
+use crate::stop::Stop;
+use ix_base::List;
+use ix_outside::{Gate, Store, StoreFault};
+use op_script::Line;
+use std::alloc::Global;
+
+/// Does the lines over the store's last commit, and answers their report, of which nothing is
+/// written yet.
+pub fn do_script<S: Store, G: Gate>(
+    alloc: Global,
+    store: &mut S,
+    gate: &G,
+    lines: List<Line>,
+) -> Result<Vec<u8>, Stop>
+    requires { AreScriptLines lines }
+    ensures done { (files : Files) (base next : ℕ) (rows : List Row) → S.files store.old ≡ Some files → Begins files base next rows
+        → IfOk result (λ text. Changes (DoesScript base next rows lines text.items) (S.files store.old) (S.files store.new)) }
+    ensures kept { (files : Files) (base next : ℕ) (rows : List Row) → S.files store.old ≡ Some files → Begins files base next rows
+        → Changes KeepsCommits (S.files store.old) (S.files store.new) }
+    ensures base { (base : ℕ) → result ≡ Err (Stop.Fault (Fault.Base base)) → IsHighBase (S.files store.old) base }
+    ensures same { (base : ℕ) → result ≡ Err (Stop.Fault (Fault.Base base)) → S.files store.new ≡ S.files store.old }
+    ensures high { (files : Files) (base : ℕ) → S.files store.old ≡ Some files → IsLast files base → 2 ^ 61 < base
+        → IsErrAnd result (λ stop. IsOneOf (stop_status stop) (4 ∷ 7 ∷ 10 ∷ [])) }
+    ensures whole { (files : Files) (base next : ℕ) (rows : List Row) → S.files store.old ≡ Some files → IsLast files base → IsOn files base next rows → base ≤ 2 ^ 61 → next ≤ 2 ^ 61
+        → IfErr result (λ stop. IsOneOf (stop_status stop) (4 ∷ 7 ∷ [])) }
+    ensures damaged { (damaged : Damaged) → result ≡ Err (Stop.Fault (Fault.Damaged damaged)) → IsDamagedIn (S.files store.new) damaged }
+    ensures later { S.fault_count store.old ≤ S.fault_count store.new }
+    ensures failed { result ≡ Err (Stop.Fault Fault.Store) → Rose (S.fault_count store.old) (S.fault_count store.new) }
+    ensures others { IfErr result (λ stop. IsOneOf (stop_status stop) (4 ∷ 7 ∷ 8 ∷ 10 ∷ [])) }
+{
+    let writer = match begin(alloc, store) {
+        Ok(writer) => writer,
+        Err(stop) => return Err(stop),
+    };
+    let outcomes = match do_lines(alloc, store, gate, writer, lines) {
+        Ok(outcomes) => outcomes,
+        Err(StoreFault::Failed) => return Err(Stop::Fault(Fault::Store)),
+        Err(StoreFault::NoMemory) => return Err(Stop::NoMemory),
+    };
+    report(alloc, store, outcomes.as_slice())
+}

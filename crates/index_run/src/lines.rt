@@ -1,0 +1,132 @@
+//! The lines of a script, done in its order.
+ghost use Rattle.std.specs.Prelude.{◌≡◌, ◌<◌, ◌≤◌, ◌+◌, ◌^◌, ℕ, List, [], length, true, OnOk, OnErr, IfOk, Err, Some, option_map, slice_index, replicate};
+ghost use Rattle.ix_base.specs.Refusals.{refusal, long_term};
+ghost use Rattle.ix_base.specs.declared.document.Row.{Row};
+ghost use Rattle.ix_outside.specs.Causes.{Rose};
+ghost use Rattle.ix_outside.specs.Files.{Files, Changes};
+ghost use Rattle.commit_point.specs.Writing.{SameElsewhere};
+ghost use Rattle.commit_point.specs.Holds.{KeepsCommits};
+ghost use Rattle.op_script.specs.Shape.{is_read_act, is_read_operation, AreScriptLines};
+ghost use Rattle.index_run.specs.Doing.{writer_after, answer_by, lasts_after, FilesAfter};
+ghost use Rattle.index_run.specs.Numbering.{numbered, commit_numbers};
+ghost use Rattle.index_run.specs.Outcomes.{outcomes_from};
+ghost use Rattle.index_run.specs.Headline.{HasCommits, Starts};
+ghost use Rattle.index_run.specs.Writer.{CanGoOn};
+
+use crate::outcome::{Answer, Outcome};
+use crate::writer::Writer;
+use ix_base::{List, NoMemory, Operation};
+use ix_outside::{Gate, Store, StoreFault};
+use op_script::{Act, Line};
+use std::alloc::Global;
+
+/// The size of the first term of an operation's document that is too long, if there is one.
+fn refused_size(alloc: Global, operation: &Operation) -> Result<Option<u64>, NoMemory>
+    requires { is_read_operation operation.now ≡ true }
+    ensures { IfOk result (λ size. refusal operation.now ≡ option_map long_term size) }
+{
+    if let Operation::Add(doc) = operation {
+        analysis::long_term(alloc, doc)
+    } else {
+        Ok(None)
+    }
+}
+
+/// Does an operation under the next number, unless it is refused, and tells the gate.
+fn do_operation<S: Store, G: Gate>(
+    alloc: Global,
+    store: &mut S,
+    gate: &G,
+    writer: &mut Writer,
+    line: u32,
+    operation: Operation,
+) -> Result<Answer, StoreFault>
+    requires ready { CanGoOn writer.old }
+    requires known { is_read_operation operation ≡ true }
+    ensures writer { OnOk result (writer.new ≡ writer_after writer.old (Act.Do operation)) }
+    ensures answer { IfOk result (λ answer. answer ≡ answer_by writer.old 0 (Act.Do operation)) }
+    ensures files { OnOk result (FilesAfter writer.old (Act.Do operation) (S.files store.old) (S.files store.new)) }
+    ensures err { OnErr result (Changes (SameElsewhere (writer.old.number + 1) writer.old.next_id) (S.files store.old) (S.files store.new)) }
+    ensures later { S.fault_count store.old ≤ S.fault_count store.new }
+    ensures failed { result ≡ Err StoreFault.Failed → Rose (S.fault_count store.old) (S.fault_count store.new) }
+{
+    gate.before(line);
+    if let Some(size) = refused_size(alloc, &operation)? {
+        return Ok(Answer::RefusedTerm(size));
+    }
+    let commits = matches!(&operation, Operation::Commit);
+    writer.apply(operation)?;
+    gate.told(line, writer.number);
+    if commits {
+        let docs = writer.commit(alloc, store)?;
+        Ok(Answer::Committed(writer.number, docs))
+    } else {
+        Ok(Answer::Numbered(writer.number))
+    }
+}
+
+/// Does a line. `lasts` has the number of each caller's last commit, or of the commit that the run
+/// began on.
+fn do_line<S: Store, G: Gate>(
+    alloc: Global,
+    store: &mut S,
+    gate: &G,
+    writer: &mut Writer,
+    lasts: &mut [u64],
+    line: Line,
+) -> Result<Outcome, StoreFault>
+    requires ready { CanGoOn writer.old }
+    requires known { is_read_act line.act ≡ true }
+    requires callers { length lasts.old ≡ 256 }
+    ensures writer { OnOk result (writer.new ≡ writer_after writer.old line.act) }
+    ensures lasts { OnOk result (lasts.new ≡ lasts_after writer.old line.caller line.act lasts.old) }
+    ensures outcome { IfOk result (λ outcome. outcome ≡ record { line = line.line; answer = answer_by writer.old (slice_index lasts.old line.caller) line.act }) }
+    ensures files { OnOk result (FilesAfter writer.old line.act (S.files store.old) (S.files store.new)) }
+    ensures err { OnErr result (Changes (SameElsewhere (writer.old.number + 1) writer.old.next_id) (S.files store.old) (S.files store.new)) }
+    ensures later { S.fault_count store.old ≤ S.fault_count store.new }
+    ensures failed { result ≡ Err StoreFault.Failed → Rose (S.fault_count store.old) (S.fault_count store.new) }
+{
+    let Line { line, caller, act } = line;
+    match act {
+        Act::Search(query) => Ok(Outcome {
+            line,
+            answer: Answer::Searched(lasts[caller as usize], query),
+        }),
+        Act::Do(operation) => {
+            let answer = do_operation(alloc, store, gate, writer, line, operation)?;
+            if let Answer::Committed(number, _) = &answer {
+                lasts[caller as usize] = *number;
+            }
+            Ok(Outcome { line, answer })
+        }
+    }
+}
+
+/// Does the lines in their order, and answers what became of each.
+pub fn do_lines<S: Store, G: Gate>(
+    alloc: Global,
+    store: &mut S,
+    gate: &G,
+    writer: Writer,
+    lines: List<Line>,
+) -> Result<Vec<Outcome>, StoreFault>
+    requires ready { CanGoOn writer }
+    requires base { (writer.number ≤ 2 ^ 61) × (writer.next_id ≤ 2 ^ 62) }
+    requires script { AreScriptLines lines }
+    ensures outcomes { IfOk result (λ outcomes. outcomes.items ≡ outcomes_from writer.number writer.rows [] lines) }
+    ensures commits { writer.next_id ≤ 2 ^ 61
+        → OnOk result (Changes (HasCommits writer.number writer.next_id writer.rows (numbered lines) (commit_numbers writer.number (numbered lines)) (writer.next_id + length (numbered lines))) (S.files store.old) (S.files store.new)) }
+    ensures kept { (files : Files) → S.files store.old ≡ Some files → Starts files writer.number writer.next_id → writer.next_id ≤ 2 ^ 61
+        → Changes KeepsCommits (S.files store.old) (S.files store.new) }
+    ensures later { S.fault_count store.old ≤ S.fault_count store.new }
+    ensures failed { result ≡ Err StoreFault.Failed → Rose (S.fault_count store.old) (S.fault_count store.new) }
+{
+    let mut writer = writer;
+    let mut lasts = [writer.number; 256];
+    let mut outcomes = Vec::new(alloc);
+    for line in lines.into_vec() {
+        let outcome = do_line(alloc, store, gate, &mut writer, &mut lasts, line)?;
+        outcomes.push(outcome)?;
+    }
+    Ok(outcomes)
+}

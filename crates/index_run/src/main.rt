@@ -1,0 +1,73 @@
+//! `index_run DIR run`: reads a script from standard input, does it over the index in the directory,
+//! and writes its report.
+#![tactic(auto)]
+
+use ix_outside::{DirStore, EmptyGate, ReadSource, WriteSink};
+use std::io::ErrorKind;
+use std::process::ExitCode;
+use std::rt::Env;
+use std::{env, io};
+
+mod begin;
+mod call;
+mod doing;
+mod fault;
+mod input;
+mod lines;
+mod outcome;
+mod output;
+mod reading;
+mod report;
+mod run;
+mod searches;
+mod stop;
+mod tell;
+mod texts;
+mod words;
+mod writer;
+
+pub use call::{Ended, top};
+
+/// The status for want of memory.
+const NO_MEMORY: u8 = 4;
+
+/// The status for words that are no command.
+const NO_COMMAND: u8 = 2;
+
+/// Calls `top` over the directory that the first word names and the standard streams, with the
+/// other words, and ends with its status. Without a first word nothing is printed.
+fn main(rt: HostRuntime) -> ExitCode {
+    let mut words = match words_of(&rt) {
+        Ok(words) => words,
+        Err(error) if error.kind() == ErrorKind::OutOfMemory => return ExitCode::from(NO_MEMORY),
+        Err(_) => return ExitCode::from(NO_COMMAND),
+    };
+    if words.is_empty() {
+        return ExitCode::from(NO_COMMAND);
+    }
+    let directory = words.remove(0);
+    let Ok(runtime) = rt.clone() else {
+        return ExitCode::from(NO_MEMORY);
+    };
+    let mut input = ReadSource::new(rt.stdin());
+    let mut out = WriteSink::new(rt.stdout());
+    let ended = top(
+        &rt,
+        rt.alloc(),
+        words.as_slice(),
+        &mut input,
+        &mut out,
+        DirStore::new(runtime, directory),
+        &EmptyGate,
+    );
+    ExitCode::from(ended.status)
+}
+
+/// The words of the command line, without the program's own name.
+fn words_of<R: Env + AllocGlobal>(rt: &R) -> io::Result<Vec<String>> {
+    let mut words = Vec::new(rt.alloc());
+    for word in env::args(rt)?.skip(1) {
+        words.push(word)?;
+    }
+    Ok(words)
+}

@@ -1,0 +1,76 @@
+//! A run: the words and the script read, the script done, and its report written.
+ghost use Rattle.std.specs.Prelude.{◌≡◌, ◌<◌, ◌≤◌, ◌^◌, ℕ, List, [], ◌∷◌, take, OnOk, IfOk, IfErr, Ok, Err, Some};
+ghost use Rattle.std.specs.Io.KnownBytes.{Appends, IsAtEnd};
+ghost use Rattle.ix_base.specs.declared.document.Row.{Row};
+ghost use Rattle.ix_outside.specs.Causes.{Rose};
+ghost use Rattle.ix_outside.specs.Files.{Files, Changes};
+ghost use Rattle.commit_point.specs.Holds.{KeepsCommits};
+ghost use Rattle.commit_point.specs.declared.fault.Damaged.{Damaged};
+ghost use Rattle.op_script.specs.Language.{script};
+ghost use Rattle.op_script.specs.declared.script.BadLine.{BadLine};
+ghost use Rattle.op_script.specs.declared.script.Line.{Line};
+ghost use Rattle.index_run.specs.Beginning.{IsOn, IsHighBase};
+ghost use Rattle.index_run.specs.Causes.{IsOneOf, IsBadIn, stop_status, run_status};
+ghost use Rattle.index_run.specs.Faults.{status_of};
+ghost use Rattle.index_run.specs.Headline.{Begins, IsLast, RunsRight};
+ghost use Rattle.index_run.specs.Searching.{IsDamagedIn};
+ghost use Rattle.index_run.specs.Words.{IsAccepted};
+
+use crate::doing::do_script;
+use crate::fault::Fault;
+use crate::output::write_all;
+use crate::reading::read_lines;
+use crate::stop::Stop;
+use ix_outside::{Gate, Sink, Source, Store};
+use std::alloc::Global;
+
+/// Does the run up to the last byte of its report. Of a fault nothing is written here.
+pub fn run<I: Source, O: Sink, S: Store, G: Gate>(
+    alloc: Global,
+    words: &[String],
+    input: &mut I,
+    out: &mut O,
+    store: &mut S,
+    gate: &G,
+) -> Result<(), Stop>
+    ensures words { result ≡ Err (Stop.Fault Fault.Words) → IsAccepted words.now → ⊥ }
+    ensures words_wrong { (IsAccepted words.now → ⊥) → result ≡ Err (Stop.Fault Fault.Words) }
+    ensures bad { (bad : BadLine) → result ≡ Err (Stop.Fault (Fault.BadLine bad)) → IsBadIn (I.left input.old) bad }
+    ensures bad_line { (bytes : List ℕ) (bad : BadLine) → IsAccepted words.now → I.left input.old ≡ Some bytes → script bytes ≡ Err bad → IsOneOf (run_status result) (3 ∷ 4 ∷ 5 ∷ []) }
+    ensures source { result ≡ Err (Stop.Fault Fault.Source) → Rose (I.fault_count input.old) (I.fault_count input.new) }
+    ensures sink { result ≡ Err Stop.Sink → Rose (O.fault_count out.old) (O.fault_count out.new) }
+    ensures store { result ≡ Err (Stop.Fault Fault.Store) → Rose (S.fault_count store.old) (S.fault_count store.new) }
+    ensures damaged { (damaged : Damaged) → result ≡ Err (Stop.Fault (Fault.Damaged damaged)) → IsDamagedIn (S.files store.new) damaged }
+    ensures base { (base : ℕ) → result ≡ Err (Stop.Fault (Fault.Base base)) → IsHighBase (S.files store.old) base }
+    ensures high { (bytes : List ℕ) (lines : List Line) (files : Files) (base : ℕ) → IsAccepted words.now → I.left input.old ≡ Some bytes → script bytes ≡ Ok lines
+        → S.files store.old ≡ Some files → IsLast files base → 2 ^ 61 < base → IsOneOf (run_status result) (4 ∷ 5 ∷ 7 ∷ 10 ∷ []) }
+    ensures whole { (bytes : List ℕ) (lines : List Line) (files : Files) (base next : ℕ) (rows : List Row) → IsAccepted words.now → I.left input.old ≡ Some bytes → script bytes ≡ Ok lines
+        → S.files store.old ≡ Some files → IsLast files base → IsOn files base next rows → base ≤ 2 ^ 61 → next ≤ 2 ^ 61 → IsOneOf (run_status result) (0 ∷ 4 ∷ 5 ∷ 6 ∷ 7 ∷ []) }
+
+    ensures headline { (bytes : List ℕ) (lines : List Line) (files : Files) (base next : ℕ) (rows : List Row) → I.left input.old ≡ Some bytes → script bytes ≡ Ok lines
+        → S.files store.old ≡ Some files → Begins files base next rows
+        → OnOk result (Changes (RunsRight base next rows lines (λ text. Appends (O.written out.old) (O.written out.new) text)) (S.files store.old) (S.files store.new)) }
+    ensures front { (bytes : List ℕ) (lines : List Line) (files : Files) (base next : ℕ) (rows : List Row) → I.left input.old ≡ Some bytes → script bytes ≡ Ok lines
+        → S.files store.old ≡ Some files → Begins files base next rows → result ≡ Err Stop.Sink
+        → Changes (RunsRight base next rows lines (λ text. (n : ℕ) × Appends (O.written out.old) (O.written out.new) (take n text))) (S.files store.old) (S.files store.new) }
+    ensures end { OnOk result (IsAtEnd (I.left input.new)) }
+    ensures kept { (files : Files) (base next : ℕ) (rows : List Row) → S.files store.old ≡ Some files → Begins files base next rows → Changes KeepsCommits (S.files store.old) (S.files store.new) }
+    ensures untouched { IfErr result (λ stop. IsOneOf (stop_status stop) (2 ∷ 3 ∷ 5 ∷ 10 ∷ []) → S.files store.new ≡ S.files store.old) }
+    ensures unwritten { IfErr result (λ stop. (stop ≡ Stop.Sink → ⊥) → out.new ≡ out.old) }
+    ensures input_later { I.fault_count input.old ≤ I.fault_count input.new }
+    ensures out_later { O.fault_count out.old ≤ O.fault_count out.new }
+    ensures store_later { S.fault_count store.old ≤ S.fault_count store.new }
+{
+    let lines = match read_lines(alloc, words, input) {
+        Ok(lines) => lines,
+        Err(stop) => return Err(stop),
+    };
+    let text = match do_script(alloc, store, gate, lines) {
+        Ok(text) => text,
+        Err(stop) => return Err(stop),
+    };
+    match write_all(out, text.as_slice()) {
+        Ok(()) => Ok(()),
+        Err(_) => Err(Stop::Sink),
+    }
+}

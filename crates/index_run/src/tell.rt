@@ -1,0 +1,94 @@
+//! A run, and the line that tells its fault.
+ghost use Rattle.std.specs.Prelude.{◌≡◌, ◌<◌, ◌≤◌, ◌^◌, ℕ, List, [], ◌∷◌, take, Ok, Err, Some};
+ghost use Rattle.std.specs.Io.KnownBytes.{Appends, IsAtEnd};
+ghost use Rattle.ix_base.specs.declared.document.Row.{Row};
+ghost use Rattle.ix_outside.specs.Causes.{Rose};
+ghost use Rattle.ix_outside.specs.Files.{Files, Changes};
+ghost use Rattle.commit_point.specs.Holds.{KeepsCommits};
+ghost use Rattle.commit_point.specs.declared.fault.Damaged.{Damaged};
+ghost use Rattle.op_script.specs.Language.{script};
+ghost use Rattle.op_script.specs.declared.script.BadLine.{BadLine};
+ghost use Rattle.op_script.specs.declared.script.Line.{Line};
+ghost use Rattle.index_run.specs.Beginning.{IsOn, IsHighBase};
+ghost use Rattle.index_run.specs.Causes.{IsOneOf, WritesFront, IsBadIn};
+ghost use Rattle.index_run.specs.Faults.{fault_text, status_of};
+ghost use Rattle.index_run.specs.Headline.{Begins, IsLast, RunsRight};
+ghost use Rattle.index_run.specs.Searching.{IsDamagedIn};
+ghost use Rattle.index_run.specs.Words.{IsAccepted};
+
+use crate::fault::Fault;
+use crate::output::write_all;
+use crate::run::run;
+use crate::stop::Stop;
+use ix_outside::{Gate, Sink, Source, Store};
+use std::alloc::Global;
+
+/// Writes the line that tells a fault, and answers the fault's status. A sink that fails there
+/// changes nothing of the status.
+fn tell<O: Sink>(out: &mut O, fault: Fault) -> u8
+    ensures status { result ≡ status_of fault }
+    ensures front { WritesFront (O.written out.old) (O.written out.new) (O.fault_count out.old) (O.fault_count out.new) (fault_text fault) }
+    ensures later { O.fault_count out.old ≤ O.fault_count out.new }
+{
+    let text = fault.text();
+    let _written = write_all(out, text.as_str().as_bytes());
+    fault.status()
+}
+
+/// Does the run, tells its fault where there is one, and answers the exit status.
+pub fn run_and_tell<I: Source, O: Sink, S: Store, G: Gate>(
+    alloc: Global,
+    words: &[String],
+    input: &mut I,
+    out: &mut O,
+    store: &mut S,
+    gate: &G,
+) -> u8
+    // Every status, and when it comes. Want of memory, 4, is free.
+    ensures statuses { IsOneOf result (0 ∷ 2 ∷ 3 ∷ 4 ∷ 5 ∷ 6 ∷ 7 ∷ 8 ∷ 10 ∷ []) }
+    ensures words { result ≡ 2 → (IsAccepted words.now → ⊥) × WritesFront (O.written out.old) (O.written out.new) (O.fault_count out.old) (O.fault_count out.new) (fault_text Fault.Words) }
+    ensures words_wrong { (IsAccepted words.now → ⊥) → result ≡ 2 }
+    ensures bad { result ≡ 3 → (bad : BadLine) × IsBadIn (I.left input.old) bad
+        × WritesFront (O.written out.old) (O.written out.new) (O.fault_count out.old) (O.fault_count out.new) (fault_text (Fault.BadLine bad)) }
+    ensures bad_line { (bytes : List ℕ) (bad : BadLine) → IsAccepted words.now → I.left input.old ≡ Some bytes → script bytes ≡ Err bad → IsOneOf result (3 ∷ 4 ∷ 5 ∷ []) }
+    ensures source { result ≡ 5 → Rose (I.fault_count input.old) (I.fault_count input.new)
+        × WritesFront (O.written out.old) (O.written out.new) (O.fault_count out.old) (O.fault_count out.new) (fault_text Fault.Source) }
+    ensures sink { result ≡ 6 → Rose (O.fault_count out.old) (O.fault_count out.new) }
+    ensures store { result ≡ 7 → Rose (S.fault_count store.old) (S.fault_count store.new)
+        × WritesFront (O.written out.old) (O.written out.new) (O.fault_count out.old) (O.fault_count out.new) (fault_text Fault.Store) }
+    ensures damaged { result ≡ 8 → (damaged : Damaged) × IsDamagedIn (S.files store.new) damaged
+        × WritesFront (O.written out.old) (O.written out.new) (O.fault_count out.old) (O.fault_count out.new) (fault_text (Fault.Damaged damaged)) }
+    ensures base { result ≡ 10 → (base : ℕ) × IsHighBase (S.files store.old) base
+        × WritesFront (O.written out.old) (O.written out.new) (O.fault_count out.old) (O.fault_count out.new) (fault_text (Fault.Base base)) }
+    ensures high { (bytes : List ℕ) (lines : List Line) (files : Files) (base : ℕ) → IsAccepted words.now → I.left input.old ≡ Some bytes → script bytes ≡ Ok lines
+        → S.files store.old ≡ Some files → IsLast files base → 2 ^ 61 < base → IsOneOf result (4 ∷ 5 ∷ 7 ∷ 10 ∷ []) }
+    ensures nothing { result ≡ 4 → O.written out.new ≡ O.written out.old }
+
+    // Where nothing fails, the run comes to its end.
+    ensures complete { (bytes : List ℕ) (lines : List Line) (files : Files) (base next : ℕ) (rows : List Row) → IsAccepted words.now → I.left input.old ≡ Some bytes → script bytes ≡ Ok lines
+        → S.files store.old ≡ Some files → IsLast files base → IsOn files base next rows → base ≤ 2 ^ 61 → next ≤ 2 ^ 61
+        → (Rose (I.fault_count input.old) (I.fault_count input.new) → ⊥) → (Rose (O.fault_count out.old) (O.fault_count out.new) → ⊥) → (Rose (S.fault_count store.old) (S.fault_count store.new) → ⊥)
+        → IsOneOf result (0 ∷ 4 ∷ []) }
+
+    // The headline: the numbers run on from the last commit's, the new commits hold exactly the rows by the lines
+    // numbered up to theirs, and the report is written and nothing else.
+    ensures headline { (bytes : List ℕ) (lines : List Line) (files : Files) (base next : ℕ) (rows : List Row) → I.left input.old ≡ Some bytes → script bytes ≡ Ok lines
+        → S.files store.old ≡ Some files → Begins files base next rows → result ≡ 0
+        → Changes (RunsRight base next rows lines (λ text. Appends (O.written out.old) (O.written out.new) text)) (S.files store.old) (S.files store.new) }
+    // Where the sink fails, the commits are the same, and a front of the report was written.
+    ensures front { (bytes : List ℕ) (lines : List Line) (files : Files) (base next : ℕ) (rows : List Row) → I.left input.old ≡ Some bytes → script bytes ≡ Ok lines
+        → S.files store.old ≡ Some files → Begins files base next rows → result ≡ 6
+        → Changes (RunsRight base next rows lines (λ text. (n : ℕ) × Appends (O.written out.old) (O.written out.new) (take n text))) (S.files store.old) (S.files store.new) }
+    ensures end { result ≡ 0 → IsAtEnd (I.left input.new) }
+
+    // At every status the commits that were there have their files and bytes.
+    ensures kept { (files : Files) (base next : ℕ) (rows : List Row) → S.files store.old ≡ Some files → Begins files base next rows → Changes KeepsCommits (S.files store.old) (S.files store.new) }
+    ensures untouched { IsOneOf result (2 ∷ 3 ∷ 5 ∷ 10 ∷ []) → S.files store.new ≡ S.files store.old }
+{
+    match run(alloc, words, input, out, store, gate) {
+        Ok(()) => 0,
+        Err(Stop::NoMemory) => 4,
+        Err(Stop::Sink) => 6,
+        Err(Stop::Fault(fault)) => tell(out, fault),
+    }
+}

@@ -1,0 +1,63 @@
+//! The private writer: the rows as they stand, the last number and the next segment id.
+ghost use Rattle.std.specs.Prelude.{◌≡◌, ◌<◌, ◌≤◌, ◌+◌, ◌^◌, length, true, OnOk, OnErr, IfOk, Err};
+ghost use Rattle.ix_base.specs.Steps.{step};
+ghost use Rattle.ix_base.specs.declared.file_name.FileName.TheVariants.{Commit, Rows};
+ghost use Rattle.ix_outside.specs.Causes.{Rose};
+ghost use Rattle.ix_outside.specs.Files.{Files, Changes};
+ghost use Rattle.commit_point.specs.Writing.{Commits, SameElsewhere, next_after};
+ghost use Rattle.op_script.specs.Shape.{is_read_operation};
+ghost use Rattle.index_run.specs.Writer.{CanCommit};
+
+use commit_point::write_commit;
+use ix_base::{List, NoMemory, Operation, Row};
+use ix_outside::{Store, StoreFault};
+use std::alloc::Global;
+
+/// The rows of an index as the lines so far leave them, the number of the last of these lines, and
+/// the id that the next segment gets.
+#[derive(Drop)]
+pub struct Writer {
+    pub rows: List<Row>,
+    pub number: u64,
+    pub next_id: u64,
+}
+
+impl Writer {
+    /// Does the operation under the next number. After an error the writer is as before.
+    pub fn apply(&mut self, operation: Operation) -> Result<(), NoMemory>
+        requires known { is_read_operation operation ≡ true }
+        requires room { self.old.number < 2 ^ 62 }
+        ensures ok { OnOk result (self.new ≡ record { rows = step self.old.rows (self.old.number + 1) operation; number = self.old.number + 1; next_id = self.old.next_id }) }
+        ensures err { OnErr result (self.new ≡ self.old) }
+    {
+        let number = self.number + 1;
+        if let Operation::Add(doc) = operation {
+            self.rows.push(Row { birth: number, doc })?;
+        }
+        self.number = number;
+        Ok(())
+    }
+
+    /// Writes the rows as the commit of the last number, and answers how many there are. After an
+    /// error the writer is as before.
+    pub fn commit<S: Store>(&mut self, alloc: Global, store: &mut S) -> Result<u64, StoreFault>
+        requires { CanCommit self.old }
+        ensures docs { IfOk result (λ docs. docs ≡ length self.old.rows) }
+        ensures ok { OnOk result (self.new ≡ record self.old { next_id = next_after self.old.next_id self.old.rows }) }
+        ensures made { OnOk result (self.old.next_id < 2 ^ 62 → Changes (Commits self.old.number self.old.next_id self.old.rows) (S.files store.old) (S.files store.new)) }
+        ensures err { OnErr result (Changes (SameElsewhere self.old.number self.old.next_id) (S.files store.old) (S.files store.new)) }
+        ensures later { S.fault_count store.old ≤ S.fault_count store.new }
+        ensures failed { result ≡ Err StoreFault.Failed → Rose (S.fault_count store.old) (S.fault_count store.new) }
+    {
+        let rows = self.rows.as_slice();
+        match write_commit(alloc, store, self.number, self.next_id, rows) {
+            Ok(docs) => {
+                if docs > 0 {
+                    self.next_id += 1;
+                }
+                Ok(docs)
+            }
+            Err(refused) => Err(refused.fault),
+        }
+    }
+}
