@@ -14,3 +14,4 @@ pub mod Loading
 pub mod OnlyReading
 pub mod Opening
 pub mod Telling
+pub mod ReadingLaws
