@@ -1,5 +1,5 @@
 -- The terms of a document: what it is found by.
-use Rattle.std.specs.Prelude.{ℕ, ◌+◌, List, [], ◌∷◌, ◌++◌, map, codes, length, nat_lt, Option, option_map, encode_utf8_all}
+use Rattle.std.specs.Prelude.{ℕ, ◌+◌, List, [], ◌∷◌, ◌++◌, map, codes, length, nat_lt, Option, Some, None, option_map, encode_utf8_all}
 use Rattle.std.specs.Prelude.{find}
 use Rattle.std.specs.List.{flat_map}
 use Rattle.std.specs.Str.{chars}
