@@ -1,22 +1,13 @@
 -- Postings to which a place is added that is the last of them or after them.
-use Rattle.std.proofs.Common.{◌≡◌, ◌≢◌, ℕ, ◌+◌, ◌-◌, ◌<◌, ◌≤◌, List, [], ◌∷◌, ◌++◌, Bool, true, false, ◌&&◌, ◌||◌, ◌==◌, Option, Some, None, length, get_or, ◌⊎◌, inl, inr, refl, sym, ap, ◌∙◌, subst, arith}
+use Rattle.std.proofs.Common.{◌≡◌, ◌≢◌, ℕ, ◌-◌, ◌<◌, ◌≤◌, List, [], ◌∷◌, ◌++◌, Bool, true, false, ◌&&◌, ◌||◌, ◌==◌, Some, length, ◌⊎◌, inl, inr, refl, sym, ap, ◌∙◌, subst, arith}
 use Rattle.std.specs.List.{All, AllPairs, list_any, slice_get}
-use Rattle.std.specs.Str.{bytes_eq}
-use Rattle.std.specs.Ordering.{is_gt, is_lt, ordering_reverse}
-use Rattle.std.specs.declared.cmp.Ordering.{Ordering}
-use Rattle.std.specs.declared.cmp.Ordering.TheVariants.{Less, Equal, Greater}
 use Rattle.std.proofs.lemmas.List.{length_push}
 use Rattle.std.proofs.lemmas.List.Recursion.{or_push}
 use Rattle.std.proofs.lemmas.List.Elements.{All-weaker, All-nil}
 use Rattle.std.proofs.lemmas.Cmp.{upto}
-use Rattle.ix_base.specs.Inversion.{term_cmp, has_number, posted_at, posted, IsPosting, IsPostings, IsTermPostings}
-use Rattle.ix_base.proofs.TermOrder.{term_total, term_same}
-use Rattle.ix_base.specs.declared.document.Term.{Term}
+use Rattle.ix_base.specs.Inversion.{has_number, posted_at, IsPosting}
 use Rattle.ix_base.specs.declared.postings.Posting.{Posting}
-use Rattle.ix_base.specs.declared.postings.TermPostings.{TermPostings}
-use Rattle.analysis.specs.Occurrences.{is_at, occurrence_cmp}
-use Rattle.analysis.specs.Grouping.{PositionsUpto, AddsPosition, PostingUpto, RowsUpto, AddsPlace, EntryUpto, EntriesUpto, AddsOccurrence, EndsInOtherRow, EndsInOtherTerm}
-use Rattle.analysis.specs.declared.occurrence.Occurrence.{Occurrence}
+use Rattle.analysis.specs.Grouping.{PositionsUpto, AddsPosition, PostingUpto, RowsUpto, AddsPlace, EndsInOtherRow}
 use Rattle.analysis.proofs.Ends.{ends, All-front, All-last, All-push, pairs_front, pairs_last, pairs_push}
 
 pub any_push : {X : Type 0} (p : X → Bool) (xs : List X) (y : X) → list_any p (xs ++ y ∷ []) ≡ (list_any p xs || p y)

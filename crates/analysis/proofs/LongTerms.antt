@@ -1,7 +1,7 @@
 -- The first long term of places that are joined.
-use Rattle.std.proofs.Common.{◌≡◌, ℕ, ◌+◌, List, [], ◌∷◌, ◌++◌, Bool, true, false, Option, Some, None, cond, length, refl, nat_lt, ◌∙◌, codes, map, sym, ap}
+use Rattle.std.proofs.Common.{◌≡◌, ℕ, ◌+◌, List, [], ◌∷◌, ◌++◌, Bool, true, false, Option, Some, None, cond, length, refl, nat_lt, ◌∙◌, ap}
 use Rattle.std.specs.Prelude.{option_map, find}
-use Rattle.ix_base.specs.Terms.{Place, long_term, placed_from, most_term_bytes, whole, text_places, folded_words}
+use Rattle.ix_base.specs.Terms.{Place, long_term, placed_from, most_term_bytes, text_places, folded_words}
 
 abbrev is_long : Place → Bool
 is_long place = nat_lt most_term_bytes (length place.bytes)

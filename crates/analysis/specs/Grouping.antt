@@ -1,8 +1,8 @@
 -- Postings that grow by places in order.
-use Rattle.std.specs.Prelude.{◌≡◌, ◌≢◌, ℕ, ◌<◌, ◌≤◌, List, [], ◌∷◌, ◌++◌, Bool, false, ◌&&◌, ◌||◌, ◌==◌, length, AllPairs, All}
+use Rattle.std.specs.Prelude.{◌≡◌, ◌≢◌, ℕ, ◌<◌, ◌≤◌, List, [], ◌∷◌, ◌++◌, false, ◌&&◌, ◌||◌, ◌==◌, length, AllPairs, All}
 use Rattle.std.specs.List.{list_any}
 use Rattle.std.specs.Ordering.{is_gt}
-use Rattle.ix_base.specs.Inversion.{term_cmp, has_number, posted_at, posted, IsPosting, IsPostings, IsTermPostings}
+use Rattle.ix_base.specs.Inversion.{term_cmp, has_number, posted_at, posted, IsPosting, IsPostings}
 use Rattle.ix_base.specs.declared.document.Term.{Term}
 use Rattle.ix_base.specs.declared.postings.Posting.{Posting}
 use Rattle.ix_base.specs.declared.postings.TermPostings.{TermPostings}

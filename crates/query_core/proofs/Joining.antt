@@ -1,12 +1,12 @@
 -- Rows of two tests, and words that stand one after another.
-use Rattle.std.proofs.Common.{◌≡◌, ◌≢◌, ℕ, zero, suc, ◌+◌, ◌<◌, ◌≤◌, List, [], ◌∷◌, ◌++◌, Bool, true, false, not, ◌&&◌, ◌||◌, ◌==◌, cond, length, get_or, take, map, nat_lt, Option, Some, None, MatchOption, Vec, Global, refl, sym, ap, ◌∙◌, subst, arith}
-use Rattle.std.specs.List.{All, list_any, list_all, filter}
+use Rattle.std.proofs.Common.{◌≡◌, ℕ, zero, suc, ◌+◌, ◌<◌, ◌≤◌, List, [], ◌∷◌, ◌++◌, Bool, true, false, not, ◌&&◌, ◌||◌, ◌==◌, cond, length, get_or, take, map, nat_lt, Option, Some, None, MatchOption, Vec, Global, refl, sym, ap, ◌∙◌, subst, arith}
+use Rattle.std.specs.List.{list_any, filter}
 use Rattle.std.proofs.lemmas.Bool.{eqb-true, ne_eqb, and_parts, ltb-true, lt-ltb}
 use Rattle.std.proofs.lemmas.List.{take_more, take_all, length-take, length-map}
 use Rattle.std.proofs.lemmas.List.Folds.{Any-from_list_any, list_any_at, list_any-append}
 use Rattle.ix_base.specs.Terms.{Place, terms}
 use Rattle.ix_base.specs.Matches.{is_term, holds_term, stands_at, words_stand_at, phrase_stands, matches, all_match, any_matches, is_empty}
-use Rattle.ix_base.specs.Inversion.{has_number, at_row, stands_in_row, rows_where}
+use Rattle.ix_base.specs.Inversion.{has_number, at_row, rows_where}
 use Rattle.ix_base.specs.Query.{tree_of, trees_of}
 use Rattle.ix_base.specs.Tree.{Trees, bool, tree_count, trees_count}
 use Rattle.ix_base.specs.declared.document.Document.{Document}
@@ -14,7 +14,7 @@ use Rattle.ix_base.specs.declared.document.Term.{Term}
 use Rattle.ix_base.specs.declared.query.Query.{Query}
 use Rattle.query_core.specs.Answers.{IsRising, term_of, holds_all, terms_stand_at, terms_stand, ArePositions}
 use Rattle.query_core.proofs.Rising.{has_at, same_bool, contains}
-use Rattle.query_core.proofs.Documents.{filter_rows, has_rows, rows_rise, at_row-not, at_row-and, at_row-or, at_row-agree, rows_where-agree, rows_where-none, rows_are}
+use Rattle.query_core.proofs.Documents.{filter_rows, has_rows, rows_rise, at_row-not, at_row-and, at_row-or, at_row-agree, rows_where-agree, rows_where-none}
 
 both_true : (b : Bool) → (b && true) ≡ b
 both_true true = refl

@@ -1,16 +1,13 @@
 -- Documents have one inversion at most, and its rows are theirs.
-use Rattle.std.proofs.Common.{◌≡◌, ◌≢◌, ℕ, zero, suc, ◌+◌, ◌<◌, ◌≤◌, List, [], ◌∷◌, Bool, true, false, ◌&&◌, ◌||◌, ◌==◌, length, get_or, ◌⊎◌, inl, inr, refl, sym, ap, ◌∙◌, subst, arith}
+use Rattle.std.proofs.Common.{◌≡◌, ◌≢◌, ℕ, zero, suc, ◌<◌, List, [], ◌∷◌, Bool, true, false, ◌&&◌, ◌||◌, length, get_or, ◌⊎◌, inl, inr, refl, sym, ap, ◌∙◌, arith}
 use Rattle.std.specs.List.{All, AllPairs}
-use Rattle.std.specs.Str.{bytes_eq}
 use Rattle.std.specs.Ordering.{ordering_reverse}
 use Rattle.std.specs.declared.cmp.Ordering.{Ordering}
 use Rattle.std.specs.declared.cmp.Ordering.TheVariants.{Less, Equal, Greater}
-use Rattle.std.proofs.lemmas.Bool.{eqb-true, ne_eqb, cases_order}
+use Rattle.std.proofs.lemmas.Bool.{ne_eqb, cases_order}
 use Rattle.std.proofs.lemmas.Cmp.{tied_itself}
 use Rattle.std.proofs.lemmas.List.Elements.{All-weaker, All-cons, All-head, All-tail}
-use Rattle.ix_base.specs.Inversion.{term_cmp, has_number, at_row, stands_in_row, posted, posted_at, IsPosting, IsTermPostings, IsPostings, IsInversion}
-use Rattle.ix_base.specs.Terms.{terms}
-use Rattle.ix_base.specs.Matches.{stands_at}
+use Rattle.ix_base.specs.Inversion.{term_cmp, has_number, stands_in_row, posted, posted_at, IsPosting, IsTermPostings, IsPostings, IsInversion}
 use Rattle.ix_base.proofs.TermOrder.{term_total, term_same}
 use Rattle.ix_base.specs.declared.document.Document.{Document}
 use Rattle.ix_base.specs.declared.document.Term.{Term}
@@ -18,7 +15,7 @@ use Rattle.ix_base.specs.declared.postings.Posting.{Posting}
 use Rattle.ix_base.specs.declared.postings.Postings.{Postings}
 use Rattle.ix_base.specs.declared.postings.TermPostings.{TermPostings}
 use Rattle.query_core.proofs.Rising.{pairs_head, pairs_tail, has_at, rising_unique}
-use Rattle.query_core.proofs.InPostings.{posted_found, posted_nowhere, row_found, row_nowhere, no_posting, named_other, is_named}
+use Rattle.query_core.proofs.InPostings.{posted_found, posted_nowhere, row_found, row_nowhere, no_posting, named_other}
 
 either : (a b : ℕ) → (a < b) ⊎ (b < a) → a ≢ b
 either a b (inl l) e = omega arith

@@ -1,4 +1,4 @@
-use Rattle.std.proofs.Common.{◌≡◌, [], ◌∷◌, ◌++◌, List, ℕ, sym, ap, ◌∙◌, subst}
+use Rattle.std.proofs.Common.{[], ◌∷◌, ◌++◌, List, ℕ, ap, ◌∙◌, subst}
 use Rattle.ix_base.specs.declared.postings.Posting.{Posting}
 use Rattle.analysis.specs.Grouping.{AddsPosition}
 use Rattle.analysis.proofs.Growth.{replace_row, push_row}

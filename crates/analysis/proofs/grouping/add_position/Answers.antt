@@ -1,4 +1,4 @@
-use Rattle.std.proofs.Common.{◌≡◌, ◌≢◌, ◌-◌, length, Some, None, sym, ap, ◌∙◌, subst, List, ℕ, Option}
+use Rattle.std.proofs.Common.{◌≡◌, ◌≢◌, ◌-◌, length, Some, sym, ap, ◌∙◌, subst, List, ℕ, Option}
 use Rattle.std.specs.List.{slice_get}
 use Rattle.std.specs.Option.{option_copied}
 use Rattle.analysis.specs.Grouping.{AddsPosition}

@@ -2,7 +2,7 @@ use Rattle.std.proofs.Common.{take}
 use Rattle.analysis.proofs.grouping.group.Given as goal
 use Rattle.analysis.specs.Grouping.{Groups, EntriesUpto}
 use Rattle.std.specs.List.{All}
-use Rattle.std.proofs.Common.{◌≡◌, ◌<◌, false}
+use Rattle.std.proofs.Common.{◌≡◌, false}
 use Rattle.std.specs.Ordering.{is_gt}
 use Rattle.analysis.specs.Occurrences.{occurrence_cmp}
 

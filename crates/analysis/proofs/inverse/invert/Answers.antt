@@ -1,4 +1,4 @@
-use Rattle.std.proofs.Common.{◌≡◌, map, List, subst}
+use Rattle.std.proofs.Common.{map, List, subst}
 use Rattle.std.proofs.lemmas.Result.{IfOk-weaker}
 use Rattle.ix_base.specs.Inversion.{IsInversion}
 use Rattle.ix_base.specs.declared.document.Row.{Row}

@@ -1,4 +1,4 @@
-use Rattle.std.proofs.Common.{◌≡◌, ◌++◌, ℕ, List, ap, ◌∙◌, arith, map, take}
+use Rattle.std.proofs.Common.{◌++◌, ℕ, List, ap, ◌∙◌, arith, map, take}
 use Rattle.ix_base.specs.declared.document.Row.{Row}
 use Rattle.analysis.specs.Occurrences.{occurrences, occurrences_from}
 use Rattle.analysis.specs.declared.occurrence.Occurrence.{Occurrence}

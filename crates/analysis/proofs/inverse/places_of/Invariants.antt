@@ -1,4 +1,4 @@
-use Rattle.std.proofs.Common.{◌≡◌, ◌++◌, map, take}
+use Rattle.std.proofs.Common.{◌≡◌, map, take}
 use Rattle.analysis.specs.Occurrences.{occurrences_from}
 use Rattle.analysis.proofs.inverse.places_of.Given as goal
 

@@ -1,4 +1,4 @@
-use Rattle.std.proofs.Common.{◌≡◌, ◌∷◌, ◌++◌, Some, None, ◌∙◌, sym, ap, map, codes}
+use Rattle.std.proofs.Common.{◌≡◌, ◌++◌, Some, None, ◌∙◌, sym, ap, map, codes}
 use Rattle.std.specs.List.{flat_map}
 use Rattle.std.proofs.lemmas.Result.{IfOk-weaker}
 use Rattle.ix_base.specs.Terms.{long_term, whole, terms, text_places}

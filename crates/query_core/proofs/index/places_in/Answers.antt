@@ -1,5 +1,4 @@
-use Rattle.std.proofs.Common.{◌≡◌, ◌∙◌, [], List, ℕ, sym, ap, subst, rules}
-use Rattle.ix_base.specs.declared.postings.Posting.{Posting}
+use Rattle.std.proofs.Common.{◌≡◌, ◌∙◌, sym, subst, rules}
 use Rattle.query_core.specs.Answers.{ArePositions}
 use Rattle.query_core.proofs.InPostings.{places_of_row_in, places_of_no_row_in, places_of_none, none_among}
 use Rattle.query_core.proofs.index.places_in.Goals as goal

@@ -1,4 +1,4 @@
-use Rattle.std.proofs.Common.{◌≡◌, ◌<◌, ◌*◌, ◌+◌, ◌≤◌, ◌∙◌, ◌++◌, List, ℕ, Option, Some, None, MatchOption, IfSome, IfNone, IfOk, Result, Ok, Err, Global, sym, ap, subst, rules, arith, length, take, get_or, Vec, cond, not}
+use Rattle.std.proofs.Common.{◌≡◌, ◌<◌, ◌*◌, ◌+◌, ◌≤◌, ◌∙◌, List, ℕ, Option, Some, None, MatchOption, IfSome, IfNone, IfOk, Result, Ok, Err, Global, sym, ap, subst, rules, arith, length, take, get_or, Vec, cond, not}
 use Rattle.std.specs.List.{filter}
 use Rattle.std.proofs.lemmas.Result.{IfOk-weaker}
 use Rattle.ix_base.specs.Tree.{Trees, tree_count, trees_count}

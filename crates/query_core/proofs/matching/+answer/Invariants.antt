@@ -1,4 +1,4 @@
-use Rattle.std.proofs.Common.{◌≡◌, ℕ, ◌+◌, ◌*◌, List, MatchOption, take, Vec}
+use Rattle.std.proofs.Common.{◌≡◌, ℕ, ◌+◌, ◌*◌, List, MatchOption, take}
 use Rattle.ix_base.specs.Matches.{all_match, any_matches}
 use Rattle.ix_base.specs.Inversion.{has_number, at_row, rows_where}
 use Rattle.ix_base.specs.Query.{tree_of, trees_of}

@@ -1,4 +1,4 @@
-use Rattle.std.proofs.Common.{◌≡◌, List, arith, take, subst}
+use Rattle.std.proofs.Common.{◌≡◌, List, arith, subst}
 use Rattle.ix_base.specs.Matches.{holds_term}
 use Rattle.std.specs.List.{filter}
 use Rattle.ix_base.specs.Inversion.{rows_where, has_number}

@@ -1,6 +1,6 @@
-use Rattle.std.proofs.Common.{◌≡◌, ◌∙◌, ℕ, Bool, List, sym, ap, refl, get_or, Vec, take, true, false}
+use Rattle.std.proofs.Common.{◌≡◌, ◌∙◌, ℕ, Bool, List, sym, ap, refl, get_or, Vec}
 use Rattle.std.specs.List.{filter}
-use Rattle.ix_base.specs.Inversion.{at_row, rows_where}
+use Rattle.ix_base.specs.Inversion.{at_row}
 use Rattle.query_core.specs.Answers.{terms_stand, holds_all}
 use Rattle.query_core.proofs.Rising.{filter_kept, filter_left}
 use Rattle.query_core.proofs.Documents.{filter_rows}

@@ -1,4 +1,4 @@
-use Rattle.std.proofs.Common.{◌≡◌, ◌∙◌, ap, nat_lt}
+use Rattle.std.proofs.Common.{◌∙◌, ap, nat_lt}
 use Rattle.query_core.proofs.Joining.{found_in_row}
 use Rattle.query_core.proofs.phrase.stands.Goals as goal
 

@@ -1,4 +1,4 @@
-use Rattle.std.proofs.Common.{◌≡◌, ◌+◌, ℕ, List, arith, take, subst}
+use Rattle.std.proofs.Common.{◌≡◌, ◌+◌, List, arith, subst}
 use Rattle.std.specs.List.{filter}
 use Rattle.ix_base.specs.Terms.{terms}
 use Rattle.ix_base.specs.Inversion.{has_number, at_row}

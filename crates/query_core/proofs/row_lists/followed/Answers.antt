@@ -1,4 +1,4 @@
-use Rattle.std.proofs.Common.{◌≡◌, ◌+◌, ℕ, Bool, not, true, false, sym, ap, ◌∙◌, refl, get_or, Vec}
+use Rattle.std.proofs.Common.{◌≡◌, ◌+◌, ℕ, Bool, sym, ap, ◌∙◌, refl, get_or, Vec}
 use Rattle.ix_base.specs.Inversion.{has_number}
 use Rattle.query_core.proofs.Rising.{filter_kept, filter_left}
 use Rattle.query_core.proofs.row_lists.followed.Goals as goal

@@ -1,4 +1,4 @@
-use Rattle.std.proofs.Common.{◌≡◌, ◌+◌, not, take}
+use Rattle.std.proofs.Common.{◌≡◌, ◌+◌, take}
 use Rattle.std.specs.List.{filter}
 use Rattle.ix_base.specs.Inversion.{has_number}
 use Rattle.query_core.specs.Answers.{IsRising}
