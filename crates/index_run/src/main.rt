@@ -22,6 +22,8 @@ mod run;
 mod searches;
 mod stop;
 mod tell;
+#[cfg(test)]
+mod tests;
 mod texts;
 mod words;
 mod writer;

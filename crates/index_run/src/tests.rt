@@ -1,0 +1,301 @@
+//! Whole runs over objects in memory, against reports that were worked out by hand.
+use crate::call::top;
+use ix_base::{FileName, NoMemory};
+use ix_outside::{EmptyGate, FuseStore, MemorySink, MemorySource, MemoryStore, Store};
+use std::alloc::Global;
+use std::sync::Wait;
+use std::thread::Threads;
+
+const ADD_A1: &str = "{\"c\":0,\"op\":\"add\",\"doc\":{\"key\":\"a1\"}}\n";
+
+const ADD_A2: &str = "{\"c\":0,\"op\":\"add\",\"doc\":{\"key\":\"a2\"}}\n";
+
+const COMMIT: &str = "{\"c\":0,\"op\":\"commit\"}\n";
+
+const ALL: &str = "{\"c\":0,\"op\":\"search\",\"query\":\"all\"}\n";
+
+const FIRST_REPORT: &str =
+    "{\"line\":1,\"seq\":1}\n{\"docs\":1,\"line\":2,\"seq\":2}\n{\"commit\":2,\"hits\":[{\"key\":\"a1\",\"num\":{}}],\"line\":3}\n";
+
+const ONE_HIT: &str = "{\"commit\":2,\"hits\":[{\"key\":\"a1\",\"num\":{}}],\"line\":1}\n";
+
+const TWO_HITS: &str =
+    "{\"commit\":4,\"hits\":[{\"key\":\"a1\",\"num\":{}},{\"key\":\"a2\",\"num\":{}}],\"line\":1}\n";
+
+/// How a run ended, and what it wrote.
+#[derive(Drop)]
+struct Done<S> {
+    status: u8,
+    written: Vec<u8>,
+    store: S,
+}
+
+/// A run of the script over the store.
+fn run_over<R: Threads + Wait, S: Store + Drop>(
+    rt: &R,
+    alloc: Global,
+    script: &[&str],
+    store: S,
+    failing_reads: Vec<u64>,
+    failing_writes: Vec<u64>,
+) -> Result<Done<S>, NoMemory> {
+    let mut bytes = Vec::new(alloc);
+    for line in script {
+        bytes.extend_from_slice(line.as_bytes())?;
+    }
+    let mut words = Vec::new(alloc);
+    words.push(String::from_str(alloc, "run")?)?;
+    let mut input = MemorySource::failing(bytes, failing_reads);
+    let mut out = MemorySink::failing(alloc, 65536, failing_writes)?;
+    let ended = top(
+        rt,
+        alloc,
+        words.as_slice(),
+        &mut input,
+        &mut out,
+        store,
+        &EmptyGate,
+    );
+    Ok(Done {
+        status: ended.status,
+        written: out.into_bytes(),
+        store: ended.store,
+    })
+}
+
+#[test]
+fn reports(rt: HostRuntime) {
+    let alloc = rt.alloc();
+    let cases: [(&[&str], u8, &str); 9] = [
+        (&[], 0, ""),
+        (&[ADD_A1, COMMIT, ALL], 0, FIRST_REPORT),
+        (
+            &[COMMIT, ALL],
+            0,
+            "{\"docs\":0,\"line\":1,\"seq\":1}\n{\"commit\":1,\"hits\":[],\"line\":2}\n",
+        ),
+        (&[ALL], 0, "{\"commit\":0,\"hits\":[],\"line\":1}\n"),
+        (
+            &[ADD_A1, COMMIT, "{\"c\":256,\"op\":\"commit\"}"],
+            3,
+            "{\"line\":3,\"status\":3,\"why\":\"caller\"}\n",
+        ),
+        (
+            &[
+                "{\"c\":0,\"op\":\"add\",\"doc\":{\"key\":\"a1\"}}\r\n\n",
+                "{\"c\":0,\"op\":\"commit\"}\r\n",
+                "{\"c\":0,\"op\":\"search\",\"query\":\"all\"}\r\n",
+            ],
+            0,
+            "{\"line\":1,\"seq\":1}\n{\"docs\":1,\"line\":3,\"seq\":2}\n{\"commit\":2,\"hits\":[{\"key\":\"a1\",\"num\":{}}],\"line\":4}\n",
+        ),
+        (
+            &[
+                "{\"c\":0,\"op\":\"add\",\"doc\":{\"key\":\"a1\",\"text\":{\"body\":\"quick brown fox\"}}}\n",
+                "{\"c\":0,\"op\":\"add\",\"doc\":{\"key\":\"a2\",\"text\":{\"body\":\"Quick FOX\"}}}\n",
+                COMMIT,
+                "{\"c\":0,\"op\":\"search\",\"query\":{\"phrase\":[\"body\",\"quick fox\"]}}\n",
+            ],
+            0,
+            "{\"line\":1,\"seq\":1}\n{\"line\":2,\"seq\":2}\n{\"docs\":2,\"line\":3,\"seq\":3}\n{\"commit\":3,\"hits\":[{\"key\":\"a2\",\"num\":{}}],\"line\":4}\n",
+        ),
+        (
+            &[
+                "{\"c\":0,\"op\":\"add\",\"doc\":{\"key\":\"a1\",\"exact\":{\"tag\":\"x\"},\"num\":{\"n\":-7}}}\n",
+                "{\"c\":1,\"op\":\"add\",\"doc\":{\"key\":\"b1\"}}\n",
+                COMMIT,
+                "{\"c\":1,\"op\":\"search\",\"query\":\"all\"}\n",
+                "{\"c\":0,\"op\":\"search\",\"query\":{\"term\":[\"tag\",\"x\"]}}",
+            ],
+            0,
+            "{\"line\":1,\"seq\":1}\n{\"line\":2,\"seq\":2}\n{\"docs\":2,\"line\":3,\"seq\":3}\n{\"commit\":0,\"hits\":[],\"line\":4}\n{\"commit\":3,\"hits\":[{\"key\":\"a1\",\"num\":{\"n\":-7}}],\"line\":5}\n",
+        ),
+        (
+            &[
+                ADD_A1,
+                COMMIT,
+                "{\"c\":0,\"op\":\"search\",\"query\":{\"bool\":{\"not\":[{\"term\":[\"key\",\"zz\"]}]}}}\n",
+                "{\"c\":0,\"op\":\"search\",\"query\":{\"bool\":{}}}\n",
+                "{\"c\":0,\"op\":\"search\",\"query\":{\"phrase\":[\"body\",\" \"]}}\n",
+            ],
+            0,
+            "{\"line\":1,\"seq\":1}\n{\"docs\":1,\"line\":2,\"seq\":2}\n{\"commit\":2,\"hits\":[],\"line\":3}\n{\"commit\":2,\"hits\":[],\"line\":4}\n{\"commit\":2,\"hits\":[],\"line\":5}\n",
+        ),
+    ];
+    for (script, status, report) in cases {
+        let store = MemoryStore::new(alloc);
+        let Ok(done) = run_over(&rt, alloc, script, store, Vec::new(alloc), Vec::new(alloc)) else {
+            panic!(rt; "memory");
+        };
+        assert_eq!(rt; done.status, status);
+        assert_eq!(rt; done.written.as_slice(), report.as_bytes());
+    }
+}
+
+#[test]
+fn long_terms_are_refused(rt: HostRuntime) {
+    let alloc = rt.alloc();
+    let letters = "a".repeat(alloc, 32766).expect(&rt, "memory");
+    let front = "{\"c\":0,\"op\":\"add\",\"doc\":{\"key\":\"a1\",\"text\":{\"body\":\"";
+    let cases = [
+        (
+            "a",
+            "{\"line\":1,\"seq\":1}\n{\"line\":2,\"refused\":\"term\",\"size\":32767}\n{\"docs\":1,\"line\":3,\"seq\":2}\n",
+        ),
+        (
+            "",
+            "{\"line\":1,\"seq\":1}\n{\"line\":2,\"seq\":2}\n{\"docs\":2,\"line\":3,\"seq\":3}\n",
+        ),
+    ];
+    for (more, report) in cases {
+        let script = [ADD_A1, front, letters.as_str(), more, "\"}}}\n", COMMIT];
+        let store = MemoryStore::new(alloc);
+        let Ok(done) = run_over(&rt, alloc, &script, store, Vec::new(alloc), Vec::new(alloc)) else {
+            panic!(rt; "memory");
+        };
+        assert_eq!(rt; done.status, 0);
+        assert_eq!(rt; done.written.as_slice(), report.as_bytes());
+    }
+}
+
+#[test]
+fn sessions_and_faults(rt: HostRuntime) {
+    let alloc = rt.alloc();
+    let store = MemoryStore::new(alloc);
+    let Ok(first) = run_over(
+        &rt,
+        alloc,
+        &[ADD_A1, COMMIT],
+        store,
+        Vec::new(alloc),
+        Vec::new(alloc),
+    ) else {
+        panic!(rt; "memory");
+    };
+    let Ok(second) = run_over(
+        &rt,
+        alloc,
+        &[ADD_A2, COMMIT, ALL],
+        first.store,
+        Vec::new(alloc),
+        Vec::new(alloc),
+    ) else {
+        panic!(rt; "memory");
+    };
+    assert_eq!(rt; second.status, 0);
+    assert_eq!(rt;
+        second.written.as_slice(),
+        "{\"line\":1,\"seq\":3}\n{\"docs\":2,\"line\":2,\"seq\":4}\n{\"commit\":4,\"hits\":[{\"key\":\"a1\",\"num\":{}},{\"key\":\"a2\",\"num\":{}}],\"line\":3}\n".as_bytes()
+    );
+    let mut store = second.store;
+    assert_eq!(rt; store.write(FileName::Commit(4), b"IXCOM001"), Ok(()));
+    let Ok(third) = run_over(&rt, alloc, &[ALL], store, Vec::new(alloc), Vec::new(alloc)) else {
+        panic!(rt; "memory");
+    };
+    assert_eq!(rt; third.status, 8);
+    assert_eq!(rt;
+        third.written.as_slice(),
+        b"{\"at\":8,\"file\":\"segments_4\",\"status\":8}\n".as_slice()
+    );
+    let mut store = third.store;
+    assert_eq!(rt;
+        store.write(FileName::Commit(2_305_843_009_213_693_953), b""),
+        Ok(())
+    );
+    let Ok(fourth) = run_over(&rt, alloc, &[], store, Vec::new(alloc), Vec::new(alloc)) else {
+        panic!(rt; "memory");
+    };
+    assert_eq!(rt; fourth.status, 10);
+    assert_eq!(rt;
+        fourth.written.as_slice(),
+        b"{\"base\":2305843009213693953,\"status\":10}\n".as_slice()
+    );
+}
+
+#[test]
+fn failing_streams(rt: HostRuntime) {
+    let alloc = rt.alloc();
+    let reads = vec![in alloc; 1u64].expect(&rt, "memory");
+    let store = MemoryStore::new(alloc);
+    let Ok(first) = run_over(&rt, alloc, &[ADD_A1, COMMIT], store, reads, Vec::new(alloc)) else {
+        panic!(rt; "memory");
+    };
+    assert_eq!(rt; first.status, 5);
+    assert_eq!(rt;
+        first.written.as_slice(),
+        b"{\"status\":5,\"why\":\"source\"}\n".as_slice()
+    );
+    let writes = vec![in alloc; 1u64].expect(&rt, "memory");
+    let Ok(second) = run_over(
+        &rt,
+        alloc,
+        &[ADD_A1, COMMIT],
+        first.store,
+        Vec::new(alloc),
+        writes,
+    ) else {
+        panic!(rt; "memory");
+    };
+    assert_eq!(rt; second.status, 6);
+    assert_eq!(rt; second.written.as_slice(), b"".as_slice());
+    let Ok(third) = run_over(
+        &rt,
+        alloc,
+        &[ALL],
+        second.store,
+        Vec::new(alloc),
+        Vec::new(alloc),
+    ) else {
+        panic!(rt; "memory");
+    };
+    assert_eq!(rt; third.written.as_slice(), ONE_HIT.as_bytes());
+}
+
+/// The second session's commit makes its calls in this order: list, two reads, write and sync of the
+/// rows, write and sync of the pending file, rename, sync of the directory.
+#[test]
+fn stops_at_each_store_call(rt: HostRuntime) {
+    let alloc = rt.alloc();
+    for passes in 0..10u64 {
+        let store = MemoryStore::new(alloc);
+        let Ok(first) = run_over(
+            &rt,
+            alloc,
+            &[ADD_A1, COMMIT],
+            store,
+            Vec::new(alloc),
+            Vec::new(alloc),
+        ) else {
+            panic!(rt; "memory");
+        };
+        let fuse = FuseStore::new(first.store, passes);
+        let Ok(second) = run_over(
+            &rt,
+            alloc,
+            &[ADD_A2, COMMIT],
+            fuse,
+            Vec::new(alloc),
+            Vec::new(alloc),
+        ) else {
+            panic!(rt; "memory");
+        };
+        assert_eq!(rt; second.status, if passes < 9 { 7 } else { 0 });
+        let stopped = second.store.into_inner();
+        for choice in 0..16u32 {
+            let Ok(image) = stopped.crash(alloc, choice) else {
+                panic!(rt; "memory");
+            };
+            let Ok(after) = run_over(&rt, alloc, &[ALL], image, Vec::new(alloc), Vec::new(alloc))
+            else {
+                panic!(rt; "memory");
+            };
+            assert_eq!(rt; after.status, 0);
+            let one = after.written.as_slice() == ONE_HIT.as_bytes();
+            let two = after.written.as_slice() == TWO_HITS.as_bytes();
+            assert!(rt;
+                (one && passes < 9) || (two && passes > 7),
+                "passes {passes} choice {choice}"
+            );
+        }
+    }
+}
