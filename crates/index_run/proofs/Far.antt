@@ -1,15 +1,13 @@
 -- How far the lines of a script have come.
-use Rattle.std.proofs.Common.{◌≡◌, ◌≢◌, ◌⊎◌, inl, inr, ℕ, suc, ◌+◌, ◌-◌, ◌<◌, ◌≤◌, ◌^◌, Bool, true, false, cond, eqb, ◌&&◌, List, [], ◌∷◌, ◌++◌, length, get_or, set, take, replicate, Some, None, refl, sym, ap, subst, ◌∙◌, append_assoc, arith}
+use Rattle.std.proofs.Common.{◌≡◌, ◌≢◌, ◌⊎◌, inl, inr, ℕ, ◌+◌, ◌<◌, ◌≤◌, ◌^◌, Bool, true, false, cond, eqb, ◌&&◌, List, [], ◌∷◌, ◌++◌, length, get_or, set, replicate, Some, None, refl, sym, ap, subst, ◌∙◌, append_assoc, arith}
 use Rattle.std.specs.Prelude.{Option, is_none, All}
 use Rattle.std.specs.List.{AllByRecursion}
 use Rattle.std.proofs.lemmas.List.{append-nil, length-append, get_or-set_same, get_or-set_other, length-set, get_or-replicate, length-replicate}
-use Rattle.std.proofs.lemmas.Bool.{eq-eqb}
 use Rattle.std.proofs.lemmas.Bool.Decides.{eqb_tells}
 use Rattle.ix_base.specs.declared.document.Operation.{Operation}
 use Rattle.ix_base.specs.declared.document.Operation.TheVariants.{Add, Update, DeleteTerm, DeleteQuery, SetNumber, Commit}
 use Rattle.ix_base.specs.declared.document.Document.{Document}
 use Rattle.ix_base.specs.declared.document.Row.{Row}
-use Rattle.ix_base.specs.declared.query.Query.{Query}
 use Rattle.ix_base.specs.Refusals.{Refusal, long_term, long_query, refusal}
 use Rattle.ix_base.specs.Steps.{step, after}
 use Rattle.ix_outside.specs.Files.{Files, Changes, onto, stays}
@@ -26,7 +24,7 @@ use Rattle.index_run.specs.declared.outcome.Answer.TheVariants.{Numbered, Commit
 use Rattle.index_run.specs.declared.writer.Writer.{Writer}
 use Rattle.index_run.specs.Numbering.{is_numbered, is_commit, numbered, operations, commit_numbers, rows_at}
 use Rattle.index_run.specs.Outcomes.{number_after, rows_after, commit_after, outcome_of, answer_of, told_answer, done_answer, outcomes_from}
-use Rattle.index_run.specs.Doing.{writer_after, writer_by, answer_by, lasts_after, FilesAfter, next_id_after}
+use Rattle.index_run.specs.Doing.{writer_after, writer_by, answer_by, lasts_after, FilesAfter}
 use Rattle.index_run.specs.Headline.{HasCommits, Starts}
 use Rattle.index_run.specs.Writer.{CanGoOn}
 use Rattle.index_run.proofs.Going.{births-step, apart-step}

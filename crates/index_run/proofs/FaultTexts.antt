@@ -1,9 +1,8 @@
 -- Fault lines, piece by piece.
-use Rattle.std.proofs.Common.{◌≡◌, ℕ, List, [], ◌∷◌, ◌++◌, codes, refl, ap, ◌∙◌, append_assoc}
+use Rattle.std.proofs.Common.{◌≡◌, ℕ, List, ◌++◌, codes, refl, ◌∙◌, append_assoc}
 use Rattle.std.specs.Fmt.{decimal, digits}
 use Rattle.serde_json.proofs.OnLiterals.{serde_json_on_literals}
 use Rattle.ix_base.specs.FileNames.{name_text}
-use Rattle.ix_base.specs.declared.file_name.FileName.{FileName}
 use Rattle.commit_point.specs.declared.fault.Damaged.{Damaged}
 use Rattle.json.specs.Print.{escape}
 use Rattle.index_run.proofs.Escapes.{name_plain}

@@ -1,7 +1,6 @@
 -- A script that was done.
-use Rattle.std.proofs.Common.{◌≡◌, ◌∙◌, ◌⊎◌, inl, inr, ℕ, ◌+◌, ◌*◌, ◌≤◌, ◌^◌, Bool, true, false, ◌||◌, eqb, List, [], ◌∷◌, length, take, Some, None, Ok, Err, Result, refl, sym, ap, subst, arith, Vec}
+use Rattle.std.proofs.Common.{◌≡◌, ◌∙◌, ◌⊎◌, inl, inr, ℕ, ◌+◌, ◌*◌, Bool, true, false, ◌||◌, eqb, List, [], ◌∷◌, length, Some, None, Ok, Err, Result, refl, sym, ap, subst, arith, Vec}
 use Rattle.std.specs.Prelude.{Option, IfOk, IfErr}
-use Rattle.std.specs.Io.KnownBytes.{Appends}
 use Rattle.std.specs.declared.alloc.Global.{Global}
 use Rattle.ix_base.specs.declared.document.Row.{Row}
 use Rattle.ix_outside.specs.Files.{Files, Changes, onto}
@@ -16,7 +15,6 @@ use Rattle.index_run.specs.declared.fault.Fault.TheVariants as fault
 use Rattle.index_run.specs.Faults.{status_of}
 use Rattle.index_run.specs.Causes.{IsOneOf, stop_status}
 use Rattle.index_run.specs.Numbering.{numbered, commit_numbers}
-use Rattle.index_run.specs.Report.{report}
 use Rattle.index_run.specs.Outcomes.{outcomes_from, texts}
 use Rattle.index_run.specs.Beginning.{IsOn}
 use Rattle.index_run.specs.Headline.{HasCommits, RunsRight}

@@ -8,7 +8,6 @@ use Rattle.serde_json.specs.Find.{is_float, of_integer}
 use Rattle.serde_json.specs.View.{items_of}
 use Rattle.serde_json.specs.Written.{has_float, items_have_float, members_have_float}
 use Rattle.ix_base.specs.declared.document.Row.{Row}
-use Rattle.ix_base.specs.Refusals.{Refusal, long_term, long_query}
 use Rattle.index_run.specs.Report.{hit_value, search_value, with_number, write_value, commit_value, shown_refusal}
 
 is_float-of_integer : (z : ℤ) → is_float (of_integer z) ≡ false

@@ -1,5 +1,5 @@
 -- The text of a line, from what was found.
-use Rattle.std.proofs.Common.{◌≡◌, ◌∙◌, ◌⊎◌, ℕ, ◌≤◌, List, [], Bool, true, false, Ok, Err, Result, refl, sym, ap, subst, Vec}
+use Rattle.std.proofs.Common.{◌≡◌, ◌∙◌, ℕ, List, false, Ok, Err, Result, refl, sym, ap, subst, Vec}
 use Rattle.std.specs.Prelude.{IfOk}
 use Rattle.std.specs.declared.alloc.Global.{Global}
 use Rattle.ix_base.specs.declared.document.Row.{Row}

@@ -1,12 +1,11 @@
 -- The input that was read, and the one that is told.
-use Rattle.std.proofs.Common.{◌≡◌, ◌⊎◌, ◌∙◌, inl, inr, ℕ, ◌+◌, ◌<◌, ◌≤◌, List, [], ◌++◌, length, Ok, Err, Result, refl, sym, ap, append-nil, arith}
+use Rattle.std.proofs.Common.{◌≡◌, ◌⊎◌, ◌∙◌, inl, inr, ℕ, ◌+◌, ◌<◌, List, ◌++◌, length, Err, Result, refl, ap, append-nil, arith}
 use Rattle.std.specs.Prelude.{Option, Some, None}
 use Rattle.std.specs.Io.KnownBytes.{Consumes, IsAtEnd}
 use Rattle.std.proofs.lemmas.List.{length-append}
 use Rattle.ix_outside.specs.Files.{Was}
 use Rattle.op_script.specs.declared.script.Line.{Line}
 use Rattle.op_script.specs.declared.script.BadLine.{BadLine}
-use Rattle.index_run.specs.Causes.{IsBadIn}
 
 -- what is told to be bad is the input that was read, or one that is too long like it
 pub bad_in : (script : List ℕ → Result (List Line) BadLine) (most : ℕ) (long bad : BadLine) (old new : Option (List ℕ)) (read : List ℕ)

@@ -1,5 +1,5 @@
 -- Calls that only read, one after another.
-use Rattle.std.proofs.Common.{◌≡◌, ◌⊎◌, ◌∙◌, inl, inr, ℕ, ◌≤◌, refl, arith}
+use Rattle.std.proofs.Common.{◌∙◌, inl, inr, ℕ, refl, arith}
 use Rattle.std.specs.Prelude.{Option}
 use Rattle.ix_base.specs.declared.file_name.FileName.{FileName}
 use Rattle.ix_outside.specs.Files.{Files}

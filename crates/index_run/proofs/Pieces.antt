@@ -1,6 +1,6 @@
 -- A text written piece by piece.
 use Rattle.std.proofs.Common.{◌≡◌, ℕ, ◌+◌, List, ◌++◌, take, drop, Option, Some, None, sym, ap, subst, ◌∙◌, append_assoc}
-use Rattle.std.proofs.Common.{arith, ◌-◌, ◌≤◌, length}
+use Rattle.std.proofs.Common.{arith, ◌-◌, length}
 use Rattle.std.proofs.lemmas.List.{drop-take, take-take, take-append-drop, length-drop}
 use Rattle.std.proofs.Math.Seq.{take_all}
 use Rattle.std.specs.Io.KnownBytes.{Appends, Consumes, IsAtEnd}

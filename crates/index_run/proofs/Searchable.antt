@@ -1,12 +1,11 @@
 -- After the lines are done, each search line's commit can be read back.
-use Rattle.std.proofs.Common.{◌≡◌, ◌≢◌, ◌⊎◌, inl, inr, ◌∙◌, ℕ, zero, suc, ◌+◌, ◌-◌, ◌<◌, ◌≤◌, Bool, true, false, cond, eqb, ◌&&◌, List, [], ◌∷◌, ◌++◌, length, take, refl, sym, ap, subst, append_assoc, arith}
-use Rattle.std.specs.Prelude.{Option, Some, None, All}
+use Rattle.std.proofs.Common.{◌≡◌, ◌⊎◌, inl, inr, ◌∙◌, ℕ, ◌+◌, ◌-◌, ◌<◌, ◌≤◌, Bool, true, false, cond, eqb, ◌&&◌, List, [], ◌∷◌, ◌++◌, length, take, refl, sym, ap, subst, append_assoc, arith}
+use Rattle.std.specs.Prelude.{Option, Some, None}
 use Rattle.std.specs.List.{AllByRecursion}
 use Rattle.std.proofs.lemmas.List.Elements.{filter-append, All-from_recursion}
 use Rattle.ix_base.specs.declared.document.Operation.{Operation}
 use Rattle.ix_base.specs.declared.document.Operation.TheVariants.{Add, Update, DeleteTerm, DeleteQuery, SetNumber, Commit}
 use Rattle.ix_base.specs.declared.document.Row.{Row}
-use Rattle.ix_base.specs.declared.query.Query.{Query}
 use Rattle.ix_base.specs.Refusals.{Refusal, long_term, long_query, refusal}
 use Rattle.ix_base.specs.Steps.{after}
 use Rattle.ix_outside.specs.Files.{Files}
@@ -15,8 +14,8 @@ use Rattle.op_script.specs.declared.script.Line.{Line}
 use Rattle.op_script.specs.declared.script.Act.{Act}
 use Rattle.op_script.specs.declared.script.Act.TheVariants.{Do, Search}
 use Rattle.index_run.specs.declared.outcome.Outcome.{Outcome}
-use Rattle.index_run.specs.Numbering.{is_numbered, is_commit, numbered, operations, commit_numbers, rows_at}
-use Rattle.index_run.specs.Outcomes.{commit_after, outcome_of, outcomes_from, answer_of, told_answer, done_answer, number_after, rows_after}
+use Rattle.index_run.specs.Numbering.{is_numbered, is_commit, numbered, operations, commit_numbers}
+use Rattle.index_run.specs.Outcomes.{commit_after, outcomes_from, answer_of, told_answer, done_answer, number_after, rows_after}
 use Rattle.index_run.specs.Headline.{HasCommits, IsIn}
 use Rattle.index_run.specs.Beginning.{IsOn}
 use Rattle.index_run.specs.Searching.{AnswerHolds, CanSearch, HoldsCommit}

@@ -1,26 +1,23 @@
 -- The report of a log in the script's order is what the outcomes tell.
-use Rattle.std.proofs.Common.{◌≡◌, ◌≢◌, ◌⊎◌, inl, inr, ◌∙◌, ℕ, zero, suc, ◌+◌, ◌-◌, ◌<◌, ◌≤◌, Bool, true, false, cond, eqb, ◌&&◌, List, [], ◌∷◌, ◌++◌, length, take, refl, sym, ap, subst, append_assoc, append-nil, arith}
+use Rattle.std.proofs.Common.{◌≡◌, ◌≢◌, inl, inr, ◌∙◌, ℕ, zero, suc, ◌+◌, ◌-◌, ◌<◌, ◌≤◌, Bool, true, false, cond, eqb, ◌&&◌, List, [], ◌∷◌, ◌++◌, length, take, refl, sym, ap, subst, append_assoc, arith}
 use Rattle.std.specs.Prelude.{Option, Some, None, is_none}
-use Rattle.std.specs.List.{filter, flat_map}
-use Rattle.std.proofs.lemmas.List.{length-append}
+use Rattle.std.specs.List.{filter}
 use Rattle.std.proofs.lemmas.List.Elements.{filter-append}
 use Rattle.std.proofs.lemmas.Bool.{eq-eqb}
 use Rattle.std.proofs.lemmas.Bool.Decides.{eqb_tells}
 use Rattle.ix_base.specs.declared.document.Operation.{Operation}
 use Rattle.ix_base.specs.declared.document.Operation.TheVariants.{Add, Update, DeleteTerm, DeleteQuery, SetNumber, Commit}
 use Rattle.ix_base.specs.declared.document.Row.{Row}
-use Rattle.ix_base.specs.declared.query.Query.{Query}
 use Rattle.ix_base.specs.Steps.{after}
 use Rattle.ix_base.specs.Refusals.{Refusal, long_term, long_query, refusal}
 use Rattle.op_script.specs.Shape.{LinesRise}
 use Rattle.op_script.specs.declared.script.Line.{Line}
 use Rattle.op_script.specs.declared.script.Act.{Act}
 use Rattle.op_script.specs.declared.script.Act.TheVariants.{Do, Search}
-use Rattle.index_run.specs.declared.outcome.Outcome.{Outcome}
 use Rattle.index_run.specs.Numbering.{is_numbered, is_commit, numbered, operations, number_of, rows_at}
 use Rattle.index_run.specs.Report.{report_from, act_text, done_text, told_text, last_commit, text_line, write_value, commit_value, search_value, matching}
 use Rattle.index_run.specs.Outcomes.{number_after, rows_after, commit_after, outcome_of, outcomes_from, outcome_text, answer_text, answer_of, told_answer, done_answer, texts}
-use Rattle.index_run.proofs.Log.{numbered-push, numbered-same, number_after-push, rows_after-push, rows_at-front}
+use Rattle.index_run.proofs.Log.{numbered-same, number_after-push, rows_after-push, rows_at-front}
 
 eqb_not : (a b : ℕ) → a ≢ b → eqb a b ≡ false
 eqb_not a b ne = elim (eqb_tells a b) [ inl e ↦ absurd (ne e.1) | inr e ↦ e.0 ]

@@ -1,11 +1,11 @@
 -- What doing one line does, to the writer, to the callers' last commits and to the files.
-use Rattle.std.specs.Prelude.{◌≡◌, ℕ, ◌+◌, ◌<◌, ◌≤◌, ◌^◌, List, length, true, slice_index, slice_set, Option, Some, None}
+use Rattle.std.specs.Prelude.{◌≡◌, ℕ, ◌+◌, ◌<◌, ◌^◌, List, length, slice_set, Option, Some, None}
 use Rattle.ix_base.specs.declared.document.Operation.{Operation}
-use Rattle.ix_base.specs.declared.document.Operation.TheVariants.{Add, Update, DeleteTerm, DeleteQuery, SetNumber, Commit}
+use Rattle.ix_base.specs.declared.document.Operation.TheVariants.{Commit}
 use Rattle.ix_base.specs.Refusals.{Refusal, refusal}
 use Rattle.ix_base.specs.Steps.{step}
 use Rattle.ix_outside.specs.Files.{Files, Changes}
-use Rattle.commit_point.specs.Writing.{Commits, SameElsewhere, next_after}
+use Rattle.commit_point.specs.Writing.{Commits, next_after}
 use Rattle.op_script.specs.declared.script.Act.{Act}
 use Rattle.op_script.specs.declared.script.Act.TheVariants.{Do, Search}
 use Rattle.index_run.specs.declared.outcome.Answer.{Answer}

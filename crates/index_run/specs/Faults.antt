@@ -1,6 +1,6 @@
 -- The line that tells a fault, as serde_json would write its value.
-use Rattle.std.specs.Prelude.{ℕ, List, [], ◌∷◌, codes}
-use Rattle.serde_json.specs.Data.{Data, object, member, no_members, number, unsigned, string}
+use Rattle.std.specs.Prelude.{ℕ, List, codes}
+use Rattle.serde_json.specs.Data.{Data, object, member, no_members, string}
 use Rattle.ix_base.specs.FileNames.{name_text}
 use Rattle.op_script.specs.declared.script.Why.{Why}
 use Rattle.op_script.specs.declared.script.Why.TheVariants as why

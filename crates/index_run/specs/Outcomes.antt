@@ -1,10 +1,9 @@
 -- What becomes of the lines of a script that are done in its order.
-use Rattle.std.specs.Prelude.{◌≡◌, ℕ, ◌+◌, List, [], ◌∷◌, ◌++◌, length, ◌&&◌, ◌==◌, if◌then◌else◌, Option, Some, None}
+use Rattle.std.specs.Prelude.{ℕ, ◌+◌, List, [], ◌∷◌, ◌++◌, length, ◌&&◌, ◌==◌, if◌then◌else◌, Option, Some, None}
 use Rattle.std.specs.List.{flat_map}
 use Rattle.ix_base.specs.declared.document.Operation.{Operation}
-use Rattle.ix_base.specs.declared.document.Operation.TheVariants.{Add, Update, DeleteTerm, DeleteQuery, SetNumber, Commit}
+use Rattle.ix_base.specs.declared.document.Operation.TheVariants.{Commit}
 use Rattle.ix_base.specs.declared.document.Row.{Row}
-use Rattle.ix_base.specs.declared.query.Query.{Query}
 use Rattle.ix_base.specs.Refusals.{Refusal, long_term, long_query, refusal}
 use Rattle.ix_base.specs.Steps.{after}
 use Rattle.op_script.specs.declared.script.Line.{Line}

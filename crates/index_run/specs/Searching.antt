@@ -1,5 +1,5 @@
 -- What a search line reads of the store.
-use Rattle.std.specs.Prelude.{◌≡◌, ◌⊎◌, ℕ, ◌≤◌, List, [], ◌∷◌, length, map, Option, Some, All, Result, Err, Bool, true, false, ⊤}
+use Rattle.std.specs.Prelude.{◌≡◌, ◌⊎◌, ℕ, ◌≤◌, List, [], length, map, Option, All, Err, Bool, true, false, ⊤}
 use Rattle.ix_base.specs.Inversion.{IsInversion}
 use Rattle.ix_base.specs.declared.document.Row.{Row}
 use Rattle.ix_outside.specs.Files.{Files, Was}
@@ -8,7 +8,7 @@ use Rattle.commit_point.specs.Reading.{reading}
 use Rattle.commit_point.specs.declared.fault.Damaged.{Damaged}
 use Rattle.index_run.specs.declared.outcome.Outcome.{Outcome}
 use Rattle.index_run.specs.declared.outcome.Answer.{Answer}
-use Rattle.index_run.specs.declared.outcome.Answer.TheVariants.{Numbered, Committed, RefusedTerm, RefusedQuery, Searched}
+use Rattle.index_run.specs.declared.outcome.Answer.TheVariants.{Searched}
 use Rattle.index_run.specs.declared.searches.SearchedCommit.{SearchedCommit}
 
 -- the index is that of the rows

@@ -1,6 +1,5 @@
 -- What a writer keeps, so that it can go on.
-use Rattle.std.specs.Prelude.{◌≡◌, ℕ, ◌+◌, ◌<◌, ◌≤◌, ◌^◌, List, true, All}
-use Rattle.ix_base.specs.declared.document.Row.{Row}
+use Rattle.std.specs.Prelude.{◌≡◌, ◌+◌, ◌<◌, ◌≤◌, ◌^◌, true, All}
 use Rattle.commit_point.specs.Fits.{BirthsRise}
 use Rattle.op_script.specs.Shape.{is_apart}
 use Rattle.index_run.specs.declared.writer.Writer.{Writer}

@@ -132,11 +132,22 @@ fn reports(rt: HostRuntime) {
     }
 }
 
+/// A run that adds a document of one term of 32,766 bytes and more.
+fn run_with_long_term<R: Threads + Wait>(
+    rt: &R,
+    alloc: Global,
+    more: &str,
+) -> Result<Done<MemoryStore>, NoMemory> {
+    let letters = "a".repeat(alloc, 32766)?;
+    let front = "{\"c\":0,\"op\":\"add\",\"doc\":{\"key\":\"a1\",\"text\":{\"body\":\"";
+    let script = [ADD_A1, front, letters.as_str(), more, "\"}}}\n", COMMIT];
+    let store = MemoryStore::new(alloc);
+    run_over(rt, alloc, &script, store, Vec::new(alloc), Vec::new(alloc))
+}
+
 #[test]
 fn long_terms_are_refused(rt: HostRuntime) {
     let alloc = rt.alloc();
-    let letters = "a".repeat(alloc, 32766).expect(&rt, "memory");
-    let front = "{\"c\":0,\"op\":\"add\",\"doc\":{\"key\":\"a1\",\"text\":{\"body\":\"";
     let cases = [
         (
             "a",
@@ -148,9 +159,7 @@ fn long_terms_are_refused(rt: HostRuntime) {
         ),
     ];
     for (more, report) in cases {
-        let script = [ADD_A1, front, letters.as_str(), more, "\"}}}\n", COMMIT];
-        let store = MemoryStore::new(alloc);
-        let Ok(done) = run_over(&rt, alloc, &script, store, Vec::new(alloc), Vec::new(alloc)) else {
+        let Ok(done) = run_with_long_term(&rt, alloc, more) else {
             panic!(rt; "memory");
         };
         assert_eq!(rt; done.status, 0);

@@ -1,6 +1,4 @@
-use Rattle.std.proofs.Common.{◌≡◌, ◌∙◌, ℕ, List, inl, inr, sym, subst}
-use Rattle.ix_base.specs.declared.document.Row.{Row}
-use Rattle.ix_outside.specs.Files.{Files}
+use Rattle.std.proofs.Common.{◌≡◌, ◌∙◌, ℕ, inl, inr, sym, subst}
 use Rattle.commit_point.specs.Holds.{Holds}
 use Rattle.std.specs.Prelude.{IfOk}
 use Rattle.index_run.specs.declared.writer.Writer.{Writer}

@@ -1,4 +1,4 @@
-use Rattle.std.proofs.Common.{◌≡◌, ◌∙◌, inl, inr, refl}
+use Rattle.std.proofs.Common.{inl, inr, refl}
 use Rattle.index_run.proofs.Beginnings.{can_begin, same_writer}
 use Rattle.index_run.proofs.begin.begin_on.Goals as goal
 

@@ -1,4 +1,4 @@
-use Rattle.std.proofs.Common.{◌≡◌, ◌∙◌, ℕ, List, ap, sym, subst}
+use Rattle.std.proofs.Common.{◌≡◌, ◌∙◌, ℕ, ap, sym, subst}
 use Rattle.std.specs.Prelude.{Option, Some}
 use Rattle.ix_outside.specs.Files.{Files, Was}
 use Rattle.index_run.specs.Headline.{IsLast}

@@ -1,16 +1,11 @@
-use Rattle.std.proofs.Common.{◌≡◌, ◌∙◌, ◌+◌, ◌≤◌, ◌^◌, ℕ, List, [], ◌∷◌, length, refl, ap, sym, subst, inl, inr}
-use Rattle.std.specs.Prelude.{Option}
-use Rattle.ix_base.specs.declared.document.Row.{Row}
-use Rattle.ix_outside.specs.Files.{Files, Changes}
-use Rattle.commit_point.specs.Holds.{KeepsCommits}
-use Rattle.index_run.specs.declared.outcome.Outcome.{Outcome}
+use Rattle.std.proofs.Common.{◌≡◌, ◌∙◌, ◌+◌, ◌≤◌, ◌^◌, [], ◌∷◌, length, refl, sym, subst, inl, inr}
+use Rattle.ix_outside.specs.Files.{Changes}
 use Rattle.index_run.specs.declared.writer.Writer.{Writer}
 use Rattle.index_run.specs.declared.stop.Stop.{Stop}
 use Rattle.index_run.specs.Causes.{IsOneOf, stop_status}
 use Rattle.index_run.specs.Numbering.{numbered, commit_numbers}
-use Rattle.index_run.specs.Outcomes.{outcomes_from, texts}
+use Rattle.index_run.specs.Outcomes.{outcomes_from}
 use Rattle.index_run.specs.Headline.{HasCommits, Starts}
-use Rattle.index_run.specs.Searching.{CanSearch}
 use Rattle.index_run.proofs.Beginnings.{begins_starts, begins_on, begins_room}
 use Rattle.index_run.proofs.Finish.{done_in, whole_in, kept_in}
 use Rattle.index_run.proofs.doing.do_script.Goals as goal

@@ -1,4 +1,3 @@
-use Rattle.std.proofs.Common.{◌∙◌, sym}
 use Rattle.index_run.proofs.FaultTexts.{damaged_text}
 use Rattle.index_run.proofs.fault.damaged_file.Goals as goal
 

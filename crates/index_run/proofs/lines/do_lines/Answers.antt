@@ -1,12 +1,10 @@
-use Rattle.std.proofs.Common.{◌≡◌, ◌+◌, ◌≤◌, ◌<◌, ◌^◌, ℕ, List, [], ◌∷◌, ◌++◌, length, get_or, Some, refl, sym, ap, subst, ◌∙◌, append_assoc, arith}
-use Rattle.std.specs.Prelude.{Option}
+use Rattle.std.proofs.Common.{◌≡◌, ◌+◌, ◌≤◌, ◌^◌, ℕ, List, [], ◌∷◌, ◌++◌, length, get_or, refl, sym, ap, subst, ◌∙◌, append_assoc, arith}
 use Rattle.std.specs.Vec.Iter.{into_iter_items}
-use Rattle.ix_outside.specs.Files.{Files, Changes}
+use Rattle.ix_outside.specs.Files.{Changes}
 use Rattle.op_script.specs.declared.script.Line.{Line}
 use Rattle.index_run.specs.Doing.{writer_after, lasts_after, answer_by}
 use Rattle.index_run.specs.declared.writer.Writer.{Writer}
 use Rattle.index_run.specs.declared.outcome.Outcome.{Outcome}
-use Rattle.index_run.specs.Outcomes.{outcomes_from}
 use Rattle.index_run.proofs.Far.{Far, SoFar, far_start, made_start, kept_start, act_known, can_go_on, room_left, far_line, files_line, kept_line, elsewhere_of, all_done, commits_done}
 use Rattle.index_run.proofs.lines.do_lines.Goals as goal
 

@@ -1,4 +1,4 @@
-use Rattle.std.proofs.Common.{◌≡◌, ◌∙◌, ℕ, List, ap, sym}
+use Rattle.std.proofs.Common.{◌≡◌, ◌∙◌, ap, sym}
 use Rattle.op_script.specs.Language.{script}
 use Rattle.op_script.specs.declared.script.Why.TheVariants as why
 use Rattle.index_run.proofs.Inputs.{bad_in}

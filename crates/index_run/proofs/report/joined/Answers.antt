@@ -1,4 +1,4 @@
-use Rattle.std.proofs.Common.{◌≡◌, ◌∙◌, List, ℕ, ◌++◌, [], ◌∷◌, take, map, ap, sym, append-nil, Vec}
+use Rattle.std.proofs.Common.{◌∙◌, List, ℕ, ◌++◌, [], ◌∷◌, take, map, ap, sym, append-nil, Vec}
 use Rattle.std.specs.List.{concat}
 use Rattle.std.specs.declared.alloc.Global.{Global}
 use Rattle.std.proofs.lemmas.List.{map-append, take_more}

@@ -1,4 +1,4 @@
-use Rattle.std.proofs.Common.{◌≡◌, ◌∙◌, ◌++◌, List, ℕ, [], ◌∷◌, map, refl, ap, sym, Vec}
+use Rattle.std.proofs.Common.{◌≡◌, ◌∙◌, ◌++◌, List, ℕ, [], ◌∷◌, map, refl, ap, Vec}
 use Rattle.std.specs.List.{concat, flat_map}
 use Rattle.std.specs.declared.alloc.Global.{Global}
 use Rattle.index_run.specs.declared.outcome.Outcome.{Outcome}

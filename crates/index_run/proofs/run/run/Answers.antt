@@ -1,6 +1,5 @@
-use Rattle.std.proofs.Common.{◌≡◌, ◌∙◌, ℕ, List, take, ap, sym, subst}
+use Rattle.std.proofs.Common.{◌≡◌, ℕ, List, take, subst}
 use Rattle.std.specs.Io.KnownBytes.{Appends}
-use Rattle.op_script.specs.declared.script.Line.{Line}
 use Rattle.index_run.specs.Causes.{stop_status}
 use Rattle.index_run.proofs.Finish.{runs_right, listed_wider}
 use Rattle.index_run.proofs.run.run.Goals as goal

@@ -1,8 +1,7 @@
-use Rattle.std.proofs.Common.{◌≡◌, ◌∙◌, ◌<◌, ℕ, List, length, map, ap, sym, subst}
+use Rattle.std.proofs.Common.{◌∙◌, ◌<◌, ℕ, List, length, map, ap, sym, subst}
 use Rattle.std.specs.Prelude.{All, Bool, slice_get}
 use Rattle.std.specs.List.{filter_map}
 use Rattle.std.proofs.lemmas.Result.{IfOk-weaker}
-use Rattle.ix_base.specs.Inversion.{rows_where}
 use Rattle.ix_base.specs.Matches.{matches}
 use Rattle.ix_base.specs.Query.{tree_of}
 use Rattle.ix_base.specs.declared.document.Row.{Row}

@@ -1,8 +1,6 @@
-use Rattle.std.proofs.Common.{◌≡◌, ◌∙◌, ℕ, List, ap, sym, subst}
+use Rattle.std.proofs.Common.{◌∙◌, ap, sym, subst}
 use Rattle.std.proofs.lemmas.Result.{IfOk-weaker}
-use Rattle.ix_base.specs.declared.document.Row.{Row}
 use Rattle.index_run.specs.declared.outcome.Answer.{Answer}
-use Rattle.index_run.specs.Outcomes.{outcome_text}
 use Rattle.index_run.specs.Searching.{AnswerHolds}
 use Rattle.index_run.proofs.Found.{not_search, same_text, searched_text}
 use Rattle.index_run.proofs.searches.line_text.Goals as goal

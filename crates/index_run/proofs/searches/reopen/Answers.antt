@@ -1,4 +1,4 @@
-use Rattle.std.proofs.Common.{◌≡◌, ◌∙◌, inl, inr, arith}
+use Rattle.std.proofs.Common.{inl, inr}
 use Rattle.index_run.proofs.searches.reopen.Goals as goal
 
 pub returns-in-Err-clause-whole : goal.returns-in-Err-clause-whole

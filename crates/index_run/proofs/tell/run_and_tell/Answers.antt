@@ -1,4 +1,4 @@
-use Rattle.std.proofs.Common.{◌≡◌, ◌∙◌, ℕ, List, [], ◌∷◌, Err, refl, ap, sym, subst}
+use Rattle.std.proofs.Common.{◌∙◌, [], ◌∷◌, Err, ap, subst}
 use Rattle.index_run.specs.declared.fault.Fault.{Fault}
 use Rattle.index_run.specs.declared.stop.Stop.{Stop}
 use Rattle.index_run.specs.declared.stop.Stop.TheVariants as stop

@@ -1,11 +1,10 @@
-use Rattle.std.proofs.Common.{◌≡◌, ◌∙◌, ◌++◌, [], ◌∷◌, List, sym, ap, map, take, ℕ, ◌<◌, length}
+use Rattle.std.proofs.Common.{◌∙◌, ◌++◌, [], ◌∷◌, List, sym, ap, map, take, ℕ, ◌<◌, length}
 use Rattle.std.specs.Prelude.{slice_get}
 use Rattle.std.specs.List.{filter_map}
 use Rattle.std.proofs.lemmas.List.{map-append}
 use Rattle.std.proofs.lemmas.List.Elements.{All-get_or}
 use Rattle.serde_json.specs.Data.{Data}
 use Rattle.serde_json.specs.View.{view}
-use Rattle.ix_base.specs.declared.document.Row.{Row}
 use Rattle.index_run.specs.Report.{hit_value}
 use Rattle.index_run.proofs.Hits.{found_row}
 use Rattle.index_run.proofs.texts.hit_list.Goals as goal
