@@ -23,7 +23,7 @@ use Rattle.index_run.specs.Beginning.{last_or_zero, IsOn}
 use Rattle.index_run.specs.Writer.{CanBegin}
 use Rattle.index_run.proofs.Kept.{nat_or}
 
-none_of : {A : Type 0} (o : Option A) → (IsSome o → ⊥) → o ≡ None
+pub none_of : {A : Type 0} (o : Option A) → (IsSome o → ⊥) → o ≡ None
 none_of None h = refl
 none_of (Some x) h = absurd (h refl)
 

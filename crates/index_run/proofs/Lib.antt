@@ -6,13 +6,14 @@ pub mod Log
 pub mod Kept
 pub mod Going
 pub mod Far
+pub mod Images
 pub mod Floats
 pub mod Hits
 pub mod Found
 pub mod Filled
-pub mod OnlyReading
 pub mod Told
 pub mod Beginnings
 pub mod Inputs
 pub mod Searchable
 pub mod Finish
+pub mod Stopped

@@ -5,7 +5,7 @@ use Rattle.ix_base.specs.declared.document.Operation.TheVariants.{Commit}
 use Rattle.ix_base.specs.Refusals.{Refusal, refusal}
 use Rattle.ix_base.specs.Steps.{step}
 use Rattle.ix_outside.specs.Files.{Files, Changes}
-use Rattle.commit_point.specs.Writing.{Commits, next_after}
+use Rattle.commit_point.specs.Writing.{Commits, MayCommit, next_after}
 use Rattle.op_script.specs.declared.script.Act.{Act}
 use Rattle.op_script.specs.declared.script.Act.TheVariants.{Do, Search}
 use Rattle.index_run.specs.declared.outcome.Answer.{Answer}
@@ -38,3 +38,13 @@ lasts_after w caller act lasts = lasts
 abbrev pub FilesAfter : Writer → Act → Option Files → Option Files → Type 0
 FilesAfter w (Do Commit) old new = w.next_id < 2 ^ 62 → Changes (Commits (w.number + 1) w.next_id w.rows) old new
 FilesAfter w act old new = new ≡ old
+
+-- what an image is after a line that was done: one with the line's commit whole, or the same
+abbrev pub ImageAfter : Writer → Act → Files → Files → Type 0
+ImageAfter w (Do Commit) old new = Commits (w.number + 1) w.next_id w.rows old new
+ImageAfter w act old new = new ≡ old
+
+-- what a crash while a line is done makes of an image: one with the line's commit whole or not at all, or the same
+abbrev pub MayLeave : Writer → Act → Files → Files → Type 0
+MayLeave w (Do Commit) old new = MayCommit (w.number + 1) w.next_id w.rows old new
+MayLeave w act old new = new ≡ old

@@ -4,6 +4,7 @@ pub mod Report
 pub mod Faults
 pub mod Outcomes
 pub mod Headline
+pub mod Crashes
 pub mod Causes
 pub mod Writer
 pub mod Doing

@@ -3,6 +3,7 @@ ghost use Rattle.std.specs.Prelude.{◌≡◌, ◌<◌, ◌≤◌, ◌^◌, ℕ,
 ghost use Rattle.std.specs.Io.KnownBytes.{Appends, IsAtEnd};
 ghost use Rattle.ix_base.specs.declared.document.Row.{Row};
 ghost use Rattle.ix_outside.specs.Causes.{Rose};
+ghost use Rattle.ix_outside.specs.Calls.{LeavesOnly};
 ghost use Rattle.ix_outside.specs.Files.{Files, Changes};
 ghost use Rattle.commit_point.specs.Holds.{KeepsCommits};
 ghost use Rattle.commit_point.specs.declared.fault.Damaged.{Damaged};
@@ -11,6 +12,7 @@ ghost use Rattle.op_script.specs.declared.script.BadLine.{BadLine};
 ghost use Rattle.op_script.specs.declared.script.Line.{Line};
 ghost use Rattle.index_run.specs.Beginning.{IsOn, IsHighBase};
 ghost use Rattle.index_run.specs.Causes.{IsOneOf, WritesFront, IsBadIn};
+ghost use Rattle.index_run.specs.Crashes.{AreKept, StopsRight};
 ghost use Rattle.index_run.specs.Faults.{fault_text};
 ghost use Rattle.index_run.specs.Headline.{Begins, IsLast, RunsRight};
 ghost use Rattle.index_run.specs.Searching.{IsDamagedIn};
@@ -95,6 +97,20 @@ pub fn top<R: Threads + Wait, I: Source, O: Sink, S: Store, G: Gate>(
 
     // At every status the commits that were there have their files and bytes.
     ensures kept { (files : Files) (base next : ℕ) (rows : List Row) → S.files store ≡ Some files → Begins files base next rows → Changes KeepsCommits (S.files store) (S.files result.store) }
+
+    // Every image has the commits of a run that came to its end; a crash at any moment leaves a front of them, each
+    // whole. The commits that were there have their files and bytes in each.
+    ensures acknowledged { (bytes : List ℕ) (lines : List Line) (files : Files) (base next : ℕ) (rows : List Row) → I.left input.old ≡ Some bytes → script bytes ≡ Ok lines
+        → S.files store ≡ Some files → Begins files base next rows → AreKept files (S.images store)
+        → result.status ≡ 0 → (c : Files) → S.images result.store c → RunsRight base next rows lines (λ text. Appends (O.written out.old) (O.written out.new) text) files c }
+    ensures acknowledged_front { (bytes : List ℕ) (lines : List Line) (files : Files) (base next : ℕ) (rows : List Row) → I.left input.old ≡ Some bytes → script bytes ≡ Ok lines
+        → S.files store ≡ Some files → Begins files base next rows → AreKept files (S.images store) → result.status ≡ 6
+        → (c : Files) → S.images result.store c → RunsRight base next rows lines (λ text. (n : ℕ) × Appends (O.written out.old) (O.written out.new) (take n text)) files c }
+    ensures crash { (bytes : List ℕ) (lines : List Line) (files : Files) (base next : ℕ) (rows : List Row) → I.left input.old ≡ Some bytes → script bytes ≡ Ok lines
+        → S.files store ≡ Some files → Begins files base next rows → AreKept files (S.images store)
+        → LeavesOnly S.moment S.left_since store result.store (StopsRight base next rows lines files) }
+    ensures crash_kept { (files : Files) (base next : ℕ) (rows : List Row) → S.files store ≡ Some files → Begins files base next rows → AreKept files (S.images store)
+        → LeavesOnly S.moment S.left_since store result.store (KeepsCommits files) }
     ensures untouched { IsOneOf result.status (2 ∷ 3 ∷ 5 ∷ 10 ∷ []) → S.files result.store ≡ S.files store }
 {
     let mut store = store;

@@ -1,14 +1,17 @@
 //! A script's lines done over a store, and their report made.
-ghost use Rattle.std.specs.Prelude.{◌≡◌, ◌⊎◌, ◌<◌, ◌≤◌, ◌^◌, ◌∷◌, [], ℕ, List, IfOk, IfErr, IsErrAnd, Err, Some};
+ghost use Rattle.std.specs.Prelude.{◌≡◌, ◌⊎◌, ◌<◌, ◌≤◌, ◌+◌, ◌*◌, ◌^◌, ◌∷◌, [], ℕ, List, length, IfOk, IfErr, IsErrAnd, Err, Some};
 ghost use Rattle.ix_base.specs.declared.document.Row.{Row};
 ghost use Rattle.ix_outside.specs.Causes.{Rose};
+ghost use Rattle.ix_outside.specs.Calls.{LeavesOnly};
 ghost use Rattle.ix_outside.specs.Files.{Files, Changes};
 ghost use Rattle.commit_point.specs.Holds.{KeepsCommits};
 ghost use Rattle.commit_point.specs.declared.fault.Damaged.{Damaged};
 ghost use Rattle.op_script.specs.Shape.{AreScriptLines};
 ghost use Rattle.index_run.specs.Beginning.{IsOn, IsHighBase};
 ghost use Rattle.index_run.specs.Causes.{IsOneOf, stop_status};
+ghost use Rattle.index_run.specs.Crashes.{AreKept, HasFront};
 ghost use Rattle.index_run.specs.Headline.{Begins, IsLast};
+ghost use Rattle.index_run.specs.Numbering.{numbered};
 ghost use Rattle.index_run.specs.Script.{DoesScript};
 ghost use Rattle.index_run.specs.Searching.{IsDamagedIn};
 
@@ -35,6 +38,11 @@ pub fn do_script<S: Store, G: Gate>(
         → IfOk result (λ text. Changes (DoesScript base next rows lines text.items) (S.files store.old) (S.files store.new)) }
     ensures kept { (files : Files) (base next : ℕ) (rows : List Row) → S.files store.old ≡ Some files → Begins files base next rows
         → Changes KeepsCommits (S.files store.old) (S.files store.new) }
+    // Once the script is done every image has its commits; a crash meanwhile leaves a front of them, each whole.
+    ensures acknowledged { (files : Files) (base next : ℕ) (rows : List Row) → S.files store.old ≡ Some files → Begins files base next rows → AreKept files (S.images store.old)
+        → IfOk result (λ text. (c : Files) → S.images store.new c → DoesScript base next rows lines text.items files c) }
+    ensures crash { (files : Files) (base next : ℕ) (rows : List Row) → S.files store.old ≡ Some files → Begins files base next rows → AreKept files (S.images store.old)
+        → LeavesOnly S.moment S.left_since store.old store.new (HasFront base next rows (numbered lines) (next + 2 * length (numbered lines)) files) }
     ensures base { (base : ℕ) → result ≡ Err (Stop.Fault (Fault.Base base)) → IsHighBase (S.files store.old) base }
     ensures same { (base : ℕ) → result ≡ Err (Stop.Fault (Fault.Base base)) → S.files store.new ≡ S.files store.old }
     ensures high { (files : Files) (base : ℕ) → S.files store.old ≡ Some files → IsLast files base → 2 ^ 61 < base

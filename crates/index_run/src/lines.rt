@@ -3,11 +3,15 @@ ghost use Rattle.std.specs.Prelude.{◌≡◌, ◌<◌, ◌≤◌, ◌+◌, ◌^
 ghost use Rattle.ix_base.specs.Refusals.{refusal, long_term};
 ghost use Rattle.ix_base.specs.declared.document.Row.{Row};
 ghost use Rattle.ix_outside.specs.Causes.{Rose};
+ghost use Rattle.ix_outside.specs.Calls.{LeavesOnly};
 ghost use Rattle.ix_outside.specs.Files.{Files, Changes};
+ghost use Rattle.ix_outside.specs.Images.{Follows};
+ghost use Rattle.commit_point.specs.Putting.{Reaches};
 ghost use Rattle.commit_point.specs.Writing.{SameElsewhere};
 ghost use Rattle.commit_point.specs.Holds.{KeepsCommits};
 ghost use Rattle.op_script.specs.Shape.{is_read_act, is_read_operation, AreScriptLines};
-ghost use Rattle.index_run.specs.Doing.{writer_after, answer_by, lasts_after, FilesAfter};
+ghost use Rattle.index_run.specs.Crashes.{HasAll, HasFront};
+ghost use Rattle.index_run.specs.Doing.{writer_after, answer_by, lasts_after, FilesAfter, ImageAfter, MayLeave};
 ghost use Rattle.index_run.specs.Numbering.{numbered, commit_numbers};
 ghost use Rattle.index_run.specs.Outcomes.{outcomes_from};
 ghost use Rattle.index_run.specs.Headline.{HasCommits, Starts};
@@ -47,6 +51,10 @@ fn do_operation<S: Store, G: Gate>(
     ensures answer { IfOk result (λ answer. answer ≡ answer_by writer.old 0 (Act.Do operation)) }
     ensures files { OnOk result (FilesAfter writer.old (Act.Do operation) (S.files store.old) (S.files store.new)) }
     ensures err { OnErr result (Changes (SameElsewhere (writer.old.number + 1) writer.old.next_id) (S.files store.old) (S.files store.new)) }
+    ensures acknowledged { (files : Files) → S.files store.old ≡ Some files → writer.old.next_id < 2 ^ 62
+        → OnOk result (Follows (ImageAfter writer.old (Act.Do operation)) (S.images store.old) (S.images store.new)) }
+    ensures crash { (files : Files) → S.files store.old ≡ Some files → writer.old.next_id < 2 ^ 62
+        → LeavesOnly S.moment S.left_since store.old store.new (Reaches (MayLeave writer.old (Act.Do operation)) (S.images store.old)) }
     ensures later { S.fault_count store.old ≤ S.fault_count store.new }
     ensures failed { result ≡ Err StoreFault.Failed → Rose (S.fault_count store.old) (S.fault_count store.new) }
 {
@@ -83,6 +91,10 @@ fn do_line<S: Store, G: Gate>(
     ensures outcome { IfOk result (λ outcome. outcome ≡ record { line = line.line; answer = answer_by writer.old (slice_index lasts.old line.caller) line.act }) }
     ensures files { OnOk result (FilesAfter writer.old line.act (S.files store.old) (S.files store.new)) }
     ensures err { OnErr result (Changes (SameElsewhere (writer.old.number + 1) writer.old.next_id) (S.files store.old) (S.files store.new)) }
+    ensures acknowledged { (files : Files) → S.files store.old ≡ Some files → writer.old.next_id < 2 ^ 62
+        → OnOk result (Follows (ImageAfter writer.old line.act) (S.images store.old) (S.images store.new)) }
+    ensures crash { (files : Files) → S.files store.old ≡ Some files → writer.old.next_id < 2 ^ 62
+        → LeavesOnly S.moment S.left_since store.old store.new (Reaches (MayLeave writer.old line.act) (S.images store.old)) }
     ensures later { S.fault_count store.old ≤ S.fault_count store.new }
     ensures failed { result ≡ Err StoreFault.Failed → Rose (S.fault_count store.old) (S.fault_count store.new) }
 {
@@ -118,6 +130,11 @@ pub fn do_lines<S: Store, G: Gate>(
         → OnOk result (Changes (HasCommits writer.number writer.next_id writer.rows (numbered lines) (commit_numbers writer.number (numbered lines)) (writer.next_id + length (numbered lines))) (S.files store.old) (S.files store.new)) }
     ensures kept { (files : Files) → S.files store.old ≡ Some files → Starts files writer.number writer.next_id → writer.next_id ≤ 2 ^ 61
         → Changes KeepsCommits (S.files store.old) (S.files store.new) }
+    // Once the lines are done every image has their commits; a crash meanwhile leaves a front of them, each whole.
+    ensures acknowledged { (files : Files) → S.files store.old ≡ Some files → ((d : Files) → S.images store.old d → Starts d writer.number writer.next_id) → writer.next_id ≤ 2 ^ 61
+        → OnOk result (Follows (HasAll writer.number writer.next_id writer.rows lines) (S.images store.old) (S.images store.new)) }
+    ensures crash { (files : Files) → S.files store.old ≡ Some files → ((d : Files) → S.images store.old d → Starts d writer.number writer.next_id) → writer.next_id ≤ 2 ^ 61
+        → LeavesOnly S.moment S.left_since store.old store.new (Reaches (HasFront writer.number writer.next_id writer.rows (numbered lines) (writer.next_id + length (numbered lines))) (S.images store.old)) }
     ensures later { S.fault_count store.old ≤ S.fault_count store.new }
     ensures failed { result ≡ Err StoreFault.Failed → Rose (S.fault_count store.old) (S.fault_count store.new) }
 {

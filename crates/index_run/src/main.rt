@@ -24,6 +24,8 @@ mod stop;
 mod tell;
 #[cfg(test)]
 mod tests;
+#[cfg(test)]
+mod tests_gate;
 mod texts;
 mod words;
 mod writer;

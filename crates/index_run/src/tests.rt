@@ -24,14 +24,14 @@ const TWO_HITS: &str =
 
 /// How a run ended, and what it wrote.
 #[derive(Drop)]
-struct Done<S> {
-    status: u8,
-    written: Vec<u8>,
-    store: S,
+pub(crate) struct Done<S> {
+    pub(crate) status: u8,
+    pub(crate) written: Vec<u8>,
+    pub(crate) store: S,
 }
 
 /// A run of the script over the store.
-fn run_over<R: Threads + Wait, S: Store + Drop>(
+pub(crate) fn run_over<R: Threads + Wait, S: Store + Drop>(
     rt: &R,
     alloc: Global,
     script: &[&str],
@@ -66,7 +66,7 @@ fn run_over<R: Threads + Wait, S: Store + Drop>(
 #[test]
 fn reports(rt: HostRuntime) {
     let alloc = rt.alloc();
-    let cases: [(&[&str], u8, &str); 9] = [
+    let cases: [(&[&str], u8, &str); 10] = [
         (&[], 0, ""),
         (&[ADD_A1, COMMIT, ALL], 0, FIRST_REPORT),
         (
@@ -109,6 +109,18 @@ fn reports(rt: HostRuntime) {
             ],
             0,
             "{\"line\":1,\"seq\":1}\n{\"line\":2,\"seq\":2}\n{\"docs\":2,\"line\":3,\"seq\":3}\n{\"commit\":0,\"hits\":[],\"line\":4}\n{\"commit\":3,\"hits\":[{\"key\":\"a1\",\"num\":{\"n\":-7}}],\"line\":5}\n",
+        ),
+        (
+            &[
+                "{\"c\":0,\"op\":\"add\",\"doc\":{\"key\":\"a1\",\"text\":{\"body\":\"Straße\"}}}\n",
+                "{\"c\":0,\"op\":\"add\",\"doc\":{\"key\":\"a2\",\"text\":{\"body\":\"STRASSE\"}}}\n",
+                COMMIT,
+                "{\"c\":0,\"op\":\"search\",\"query\":{\"term\":[\"body\",\"strasse\"]}}\n",
+                "{\"c\":0,\"op\":\"search\",\"query\":{\"term\":[\"body\",\"Strasse\"]}}\n",
+                "{\"c\":0,\"op\":\"search\",\"query\":{\"phrase\":[\"body\",\"straße\"]}}\n",
+            ],
+            0,
+            "{\"line\":1,\"seq\":1}\n{\"line\":2,\"seq\":2}\n{\"docs\":2,\"line\":3,\"seq\":3}\n{\"commit\":3,\"hits\":[{\"key\":\"a1\",\"num\":{}},{\"key\":\"a2\",\"num\":{}}],\"line\":4}\n{\"commit\":3,\"hits\":[],\"line\":5}\n{\"commit\":3,\"hits\":[{\"key\":\"a1\",\"num\":{}},{\"key\":\"a2\",\"num\":{}}],\"line\":6}\n",
         ),
         (
             &[

@@ -1,13 +1,19 @@
-use Rattle.std.proofs.Common.{◌≡◌, ◌∙◌, ◌+◌, ◌≤◌, ◌^◌, [], ◌∷◌, length, refl, sym, subst, inl, inr}
+use Rattle.std.proofs.Common.{◌≡◌, ◌∙◌, ◌+◌, ◌*◌, ◌≤◌, ◌^◌, [], ◌∷◌, length, refl, sym, subst, inl, inr}
+use Rattle.ix_outside.specs.Calls.{LeavesOnly}
+use Rattle.ix_outside.specs.CallLaws.{reads_none}
 use Rattle.ix_outside.specs.Files.{Changes}
+use Rattle.ix_outside.specs.Images.{Follows}
+use Rattle.commit_point.specs.Putting.{Reaches}
 use Rattle.index_run.specs.declared.writer.Writer.{Writer}
 use Rattle.index_run.specs.declared.stop.Stop.{Stop}
 use Rattle.index_run.specs.Causes.{IsOneOf, stop_status}
 use Rattle.index_run.specs.Numbering.{numbered, commit_numbers}
 use Rattle.index_run.specs.Outcomes.{outcomes_from}
 use Rattle.index_run.specs.Headline.{HasCommits, Starts}
+use Rattle.index_run.specs.Crashes.{HasAll, HasFront}
 use Rattle.index_run.proofs.Beginnings.{begins_starts, begins_on, begins_room}
 use Rattle.index_run.proofs.Finish.{done_in, whole_in, kept_in}
+use Rattle.index_run.proofs.Stopped.{starts_all, script_crash, begun_crash, script_stands}
 use Rattle.index_run.proofs.doing.do_script.Goals as goal
 
 pub returns-in-Err-clause-whole : goal.returns-in-Err-clause-whole
@@ -64,3 +70,56 @@ returns-clause-whole g c = λ files base next rows told last on low room.
     let made = subst (λ (v : Writer). Changes (HasCommits v.number v.next_id v.rows (numbered lines) (commit_numbers v.number (numbered lines)) (v.next_id + length (numbered lines))) began did) is (c.in-Ok-do_lines.ensures.commits le) in
     let outcomes = subst (λ (v : Writer). c.as_slice.result.now ≡ outcomes_from v.number v.rows [] lines) is (c.as_slice.ensures.value ∙ c.in-Ok-do_lines.ensures.outcomes) in
     whole_in base next rows lines files _ began did c.as_slice.result.now c.report.result told c.begin.ensures.reads.same on outcomes made c.report.ensures.whole
+
+pub returns-in-Err-clause-crash : goal.returns-in-Err-clause-crash
+returns-in-Err-clause-crash g c = λ files base next rows told begins are.
+    begun_crash {S = g.row.S.Denot} g.S.Store.files g.S.Store.unsynced g.S.Store.images g.S.Store.moment g.S.Store.left_since c.args.store.now c.begin.new.store base next rows (numbered c.args.lines) (next + 2 * length (numbered c.args.lines)) files
+    g.S.Store.only_now are c.begin.ensures.reads
+
+pub returns-in-Err-Failed-clause-crash : goal.returns-in-Err-Failed-clause-crash
+returns-in-Err-Failed-clause-crash g c = λ files base next rows told begins are.
+    let w = c.in-Ok.writer in
+    let is = c.in-Ok.ensures.on files base next rows told begins.0 (begins_on files base next rows begins) in
+    let starts : Starts files w.number w.next_id = subst (λ (v : Writer). Starts files v.number v.next_id) (sym is) (begins_starts files base next rows begins) in
+    let room : w.next_id ≤ 2 ^ 61 = subst (λ (v : Writer). v.next_id ≤ 2 ^ 61) (sym is) (begins_room files base next rows begins) in
+    let began = starts_all files w.number w.next_id (g.S.Store.images c.args.store.now) (g.S.Store.images c.begin.new.store) starts are c.begin.ensures.reads.crash in
+    let crash = subst (λ (v : Writer). LeavesOnly g.S.Store.moment g.S.Store.left_since c.begin.new.store c.do_lines.new.store (Reaches (HasFront v.number v.next_id v.rows (numbered c.args.lines) (v.next_id + length (numbered c.args.lines))) (g.S.Store.images c.begin.new.store))) is
+    (c.do_lines.ensures.crash files (c.begin.ensures.reads.same ∙ told) began room) in
+    script_crash {S = g.row.S.Denot} g.S.Store.files g.S.Store.unsynced g.S.Store.images g.S.Store.moment g.S.Store.left_since c.args.store.now c.begin.new.store c.do_lines.new.store c.do_lines.new.store base next rows c.args.lines files
+    g.S.Store.counts_now g.S.Store.only_now are c.begin.ensures.reads crash (reads_none g.S.Store.files g.S.Store.unsynced g.S.Store.images g.S.Store.moment g.S.Store.left_since c.do_lines.new.store)
+
+pub returns-in-Err-NoMemory-clause-crash : goal.returns-in-Err-NoMemory-clause-crash
+returns-in-Err-NoMemory-clause-crash g c = λ files base next rows told begins are.
+    let w = c.in-Ok.writer in
+    let is = c.in-Ok.ensures.on files base next rows told begins.0 (begins_on files base next rows begins) in
+    let starts : Starts files w.number w.next_id = subst (λ (v : Writer). Starts files v.number v.next_id) (sym is) (begins_starts files base next rows begins) in
+    let room : w.next_id ≤ 2 ^ 61 = subst (λ (v : Writer). v.next_id ≤ 2 ^ 61) (sym is) (begins_room files base next rows begins) in
+    let began = starts_all files w.number w.next_id (g.S.Store.images c.args.store.now) (g.S.Store.images c.begin.new.store) starts are c.begin.ensures.reads.crash in
+    let crash = subst (λ (v : Writer). LeavesOnly g.S.Store.moment g.S.Store.left_since c.begin.new.store c.do_lines.new.store (Reaches (HasFront v.number v.next_id v.rows (numbered c.args.lines) (v.next_id + length (numbered c.args.lines))) (g.S.Store.images c.begin.new.store))) is
+    (c.do_lines.ensures.crash files (c.begin.ensures.reads.same ∙ told) began room) in
+    script_crash {S = g.row.S.Denot} g.S.Store.files g.S.Store.unsynced g.S.Store.images g.S.Store.moment g.S.Store.left_since c.args.store.now c.begin.new.store c.do_lines.new.store c.do_lines.new.store base next rows c.args.lines files
+    g.S.Store.counts_now g.S.Store.only_now are c.begin.ensures.reads crash (reads_none g.S.Store.files g.S.Store.unsynced g.S.Store.images g.S.Store.moment g.S.Store.left_since c.do_lines.new.store)
+
+pub returns-clause-crash : goal.returns-clause-crash
+returns-clause-crash g c = λ files base next rows told begins are.
+    let w = c.in-Ok.writer in
+    let is = c.in-Ok.ensures.on files base next rows told begins.0 (begins_on files base next rows begins) in
+    let starts : Starts files w.number w.next_id = subst (λ (v : Writer). Starts files v.number v.next_id) (sym is) (begins_starts files base next rows begins) in
+    let room : w.next_id ≤ 2 ^ 61 = subst (λ (v : Writer). v.next_id ≤ 2 ^ 61) (sym is) (begins_room files base next rows begins) in
+    let began = starts_all files w.number w.next_id (g.S.Store.images c.args.store.now) (g.S.Store.images c.begin.new.store) starts are c.begin.ensures.reads.crash in
+    let crash = subst (λ (v : Writer). LeavesOnly g.S.Store.moment g.S.Store.left_since c.begin.new.store c.do_lines.new.store (Reaches (HasFront v.number v.next_id v.rows (numbered c.args.lines) (v.next_id + length (numbered c.args.lines))) (g.S.Store.images c.begin.new.store))) is
+    (c.do_lines.ensures.crash files (c.begin.ensures.reads.same ∙ told) began room) in
+    script_crash {S = g.row.S.Denot} g.S.Store.files g.S.Store.unsynced g.S.Store.images g.S.Store.moment g.S.Store.left_since c.args.store.now c.begin.new.store c.do_lines.new.store c.report.new.store base next rows c.args.lines files
+    g.S.Store.counts_now g.S.Store.only_now are c.begin.ensures.reads crash c.report.ensures.reads
+
+pub returns-clause-acknowledged : goal.returns-clause-acknowledged
+returns-clause-acknowledged g c = λ files base next rows told begins are.
+    let w = c.in-Ok.writer in
+    let is = c.in-Ok.ensures.on files base next rows told begins.0 (begins_on files base next rows begins) in
+    let starts : Starts files w.number w.next_id = subst (λ (v : Writer). Starts files v.number v.next_id) (sym is) (begins_starts files base next rows begins) in
+    let room : w.next_id ≤ 2 ^ 61 = subst (λ (v : Writer). v.next_id ≤ 2 ^ 61) (sym is) (begins_room files base next rows begins) in
+    let began = starts_all files w.number w.next_id (g.S.Store.images c.args.store.now) (g.S.Store.images c.begin.new.store) starts are c.begin.ensures.reads.crash in
+    let stands = subst (λ (v : Writer). Follows (HasAll v.number v.next_id v.rows c.args.lines) (g.S.Store.images c.begin.new.store) (g.S.Store.images c.do_lines.new.store)) is
+    (c.in-Ok-do_lines.ensures.acknowledged files (c.begin.ensures.reads.same ∙ told) began room) in
+    script_stands base next rows c.args.lines files (g.S.Store.files c.args.store.now) (g.S.Store.files c.report.new.store) (g.S.Store.images c.args.store.now) (g.S.Store.images c.begin.new.store) (g.S.Store.images c.do_lines.new.store) (g.S.Store.images c.report.new.store)
+    c.report.result told are c.begin.ensures.reads.crash stands c.report.ensures.reads.crash (returns-clause-done g c files base next rows told begins)

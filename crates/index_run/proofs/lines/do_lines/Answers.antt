@@ -1,11 +1,13 @@
 use Rattle.std.proofs.Common.{◌≡◌, ◌+◌, ◌≤◌, ◌^◌, ℕ, List, [], ◌∷◌, ◌++◌, length, get_or, refl, sym, ap, subst, ◌∙◌, append_assoc, arith}
 use Rattle.std.specs.Vec.Iter.{into_iter_items}
-use Rattle.ix_outside.specs.Files.{Changes}
+use Rattle.ix_outside.specs.Files.{Files, Changes}
+use Rattle.ix_outside.specs.Images.{Follows}
 use Rattle.op_script.specs.declared.script.Line.{Line}
 use Rattle.index_run.specs.Doing.{writer_after, lasts_after, answer_by}
 use Rattle.index_run.specs.declared.writer.Writer.{Writer}
 use Rattle.index_run.specs.declared.outcome.Outcome.{Outcome}
 use Rattle.index_run.proofs.Far.{Far, SoFar, far_start, made_start, kept_start, act_known, can_go_on, room_left, far_line, files_line, kept_line, elsewhere_of, all_done, commits_done}
+use Rattle.index_run.proofs.Images.{Stands, stands_start, crash_start, stands_more, crash_more, all_stands, told_mid}
 use Rattle.index_run.proofs.lines.do_lines.Goals as goal
 
 pub loop-line-init : goal.loop-line-init
@@ -19,6 +21,8 @@ loop-line-init g c = record {
   far = rw c.new-outcomes.ensures.items (far_start c.args.writer c.requires.ready);
   made = λ room. made_start c.args.writer.number c.args.writer.next_id c.args.writer.rows c.args.lines (g.S.Store.files c.args.store.now);
   kept = λ files told starts room. kept_start (g.S.Store.files c.args.store.now);
+  stands = λ files told starts room. stands_start c.args.writer.number c.args.writer.next_id c.args.writer.rows c.args.lines (g.S.Store.images c.args.store.now);
+  crash = λ files told starts room. crash_start {S = g.row.S.Denot} g.S.Store.moment g.S.Store.left_since g.S.Store.images c.args.store.now c.args.writer.number c.args.writer.next_id c.args.writer.rows c.args.lines g.S.Store.only_now;
   later = omega arith;
 }
 
@@ -63,6 +67,15 @@ loop-line-preserved g c =
           next refl known.0 (room le) at.invariant.far c.in_ok-outcome.ensures.files (at.invariant.made le));
       kept = λ files told starts le. kept_line w.number w.next_id (at.writer.number + 1) at.writer.next_id files start (g.S.Store.files at.store) (g.S.Store.files c.do_line.new.store) told starts (omega (arith, at.invariant.far.number)) at.invariant.far.low
           (elsewhere_of at.writer line.act (g.S.Store.files at.store) (g.S.Store.files c.do_line.new.store) (room le) c.in_ok-outcome.ensures.files) (at.invariant.kept files told starts le);
+      stands = λ files told starts le.
+          let mid = told_mid (SoFar w.number w.next_id w.rows c.args.lines at.yielded at.writer.next_id) files start (g.S.Store.files at.store) told (at.invariant.made le) in
+          subst (λ (v : Writer). Follows (Stands w.number w.next_id w.rows c.args.lines (at.yielded ++ line ∷ []) v.next_id) (g.S.Store.images c.args.store.now) (g.S.Store.images c.do_line.new.store)) (sym writer)
+          (stands_more w.number w.next_id w.rows c.args.lines at.yielded rest line line.act at.writer at.lasts at.outcomes.items (g.S.Store.images c.args.store.now) (g.S.Store.images at.store) (g.S.Store.images c.do_line.new.store)
+          next refl known.0 (room le) at.invariant.far starts (at.invariant.stands files told starts le) (c.in_ok-outcome.ensures.acknowledged mid.0 mid.1 (room le)));
+      crash = λ files told starts le.
+          let mid = told_mid (SoFar w.number w.next_id w.rows c.args.lines at.yielded at.writer.next_id) files start (g.S.Store.files at.store) told (at.invariant.made le) in
+          crash_more {S = g.row.S.Denot} g.S.Store.moment g.S.Store.left_since g.S.Store.images c.args.store.now at.store c.do_line.new.store w.number w.next_id w.rows c.args.lines at.yielded rest line line.act at.writer at.lasts at.outcomes.items
+          next refl (room le) at.invariant.far starts (at.invariant.stands files told starts le) (at.invariant.crash files told starts le) (c.do_line.ensures.crash mid.0 mid.1 (room le));
       later = omega (arith, at.invariant.later, c.do_line.ensures.later);
     }
 
@@ -86,3 +99,36 @@ returns-clause-commits g c = λ le.
     let w = c.args.writer in
     let all = all_done c.args.lines at.yielded (into_iter_items at.line-iterator) _ at.invariant.items at.invariant.count c.in-None.ensures.steps.0 in
     commits_done w.number w.next_id w.rows c.args.lines at.yielded at.writer at.lasts at.outcomes.items (g.S.Store.files c.args.store.now) (g.S.Store.files at.store) all at.invariant.far (at.invariant.made le)
+
+pub returns-in_err-outcome-clause-crash : goal.returns-in_err-outcome-clause-crash
+returns-in_err-outcome-clause-crash g c = λ files told starts le.
+    let at = c.loop-line in
+    let w = c.args.writer in
+    let line = c.in-Some.line in
+    let rest = into_iter_items c.next.new.self in
+    let start = g.S.Store.files c.args.store.now in
+    let next : c.args.lines ≡ at.yielded ++ line ∷ rest = sym at.invariant.items ∙ ap (λ (ls : List Line). at.yielded ++ ls) c.in-Some.ensures.steps.0 in
+    let room = room_left w.number w.next_id w.rows c.args.lines at.yielded (into_iter_items at.line-iterator) at.writer at.lasts at.outcomes.items (sym at.invariant.items) c.requires.script.few le at.invariant.far in
+    let mid = told_mid (SoFar w.number w.next_id w.rows c.args.lines at.yielded at.writer.next_id) files start (g.S.Store.files at.store) told (at.invariant.made le) in
+    crash_more {S = g.row.S.Denot} g.S.Store.moment g.S.Store.left_since g.S.Store.images c.args.store.now at.store c.do_line.new.store w.number w.next_id w.rows c.args.lines at.yielded rest line line.act at.writer at.lasts at.outcomes.items
+    next refl room at.invariant.far starts (at.invariant.stands files told starts le) (at.invariant.crash files told starts le) (c.do_line.ensures.crash mid.0 mid.1 room)
+
+pub returns-in_err-push-clause-crash : goal.returns-in_err-push-clause-crash
+returns-in_err-push-clause-crash g c = λ files told starts le.
+    let at = c.loop-line in
+    let w = c.args.writer in
+    let line = c.in-Some.line in
+    let rest = into_iter_items c.next.new.self in
+    let start = g.S.Store.files c.args.store.now in
+    let next : c.args.lines ≡ at.yielded ++ line ∷ rest = sym at.invariant.items ∙ ap (λ (ls : List Line). at.yielded ++ ls) c.in-Some.ensures.steps.0 in
+    let room = room_left w.number w.next_id w.rows c.args.lines at.yielded (into_iter_items at.line-iterator) at.writer at.lasts at.outcomes.items (sym at.invariant.items) c.requires.script.few le at.invariant.far in
+    let mid = told_mid (SoFar w.number w.next_id w.rows c.args.lines at.yielded at.writer.next_id) files start (g.S.Store.files at.store) told (at.invariant.made le) in
+    crash_more {S = g.row.S.Denot} g.S.Store.moment g.S.Store.left_since g.S.Store.images c.args.store.now at.store c.do_line.new.store w.number w.next_id w.rows c.args.lines at.yielded rest line line.act at.writer at.lasts at.outcomes.items
+    next refl room at.invariant.far starts (at.invariant.stands files told starts le) (at.invariant.crash files told starts le) (c.do_line.ensures.crash mid.0 mid.1 room)
+
+pub returns-clause-acknowledged : goal.returns-clause-acknowledged
+returns-clause-acknowledged g c = λ files told starts le.
+    let at = c.loop-line in
+    let w = c.args.writer in
+    let all = all_done c.args.lines at.yielded (into_iter_items at.line-iterator) _ at.invariant.items at.invariant.count c.in-None.ensures.steps.0 in
+    all_stands w.number w.next_id w.rows c.args.lines at.yielded at.writer at.lasts at.outcomes.items (g.S.Store.images c.args.store.now) (g.S.Store.images at.store) all at.invariant.far (at.invariant.stands files told starts le)

@@ -8,7 +8,7 @@ use Rattle.index_run.specs.declared.outcome.Outcome.{Outcome}
 use Rattle.index_run.specs.declared.report.Turn.{Turn}
 use Rattle.index_run.specs.Searching.{AnswerHolds, CanSearch}
 use Rattle.index_run.proofs.Filled.{FilledAt, filled_more, all_filled, turn_in_range, get_or_any}
-use Rattle.index_run.proofs.OnlyReading.{reads_more}
+use Rattle.ix_outside.specs.CallLaws.{reads_then}
 use Rattle.index_run.proofs.report.texts_in_turn.Goals as goal
 
 holds_at : (files : Files) (rows_of : ℕ → List Row) (outcomes : List Outcome) (at : ℕ) (o : Outcome) → at < length outcomes → o ≡ get_or outcomes at o → CanSearch files rows_of outcomes → AnswerHolds files rows_of o.answer
@@ -46,7 +46,7 @@ loop-turn-preserved g c =
           subst (λ (texts : List (List ℕ)). (k : ℕ) (d : Turn) → k < i + 1 → FilledAt rows_of outcomes texts (get_or turns k d).at) (sym (map-set (λ (v : Vec ℕ Global). v.items) made at text))
           (filled_more rows_of outcomes (map (λ (v : Vec ℕ Global). v.items) made) turns i at text.items c.index-outcomes-turn.result (length_items made ∙ inv.count) lt
           (λ d. ap (λ (turn : Turn). turn.at) (get_or_any turns i d some c.loop-turn-test.true)) c.index-outcomes-turn.is (done files rows_of told can).0 (inv.filled files rows_of told can));
-      reads = reads_more _ _ _ _ _ c.args.store.now c.loop-turn.store c.line_text.new.store inv.reads c.line_text.ensures.reads;
+      reads = reads_then _ _ _ _ _ c.args.store.now c.loop-turn.store c.line_text.new.store inv.reads c.line_text.ensures.reads;
       later = omega (arith, inv.later, c.line_text.ensures.later);
     }
 

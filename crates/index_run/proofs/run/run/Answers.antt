@@ -1,7 +1,14 @@
-use Rattle.std.proofs.Common.{◌≡◌, ℕ, List, take, subst}
+use Rattle.std.proofs.Common.{◌≡◌, ℕ, ◌+◌, ◌*◌, List, length, take, Some, subst}
 use Rattle.std.specs.Io.KnownBytes.{Appends}
+use Rattle.ix_outside.specs.CallLaws.{leaves_none, leaves_less}
+use Rattle.ix_outside.specs.Files.{Files}
+use Rattle.commit_point.specs.Holds.{KeepsCommits}
+use Rattle.op_script.specs.declared.script.Line.{Line}
 use Rattle.index_run.specs.Causes.{stop_status}
+use Rattle.index_run.specs.Crashes.{HasFront, StopsRight}
+use Rattle.index_run.specs.Numbering.{numbered}
 use Rattle.index_run.proofs.Finish.{runs_right, listed_wider}
+use Rattle.index_run.proofs.Stopped.{stops_of, stops_none}
 use Rattle.index_run.proofs.run.run.Goals as goal
 
 pub returns-in-Err-do_script-clause-whole : goal.returns-in-Err-do_script-clause-whole
@@ -26,3 +33,67 @@ returns-clause-front g c = λ bytes lines files base next rows told is store beg
     let written = subst (λ (t : List ℕ). Appends (g.O.Sink.written c.args.out.now) (g.O.Sink.written c.write_all.new.out) (take front.count t)) c.as_slice.ensures.value front.front in
     runs_right base next rows lines c.in-Ok.lines text (λ (t : List ℕ). (n : ℕ) × Appends (g.O.Sink.written c.args.out.now) (g.O.Sink.written c.write_all.new.out) (take n t)) _ _ same (front.count, written)
     (c.in-Ok-do_script.ensures.done files base next rows store begins)
+
+pub returns-in-Err-clause-crash : goal.returns-in-Err-clause-crash
+returns-in-Err-clause-crash g c = λ bytes lines files base next rows told is store begins are.
+    leaves_none {S = g.row.S.Denot} g.S.Store.moment g.S.Store.left_since g.S.Store.images c.args.store.now (StopsRight base next rows lines files) g.S.Store.only_now (stops_none base next rows lines files (g.S.Store.images c.args.store.now) are)
+
+pub returns-in-Err-clause-crash_kept : goal.returns-in-Err-clause-crash_kept
+returns-in-Err-clause-crash_kept g c = λ files base next rows store begins are.
+    leaves_none {S = g.row.S.Denot} g.S.Store.moment g.S.Store.left_since g.S.Store.images c.args.store.now (KeepsCommits files) g.S.Store.only_now are.kept
+
+pub returns-in-Err-do_script-clause-crash : goal.returns-in-Err-do_script-clause-crash
+returns-in-Err-do_script-clause-crash g c = λ bytes lines files base next rows told is store begins are.
+    let read = c.in-Ok.ensures.lines bytes told in
+    let same : c.in-Ok.lines ≡ lines = cc in
+    leaves_less {S = g.row.S.Denot} g.S.Store.moment g.S.Store.left_since c.args.store.now c.do_script.new.store (HasFront base next rows (numbered c.in-Ok.lines) (next + 2 * length (numbered c.in-Ok.lines)) files) (StopsRight base next rows lines files)
+    (c.do_script.ensures.crash files base next rows store begins are) (λ x front. stops_of base next rows lines c.in-Ok.lines files x same front)
+
+pub returns-in-Err-do_script-clause-crash_kept : goal.returns-in-Err-do_script-clause-crash_kept
+returns-in-Err-do_script-clause-crash_kept g c = λ files base next rows store begins are.
+    leaves_less {S = g.row.S.Denot} g.S.Store.moment g.S.Store.left_since c.args.store.now c.do_script.new.store (HasFront base next rows (numbered c.in-Ok.lines) (next + 2 * length (numbered c.in-Ok.lines)) files) (KeepsCommits files)
+    (c.do_script.ensures.crash files base next rows store begins are) (λ x front. front.kept)
+
+pub returns-in-Ok-write_all-clause-crash : goal.returns-in-Ok-write_all-clause-crash
+returns-in-Ok-write_all-clause-crash g c = λ bytes lines files base next rows told is store begins are.
+    let read = c.in-Ok.ensures.lines bytes told in
+    let same : c.in-Ok.lines ≡ lines = cc in
+    leaves_less {S = g.row.S.Denot} g.S.Store.moment g.S.Store.left_since c.args.store.now c.do_script.new.store (HasFront base next rows (numbered c.in-Ok.lines) (next + 2 * length (numbered c.in-Ok.lines)) files) (StopsRight base next rows lines files)
+    (c.do_script.ensures.crash files base next rows store begins are) (λ x front. stops_of base next rows lines c.in-Ok.lines files x same front)
+
+pub returns-in-Ok-write_all-clause-crash_kept : goal.returns-in-Ok-write_all-clause-crash_kept
+returns-in-Ok-write_all-clause-crash_kept g c = λ files base next rows store begins are.
+    leaves_less {S = g.row.S.Denot} g.S.Store.moment g.S.Store.left_since c.args.store.now c.do_script.new.store (HasFront base next rows (numbered c.in-Ok.lines) (next + 2 * length (numbered c.in-Ok.lines)) files) (KeepsCommits files)
+    (c.do_script.ensures.crash files base next rows store begins are) (λ x front. front.kept)
+
+pub returns-clause-crash : goal.returns-clause-crash
+returns-clause-crash g c = λ bytes lines files base next rows told is store begins are.
+    let read = c.in-Ok.ensures.lines bytes told in
+    let same : c.in-Ok.lines ≡ lines = cc in
+    leaves_less {S = g.row.S.Denot} g.S.Store.moment g.S.Store.left_since c.args.store.now c.do_script.new.store (HasFront base next rows (numbered c.in-Ok.lines) (next + 2 * length (numbered c.in-Ok.lines)) files) (StopsRight base next rows lines files)
+    (c.do_script.ensures.crash files base next rows store begins are) (λ x front. stops_of base next rows lines c.in-Ok.lines files x same front)
+
+pub returns-clause-crash_kept : goal.returns-clause-crash_kept
+returns-clause-crash_kept g c = λ files base next rows store begins are.
+    leaves_less {S = g.row.S.Denot} g.S.Store.moment g.S.Store.left_since c.args.store.now c.do_script.new.store (HasFront base next rows (numbered c.in-Ok.lines) (next + 2 * length (numbered c.in-Ok.lines)) files) (KeepsCommits files)
+    (c.do_script.ensures.crash files base next rows store begins are) (λ x front. front.kept)
+
+pub returns-in-Ok-write_all-clause-acknowledged : goal.returns-in-Ok-write_all-clause-acknowledged
+returns-in-Ok-write_all-clause-acknowledged g c = λ bytes lines files base next rows told is store begins are x image.
+    let read = c.in-Ok.ensures.lines bytes told in
+    let same : c.in-Ok.lines ≡ lines = cc in
+    let text = c.in-Ok-do_script.text.items in
+    let written : Appends (g.O.Sink.written c.args.out.now) (g.O.Sink.written c.write_all.new.out) text =
+    subst (λ (t : List ℕ). Appends (g.O.Sink.written c.args.out.now) (g.O.Sink.written c.write_all.new.out) t) c.as_slice.ensures.value c.in-Ok-write_all.ensures.ok in
+    runs_right base next rows lines c.in-Ok.lines text (λ (t : List ℕ). Appends (g.O.Sink.written c.args.out.now) (g.O.Sink.written c.write_all.new.out) t) (Some files) (Some x) same written
+    (c.in-Ok-do_script.ensures.acknowledged files base next rows store begins are x image)
+
+pub returns-clause-acknowledged_front : goal.returns-clause-acknowledged_front
+returns-clause-acknowledged_front g c = λ bytes lines files base next rows told is store begins are sink x image.
+    let read = c.in-Ok.ensures.lines bytes told in
+    let same : c.in-Ok.lines ≡ lines = cc in
+    let text = c.in-Ok-do_script.text.items in
+    let front = c.write_all.ensures.front in
+    let written = subst (λ (t : List ℕ). Appends (g.O.Sink.written c.args.out.now) (g.O.Sink.written c.write_all.new.out) (take front.count t)) c.as_slice.ensures.value front.front in
+    runs_right base next rows lines c.in-Ok.lines text (λ (t : List ℕ). (n : ℕ) × Appends (g.O.Sink.written c.args.out.now) (g.O.Sink.written c.write_all.new.out) (take n t)) (Some files) (Some x) same (front.count, written)
+    (c.in-Ok-do_script.ensures.acknowledged files base next rows store begins are x image)

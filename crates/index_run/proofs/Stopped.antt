@@ -1,0 +1,172 @@
+-- What a crash leaves of a run, over commits that are kept.
+use Rattle.std.proofs.Common.{◌≡◌, ◌⊎◌, inl, inr, ℕ, suc, ◌+◌, ◌*◌, ◌<◌, ◌≤◌, List, [], ◌∷◌, length, take, Some, None, Ok, Err, Result, refl, sym, subst, ◌∙◌, arith, Vec}
+use Rattle.std.specs.Prelude.{IsSome, Option, Contains, IfOk}
+use Rattle.std.specs.declared.alloc.Global.{Global}
+use Rattle.ix_base.specs.declared.document.Row.{Row}
+use Rattle.ix_base.specs.declared.file_name.FileName.{FileName}
+use Rattle.ix_base.specs.declared.file_name.FileName.TheVariants.{Commit, Rows}
+use Rattle.ix_outside.specs.Calls.{OnlyReads, LeavesOnly}
+use Rattle.ix_outside.specs.CallLaws.{leaves_reading, leaves_then, leaves_now}
+use Rattle.ix_outside.specs.Files.{Files, Changes}
+use Rattle.ix_outside.specs.Images.{Follows, NoMore}
+use Rattle.commit_point.specs.declared.heads.HeadSegment.{HeadSegment}
+use Rattle.commit_point.specs.Holds.{Holds, HaveRows, ListsId, IsFileOf, KeepsCommits}
+use Rattle.commit_point.specs.Putting.{Reaches}
+use Rattle.op_script.specs.declared.script.Line.{Line}
+use Rattle.index_run.specs.declared.stop.Stop.{Stop}
+use Rattle.index_run.specs.Numbering.{numbered, commit_numbers}
+use Rattle.index_run.specs.Report.{report}
+use Rattle.index_run.specs.Headline.{HasCommits, IsIn, Starts}
+use Rattle.index_run.specs.Crashes.{AreKept, HasAll, HasFront, StopsRight}
+use Rattle.index_run.specs.Script.{DoesScript}
+use Rattle.index_run.proofs.Beginnings.{none_of}
+use Rattle.index_run.proofs.Far.{has_widen}
+
+-- ---- what a commit holds, an image that keeps it holds
+
+here : (e : HeadSegment) (es : List HeadSegment) → Contains (e ∷ es) e
+here e es = (0, omega arith, refl)
+
+next_one : (e x : HeadSegment) (es : List HeadSegment) → Contains es x → Contains (e ∷ es) x
+next_one e x es h = (suc h.0, omega (arith, h.1), h.2)
+
+rows_there : (files d : Files) (t : ℕ) (segments : List HeadSegment) (parts : List (List Row)) → ((e : HeadSegment) → Contains segments e → d (Rows e.id) ≡ files (Rows e.id))
+    → HaveRows files t segments parts → HaveRows d t segments parts
+rows_there files d t [] [] same have = have
+rows_there files d t [] (p ∷ ps) same have = have
+rows_there files d t (e ∷ es) [] same have = have
+rows_there files d t (e ∷ es) (p ∷ ps) same have = (same e (here e es) ∙ have.0, have.1, have.2, rows_there files d t es ps (λ x h. same x (next_one e x es h)) have.3)
+
+there_by : (files : Files) (s : ℕ) (bytes : List ℕ) → files (Commit s) ≡ Some bytes → IsSome (files (Commit s))
+there_by files s bytes is = subst (λ (o : Option (List ℕ)). IsSome o) (sym is) refl
+
+pub holds_there : (files d : Files) (s next : ℕ) (rows : List Row) → KeepsCommits files d → Holds files s next rows → Holds d s next rows
+holds_there files d s next rows kept h =
+    let there = there_by files s _ h.has_head.file in
+    record {
+      head = h.head;
+      parts = h.parts;
+      has_head = record { file = kept s there (Commit s) (inl refl) ∙ h.has_head.file; number = h.has_head.number; fits = h.has_head.fits };
+      next_id = h.next_id;
+      docs = h.docs;
+      each = rows_there files d s h.head.segments h.parts
+          (λ e listed. kept s there (Rows e.id) (inr (e.id, record { head = h.head; has_head = h.has_head; segment = e; listed = listed; is = refl }, refl))) h.each;
+      merged = h.merged;
+      births = h.births;
+    }
+
+file_there : (files d : Files) (s : ℕ) (name : FileName) → KeepsCommits files d → IsSome (files (Commit s)) → IsFileOf files s name → IsFileOf d s name
+file_there files d s name kept there (inl e) = inl e
+file_there files d s name kept there (inr found) =
+    let lists = found.1 in
+    inr (
+      found.0,
+      record {
+        head = lists.head;
+        has_head = record { file = kept s there (Commit s) (inl refl) ∙ lists.has_head.file; number = lists.has_head.number; fits = lists.has_head.fits };
+        segment = lists.segment;
+        listed = lists.listed;
+        is = lists.is;
+      },
+      found.2,
+    )
+
+pub kept_through : (files d c : Files) → KeepsCommits files d → KeepsCommits d c → KeepsCommits files c
+kept_through files d c first second s there name of_s =
+    let in_d : IsSome (d (Commit s)) = subst (λ (o : Option (List ℕ)). IsSome o) (sym (first s there (Commit s) (inl refl))) there in
+    second s in_d name (file_there files d s name first there of_s) ∙ first s there name of_s
+
+-- an image has no commit above the base either
+pub starts_in : (files d : Files) (base next : ℕ) → Starts files base next → KeepsCommits files d → ((s : ℕ) → IsSome (d (Commit s)) → IsSome (files (Commit s))) → Starts d base next
+starts_in files d base next starts kept only = record {
+  none_above = λ s above. none_of (d (Commit s)) (λ there. let some = only s there in let gone = starts.none_above s above in cc);
+  ids_below = λ s id lists.
+      let there = only s (there_by d s _ lists.has_head.file) in
+      starts.ids_below s id (record {
+        head = lists.head;
+        has_head = record { file = sym (kept s there (Commit s) (inl refl)) ∙ lists.has_head.file; number = lists.has_head.number; fits = lists.has_head.fits };
+        segment = lists.segment;
+        listed = lists.listed;
+        is = lists.is;
+      });
+}
+
+commits_through : (base next : ℕ) (rows : List Row) (log : List Line) (ns : List ℕ) (limit : ℕ) (files d c : Files) → KeepsCommits files d → ((s : ℕ) → IsSome (d (Commit s)) → IsSome (files (Commit s)))
+    → HasCommits base next rows log ns limit d c → HasCommits base next rows log ns limit files c
+commits_through base next rows log ns limit files d c kept only has = record {
+  each = has.each;
+  only = λ s there. elim (has.only s there) [ inl was ↦ inl (only s was) | inr in_ns ↦ inr in_ns ];
+  older = λ s id held low small was. has.older s id held low small (holds_there files d s id held kept was);
+}
+
+wider : (base next : ℕ) (rows : List Row) (log : List Line) (ns : List ℕ) (limit more : ℕ) (d c : Files) → limit ≤ more → HasCommits base next rows log ns limit d c → HasCommits base next rows log ns more d c
+wider base next rows log ns limit more d c le has = has_widen base next rows log ns limit more (Some d) (Some c) le has
+
+-- an image at the beginning has no new commit
+no_front : (base next : ℕ) (rows : List Row) (log : List Line) (limit : ℕ) (files : Files) (images : Files → Type 0) → AreKept files images → (d : Files) → images d → HasFront base next rows log limit files d
+no_front base next rows log limit files images are d image = record {
+  count = 0;
+  commits = record { each = tt; only = λ s there. inl (are.only d image s there); older = λ s id held low small was. holds_there files d s id held (are.kept d image) was };
+  kept = are.kept d image;
+}
+
+-- ---- a script that was begun, done and reported
+
+pub starts_all : (files : Files) (base next : ℕ) (start began : Files → Type 0) → Starts files base next → AreKept files start → NoMore start began → (d : Files) → began d → Starts d base next
+starts_all files base next start began starts are reads d image = starts_in files d base next starts (are.kept d (reads d image)) (are.only d (reads d image))
+
+pub script_crash : {S : Type 0} (told : S → Option Files) (to_sync : S → FileName → Type 0) (images : S → Files → Type 0) (moment : S → ℕ) (left_since : S → ℕ → Files → Type 0) (start began did now : S)
+    (base next : ℕ) (rows : List Row) (lines : List Line) (files : Files)
+    → ((store : S) (t : ℕ) (c : Files) → t ≤ moment store → images store c → left_since store t c) → ((store : S) (c : Files) → left_since store (moment store) c → images store c)
+    → AreKept files (images start) → OnlyReads told to_sync images moment left_since start began
+    → LeavesOnly moment left_since began did (Reaches (HasFront base next rows (numbered lines) (next + length (numbered lines))) (images began)) → OnlyReads told to_sync images moment left_since did now
+    → LeavesOnly moment left_since start now (HasFront base next rows (numbered lines) (next + 2 * length (numbered lines)) files)
+script_crash told to_sync images moment left_since start began did now base next rows lines files counts_now only_now are before during after =
+    let Front : Files → Type 0 = HasFront base next rows (numbered lines) (next + 2 * length (numbered lines)) files in
+    let first = leaves_reading told to_sync images moment left_since start began Front only_now before (no_front base next rows (numbered lines) (next + 2 * length (numbered lines)) files (images start) are) in
+    let second = leaves_then moment left_since start began did Front (Reaches (HasFront base next rows (numbered lines) (next + length (numbered lines))) (images began)) Front first during (λ c front. front)
+    (λ c left.
+        let image = before.crash left.0 left.1 in
+        let front = left.2 in
+        record {
+          count = front.count;
+          commits = wider base next rows (numbered lines) (commit_numbers base (take front.count (numbered lines))) (next + length (numbered lines)) (next + 2 * length (numbered lines)) files c (omega arith)
+              (commits_through base next rows (numbered lines) (commit_numbers base (take front.count (numbered lines))) (next + length (numbered lines)) files left.0 c (are.kept left.0 image) (are.only left.0 image) front.commits);
+          kept = kept_through files left.0 c (are.kept left.0 image) front.kept;
+        }) in
+    leaves_then moment left_since start did now Front Front Front second (leaves_reading told to_sync images moment left_since did now Front only_now after (leaves_now moment left_since images start did Front counts_now second))
+    (λ c front. front) (λ c front. front)
+
+-- nothing was begun
+pub begun_crash : {S : Type 0} (told : S → Option Files) (to_sync : S → FileName → Type 0) (images : S → Files → Type 0) (moment : S → ℕ) (left_since : S → ℕ → Files → Type 0) (start now : S)
+    (base next : ℕ) (rows : List Row) (log : List Line) (limit : ℕ) (files : Files) → ((store : S) (c : Files) → left_since store (moment store) c → images store c)
+    → AreKept files (images start) → OnlyReads told to_sync images moment left_since start now → LeavesOnly moment left_since start now (HasFront base next rows log limit files)
+begun_crash told to_sync images moment left_since start now base next rows log limit files only_now are reads =
+    leaves_reading told to_sync images moment left_since start now (HasFront base next rows log limit files) only_now reads (no_front base next rows log limit files (images start) are)
+
+text_of : (base next : ℕ) (rows : List Row) (lines : List Line) (text : List ℕ) (files : Files) (start now : Option Files) → start ≡ Some files → Changes (DoesScript base next rows lines text) start now
+    → text ≡ report base rows lines (numbered lines)
+text_of base next rows lines text files None now is does = absurd cc
+text_of base next rows lines text files (Some x) None is does = absurd does
+text_of base next rows lines text files (Some x) (Some y) is does = does.text_is
+
+pub script_stands : (base next : ℕ) (rows : List Row) (lines : List Line) (files : Files) (told now : Option Files) (start began did after : Files → Type 0) (result : Result (Vec ℕ Global) Stop)
+    → told ≡ Some files → AreKept files start → NoMore start began → Follows (HasAll base next rows lines) began did → NoMore did after
+    → IfOk result (λ bytes. Changes (DoesScript base next rows lines bytes.items) told now) → IfOk result (λ bytes. (c : Files) → after c → DoesScript base next rows lines bytes.items files c)
+script_stands base next rows lines files told now start began did after (Err stop) is are before stands reads does = tt
+script_stands base next rows lines files told now start began did after (Ok bytes) is are before stands reads does c image =
+    let all = stands c (reads c image) in
+    let old = before all.0 all.1 in
+    record {
+      commits = wider base next rows (numbered lines) (commit_numbers base (numbered lines)) (next + length (numbered lines)) (next + 2 * length (numbered lines)) files c (omega arith)
+          (commits_through base next rows (numbered lines) (commit_numbers base (numbered lines)) (next + length (numbered lines)) files all.0 c (are.kept all.0 old) (are.only all.0 old) all.2.commits);
+      kept = kept_through files all.0 c (are.kept all.0 old) all.2.kept;
+      text_is = text_of base next rows lines bytes.items files told now is does;
+    }
+
+pub stops_of : (base next : ℕ) (rows : List Row) (lines read : List Line) (files c : Files) → read ≡ lines → HasFront base next rows (numbered read) (next + 2 * length (numbered read)) files c → StopsRight base next rows lines files c
+stops_of base next rows lines read files c is front =
+    subst (λ (ls : List Line). StopsRight base next rows ls files c) is (record { log = numbered read; numbering = λ caller. refl; front = front })
+
+pub stops_none : (base next : ℕ) (rows : List Row) (lines : List Line) (files : Files) (images : Files → Type 0) → AreKept files images → (d : Files) → images d → StopsRight base next rows lines files d
+stops_none base next rows lines files images are d image = record { log = numbered lines; numbering = λ caller. refl; front = no_front base next rows (numbered lines) (next + 2 * length (numbered lines)) files images are d image }

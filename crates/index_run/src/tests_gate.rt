@@ -1,0 +1,118 @@
+//! Whole runs that are watched, and what they leave in the store.
+use crate::call::top;
+use crate::tests::run_over;
+use ix_base::NoMemory;
+use ix_outside::{Gate, MemorySink, MemorySource, MemoryStore, Store};
+use std::alloc::Global;
+use std::sync::Wait;
+use std::sync::atomic::{AtomicU64, Ordering};
+use std::thread::Threads;
+
+/// A gate that keeps what it hears, in order: a line before it is tried as its number, and a line
+/// that was told as 100 times its line and its number.
+struct Recorder {
+    heard: [AtomicU64; 16],
+    count: AtomicU64,
+}
+
+impl Recorder {
+    fn new() -> Recorder {
+        Recorder {
+            heard: [const { AtomicU64::new(0) }; 16],
+            count: AtomicU64::new(0),
+        }
+    }
+
+    fn hear(&self, what: u64) {
+        let place = self.count.fetch_add(1, Ordering::SeqCst);
+        if place < 16 {
+            self.heard[place as usize].store(what, Ordering::SeqCst);
+        }
+    }
+}
+
+impl Gate for Recorder {
+    fn before(&self, line: u32) {
+        self.hear(line as u64);
+    }
+
+    fn told(&self, line: u32, number: u64) {
+        self.hear((line as u64) * 100 + number % 100);
+    }
+}
+
+/// A run that the recorder watches: an add, a term that is too long, a commit, a search and an add
+/// of another caller.
+fn watched_run<R: Threads + Wait>(rt: &R, alloc: Global, gate: &Recorder) -> Result<u8, NoMemory> {
+    let letters = "a".repeat(alloc, 32767)?;
+    let script = [
+        "{\"c\":0,\"op\":\"add\",\"doc\":{\"key\":\"a1\"}}\n{\"c\":0,\"op\":\"add\",\"doc\":{\"key\":\"a2\",\"text\":{\"body\":\"",
+        letters.as_str(),
+        "\"}}}\n{\"c\":0,\"op\":\"commit\"}\n{\"c\":0,\"op\":\"search\",\"query\":\"all\"}\n{\"c\":1,\"op\":\"add\",\"doc\":{\"key\":\"b1\"}}\n",
+    ];
+    let mut bytes = Vec::new(alloc);
+    for part in script {
+        bytes.extend_from_slice(part.as_bytes())?;
+    }
+    let mut words = Vec::new(alloc);
+    words.push(String::from_str(alloc, "run")?)?;
+    let mut input = MemorySource::failing(bytes, Vec::new(alloc));
+    let mut out = MemorySink::failing(alloc, 65536, Vec::new(alloc))?;
+    let store = MemoryStore::new(alloc);
+    let ended = top(rt, alloc, words.as_slice(), &mut input, &mut out, store, gate);
+    Ok(ended.status)
+}
+
+/// The gate hears of each write and commit line before it is tried, and of each number once: not of
+/// a search, and not of a number where a line is refused.
+#[test]
+fn the_gate_hears_of_each_line(rt: HostRuntime) {
+    let alloc = rt.alloc();
+    let gate = Recorder::new();
+    let Ok(status) = watched_run(&rt, alloc, &gate) else {
+        panic!(rt; "memory");
+    };
+    assert_eq!(rt; status, 0);
+    let wanted: [u64; 8] = [1, 101, 2, 3, 302, 5, 503, 0];
+    assert_eq!(rt; gate.count.load(Ordering::SeqCst), 7);
+    for (place, what) in wanted.into_iter().enumerate() {
+        assert_eq!(rt; gate.heard[place].load(Ordering::SeqCst), what);
+    }
+}
+
+/// How many files a run of this script leaves in an empty store.
+fn files_left<R: Threads + Wait>(
+    rt: &R,
+    alloc: Global,
+    script: &[&str],
+) -> Result<Option<usize>, NoMemory> {
+    let store = MemoryStore::new(alloc);
+    let done = run_over(rt, alloc, script, store, Vec::new(alloc), Vec::new(alloc))?;
+    let mut store = done.store;
+    match store.list(alloc) {
+        Ok(names) => Ok(Some(names.len())),
+        Err(_) => Ok(None),
+    }
+}
+
+/// A run without a commit leaves no file, an empty commit one, and a commit with rows two.
+#[test]
+fn files_of_a_run(rt: HostRuntime) {
+    let alloc = rt.alloc();
+    let cases: [(&[&str], usize); 5] = [
+        (&[], 0),
+        (&["{\"c\":0,\"op\":\"add\",\"doc\":{\"key\":\"a1\"}}\n"], 0),
+        (&["{\"c\":0,\"op\":\"commit\"}\n"], 1),
+        (
+            &["{\"c\":0,\"op\":\"add\",\"doc\":{\"key\":\"a1\"}}\n{\"c\":0,\"op\":\"commit\"}\n"],
+            2,
+        ),
+        (&["{\"c\":0,\"op\":\"commit\"}\n{\"c\":256,\"op\":\"commit\"}"], 0),
+    ];
+    for (script, files) in cases {
+        let Ok(left) = files_left(&rt, alloc, script) else {
+            panic!(rt; "memory");
+        };
+        assert_eq!(rt; left, Some(files));
+    }
+}
