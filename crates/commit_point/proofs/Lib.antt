@@ -2,6 +2,7 @@ pub mod Loops
 pub mod Crashes
 pub mod Making
 pub mod Readers
+pub mod NameSearch
 pub mod Loop
 pub mod NumberLaws
 pub mod ItemLaws

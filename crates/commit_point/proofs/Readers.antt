@@ -1,7 +1,6 @@
 -- What single readers give.
 use Rattle.std.proofs.Common.{◌≡◌, ℕ, Bool, true, false, List, length, take, drop, Ok, Err, refl, sym, ap, subst, ◌∙◌}
-use Rattle.std.specs.Prelude.{IsUtf8, [], ◌∷◌, map, not, codes, ◌||◌}
-use Rattle.std.specs.List.{list_any}
+use Rattle.std.specs.Prelude.{IsUtf8, not, codes}
 use Rattle.ix_base.specs.Limits.{is_among}
 use Rattle.std.specs.Str.{bytes_eq, is_utf8}
 use Rattle.std.proofs.lemmas.Str.{IsUtf8-from_is_utf8, is_utf8-from_IsUtf8}
@@ -29,12 +28,7 @@ not_text bytes isnt = by_cases (is_utf8 bytes) (λ e. isnt (IsUtf8-from_is_utf8 
 pub is_text : (bytes : List ℕ) → IsUtf8 bytes → is_utf8 bytes ≡ true
 is_text bytes is = is_utf8-from_IsUtf8 bytes is
 
-pub among_names : (pairs : List (List ℕ × List ℕ)) (name : List ℕ) → is_among (map (λ pair. pair.0) pairs) name ≡ list_any (λ pair. bytes_eq pair.0 name) pairs
-among_names [] name = refl
-among_names (p ∷ ps) name = ap (λ (b : Bool). bytes_eq p.0 name || b) (among_names ps name)
-
-pub free_from : (taken : List (List ℕ × List ℕ)) (name seen : List ℕ) (found : Bool) → seen ≡ name → not (bytes_eq seen (codes "key")) ≡ true → found ≡ list_any (λ pair. bytes_eq pair.0 name) taken
-    → not found ≡ is_free_name (map (λ pair. pair.0) taken) name
+pub free_from : (taken : List (List ℕ)) (name seen : List ℕ) (found : Bool) → seen ≡ name → not (bytes_eq seen (codes "key")) ≡ true → found ≡ is_among taken name → not found ≡ is_free_name taken name
 free_from taken name seen found same other is =
     let own : not (bytes_eq name (codes "key")) ≡ true = subst (λ (t : List ℕ). not (bytes_eq t (codes "key")) ≡ true) same other in
-    rw (among_names taken name, is, own) refl
+    rw (is, own) refl

@@ -1,5 +1,5 @@
 -- What the reading function gives, the files hold.
-use Rattle.std.proofs.Common.{◌≡◌, ℕ, ◌+◌, Bool, true, false, eqb, cond, List, [], ◌∷◌, length, Option, Some, None, Result, Ok, Err, refl, sym, ap, subst, ◌∙◌, arith}
+use Rattle.std.proofs.Common.{◌≡◌, ℕ, Bool, true, false, eqb, cond, List, [], ◌∷◌, length, Option, Some, None, Result, Ok, Err, refl, sym, ap, subst, ◌∙◌}
 use Rattle.std.specs.Prelude.{◌||◌, IsPermutation}
 use Rattle.std.specs.List.Sorted.{IsNonDecreasingBy}
 use Rattle.std.proofs.lemmas.Bool.{eqb-true}
@@ -13,7 +13,7 @@ use Rattle.commit_point.specs.declared.heads.HeadSegment.{HeadSegment}
 use Rattle.commit_point.specs.declared.heads.Head.{Head}
 use Rattle.commit_point.specs.Holds.{HaveRows, HasHead, Holds}
 use Rattle.commit_point.specs.Loading.{Unknown}
-use Rattle.commit_point.specs.Reading.{◌then◌, placed, of_file, head_in, rows_in, head_from, segment_from, segments_from, reading, has_birth, all_rows}
+use Rattle.commit_point.specs.Reading.{◌then◌, of_file, head_in, rows_in, head_from, segment_from, segments_from, reading, has_birth, all_rows}
 use Rattle.commit_point.proofs.NumberLaws.{IsBytes}
 use Rattle.commit_point.proofs.FileLaws.{placed_ok, rows_take, head_take}
 use Rattle.commit_point.proofs.Births.{merged_rises}

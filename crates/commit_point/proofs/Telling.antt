@@ -10,6 +10,7 @@ use Rattle.commit_point.specs.declared.heads.Head.{Head}
 use Rattle.commit_point.specs.Spelling.{commit_file}
 use Rattle.commit_point.specs.Fits.{HeadFits}
 use Rattle.commit_point.specs.Holds.{HasHead}
+use Rattle.commit_point.specs.Laws.{one_head}
 use Rattle.commit_point.specs.Loading.{IsBroken}
 use Rattle.commit_point.specs.Reading.{of_file, head_in, head_from}
 use Rattle.commit_point.proofs.Segments.{Seen, sees, some_files, head_reads}
@@ -41,14 +42,6 @@ head_is_found told next_told s (Ok head) same found =
     let first = some_files told in
     let see : Seen told (Commit s) (Some (commit_file head)) first.0 = sees told (Commit s) (Some (commit_file head)) first.0 first.1 (subst (λ (o : Option Files). Reads o (Commit s) (Some (commit_file head))) same found.0) in
     (see.files, see.was, record { file = see.there; number = found.1; fits = found.2 })
-
-one_head : (files : Files) (s : ℕ) (a b : Head) → HasHead files s a → HasHead files s b → a ≡ b
-one_head files s a b h k =
-    let same : is_ok a ≡ is_ok b = sym (head_reads files s a h.file h.number h.fits) ∙ head_reads files s b k.file k.number k.fits in
-    cc
-  where
-    is_ok : Head → Result Head Damaged
-    is_ok x = Ok x
 
 pub head_only_it : (told : Option Files) (s : ℕ) (r : Result Head OpenFault) → IfOk r (λ head. (files : Files) × Was told files × HasHead files s head)
     → (files : Files) (head : Head) → told ≡ Some files → HasHead files s head → IfOk r (λ read. read ≡ head)

@@ -1,13 +1,16 @@
 -- Laws of what commits hold.
-use Rattle.std.specs.Prelude.{◌≢◌, ℕ, ◌+◌, ◌≤◌, List, [], ◌∷◌}
+use Rattle.std.specs.Prelude.{◌≡◌, ◌≢◌, ℕ, ◌+◌, ◌≤◌, List, [], ◌∷◌}
 use Rattle.std.proofs.Common.{◌∙◌, ap, arith}
 use Rattle.ix_base.specs.declared.file_name.FileName.{FileName}
 use Rattle.ix_base.specs.declared.file_name.FileName.TheVariants.{Commit, Rows}
 use Rattle.ix_base.specs.declared.document.Row.{Row}
 use Rattle.ix_outside.specs.Files.{Files}
 use Rattle.commit_point.specs.declared.heads.HeadSegment.{HeadSegment}
+use Rattle.commit_point.specs.declared.heads.Head.{Head}
 use Rattle.commit_point.specs.Fits.{IdsRise}
-use Rattle.commit_point.specs.Holds.{Holds, HaveRows}
+use Rattle.commit_point.specs.HeadLaws.{same_head}
+use Rattle.commit_point.specs.Holds.{Holds, HaveRows, HasHead}
+use Rattle.commit_point.specs.Spelling.{commit_file}
 use Rattle.commit_point.specs.Writing.{SameElsewhere}
 
 abbrev number_ : FileName → ℕ
@@ -20,6 +23,12 @@ other_commit s t ne e = ne (ap number_ e)
 
 pub other_rows : (a b : ℕ) → a ≢ b → Rows a ≢ Rows b
 other_rows a b ne e = ne (ap number_ e)
+
+-- a commit file spells one head
+pub one_head : (files : Files) (s : ℕ) (a b : Head) → HasHead files s a → HasHead files s b → a ≡ b
+one_head files s a b p q =
+    let same : commit_file a ≡ commit_file b = (let one = p.file in let two = q.file in cc) in
+    same_head a b p.fits q.fits same
 
 rows_kept : (t s id low limit : ℕ) (old new : Files) (segments : List HeadSegment) (parts : List (List Row)) → limit ≤ id → SameElsewhere s id old new
     → IdsRise low limit segments → HaveRows old t segments parts → HaveRows new t segments parts

@@ -4,6 +4,7 @@ pub mod Holds
 pub mod Fields
 pub mod Reading
 pub mod Writing
+pub mod HeadLaws
 pub mod Laws
 pub mod Putting
 pub mod Loading

@@ -1,9 +1,8 @@
 //! Reading documents and rows from the front of bytes.
 ghost use Rattle.std.specs.Prelude.{◌≡◌, ◌+◌, map, length, true, Option, Some, None, IfOk};
 ghost use Rattle.std.specs.BTreeSet.{contains};
-ghost use Rattle.std.specs.List.{list_any};
-ghost use Rattle.std.specs.Str.{bytes_eq};
 ghost use Rattle.std.specs.Ordering.{nat_cmp};
+ghost use Rattle.ix_base.specs.Limits.{is_among};
 ghost use Rattle.commit_point.specs.Fields.{Gives, field_at, fields_at, numbered_at, numbers_at, document_at, items_at, left_by, comes_after, is_free_name, may_name};
 ghost use Rattle.commit_point.specs.Reading.{row_at};
 
@@ -23,22 +22,25 @@ fn comes_next<V>(pairs: &[(Name, V)], name: &Name) -> bool
     }
 }
 
-fn is_taken(taken: &[(Name, Text)], name: &Name) -> bool
-    ensures { result ≡ list_any (λ pair. bytes_eq pair.0 name.now) taken.now }
+/// Whether the name stands among these.
+fn is_taken(taken: &Fields, name: &Name) -> bool
+    ensures { result ≡ is_among (map (λ pair. pair.0) taken.now) name.now }
 {
-    taken.iter().any(|pair| pair.0.as_str() == name.as_str())
+    taken
+        .as_slice()
+        .binary_search_by(|pair| pair.0.as_str().cmp(name.as_str()))
+        .is_ok()
 }
 
 /// Whether a field may have this name, where these names are taken.
-#[tactic(auto, using(crate::proofs::Readers::among_names))]
-fn is_free(taken: &[(Name, Text)], name: &Name) -> bool
+fn is_free(taken: &Fields, name: &Name) -> bool
     ensures { result ≡ is_free_name (map (λ pair. pair.0) taken.now) name.now }
 {
     name.as_str() != "key" && !is_taken(taken, name)
 }
 
 /// Whether a field of this name may come after these, where these names are taken.
-fn may_come(pairs: &[(Name, Text)], taken: &[(Name, Text)], name: &Name) -> bool
+fn may_come(pairs: &[(Name, Text)], taken: &Fields, name: &Name) -> bool
     ensures { result ≡ may_name (map (λ pair. pair.0) taken.now) (left_by (λ pair. Some pair.0) None pairs.now) name.now }
 {
     comes_next(pairs, name) && is_free(taken, name)
@@ -49,7 +51,7 @@ fn field_of<'a>(
     alloc: Global,
     bytes: &'a [u8],
     pairs: &[(Name, Text)],
-    taken: &[(Name, Text)],
+    taken: &Fields,
 ) -> Result<((Name, Text), &'a [u8]), Broken>
     ensures { Gives (λ x. (x.0, x.1.now)) result (field_at (map (λ pair. pair.0) taken.now) (left_by (λ pair. Some pair.0) None pairs.now) bytes.now) }
 {
@@ -65,7 +67,7 @@ fn field_list<'a>(
     alloc: Global,
     count: u32,
     bytes: &'a [u8],
-    taken: &[(Name, Text)],
+    taken: &Fields,
 ) -> Result<(Fields, &'a [u8]), Broken>
     ensures { Gives (λ x. (x.0, x.1.now)) result (items_at (field_at (map (λ pair. pair.0) taken.now)) (λ pair. Some pair.0) None count bytes.now) }
 {
@@ -112,7 +114,7 @@ fn number_list(alloc: Global, count: u64, bytes: &[u8]) -> Result<(Numbers, &[u8
 fn fields_of<'a>(
     alloc: Global,
     bytes: &'a [u8],
-    taken: &[(Name, Text)],
+    taken: &Fields,
 ) -> Result<(Fields, &'a [u8]), Broken>
     ensures { Gives (λ x. (x.0, x.1.now)) result (fields_at (map (λ pair. pair.0) taken.now) bytes.now) }
 {
@@ -133,8 +135,8 @@ fn document_of(alloc: Global, bytes: &[u8]) -> Result<(Document, &[u8]), Broken>
     ensures { Gives (λ x. (x.0, x.1.now)) result (document_at bytes.now) }
 {
     let (key, rest) = text_of(alloc, bytes)?;
-    let (text, rest) = fields_of(alloc, rest, &[])?;
-    let (exact, rest) = fields_of(alloc, rest, text.as_slice())?;
+    let (text, rest) = fields_of(alloc, rest, &Fields::none(alloc))?;
+    let (exact, rest) = fields_of(alloc, rest, &text)?;
     let (num, rest) = numbers_of(alloc, rest)?;
     let doc = Document {
         key,

@@ -1,5 +1,5 @@
 -- The last commit of a store, and what a run finds there.
-use Rattle.std.proofs.Common.{◌≡◌, ◌≢◌, ◌⊎◌, inl, inr, ◌∙◌, ℕ, zero, suc, ◌+◌, ◌-◌, ◌<◌, ◌≤◌, ◌^◌, true, false, cond, eqb, Ok, List, [], ◌∷◌, length, get_or, refl, sym, ap, subst, arith}
+use Rattle.std.proofs.Common.{◌≡◌, ◌≢◌, ◌⊎◌, inl, inr, ◌∙◌, ℕ, zero, suc, ◌+◌, ◌-◌, ◌<◌, ◌≤◌, ◌^◌, true, false, cond, eqb, List, [], ◌∷◌, length, get_or, refl, sym, ap, subst, arith}
 use Rattle.std.specs.Prelude.{Option, Some, None, IsSome, IfSome, All, AllPairs, Contains, ◌↔◌, slice_get, unwrap_or}
 use Rattle.std.specs.List.{AllByRecursion, flat_map}
 use Rattle.std.proofs.lemmas.Bool.{cases_lt, eq-eqb}
@@ -11,11 +11,9 @@ use Rattle.ix_base.specs.declared.document.Row.{Row}
 use Rattle.ix_outside.specs.Files.{Files, Was}
 use Rattle.commit_point.specs.declared.heads.HeadSegment.{HeadSegment}
 use Rattle.commit_point.specs.declared.heads.Head.{Head}
-use Rattle.commit_point.specs.Spelling.{commit_file}
-use Rattle.commit_point.specs.Reading.{head_in}
-use Rattle.commit_point.proofs.FileLaws.{head_again}
 use Rattle.commit_point.specs.Fits.{DocumentFits, IdsRise}
 use Rattle.commit_point.specs.Holds.{Holds, HaveRows, HasHead, ListsId, IsLawful}
+use Rattle.commit_point.specs.Laws.{one_head}
 use Rattle.op_script.specs.Shape.{is_apart}
 use Rattle.index_run.specs.declared.writer.Writer.{Writer}
 use Rattle.index_run.specs.Headline.{IsLast, Begins, Starts}
@@ -140,14 +138,6 @@ in_range : (low limit : ℕ) (segments : List HeadSegment) (k : ℕ) (d : HeadSe
 in_range low limit [] k d rise lt = absurd (omega arith)
 in_range low limit (e ∷ es) zero d rise lt = rise.1
 in_range low limit (e ∷ es) (suc k) d rise lt = in_range (e.id + 1) limit es k d rise.2 (omega arith)
-
--- a commit file spells one head
-one_head : (files : Files) (s : ℕ) (a b : Head) → HasHead files s a → HasHead files s b → a ≡ b
-one_head files s a b p q =
-    let bytes : commit_file a ≡ commit_file b = (let one = p.file in let two = q.file in cc) in
-    let first : head_in s (commit_file a) ≡ Ok a = subst (λ (n : ℕ). head_in n (commit_file a) ≡ Ok a) p.number (head_again a p.fits) in
-    let second : head_in s (commit_file b) ≡ Ok b = subst (λ (n : ℕ). head_in n (commit_file b) ≡ Ok b) q.number (head_again b q.fits) in
-    cc
 
 listed_below : (head : Head) (segment : HeadSegment) → IdsRise 1 head.next_id head.segments → Contains head.segments segment → segment.id < head.next_id
 listed_below head segment rise has =

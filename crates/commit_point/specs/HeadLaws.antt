@@ -1,0 +1,73 @@
+-- A commit file is the spelling of one head.
+use Rattle.std.specs.Prelude.{◌≡◌, ℕ, ◌+◌, ◌<◌, ◌≤◌, ◌^◌, List, [], ◌∷◌, ◌++◌, length}
+use Rattle.std.specs.Int.{w32, w64, from_be_bytes}
+use Rattle.std.specs.List.{flat_map, AllByRecursion}
+use Rattle.std.proofs.Common.{◌∙◌, take, drop, refl, sym, ap, append_assoc, arith}
+use Rattle.std.proofs.lemmas.List.{take_at, drop_at}
+use Rattle.std.proofs.lemmas.Nat.{from_be_bytes-to_be_bytes_4, from_be_bytes-to_be_bytes_8}
+use Rattle.commit_point.specs.declared.heads.HeadSegment.{HeadSegment}
+use Rattle.commit_point.specs.declared.heads.Head.{Head}
+use Rattle.commit_point.specs.Fits.{IdsRise, EntryFits, HeadFits}
+use Rattle.commit_point.specs.Spelling.{be64, be32, commit_mark, entry, commit_file}
+
+-- where both begin with as many bytes, these are the same, and so is the rest
+parted : (xs ys us vs : List ℕ) (n : ℕ) → length xs ≡ n → length ys ≡ n → xs ++ us ≡ ys ++ vs → (xs ≡ ys) × (us ≡ vs)
+parted xs ys us vs n p q e = (sym (take_at xs us n p) ∙ ap (take n) e ∙ take_at ys vs n q, sym (drop_at xs us n p) ∙ ap (drop n) e ∙ drop_at ys vs n q)
+
+same64 : (n m : ℕ) (us vs : List ℕ) → n < 2 ^ 64 → m < 2 ^ 64 → be64 n ++ us ≡ be64 m ++ vs → (n ≡ m) × (us ≡ vs)
+unfolding be64
+same64 n m us vs p q e =
+    let parts = parted (be64 n) (be64 m) us vs 8 refl refl e in
+    (sym (from_be_bytes-to_be_bytes_8 n p) ∙ ap (from_be_bytes w64) parts.0 ∙ from_be_bytes-to_be_bytes_8 m q, parts.1)
+
+same32 : (n m : ℕ) (us vs : List ℕ) → n < 2 ^ 32 → m < 2 ^ 32 → be32 n ++ us ≡ be32 m ++ vs → (n ≡ m) × (us ≡ vs)
+unfolding be32
+same32 n m us vs p q e =
+    let parts = parted (be32 n) (be32 m) us vs 4 refl refl e in
+    (sym (from_be_bytes-to_be_bytes_4 n p) ∙ ap (from_be_bytes w32) parts.0 ∙ from_be_bytes-to_be_bytes_4 m q, parts.1)
+
+-- the numbers of a segment fit their fields
+record IsShort (e : HeadSegment) : Type 0 where
+  id : e.id < 2 ^ 64
+  n : e.n < 2 ^ 32
+  v : e.v < 2 ^ 64
+
+are_short : (s next low : ℕ) (es : List HeadSegment) → s < 2 ^ 64 → next ≤ 2 ^ 62 → IdsRise low next es → AllByRecursion (EntryFits s) es → AllByRecursion IsShort es
+are_short s next low [] number room ids fits = tt
+are_short s next low (e ∷ es) number room ids fits =
+    (record { id = omega (arith, ids.1); n = fits.0.count; v = omega (arith, fits.0.not_later) }, are_short s next (e.id + 1) es number room ids.2 fits.1)
+
+regrouped : (e : HeadSegment) (rest : List ℕ) → entry e ++ rest ≡ be64 e.id ++ (be32 e.n ++ (be64 e.v ++ rest))
+regrouped e rest = append_assoc (be64 e.id) (be32 e.n ++ be64 e.v) rest ∙ ap (λ (x : List ℕ). be64 e.id ++ x) (append_assoc (be32 e.n) (be64 e.v) rest)
+
+same_entry : (e f : HeadSegment) (us vs : List ℕ) → IsShort e → IsShort f → entry e ++ us ≡ entry f ++ vs → (e ≡ f) × (us ≡ vs)
+same_entry e f us vs p q same =
+    let id = same64 e.id f.id (be32 e.n ++ (be64 e.v ++ us)) (be32 f.n ++ (be64 f.v ++ vs)) p.id q.id (sym (regrouped e us) ∙ same ∙ regrouped f vs) in
+    let n = same32 e.n f.n (be64 e.v ++ us) (be64 f.v ++ vs) p.n q.n id.1 in
+    let v = same64 e.v f.v us vs p.v q.v n.1 in
+    (λ i. record { id = id.0 i; n = n.0 i; v = v.0 i }, v.1)
+
+same_entries : (es fs : List HeadSegment) → AllByRecursion IsShort es → AllByRecursion IsShort fs → length es ≡ length fs → flat_map entry es ≡ flat_map entry fs → es ≡ fs
+same_entries [] [] p q len same = refl
+same_entries [] (f ∷ fs) p q len same = absurd (omega (arith, len))
+same_entries (e ∷ es) [] p q len same = absurd (omega (arith, len))
+same_entries (e ∷ es) (f ∷ fs) p q len same =
+    let first = same_entry e f (flat_map entry es) (flat_map entry fs) p.0 q.0 same in
+    let rest = same_entries es fs p.1 q.1 (omega (arith, len)) first.1 in
+    λ i. first.0 i ∷ rest i
+
+after_mark : Head → List ℕ
+after_mark head = be64 head.number ++ (be64 head.docs ++ (be64 head.next_id ++ (be64 (length head.segments) ++ flat_map entry head.segments)))
+
+-- two heads that the same bytes spell are one
+pub same_head : (a b : Head) → HeadFits a → HeadFits b → commit_file a ≡ commit_file b → a ≡ b
+unfolding commit_mark after_mark
+same_head a b p q same =
+    let counted : Head → List ℕ = λ head. be64 (length head.segments) ++ flat_map entry head.segments in
+    let body = parted commit_mark commit_mark (after_mark a) (after_mark b) 8 refl refl same in
+    let number = same64 a.number b.number (be64 a.docs ++ (be64 a.next_id ++ counted a)) (be64 b.docs ++ (be64 b.next_id ++ counted b)) p.number q.number body.1 in
+    let docs = same64 a.docs b.docs (be64 a.next_id ++ counted a) (be64 b.next_id ++ counted b) p.docs q.docs number.1 in
+    let next = same64 a.next_id b.next_id (counted a) (counted b) (omega (arith, p.next)) (omega (arith, q.next)) docs.1 in
+    let count = same64 (length a.segments) (length b.segments) (flat_map entry a.segments) (flat_map entry b.segments) p.count q.count next.1 in
+    let segments = same_entries a.segments b.segments (are_short a.number a.next_id 1 a.segments p.number p.next p.ids p.entries) (are_short b.number b.next_id 1 b.segments q.number q.next q.ids q.entries) count.0 count.1 in
+    λ i. record { number = number.0 i; docs = docs.0 i; next_id = next.0 i; segments = segments i }
