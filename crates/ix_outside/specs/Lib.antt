@@ -1,10 +1,4 @@
+pub mod Calls
 pub mod Causes
 pub mod Files
-pub mod History
-pub mod HistoryLaws
 pub mod Images
-pub mod Calls
-pub mod Left
-pub mod Names
-pub mod Records
-pub mod Settled
