@@ -1,3 +1,4 @@
+pub mod Failing
 pub mod History
 pub mod HistoryLaws
 pub mod Left

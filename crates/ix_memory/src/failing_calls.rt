@@ -1,7 +1,8 @@
 //! Which calls of an object in memory are to fail.
-ghost use Rattle.std.specs.Prelude.{◌≡◌, ◌+◌, ◌-◌, ◌^◌, ◌≤◌, ◌↔◌, min, IsTrue, Contains};
+ghost use Rattle.std.specs.Prelude.{◌≡◌, ◌+◌, ◌-◌, ◌^◌, ◌≤◌, ◌↔◌, min, IsTrue};
 ghost use Rattle.std.specs.Bool.{OnTrue, OnFalse};
 ghost use Rattle.ix_outside.specs.Causes.{Rose};
+ghost use Rattle.ix_memory.specs.Failing.{Counts, NextFails};
 
 /// The numbers of the calls that are to fail, counted from 1, and how many calls have failed.
 #[derive(Drop)]
@@ -14,6 +15,7 @@ pub struct FailingCalls {
 impl FailingCalls {
     /// The calls of these numbers will fail. None has failed yet.
     pub fn new(numbers: Vec<u64>) -> Self
+        ensures numbers { result.numbers ≡ numbers }
         ensures made { result.made ≡ 0 }
         ensures none_yet { result.faults ≡ 0 }
     {
@@ -27,9 +29,8 @@ impl FailingCalls {
     /// Counts one more call, and says whether it is one of those that are to fail. If so, the count
     /// of faults has risen. Either count stands still at `u64::MAX`.
     pub fn next_fails(&mut self) -> bool
-        ensures fails { IsTrue result ↔ Contains self.old.numbers.items (min (self.old.made + 1) (2 ^ 64 - 1)) }
-        ensures made { self.new.made ≡ min (self.old.made + 1) (2 ^ 64 - 1) }
-        ensures numbers { self.new.numbers ≡ self.old.numbers }
+        ensures fails { IsTrue result ↔ NextFails self.old }
+        ensures counted { Counts self.old self.new }
         ensures same { OnFalse result (self.new.faults ≡ self.old.faults) }
         ensures risen { OnTrue result (self.new.faults ≡ min (self.old.faults + 1) (2 ^ 64 - 1)) }
         ensures rose { OnTrue result (Rose self.old.faults self.new.faults) }

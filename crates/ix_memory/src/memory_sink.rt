@@ -1,5 +1,5 @@
 //! A sink in memory.
-ghost use Rattle.std.specs.Prelude.{◌≡◌, ◌≤◌, ◌++◌, [], Some, length, take, IfOk};
+ghost use Rattle.std.specs.Prelude.{◌≡◌, ◌-◌, ◌++◌, [], Some, length, min, take, IfOk, vec_capacity, vec_len};
 
 use crate::failing_calls::FailingCalls;
 use ix_base::NoMemory;
@@ -20,6 +20,8 @@ impl MemorySink {
     pub fn new(alloc: Global, room: usize) -> Result<Self, NoMemory>
         ensures written { IfOk result (λ sink. ⟦<MemorySink as Sink>⟧.written sink ≡ Some []) }
         ensures faults { IfOk result (λ sink. ⟦<MemorySink as Sink>⟧.fault_count sink ≡ 0) }
+        ensures room { IfOk result (λ sink. vec_capacity sink.bytes ≡ room) }
+        ensures never { IfOk result (λ sink. sink.calls.numbers.items ≡ []) }
     {
         MemorySink::failing(alloc, room, Vec::new(alloc))
     }
@@ -29,6 +31,9 @@ impl MemorySink {
     pub fn failing(alloc: Global, room: usize, calls: Vec<u64>) -> Result<Self, NoMemory>
         ensures written { IfOk result (λ sink. ⟦<MemorySink as Sink>⟧.written sink ≡ Some []) }
         ensures faults { IfOk result (λ sink. ⟦<MemorySink as Sink>⟧.fault_count sink ≡ 0) }
+        ensures room { IfOk result (λ sink. vec_capacity sink.bytes ≡ room) }
+        ensures numbers { IfOk result (λ sink. sink.calls.numbers ≡ calls) }
+        ensures made { IfOk result (λ sink. sink.calls.made ≡ 0) }
     {
         Ok(MemorySink {
             bytes: Vec::with_capacity(alloc, room)?,
@@ -57,7 +62,20 @@ impl Sink for MemorySink {
 
     ghost fault_count = { λ sink. sink.calls.faults };
 
-    fn write(&mut self, bytes: &[u8]) -> Result<usize, Failed> {
+    ghost use Rattle.std.specs.Prelude.{◌≤◌, ◌<◌, ◌⊎◌, ◌↔◌, IsErr};
+    ghost use Rattle.std.specs.Io.KnownBytes.{WriteAppends};
+    ghost use Rattle.ix_outside.specs.Causes.{HasCause};
+    ghost use Rattle.ix_memory.specs.Failing.{Counts, NextFails};
+
+    fn write(&mut self, bytes: &[u8]) -> Result<usize, Failed>
+        ensures bound { IfOk result (λ n. n ≤ length bytes.now) }
+        ensures some { IfOk result (λ n. 0 < length bytes.now → 0 < n) }
+        ensures bytes { WriteAppends (Some self.old.bytes.items) (Some self.new.bytes.items) result bytes.now }
+        ensures cause { HasCause self.old.calls.faults self.new.calls.faults result }
+        ensures fails { IsErr result ↔ (NextFails self.old.calls ⊎ ((vec_capacity self.old.bytes ≤ vec_len self.old.bytes) × (0 < length bytes.now))) }
+        ensures count { IfOk result (λ n. n ≡ min (vec_capacity self.old.bytes - vec_len self.old.bytes) (length bytes.now)) }
+        ensures counted { Counts self.old.calls self.new.calls }
+    {
         if self.calls.next_fails() {
             return Err(Failed);
         }
@@ -76,7 +94,7 @@ impl Sink for MemorySink {
 
 /// Takes as many bytes as there is room for.
 fn take_front(taken: &mut Vec<u8>, bytes: &[u8]) -> usize
-    ensures bound { result ≤ length bytes.now }
+    ensures count { result ≡ min (vec_capacity taken.old - vec_len taken.old) (length bytes.now) }
     ensures taken { taken.new.items ≡ taken.old.items ++ take result bytes.now }
 {
     let room = taken.capacity() - taken.len();

@@ -17,8 +17,9 @@ pub struct SteadyStore {
 }
 
 impl SteadyStore {
-    ghost use Rattle.std.specs.Prelude.{All, IfOk, IfSome, IsSome, Some};
+    ghost use Rattle.std.specs.Prelude.{◌/◌, All, IfOk, IfSome, IsSome, Some};
     ghost use Rattle.ix_base.specs.FileNames.{IsName};
+    ghost use Rattle.ix_memory.specs.History.{bytes_of, outcome_of, steps_of};
     ghost use Rattle.ix_memory.specs.Settled.{AreDurable, no_files, with_pairs};
 
     /// The store without a file. It takes no memory.
@@ -46,6 +47,7 @@ impl SteadyStore {
     /// that of a `MemoryStore`.
     pub fn crash(&self, alloc: Global, choice: u32) -> Result<SteadyStore, NoMemory>
         ensures image { IfOk result (λ left. IfSome (⟦<SteadyStore as Store>⟧.files left) (⟦<SteadyStore as Store>⟧.images self.now)) }
+        ensures chosen { IfOk result (λ left. ⟦<SteadyStore as Store>⟧.files left ≡ Some (outcome_of (steps_of choice) (bytes_of (choice / 4)) self.now.history)) }
         ensures told { IfOk result (λ left. IsSome (⟦<SteadyStore as Store>⟧.files left)) }
         ensures all_left { choice ≡ 0 → IfOk result (λ left. ⟦<SteadyStore as Store>⟧.files left ≡ ⟦<SteadyStore as Store>⟧.files self.now) }
         ensures durable { IfOk result (λ left. IfSome (⟦<SteadyStore as Store>⟧.files left)
