@@ -1,7 +1,8 @@
 //! Whole runs over objects in memory, against reports that were worked out by hand.
 use crate::call::top;
 use ix_base::{FileName, NoMemory};
-use ix_outside::{EmptyGate, FuseStore, MemorySink, MemorySource, MemoryStore, Store};
+use ix_memory::{FuseStore, MemorySink, MemorySource, MemoryStore};
+use ix_outside::{EmptyGate, Store};
 use std::alloc::Global;
 use std::sync::Wait;
 use std::thread::Threads;

@@ -1,6 +1,1 @@
-pub mod Fronts
-pub mod Looks
-pub mod NameLists
-pub mod SettledFiles
-pub mod StoreCalls
 pub mod Told

@@ -1,11 +1,5 @@
 pub mod Causes
 pub mod Files
-pub mod History
-pub mod HistoryLaws
 pub mod Images
 pub mod Calls
 pub mod CallLaws
-pub mod Left
-pub mod Names
-pub mod Records
-pub mod Settled

@@ -1,5 +1,6 @@
 //! A directory of the system as a store. It tells nothing of its contents.
-ghost use Rattle.std.specs.Prelude.{◌≡◌, All, IfOk, OnOk};
+ghost use Rattle.std.specs.Prelude.{◌≡◌, ◌≢◌, ◌↔◌, All, IfErr, IfOk, IsErrOf, OnOk};
+ghost use Rattle.std.specs.IoError.{error_kind};
 ghost use Rattle.ix_base.specs.FileNames.{IsName};
 ghost use Rattle.ix_outside.specs.Causes.{HasStoreCause};
 
@@ -127,6 +128,8 @@ fn keep_name(names: &mut Vec<FileName>, text: &str) -> io::Result<()>
 /// What the store answers for what the system answered. Each error but want of memory is a fault.
 fn told<T: Drop>(faults: &mut FaultCount, answer: io::Result<T>) -> Result<T, StoreFault>
     ensures value { IfOk result (λ value. answer ≡ Ok value) }
+    ensures failed { IfErr answer (λ error. IsErrOf result StoreFault.Failed ↔ (error_kind error ≢ ErrorKind.OutOfMemory)) }
+    ensures no_memory { IfErr answer (λ error. IsErrOf result StoreFault.NoMemory ↔ (error_kind error ≡ ErrorKind.OutOfMemory)) }
     ensures cause { HasStoreCause faults.old.count faults.new.count result }
 {
     match answer {

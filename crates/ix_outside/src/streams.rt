@@ -1,4 +1,4 @@
-//! The standard library's readers and writers as the outside. They tell nothing of their bytes.
+//! The standard library's readers and writers as the outside.
 ghost use Rattle.std.specs.Prelude.{◌≡◌, ◌≤◌, ◌<◌, None, IfSome, length};
 
 use crate::fault_count::FaultCount;
@@ -6,7 +6,8 @@ use crate::sink::Sink;
 use crate::source::{Failed, Source};
 use std::io::{Read, Write};
 
-/// A reader as a source. Each error of the reader is a fault.
+/// A reader as a source, which tells the bytes that are left where the reader tells them. Each error
+/// of the reader is a fault.
 #[derive(Drop)]
 pub struct ReadSource<R> {
     reader: R,
@@ -27,7 +28,7 @@ impl<R: Read> ReadSource<R> {
 }
 
 impl<R: Read> Source for ReadSource<R> {
-    ghost left = { λ _. None };
+    ghost left = { λ source. R.remaining source.reader };
 
     ghost fault_count = { λ source. source.faults.count };
 
@@ -46,8 +47,9 @@ impl<R: Read> Source for ReadSource<R> {
     }
 }
 
-/// A writer as a sink, which it flushes after each write. Each error of the writer is a fault, and so
-/// is a write that takes no byte of a piece that has some.
+/// A writer as a sink, which it flushes after each write. It tells nothing of its bytes, since a
+/// flush can fail once they are taken. Each error of the writer is a fault, and so is a write that
+/// takes no byte of a piece that has some.
 #[derive(Drop)]
 pub struct WriteSink<W> {
     writer: W,

@@ -1,54 +1,67 @@
-//! What no clause says: which calls fail, which outcomes a crash has, and the real objects.
+//! What no clause says: that the adapters reach the real outside, and what they make of its errors.
+use crate::odd_outside::{OddDirectory, OddReader, OddWriter};
 use crate::{
-    DirStore, EmptyGate, Failed, FuseStore, Gate, MemorySink, MemorySource, MemoryStore,
-    ReadSource, Sink, Source, SteadySource, SteadyStore, Store, StoreFault, WriteSink,
+    DirStore, EmptyGate, Failed, Gate, ReadSource, Sink, Source, Store, StoreFault, WriteSink,
 };
 use ix_base::FileName;
 use std::alloc::Global;
 use std::fs;
+use std::fs::OpenFile;
 
 #[test]
-fn reads_fail_by_number(rt: HostRuntime) {
-    let bytes = b"abcdef".to_vec(rt.alloc()).expect(&rt, "memory");
-    let calls = vec![in rt.alloc(); 2u64].expect(&rt, "memory");
-    let mut source = MemorySource::failing(bytes, calls);
-    let mut buffer = [0u8; 4];
-    assert_eq!(rt; source.read(&mut buffer), Ok(4));
-    assert_eq!(rt; &buffer, b"abcd");
-    assert_eq!(rt; source.read(&mut buffer), Err(Failed));
+fn reads_a_reader(rt: HostRuntime) {
+    let mut source = ReadSource::new(b"abc".as_slice());
+    let mut buffer = [0u8; 2];
     assert_eq!(rt; source.read(&mut buffer), Ok(2));
-    assert_eq!(rt; &buffer, b"efcd");
+    assert_eq!(rt; &buffer, b"ab");
+    assert_eq!(rt; source.read(&mut buffer), Ok(1));
+    assert_eq!(rt; &buffer, b"cb");
     assert_eq!(rt; source.read(&mut buffer), Ok(0));
+    assert_eq!(rt; source.faults(), 0);
+}
+
+#[test]
+fn goes_on_after_a_failed_read(rt: HostRuntime) {
+    let mut source = ReadSource::new(OddReader::new());
+    let mut buffer = [0u8; 3];
+    assert_eq!(rt; source.read(&mut buffer), Ok(1));
+    assert_eq!(rt; source.read(&mut buffer), Err(Failed));
+    assert_eq!(rt; source.faults(), 1);
+    assert_eq!(rt; source.read(&mut buffer), Ok(1));
+    assert_eq!(rt; &buffer, b"3\0\0");
     assert_eq!(rt; source.faults(), 1);
 }
 
 #[test]
-fn steady_reads(rt: HostRuntime) {
-    let bytes = b"abc".to_vec(rt.alloc()).expect(&rt, "memory");
-    let mut source = SteadySource::new(bytes);
-    let mut buffer = [0u8; 2];
-    assert_eq!(rt; source.read(&mut buffer), Ok(2));
-    assert_eq!(rt; source.read(&mut buffer), Ok(1));
-    assert_eq!(rt; source.read(&mut buffer), Ok(0));
-    assert_eq!(rt; source.faults(), 0);
-    let whole = b"xyz".to_vec(rt.alloc()).expect(&rt, "memory");
-    let mut other = MemorySource::new(rt.alloc(), whole);
-    assert_eq!(rt; other.read(&mut buffer), Ok(2));
+fn writes_to_a_writer_until_it_is_full(rt: HostRuntime) {
+    let mut space = [0u8; 3];
+    let mut sink = WriteSink::new(space.as_mut_slice());
+    assert_eq!(rt; sink.write(b""), Ok(0));
+    assert_eq!(rt; sink.write(b"ab"), Ok(2));
+    assert_eq!(rt; sink.write(b"cd"), Ok(1));
+    assert_eq!(rt; sink.write(b""), Ok(0));
+    assert_eq!(rt; sink.faults(), 0);
+    assert_eq!(rt; sink.write(b"d"), Err(Failed));
+    assert_eq!(rt; sink.faults(), 1);
+    assert_eq!(rt; &space, b"abc");
 }
 
 #[test]
-fn writes_fail_by_number_and_for_want_of_room(rt: HostRuntime) {
-    let calls = vec![in rt.alloc(); 2u64].expect(&rt, "memory");
-    let Ok(mut sink) = MemorySink::failing(rt.alloc(), 5, calls) else {
-        panic!(rt; "memory");
-    };
-    assert_eq!(rt; sink.write(b"abc"), Ok(3));
-    assert_eq!(rt; sink.write(b"d"), Err(Failed));
-    assert_eq!(rt; sink.write(b"xyz"), Ok(2));
-    assert_eq!(rt; sink.write(b""), Ok(0));
-    assert_eq!(rt; sink.write(b"q"), Err(Failed));
+fn fails_where_a_write_or_its_flush_does(rt: HostRuntime) {
+    let mut sink = WriteSink::new(OddWriter::new());
+    assert_eq!(rt; sink.write(b"ab"), Ok(1));
+    assert_eq!(rt; sink.write(b"cd"), Err(Failed));
+    assert_eq!(rt; sink.write(b"ef"), Err(Failed));
+    assert_eq!(rt; sink.write(b"gh"), Ok(1));
     assert_eq!(rt; sink.faults(), 2);
-    assert_eq!(rt; sink.into_bytes().as_slice(), b"abcxy".as_slice());
+    EmptyGate.before(1);
+    EmptyGate.told(1, 2);
+}
+
+/// The store of the directory at this path.
+fn store_at(rt: &HostRuntime, path: &str) -> Option<DirStore<HostRuntime>> {
+    let path = String::from_str(rt.alloc(), path).ok()?;
+    Some(DirStore::new(rt.clone().ok()?, path))
 }
 
 /// Whether the file has these bytes.
@@ -65,195 +78,115 @@ fn lacks<S: Store>(alloc: Global, store: &mut S, name: FileName) -> bool {
 }
 
 #[test]
-fn store_calls_fail_by_number(rt: HostRuntime) {
-    let calls = vec![in rt.alloc(); 2u64, 3].expect(&rt, "memory");
-    let mut store = MemoryStore::new(rt.alloc()).failing(calls);
-    assert_eq!(rt; store.write(FileName::Rows(1), b"rows"), Ok(()));
-    assert_eq!(rt; store.delete(FileName::Rows(1)), Err(StoreFault::Failed));
-    assert_eq!(rt; store.sync_all(), Err(StoreFault::Failed));
-    assert!(rt; has(rt.alloc(), &mut store, FileName::Rows(1), b"rows"));
-    assert_eq!(rt;
-        store.rename(FileName::Rows(2), FileName::Rows(3)),
-        Err(StoreFault::Failed)
-    );
-    assert_eq!(rt; store.sync(FileName::Rows(2)), Err(StoreFault::Failed));
-    assert_eq!(rt; store.delete(FileName::Rows(2)), Ok(()));
-    assert_eq!(rt; store.faults(), 4);
-}
-
-#[test]
-fn lists_each_name_once(rt: HostRuntime) {
-    let bytes = b"new".to_vec(rt.alloc()).expect(&rt, "memory");
-    let files = vec![in rt.alloc(); (FileName::Commit(1), bytes)].expect(&rt, "memory");
-    let Ok(mut store) = MemoryStore::with_files(rt.alloc(), files) else {
-        panic!(rt; "memory");
-    };
-    assert_eq!(rt; store.write(FileName::Pending(2), b"two"), Ok(()));
-    assert_eq!(rt; store.write(FileName::Commit(2), b"old"), Ok(()));
-    assert_eq!(rt;
-        store.rename(FileName::Pending(2), FileName::Commit(2)),
-        Ok(())
-    );
-    let names = store.list(rt.alloc()).unwrap_or(Vec::new(rt.alloc()));
-    assert_eq!(rt;
-        names.as_slice(),
-        [FileName::Commit(1), FileName::Commit(2)].as_slice()
-    );
-    assert!(rt; has(rt.alloc(), &mut store, FileName::Commit(2), b"two"));
-}
-
-/// A store with a synced commit that was renamed since, and rows that weren't synced.
-fn half_done(alloc: Global) -> Result<MemoryStore, StoreFault> {
-    let mut store = MemoryStore::new(alloc);
-    store.write(FileName::Pending(1), b"one")?;
-    store.sync(FileName::Pending(1))?;
-    store.sync_all()?;
-    store.write(FileName::Rows(1), b"rows")?;
-    store.rename(FileName::Pending(1), FileName::Commit(1))?;
-    Ok(store)
-}
-
-#[test]
-fn crash_leaves_what_was_chosen(rt: HostRuntime) {
-    let Ok(store) = half_done(rt.alloc()) else {
-        panic!(rt; "memory");
-    };
-    let rows: [Option<&[u8]>; 4] = [Some(b"rows"), None, Some(b""), Some(b"ro")];
-    for choice in 0..16u32 {
-        let Ok(mut left) = store.crash(rt.alloc(), choice) else {
-            panic!(rt; "memory");
-        };
-        let renamed = choice % 4 == 0 || choice % 4 == 2;
-        let (there, gone) = if renamed {
-            (FileName::Commit(1), FileName::Pending(1))
-        } else {
-            (FileName::Pending(1), FileName::Commit(1))
-        };
-        assert!(rt; has(rt.alloc(), &mut left, there, b"one"), "at {choice}");
-        assert!(rt; lacks(rt.alloc(), &mut left, gone), "at {choice}");
-        match rows[(choice / 4) as usize] {
-            Some(bytes) => {
-                assert!(rt;
-                    has(rt.alloc(), &mut left, FileName::Rows(1), bytes),
-                    "at {choice}"
-                )
-            }
-            None => assert!(rt;
-                lacks(rt.alloc(), &mut left, FileName::Rows(1)),
-                "at {choice}"
-            ),
-        }
-        assert_eq!(rt; left.faults(), 0);
-    }
-}
-
-#[test]
-fn steady_calls(rt: HostRuntime) {
-    let bytes = b"old".to_vec(rt.alloc()).expect(&rt, "memory");
-    let files = vec![in rt.alloc(); (FileName::Commit(1), bytes)].expect(&rt, "memory");
-    let Ok(mut store) = SteadyStore::with_files(rt.alloc(), files) else {
-        panic!(rt; "memory");
-    };
-    assert_eq!(rt; store.delete(FileName::Commit(1)), Ok(()));
-    let Ok(mut left) = store.crash(rt.alloc(), 1) else {
-        panic!(rt; "memory");
-    };
-    assert!(rt; has(rt.alloc(), &mut left, FileName::Commit(1), b"old"));
-    assert_eq!(rt; store.sync_all(), Ok(()));
-    let Ok(mut left) = store.crash(rt.alloc(), 1) else {
-        panic!(rt; "memory");
-    };
-    assert!(rt; lacks(rt.alloc(), &mut left, FileName::Commit(1)));
-    let mut empty = SteadyStore::new(rt.alloc());
-    assert_eq!(rt; empty.rename(FileName::Rows(1), FileName::Rows(2)), Ok(()));
-    assert!(rt; lacks(rt.alloc(), &mut empty, FileName::Rows(2)));
-}
-
-#[test]
-fn fuse_burns(rt: HostRuntime) {
-    let mut store = FuseStore::new(MemoryStore::new(rt.alloc()), 1);
-    assert_eq!(rt; store.write(FileName::Posts(1), b"posts"), Ok(()));
-    assert_eq!(rt; store.delete(FileName::Posts(1)), Err(StoreFault::Failed));
-    assert_eq!(rt; store.sync_all(), Err(StoreFault::Failed));
-    assert_eq!(rt; store.faults(), 2);
-    let mut inner = store.into_inner();
-    assert_eq!(rt; inner.faults(), 0);
-    assert!(rt; has(rt.alloc(), &mut inner, FileName::Posts(1), b"posts"));
-}
-
-#[test]
-fn std_streams(rt: HostRuntime) {
-    let mut source = ReadSource::new(b"ab".as_slice());
-    let mut buffer = [0u8; 4];
-    assert_eq!(rt; source.read(&mut buffer), Ok(2));
-    assert_eq!(rt; source.read(&mut buffer), Ok(0));
-    assert_eq!(rt; source.faults(), 0);
-    let mut space = [0u8; 3];
-    let mut sink = WriteSink::new(space.as_mut_slice());
-    assert_eq!(rt; sink.write(b"ab"), Ok(2));
-    assert_eq!(rt; sink.write(b"cd"), Ok(1));
-    assert_eq!(rt; sink.write(b"d"), Err(Failed));
-    assert_eq!(rt; sink.faults(), 1);
-    EmptyGate.before(1);
-    EmptyGate.told(1, 2);
-}
-
-#[test]
-fn names_are_parsed(rt: HostRuntime) {
-    let names = [
-        ("segments_2", Some(FileName::Commit(2))),
-        (
-            "pending_segments_18446744073709551615",
-            Some(FileName::Pending(u64::MAX)),
-        ),
-        ("seg_1.row", Some(FileName::Rows(1))),
-        ("seg_10.pst", Some(FileName::Posts(10))),
-        ("seg_3_4.liv", Some(FileName::Live(3, 4))),
-        ("seg_3_4.val", Some(FileName::Values(3, 4))),
-        ("segments_0", None),
-        ("segments_02", None),
-        ("segments_+2", None),
-        ("segments_18446744073709551616", None),
-        ("seg_1.rows", None),
-        ("seg_1_0.liv", None),
-        ("seg_1.liv", None),
-        ("", None),
-    ];
-    for (text, want) in names {
-        assert_eq!(rt; FileName::parse(text), want, "{text}");
-    }
-}
-
-#[test]
-fn directory(rt: HostRuntime) {
-    let path = "ix_outside_test_directory";
+fn missing_directory_is_a_failure(rt: HostRuntime) {
+    let path = "ix_outside_test_missing";
     let _ = fs::remove_dir_all(&rt, path);
-    let text = String::from_str(rt.alloc(), path).expect(&rt, "memory");
-    let runtime = rt.clone().expect(&rt, "memory");
-    let mut store = DirStore::new(runtime, text);
+    let Some(mut store) = store_at(&rt, path) else {
+        panic!(rt; "memory");
+    };
+    let rows = FileName::Rows(1);
+    assert_eq!(rt; store.list(rt.alloc()).err(), Some(StoreFault::Failed));
     assert_eq!(rt;
-        store.write(FileName::Rows(1), b"rows"),
+        store.read(rt.alloc(), rows).err(),
+        Some(StoreFault::Failed)
+    );
+    assert_eq!(rt; store.write(rows, b"rows"), Err(StoreFault::Failed));
+    assert_eq!(rt; store.sync(rows), Err(StoreFault::Failed));
+    assert_eq!(rt;
+        store.rename(rows, FileName::Rows(2)),
         Err(StoreFault::Failed)
     );
-    assert!(rt; store.list(rt.alloc()).is_err());
-    assert!(rt; store.read(rt.alloc(), FileName::Rows(1)).is_err());
-    assert_eq!(rt; store.delete(FileName::Rows(1)), Err(StoreFault::Failed));
-    assert_eq!(rt; store.faults(), 4);
+    assert_eq!(rt; store.delete(rows), Err(StoreFault::Failed));
+    assert_eq!(rt; store.sync_all(), Err(StoreFault::Failed));
+    assert_eq!(rt; store.faults(), 7);
+    assert!(rt; !fs::exists(&rt, path).expect(&rt, "an answer"));
+}
+
+#[test]
+fn directory_keeps_files(rt: HostRuntime) {
+    let path = "ix_outside_test_files";
+    let _ = fs::remove_dir_all(&rt, path);
     fs::create_dir(&rt, path).expect(&rt, "a directory");
-    assert_eq!(rt; store.write(FileName::Pending(1), b"one"), Ok(()));
-    assert_eq!(rt; store.sync(FileName::Pending(1)), Ok(()));
-    assert_eq!(rt;
-        store.rename(FileName::Pending(1), FileName::Commit(1)),
-        Ok(())
-    );
+    let Some(mut store) = store_at(&rt, path) else {
+        panic!(rt; "memory");
+    };
+    let pending = FileName::Pending(1);
+    let commit = FileName::Commit(1);
+    assert_eq!(rt; store.write(pending, b"longer"), Ok(()));
+    assert_eq!(rt; store.write(pending, b"one"), Ok(()));
+    assert_eq!(rt; store.write(commit, b"old"), Ok(()));
+    assert_eq!(rt; store.sync(pending), Ok(()));
+    assert_eq!(rt; store.rename(pending, commit), Ok(()));
     assert_eq!(rt; store.sync_all(), Ok(()));
-    fs::write(&rt, "ix_outside_test_directory/foreign", b"x".as_slice()).expect(&rt, "a file");
+    assert!(rt; has(rt.alloc(), &mut store, commit, b"one"));
+    assert!(rt; lacks(rt.alloc(), &mut store, pending));
+    let bytes = fs::read(&rt, "ix_outside_test_files/segments_1").expect(&rt, "a file");
+    assert_eq!(rt; bytes.as_slice(), b"one".as_slice());
+    assert_eq!(rt; store.delete(commit), Ok(()));
+    assert_eq!(rt; store.delete(commit), Ok(()));
+    assert!(rt; lacks(rt.alloc(), &mut store, commit));
+    assert_eq!(rt; store.faults(), 0);
+    assert_eq!(rt; store.sync(commit), Err(StoreFault::Failed));
+    assert_eq!(rt; store.rename(commit, pending), Err(StoreFault::Failed));
+    assert_eq!(rt; store.faults(), 2);
+    fs::remove_dir_all(&rt, path).expect(&rt, "to remove it");
+}
+
+#[test]
+fn foreign_names_are_passed_over(rt: HostRuntime) {
+    let path = "ix_outside_test_foreign";
+    let _ = fs::remove_dir_all(&rt, path);
+    fs::create_dir(&rt, path).expect(&rt, "a directory");
+    fs::create_dir(&rt, "ix_outside_test_foreign/lost").expect(&rt, "a directory");
+    for foreign in [
+        "ix_outside_test_foreign/notes",
+        "ix_outside_test_foreign/segments_02",
+        "ix_outside_test_foreign/lost/segments_3",
+    ] {
+        fs::write(&rt, foreign, b"x".as_slice()).expect(&rt, "a file");
+    }
+    let Some(mut store) = store_at(&rt, path) else {
+        panic!(rt; "memory");
+    };
+    assert!(rt; store.list(rt.alloc()).is_ok_and(|names| names.is_empty()));
+    assert_eq!(rt; store.write(FileName::Commit(2), b"two"), Ok(()));
+    let names = store.list(rt.alloc()).unwrap_or(Vec::new(rt.alloc()));
+    assert_eq!(rt; names.as_slice(), [FileName::Commit(2)].as_slice());
+    assert_eq!(rt; store.faults(), 0);
+    fs::remove_dir_all(&rt, path).expect(&rt, "to remove it");
+}
+
+#[test]
+fn too_long_a_file_is_a_failure(rt: HostRuntime) {
+    let path = "ix_outside_test_long";
+    let _ = fs::remove_dir_all(&rt, path);
+    fs::create_dir(&rt, path).expect(&rt, "a directory");
+    let file = fs::create(&rt, "ix_outside_test_long/seg_1.row").expect(&rt, "a file");
+    file.set_len(2_147_483_649).expect(&rt, "a length");
+    let Some(mut store) = store_at(&rt, path) else {
+        panic!(rt; "memory");
+    };
+    assert_eq!(rt;
+        store.read(rt.alloc(), FileName::Rows(1)).err(),
+        Some(StoreFault::Failed)
+    );
+    assert_eq!(rt; store.faults(), 1);
+    fs::remove_dir_all(&rt, path).expect(&rt, "to remove it");
+}
+
+#[test]
+fn entry_that_is_no_text_is_a_failure(rt: HostRuntime) {
+    let path = String::from_str(rt.alloc(), ".").expect(&rt, "memory");
+    let runtime = OddDirectory::new(rt.clone().expect(&rt, "memory"), b"segments_1\0");
+    let mut store = DirStore::new(runtime, path);
     let names = store.list(rt.alloc()).unwrap_or(Vec::new(rt.alloc()));
     assert_eq!(rt; names.as_slice(), [FileName::Commit(1)].as_slice());
-    assert!(rt; has(rt.alloc(), &mut store, FileName::Commit(1), b"one"));
-    assert!(rt; lacks(rt.alloc(), &mut store, FileName::Pending(1)));
-    assert_eq!(rt; store.delete(FileName::Commit(1)), Ok(()));
-    assert_eq!(rt; store.delete(FileName::Commit(1)), Ok(()));
-    assert_eq!(rt; store.faults(), 4);
-    fs::remove_dir_all(&rt, path).expect(&rt, "to remove it");
+    let path = String::from_str(rt.alloc(), ".").expect(&rt, "memory");
+    let runtime = OddDirectory::new(
+        rt.clone().expect(&rt, "memory"),
+        b"segments_1\0segments_\xff\0",
+    );
+    let mut store = DirStore::new(runtime, path);
+    assert_eq!(rt; store.list(rt.alloc()).err(), Some(StoreFault::Failed));
+    assert_eq!(rt; store.faults(), 1);
 }

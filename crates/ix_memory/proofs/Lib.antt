@@ -1,0 +1,5 @@
+pub mod Fronts
+pub mod Looks
+pub mod NameLists
+pub mod SettledFiles
+pub mod StoreCalls

@@ -1,0 +1,12 @@
+use Rattle.std.proofs.Common.{◌≡◌, ◌≤◌, length, reverse, take}
+use Rattle.ix_memory.specs.History.{outcome_of}
+use Rattle.ix_memory.proofs.left.left_of.Given as goal
+
+abbrev pub invariant-loop-count : goal.invariant-loop-count
+invariant-loop-count l = record {
+  within : l.count ≤ length l.calls;
+  same : outcome_of l.steps l.bytes (reverse (take l.count l.calls)) l.name ≡ outcome_of l.fn.steps l.fn.bytes (reverse l.calls) l.fn.name;
+}
+
+abbrev pub decreases-loop-count : goal.decreases-loop-count
+decreases-loop-count l = l.count

@@ -1,0 +1,7 @@
+pub mod Failing
+pub mod History
+pub mod HistoryLaws
+pub mod Left
+pub mod Names
+pub mod Records
+pub mod Settled

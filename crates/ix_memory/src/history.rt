@@ -1,0 +1,163 @@
+//! The calls that changed a store in memory.
+ghost use Rattle.std.specs.Prelude.{◌≡◌, ◌∷◌, [], All, IfOk, OnOk, OnErr};
+
+use crate::left::left_of;
+use crate::names::go_on;
+use crate::outcome::{BytesLeft, StepsLeft};
+use crate::settled::{put, settle, take_out};
+use ix_base::{FileName, List, NoMemory};
+use std::alloc::Global;
+use std::marker::Model;
+
+/// A call that was done.
+#[derive(Drop)]
+pub enum Call {
+    /// The file has these bytes now.
+    Written(FileName, List<u8>),
+    /// The file's bytes were put on the disk.
+    Synced(FileName),
+    /// The file of the first name has the second one now.
+    Renamed(FileName, FileName),
+    /// The file is gone.
+    Deleted(FileName),
+    /// All renames and deletes were put on the disk.
+    Settled,
+}
+
+/// The calls that changed a store which was empty. Contracts see them as a list, the newest first.
+#[derive(Drop)]
+pub struct History {
+    alloc: Global,
+    calls: Vec<Call>,
+}
+
+impl Model for History {
+    ghost use Rattle.std.specs.Prelude.{List, reverse};
+    ghost use Rattle.ix_memory.specs.declared.history.Call.{Call};
+
+    ghost Value = { List Call };
+
+    ghost view = { λ history. reverse history.calls.items };
+
+    ghost use Rattle.std.specs.Prelude.{All};
+    ghost use Rattle.ix_memory.specs.Names.{NamesFile};
+
+    ghost invariant = { λ history. All NamesFile history.calls.items };
+}
+
+impl History {
+    ghost use Rattle.std.specs.Option.{option_copied};
+    ghost use Rattle.ix_base.specs.FileNames.{IsName};
+    ghost use Rattle.ix_outside.specs.Files.{Lists};
+    ghost use Rattle.ix_memory.specs.History.{files_of, outcome_of, with_at, IsImage, IsUnsynced};
+    ghost use Rattle.ix_memory.specs.Settled.{AreDurable, AllSynced, taken_at, file_made};
+    ghost use Rattle.ix_memory.specs.Names.{NamesFile};
+
+    /// No call. It takes no memory.
+    pub fn new(alloc: Global) -> Self
+        ensures { result ≡ [] }
+    {
+        History {
+            alloc,
+            calls: Vec::new(alloc),
+        }
+    }
+
+    /// One call more.
+    pub fn push(&mut self, call: Call) -> Result<(), NoMemory>
+        requires { NamesFile call }
+        ensures ok { OnOk result (self.new ≡ call ∷ self.old) }
+        ensures err { OnErr result (self.new ≡ self.old) }
+    {
+        self.calls.push(call)?;
+        Ok(())
+    }
+
+    /// A copy of these bytes, in the memory that the history takes.
+    pub fn copy_of(&self, bytes: &[u8]) -> Result<List<u8>, NoMemory>
+        ensures { IfOk result (λ copy. copy ≡ bytes.now) }
+    {
+        Ok(List::from_vec(bytes.to_vec(self.alloc)?))
+    }
+
+    /// The names of the files, each once.
+    pub fn names(&self, alloc: Global) -> Result<Vec<FileName>, NoMemory>
+        ensures names { IfOk result (λ names. Lists (files_of self.now) names.items) }
+        ensures real { IfOk result (λ names. All IsName names.items) }
+    {
+        let mut names = Vec::new(alloc);
+        for call in &self.calls {
+            go_on(&mut names, call)?;
+        }
+        Ok(names)
+    }
+
+    /// What a crash of this outcome leaves of the file: `None` where it leaves no such file.
+    pub fn left(&self, steps: StepsLeft, bytes: BytesLeft, name: FileName) -> Option<&[u8]>
+        ensures { option_copied result ≡ outcome_of steps bytes self.now name }
+    {
+        left_of(&self.calls, steps, bytes, name)
+    }
+
+    /// The bytes of the file: `None` where there is no such file.
+    pub fn read(&self, name: FileName) -> Option<&[u8]>
+        ensures { option_copied result ≡ files_of self.now name }
+    {
+        self.left(StepsLeft::Every, BytesLeft::Whole, name)
+    }
+
+    /// The files that a crash of this outcome leaves, as the calls that make them on the disk.
+    pub fn crash(
+        &self,
+        alloc: Global,
+        steps: StepsLeft,
+        bytes: BytesLeft,
+    ) -> Result<History, NoMemory>
+        ensures files { IfOk result (λ left. files_of left ≡ outcome_of steps bytes self.now) }
+        ensures durable { IfOk result (λ left. AreDurable (files_of left) (IsImage left) (IsUnsynced left)) }
+    {
+        let mut left = History::new(alloc);
+        for call in &self.calls {
+            self.leave(&mut left, steps, bytes, call)?;
+        }
+        settle(&mut left)?;
+        Ok(left)
+    }
+
+    /// Puts the file that this call made among those that a crash of this outcome leaves.
+    fn leave(
+        &self,
+        left: &mut History,
+        steps: StepsLeft,
+        bytes: BytesLeft,
+        call: &Call,
+    ) -> Result<(), NoMemory>
+        requires { NamesFile call.now }
+        ensures files { OnOk result (files_of left.new ≡ taken_at (file_made call.now) (outcome_of steps bytes self.now) (files_of left.old)) }
+        ensures synced { OnOk result (AllSynced left.old → AllSynced left.new) }
+    {
+        match call {
+            Call::Written(name, _) => self.leave_file(left, steps, bytes, *name),
+            Call::Renamed(_, name) => self.leave_file(left, steps, bytes, *name),
+            Call::Synced(_) | Call::Deleted(_) | Call::Settled => Ok(()),
+        }
+    }
+
+    /// Puts this file among those that a crash of this outcome leaves.
+    fn leave_file(
+        &self,
+        left: &mut History,
+        steps: StepsLeft,
+        bytes: BytesLeft,
+        name: FileName,
+    ) -> Result<(), NoMemory>
+        requires { IsName name }
+        ensures files { OnOk result (files_of left.new ≡ with_at name (outcome_of steps bytes self.now name) (files_of left.old)) }
+        ensures synced { OnOk result (AllSynced left.old → AllSynced left.new) }
+    {
+        match self.left(steps, bytes, name) {
+            None => take_out(left, name),
+            Some(bytes) => put(left, name, bytes),
+        }
+    }
+}

@@ -1,0 +1,30 @@
+//! The outside in memory: a source, a sink and stores that tell all that they hold, for tests.
+//!
+//! A store in memory is the list of the calls that changed it. What reads give and what a crash may
+//! leave follow from that list. Calls of chosen numbers fail, or all calls from one on.
+#![tactic(auto)]
+
+mod failing_calls;
+mod fuse_store;
+mod history;
+mod left;
+mod memory_sink;
+mod memory_source;
+mod memory_store;
+mod names;
+mod outcome;
+mod recorded;
+mod settled;
+mod steady_source;
+mod steady_store;
+
+pub use fuse_store::FuseStore;
+pub use memory_sink::MemorySink;
+pub use memory_source::MemorySource;
+pub use memory_store::MemoryStore;
+pub use outcome::{BytesLeft, StepsLeft};
+pub use steady_source::SteadySource;
+pub use steady_store::SteadyStore;
+
+#[cfg(test)]
+mod tests;

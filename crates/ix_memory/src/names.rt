@@ -1,0 +1,82 @@
+//! Lists of the names of files, each once.
+ghost use Rattle.std.specs.Prelude.{◌≡◌, ◌↔◌, All, Contains, IsTrue, OnOk, filter, not};
+ghost use Rattle.ix_base.specs.FileNames.{IsName};
+ghost use Rattle.ix_memory.specs.History.{is_same};
+ghost use Rattle.ix_memory.specs.Names.{Gains, Loses, GoesOn, NamesFile};
+
+use crate::history::Call;
+use ix_base::{FileName, NoMemory};
+
+/// Whether two names are the same.
+pub fn is_same(one: FileName, other: FileName) -> bool
+    ensures { result ≡ is_same one other }
+{
+    one == other
+}
+
+/// Takes the name out of the list.
+fn take_out(names: &mut Vec<FileName>, name: FileName)
+    ensures { names.new.items ≡ filter (λ other. not (is_same other name)) names.old.items }
+{
+    names.retain(|other| !is_same(*other, name));
+}
+
+/// Takes the name out of the list.
+fn lose(names: &mut Vec<FileName>, name: FileName)
+    ensures change { Loses name names.old.items names.new.items }
+    ensures real { All IsName names.old.items → All IsName names.new.items }
+{
+    take_out(names, name);
+}
+
+/// Puts the name into the list, unless it is there.
+fn gain(names: &mut Vec<FileName>, name: FileName) -> Result<(), NoMemory>
+    ensures change { OnOk result (Gains name names.old.items names.new.items) }
+    ensures real { OnOk result (IsName name → All IsName names.old.items → All IsName names.new.items) }
+{
+    take_out(names, name);
+    names.push(name)?;
+    Ok(())
+}
+
+/// The names of the files before the call become those after it.
+pub fn go_on(names: &mut Vec<FileName>, call: &Call) -> Result<(), NoMemory>
+    ensures change { OnOk result (GoesOn call.now names.old.items names.new.items) }
+    ensures real { OnOk result (NamesFile call.now → All IsName names.old.items → All IsName names.new.items) }
+{
+    match call {
+        Call::Written(name, _) => gain(names, *name),
+        Call::Renamed(from, to) => rename(names, *from, *to),
+        Call::Deleted(name) => {
+            lose(names, *name);
+            Ok(())
+        }
+        Call::Synced(_) | Call::Settled => Ok(()),
+    }
+}
+
+/// The file of the first name, if it is there, has the second one now, in place of another file.
+fn rename(names: &mut Vec<FileName>, from: FileName, to: FileName) -> Result<(), NoMemory>
+    ensures change { OnOk result (GoesOn (Call.Renamed from to) names.old.items names.new.items) }
+    ensures real { OnOk result (IsName to → All IsName names.old.items → All IsName names.new.items) }
+{
+    if is_same(from, to) {
+        return Ok(());
+    }
+    if has(names, from) {
+        gain(names, to)?;
+        lose(names, from);
+        Ok(())
+    } else {
+        lose(names, to);
+        lose(names, from);
+        Ok(())
+    }
+}
+
+/// Whether the name is in the list.
+fn has(names: &Vec<FileName>, name: FileName) -> bool
+    ensures { IsTrue result ↔ Contains names.now.items name }
+{
+    names.contains(&name)
+}

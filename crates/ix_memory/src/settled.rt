@@ -1,0 +1,59 @@
+//! Histories that leave their files on the disk.
+ghost use Rattle.std.specs.Prelude.{◌≡◌, All, IfOk, OnOk};
+ghost use Rattle.ix_base.specs.FileNames.{IsName};
+ghost use Rattle.ix_memory.specs.History.{files_of, with_at, IsImage, IsUnsynced};
+ghost use Rattle.ix_memory.specs.Settled.{AreDurable, AllSynced, no_files, with_pairs};
+
+use crate::history::{Call, History};
+use ix_base::{FileName, NoMemory};
+use std::alloc::Global;
+
+/// Puts a file into a store and syncs it.
+pub fn put(history: &mut History, name: FileName, bytes: &[u8]) -> Result<(), NoMemory>
+    requires { IsName name }
+    ensures files { OnOk result (files_of history.new ≡ with_at name (Some bytes.now) (files_of history.old)) }
+    ensures synced { OnOk result (AllSynced history.old → AllSynced history.new) }
+{
+    let copy = history.copy_of(bytes)?;
+    history.push(Call::Written(name, copy))?;
+    history.push(Call::Synced(name))
+}
+
+/// Puts a file into a store and syncs it.
+fn put_file(history: &mut History, file: &(FileName, Vec<u8>)) -> Result<(), NoMemory>
+    requires { IsName file.now.0 }
+    ensures files { OnOk result (files_of history.new ≡ with_at file.now.0 (Some file.now.1.items) (files_of history.old)) }
+    ensures synced { OnOk result (AllSynced history.old → AllSynced history.new) }
+{
+    put(history, file.0, file.1.as_slice())
+}
+
+/// Takes a file out of a store.
+pub fn take_out(history: &mut History, name: FileName) -> Result<(), NoMemory>
+    ensures files { OnOk result (files_of history.new ≡ with_at name None (files_of history.old)) }
+    ensures synced { OnOk result (AllSynced history.old → AllSynced history.new) }
+{
+    history.push(Call::Deleted(name))
+}
+
+/// Puts all renames and deletes of a store on the disk.
+pub fn settle(history: &mut History) -> Result<(), NoMemory>
+    ensures files { OnOk result (files_of history.new ≡ files_of history.old) }
+    ensures durable { OnOk result (AllSynced history.old → AreDurable (files_of history.new) (IsImage history.new) (IsUnsynced history.new)) }
+{
+    history.push(Call::Settled)
+}
+
+/// A store with these files, of which the last of a name counts, all of them on the disk.
+pub fn settled_files(alloc: Global, files: Vec<(FileName, Vec<u8>)>) -> Result<History, NoMemory>
+    requires { All (λ file. IsName file.0) files.items }
+    ensures files { IfOk result (λ history. files_of history ≡ with_pairs files.items no_files) }
+    ensures durable { IfOk result (λ history. AreDurable (files_of history) (IsImage history) (IsUnsynced history)) }
+{
+    let mut history = History::new(alloc);
+    for file in &files {
+        put_file(&mut history, file)?;
+    }
+    settle(&mut history)?;
+    Ok(history)
+}

@@ -1,6 +1,0 @@
-use Rattle.std.proofs.lemmas.List.Elements.{All-push}
-use Rattle.ix_outside.specs.Names.{NamesFile}
-use Rattle.ix_outside.proofs.history.History.push.Goals as goal
-
-pub invariant_of-self-2 : goal.invariant_of-self-2
-invariant_of-self-2 c = rw c.in_ok-push.ensures.items (All-push NamesFile c.self.inside.calls.items c.args.call c.self.invariant c.requires)

@@ -1,0 +1,132 @@
+//! Readers, writers and a directory of tests, that fail where the system's seldom do.
+use std::alloc::{Allocator, Global};
+use std::fs::{File, Metadata, OpenOptions};
+use std::io;
+use std::io::{Error, ErrorKind, Read, Write};
+use std::rt::Files;
+
+/// Gives one byte a call, the call's number as a digit. The second call fails.
+#[derive(Drop)]
+pub struct OddReader {
+    calls: u8,
+}
+
+impl OddReader {
+    /// The reader before its first call.
+    pub fn new() -> Self {
+        OddReader { calls: 0 }
+    }
+}
+
+impl Read for OddReader {
+    fn read(&mut self, buffer: &mut [u8]) -> io::Result<usize> {
+        self.calls = self.calls.saturating_add(1);
+        if self.calls == 2 {
+            return Err(Error::from(ErrorKind::Other));
+        }
+        if buffer.is_empty() {
+            return Ok(0);
+        }
+        buffer.fill(0);
+        buffer[0] = b'0'.saturating_add(self.calls);
+        Ok(1)
+    }
+}
+
+/// Takes one byte a call. The second write fails, and the third one's flush.
+#[derive(Drop)]
+pub struct OddWriter {
+    calls: u8,
+}
+
+impl OddWriter {
+    /// The writer before its first call.
+    pub fn new() -> Self {
+        OddWriter { calls: 0 }
+    }
+}
+
+impl Write for OddWriter {
+    fn write(&mut self, bytes: &[u8]) -> io::Result<usize> {
+        self.calls = self.calls.saturating_add(1);
+        if self.calls == 2 {
+            return Err(Error::from(ErrorKind::Other));
+        }
+        Ok(bytes.len().min(1))
+    }
+
+    fn flush(&mut self) -> io::Result<()> {
+        if self.calls == 3 {
+            return Err(Error::from(ErrorKind::Other));
+        }
+        Ok(())
+    }
+}
+
+/// The system, but that each directory has the entries of these names, each ended by a NUL.
+#[derive(Clone, Drop)]
+pub struct OddDirectory {
+    system: HostRuntime,
+    names: &'static [u8],
+}
+
+impl OddDirectory {
+    /// The system with these names in each directory.
+    pub fn new(system: HostRuntime, names: &'static [u8]) -> Self {
+        OddDirectory { system, names }
+    }
+}
+
+impl Alloc for OddDirectory {
+    type A = Global;
+
+    fn alloc(&self) -> Global {
+        self.system.alloc()
+    }
+}
+
+impl Files for OddDirectory {
+    type File = File;
+
+    type Dir = &'static [u8];
+
+    fn open_file(&self, how: &OpenOptions, path: &str) -> io::Result<File> {
+        self.system.open_file(how, path)
+    }
+
+    fn open_dir(&self, _path: &str) -> io::Result<&'static [u8]> {
+        Ok(self.names)
+    }
+
+    fn metadata(&self, path: &str) -> io::Result<Metadata> {
+        self.system.metadata(path)
+    }
+
+    fn symlink_metadata(&self, path: &str) -> io::Result<Metadata> {
+        self.system.symlink_metadata(path)
+    }
+
+    fn copy(&self, from: &str, to: &str) -> io::Result<u64> {
+        self.system.copy(from, to)
+    }
+
+    fn rename(&self, from: &str, to: &str) -> io::Result<()> {
+        self.system.rename(from, to)
+    }
+
+    fn remove_file(&self, path: &str) -> io::Result<()> {
+        self.system.remove_file(path)
+    }
+
+    fn create_dir(&self, path: &str) -> io::Result<()> {
+        self.system.create_dir(path)
+    }
+
+    fn remove_dir(&self, path: &str) -> io::Result<()> {
+        self.system.remove_dir(path)
+    }
+
+    fn remove_dir_all<B: Allocator>(&self, alloc: B, path: &str) -> io::Result<()> {
+        self.system.remove_dir_all(alloc, path)
+    }
+}
