@@ -11,7 +11,6 @@ use std::{env, io};
 mod begin;
 mod call;
 mod doing;
-mod fault;
 mod input;
 mod lines;
 mod outcome;
@@ -24,7 +23,6 @@ mod stop;
 mod tell;
 #[cfg(test)]
 mod tests;
-mod texts;
 mod words;
 mod writer;
 
