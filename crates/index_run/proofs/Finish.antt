@@ -10,9 +10,9 @@ use Rattle.op_script.specs.declared.script.Line.{Line}
 use Rattle.index_run.specs.declared.outcome.Outcome.{Outcome}
 use Rattle.index_run.specs.declared.stop.Stop.{Stop}
 use Rattle.index_run.specs.declared.stop.Stop.TheVariants as stop
-use Rattle.index_run.specs.declared.fault.Fault.{Fault}
-use Rattle.index_run.specs.declared.fault.Fault.TheVariants as fault
-use Rattle.index_run.specs.Faults.{status_of}
+use Rattle.report_text.specs.declared.fault.Fault.{Fault}
+use Rattle.report_text.specs.declared.fault.Fault.TheVariants as fault
+use Rattle.report_text.specs.Faults.{status_of}
 use Rattle.index_run.specs.Causes.{IsOneOf, stop_status}
 use Rattle.index_run.specs.Numbering.{numbered, commit_numbers}
 use Rattle.index_run.specs.Outcomes.{outcomes_from, texts}

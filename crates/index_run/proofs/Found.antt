@@ -5,12 +5,13 @@ use Rattle.std.specs.declared.alloc.Global.{Global}
 use Rattle.ix_base.specs.declared.document.Row.{Row}
 use Rattle.ix_base.specs.declared.memory.NoMemory.{NoMemory}
 use Rattle.ix_base.specs.declared.query.Query.{Query}
+use Rattle.report_text.specs.Lines.{text_line, search_value}
 use Rattle.index_run.specs.declared.outcome.Outcome.{Outcome}
 use Rattle.index_run.specs.declared.outcome.Answer.{Answer}
 use Rattle.index_run.specs.declared.outcome.Answer.TheVariants.{Numbered, Committed, RefusedTerm, RefusedQuery, Searched}
 use Rattle.index_run.specs.declared.stop.Stop.{Stop}
 use Rattle.index_run.specs.Outcomes.{outcome_text, answer_text}
-use Rattle.index_run.specs.Report.{text_line, search_value, matching}
+use Rattle.index_run.specs.Report.{matching}
 use Rattle.index_run.specs.Searching.{is_search}
 
 pub not_search : (a : Answer) → ((s : ℕ) (q : Query) → a ≡ Searched s q → ⊥) → is_search a ≡ false

@@ -1,13 +1,10 @@
 pub mod Pieces
 pub mod OneWord
-pub mod Escapes
-pub mod FaultTexts
 pub mod Log
 pub mod Kept
 pub mod Going
 pub mod Far
 pub mod Images
-pub mod Floats
 pub mod Hits
 pub mod Found
 pub mod Filled

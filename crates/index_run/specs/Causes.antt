@@ -6,7 +6,7 @@ use Rattle.ix_outside.specs.Causes.{Rose}
 use Rattle.ix_outside.specs.Files.{Was}
 use Rattle.op_script.specs.Language.{script}
 use Rattle.op_script.specs.declared.script.BadLine.{BadLine}
-use Rattle.index_run.specs.Faults.{status_of}
+use Rattle.report_text.specs.Faults.{status_of}
 use Rattle.index_run.specs.declared.stop.Stop.{Stop}
 use Rattle.index_run.specs.declared.stop.Stop.TheVariants as stop
 

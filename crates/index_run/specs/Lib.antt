@@ -1,7 +1,6 @@
 pub mod Words
 pub mod Numbering
 pub mod Report
-pub mod Faults
 pub mod Outcomes
 pub mod Headline
 pub mod Crashes

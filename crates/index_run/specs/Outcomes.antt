@@ -9,11 +9,12 @@ use Rattle.ix_base.specs.Steps.{after}
 use Rattle.op_script.specs.declared.script.Line.{Line}
 use Rattle.op_script.specs.declared.script.Act.{Act}
 use Rattle.op_script.specs.declared.script.Act.TheVariants.{Do, Search}
+use Rattle.report_text.specs.Lines.{text_line, write_value, commit_value, refused_value, search_value}
 use Rattle.index_run.specs.declared.outcome.Outcome.{Outcome}
 use Rattle.index_run.specs.declared.outcome.Answer.{Answer}
 use Rattle.index_run.specs.declared.outcome.Answer.TheVariants.{Numbered, Committed, RefusedTerm, RefusedQuery, Searched}
 use Rattle.index_run.specs.Numbering.{is_numbered, is_commit, numbered, operations}
-use Rattle.index_run.specs.Report.{text_line, write_value, commit_value, refused_value, search_value, matching}
+use Rattle.index_run.specs.Report.{matching}
 
 -- the last number after these lines
 abbrev pub number_after : ℕ → List Line → ℕ

@@ -1,56 +1,18 @@
--- The report: one text for each line of the script, as serde_json writes its value, and a line feed.
-use Rattle.std.specs.Prelude.{ℕ, ℤ, List, [], ◌∷◌, ◌++◌, length, map, fold, codes, ◌&&◌, ◌==◌, if◌then◌else◌, Option, Some, None}
+-- The report: the text of each line of the script, in its order.
+use Rattle.std.specs.Prelude.{ℕ, List, [], ◌∷◌, ◌++◌, length, ◌&&◌, ◌==◌, if◌then◌else◌, Option, Some, None}
 use Rattle.std.specs.List.{filter}
-use Rattle.serde_json.specs.Data.{Data, object, array, string, number, unsigned, Members, no_members, member, put}
-use Rattle.serde_json.specs.Find.{of_integer}
-use Rattle.serde_json.specs.View.{items_of}
-use Rattle.serde_json.specs.Written.{compact_text}
 use Rattle.ix_base.specs.declared.document.Operation.{Operation}
 use Rattle.ix_base.specs.declared.document.Operation.TheVariants.{Commit}
 use Rattle.ix_base.specs.declared.document.Row.{Row}
 use Rattle.ix_base.specs.declared.query.Query.{Query}
 use Rattle.ix_base.specs.Matches.{matches}
-use Rattle.ix_base.specs.Refusals.{Refusal, long_term, long_query, refusal}
+use Rattle.ix_base.specs.Refusals.{Refusal, refusal}
 use Rattle.ix_base.specs.Query.{tree_of}
 use Rattle.op_script.specs.declared.script.Line.{Line}
 use Rattle.op_script.specs.declared.script.Act.{Act}
 use Rattle.op_script.specs.declared.script.Act.TheVariants.{Do, Search}
+use Rattle.report_text.specs.Lines.{text_line, write_value, commit_value, refused_value, search_value}
 use Rattle.index_run.specs.Numbering.{is_commit, number_of, rows_at}
-
-abbrev pub natural : ℕ → Data
-natural n = number (unsigned n)
-
--- a value's compact text, and a line feed
-abbrev pub text_line : Data → List ℕ
-text_line value = compact_text value ++ 10 ∷ []
-
--- {"line":L,"seq":N}
-abbrev pub write_value : ℕ → ℕ → Data
-write_value line s = object (member (codes "line") (natural line) (member (codes "seq") (natural s) no_members))
-
--- {"docs":D,"line":L,"seq":N}
-abbrev pub commit_value : ℕ → ℕ → ℕ → Data
-commit_value docs line s = object (member (codes "docs") (natural docs) (member (codes "line") (natural line) (member (codes "seq") (natural s) no_members)))
-
--- {"line":L,"refused":"term","size":Z}, or "query"
-abbrev pub shown_refusal : ℕ → List ℕ → ℕ → Data
-shown_refusal line what size = object (member (codes "line") (natural line) (member (codes "refused") (string what) (member (codes "size") (natural size) no_members)))
-
-abbrev pub refused_value : ℕ → Refusal → Data
-refused_value line (long_term size) = shown_refusal line (codes "term") size
-refused_value line (long_query size) = shown_refusal line (codes "query") size
-
--- numbers by name
-abbrev pub with_number : Members → List ℕ × ℤ → Members
-with_number ms named = put named.0 (number (of_integer named.1)) ms
-
--- {"key":K,"num":{..}}
-abbrev pub hit_value : Row → Data
-hit_value row = object (member (codes "key") (string row.doc.key) (member (codes "num") (object (fold with_number no_members row.doc.num)) no_members))
-
--- {"commit":S,"hits":[..],"line":L}
-abbrev pub search_value : ℕ → List Row → ℕ → Data
-search_value commit hits line = object (member (codes "commit") (natural commit) (member (codes "hits") (array (items_of (map hit_value hits))) (member (codes "line") (natural line) no_members)))
 
 -- the rows that match, in order of birth
 abbrev pub matching : Query → List Row → List Row

@@ -12,15 +12,15 @@ ghost use Rattle.op_script.specs.declared.script.BadLine.{BadLine};
 ghost use Rattle.op_script.specs.declared.script.Line.{Line};
 ghost use Rattle.index_run.specs.Beginning.{IsOn, IsHighBase};
 ghost use Rattle.index_run.specs.Causes.{IsOneOf, WritesFront, IsBadIn};
+ghost use Rattle.report_text.specs.Faults.{fault_text};
 ghost use Rattle.index_run.specs.Crashes.{AreKept, StopsRight};
-ghost use Rattle.index_run.specs.Faults.{fault_text};
 ghost use Rattle.index_run.specs.Headline.{Begins, IsLast, RunsRight};
 ghost use Rattle.index_run.specs.Searching.{IsDamagedIn};
 ghost use Rattle.index_run.specs.Words.{IsAccepted};
 
-use crate::fault::Fault;
 use crate::tell::run_and_tell;
 use ix_outside::{Gate, Sink, Source, Store};
+use report_text::Fault;
 use std::alloc::Global;
 use std::sync::Wait;
 use std::thread::Threads;

@@ -16,13 +16,13 @@ ghost use Rattle.index_run.specs.Script.{DoesScript};
 ghost use Rattle.index_run.specs.Searching.{IsDamagedIn};
 
 use crate::begin::begin;
-use crate::fault::Fault;
 use crate::lines::do_lines;
 use crate::report::report;
 use crate::stop::Stop;
 use ix_base::List;
 use ix_outside::{Gate, Store, StoreFault};
 use op_script::Line;
+use report_text::Fault;
 use std::alloc::Global;
 
 /// Does the lines over the store's last commit, and answers their report, of which nothing is

@@ -11,7 +11,6 @@ use std::{env, io};
 mod begin;
 mod call;
 mod doing;
-mod fault;
 mod input;
 mod lines;
 mod outcome;
@@ -26,7 +25,6 @@ mod tell;
 mod tests;
 #[cfg(test)]
 mod tests_gate;
-mod texts;
 mod words;
 mod writer;
 

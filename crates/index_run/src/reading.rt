@@ -9,13 +9,13 @@ ghost use Rattle.op_script.specs.declared.script.Line.{Line};
 ghost use Rattle.index_run.specs.Causes.{IsBadIn, IsOneOf, stop_status};
 ghost use Rattle.index_run.specs.Words.{IsAccepted};
 
-use crate::fault::Fault;
 use crate::input::read_input;
 use crate::stop::Stop;
 use crate::words::is_run;
 use ix_base::List;
 use ix_outside::Source;
 use op_script::{Line, ScriptFault, read_script};
+use report_text::Fault;
 use std::alloc::Global;
 
 /// Reads the words and then the script.

@@ -10,12 +10,12 @@ ghost use Rattle.index_run.specs.Outcomes.{outcome_text, texts};
 ghost use Rattle.index_run.specs.Searching.{CanSearch, IsDamagedIn};
 ghost use Rattle.index_run.specs.Assembling.{IsOrderOf};
 
-use crate::fault::Fault;
 use crate::outcome::{Answer, Outcome};
 use crate::searches::{SearchedCommit, line_text};
 use crate::stop::Stop;
 use ix_base::NoMemory;
 use ix_outside::Store;
+use report_text::Fault;
 use std::alloc::Global;
 
 /// A line by the commit that it searches, and then by its place, so that a commit that several

@@ -12,18 +12,18 @@ ghost use Rattle.op_script.specs.declared.script.BadLine.{BadLine};
 ghost use Rattle.op_script.specs.declared.script.Line.{Line};
 ghost use Rattle.index_run.specs.Beginning.{IsOn, IsHighBase};
 ghost use Rattle.index_run.specs.Causes.{IsOneOf, IsBadIn, stop_status, run_status};
+ghost use Rattle.report_text.specs.Faults.{status_of};
 ghost use Rattle.index_run.specs.Crashes.{AreKept, StopsRight};
-ghost use Rattle.index_run.specs.Faults.{status_of};
 ghost use Rattle.index_run.specs.Headline.{Begins, IsLast, RunsRight};
 ghost use Rattle.index_run.specs.Searching.{IsDamagedIn};
 ghost use Rattle.index_run.specs.Words.{IsAccepted};
 
 use crate::doing::do_script;
-use crate::fault::Fault;
 use crate::output::write_all;
 use crate::reading::read_lines;
 use crate::stop::Stop;
 use ix_outside::{Gate, Sink, Source, Store};
+use report_text::Fault;
 use std::alloc::Global;
 
 /// Does the run up to the last byte of its report. Of a fault nothing is written here.

@@ -8,17 +8,17 @@ ghost use Rattle.commit_point.specs.Holds.{Holds};
 ghost use Rattle.commit_point.specs.Reading.{reading};
 ghost use Rattle.commit_point.specs.declared.fault.Damaged.{Damaged};
 ghost use Rattle.index_run.specs.Outcomes.{outcome_text, answer_text};
-ghost use Rattle.index_run.specs.Report.{text_line, search_value, matching};
+ghost use Rattle.report_text.specs.Lines.{text_line, search_value};
+ghost use Rattle.index_run.specs.Report.{matching};
 ghost use Rattle.index_run.specs.Searching.{IsIndexed, AnswerHolds, HoldsCommit, IsDamagedIn, is_search};
 
-use crate::fault::Fault;
 use crate::outcome::{Answer, Outcome};
 use crate::stop::Stop;
-use crate::texts::{commit_text, long_query_text, long_term_text, search_text, write_text};
 use commit_point::{OpenFault, read_commit};
 use ix_base::{List, NoMemory, Query, Row};
 use ix_outside::Store;
 use query_core::{PostingsIndex, answer, index_rows};
+use report_text::{Fault, commit_text, long_query_text, long_term_text, search_text, write_text};
 use std::alloc::Global;
 
 /// A commit that is being searched: its rows, and an index of them. Without a commit its number is

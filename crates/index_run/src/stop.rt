@@ -1,8 +1,8 @@
 //! Why a run stopped before its end.
 ghost use Rattle.std.specs.Prelude.{◌≡◌};
 
-use crate::fault::Fault;
 use ix_base::NoMemory;
+use report_text::Fault;
 use std::alloc::{AllocError, AllocFailed};
 
 /// Why a run stopped.

@@ -6,7 +6,7 @@ use Rattle.ix_base.specs.Matches.{matches}
 use Rattle.ix_base.specs.Query.{tree_of}
 use Rattle.ix_base.specs.declared.document.Row.{Row}
 use Rattle.ix_base.specs.declared.document.Document.{Document}
-use Rattle.index_run.specs.Report.{text_line, search_value}
+use Rattle.report_text.specs.Lines.{text_line, search_value}
 use Rattle.index_run.proofs.Hits.{rows_taken, rows_in_range, length_docs}
 use Rattle.index_run.proofs.searches.found_text.Goals as goal
 

@@ -1,5 +1,5 @@
 use Rattle.std.proofs.Common.{◌∙◌, [], ◌∷◌, Err, ap, subst}
-use Rattle.index_run.specs.declared.fault.Fault.{Fault}
+use Rattle.report_text.specs.declared.fault.Fault.{Fault}
 use Rattle.index_run.specs.declared.stop.Stop.{Stop}
 use Rattle.index_run.specs.declared.stop.Stop.TheVariants as stop
 use Rattle.index_run.specs.Causes.{IsOneOf, stop_status}

@@ -1,8 +1,0 @@
-use Rattle.std.proofs.Common.{◌≡◌, fold, take}
-use Rattle.serde_json.specs.Data.{no_members}
-use Rattle.serde_json.specs.View.{members_view}
-use Rattle.index_run.specs.Report.{with_number}
-use Rattle.index_run.proofs.texts.number_members.Given as goal
-
-abbrev pub invariant-loop-name : goal.invariant-loop-name
-invariant-loop-name l = members_view l.found.entries ≡ fold with_number no_members (take l.name-index l.num)

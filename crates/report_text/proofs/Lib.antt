@@ -1,0 +1,4 @@
+mod Escapes
+mod FaultTexts
+mod Floats
+mod Hits

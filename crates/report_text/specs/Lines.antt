@@ -1,0 +1,43 @@
+-- The lines of a report: each is the text that serde_json writes of its value, and a line feed.
+use Rattle.std.specs.Prelude.{ℕ, ℤ, List, [], ◌∷◌, ◌++◌, map, fold, codes}
+use Rattle.serde_json.specs.Data.{Data, object, array, string, number, unsigned, Members, no_members, member, put}
+use Rattle.serde_json.specs.Find.{of_integer}
+use Rattle.serde_json.specs.View.{items_of}
+use Rattle.serde_json.specs.Written.{compact_text}
+use Rattle.ix_base.specs.declared.document.Row.{Row}
+use Rattle.ix_base.specs.Refusals.{Refusal, long_term, long_query}
+
+abbrev pub natural : ℕ → Data
+natural n = number (unsigned n)
+
+-- a value's compact text, and a line feed
+abbrev pub text_line : Data → List ℕ
+text_line value = compact_text value ++ 10 ∷ []
+
+-- {"line":L,"seq":N}
+abbrev pub write_value : ℕ → ℕ → Data
+write_value line s = object (member (codes "line") (natural line) (member (codes "seq") (natural s) no_members))
+
+-- {"docs":D,"line":L,"seq":N}
+abbrev pub commit_value : ℕ → ℕ → ℕ → Data
+commit_value docs line s = object (member (codes "docs") (natural docs) (member (codes "line") (natural line) (member (codes "seq") (natural s) no_members)))
+
+-- {"line":L,"refused":"term","size":Z}, or "query"
+abbrev pub shown_refusal : ℕ → List ℕ → ℕ → Data
+shown_refusal line what size = object (member (codes "line") (natural line) (member (codes "refused") (string what) (member (codes "size") (natural size) no_members)))
+
+abbrev pub refused_value : ℕ → Refusal → Data
+refused_value line (long_term size) = shown_refusal line (codes "term") size
+refused_value line (long_query size) = shown_refusal line (codes "query") size
+
+-- numbers by name
+abbrev pub with_number : Members → List ℕ × ℤ → Members
+with_number ms named = put named.0 (number (of_integer named.1)) ms
+
+-- {"key":K,"num":{..}}
+abbrev pub hit_value : Row → Data
+hit_value row = object (member (codes "key") (string row.doc.key) (member (codes "num") (object (fold with_number no_members row.doc.num)) no_members))
+
+-- {"commit":S,"hits":[..],"line":L}
+abbrev pub search_value : ℕ → List Row → ℕ → Data
+search_value commit hits line = object (member (codes "commit") (natural commit) (member (codes "hits") (array (items_of (map hit_value hits))) (member (codes "line") (natural line) no_members)))

@@ -1,0 +1,12 @@
+//! The texts that a run writes: a line of the report for each line of the script, or one line that
+//! tells a fault. Each is the text that serde_json writes of a JSON object, and a line feed.
+#![tactic(auto)]
+
+mod fault;
+mod texts;
+
+pub use fault::Fault;
+pub use texts::{commit_text, long_query_text, long_term_text, search_text, write_text};
+
+#[cfg(test)]
+mod tests;

@@ -1,0 +1,150 @@
+use super::*;
+use commit_point::Damaged;
+use ix_base::{FileName, Operation, Row};
+use op_script::{Act, BadLine, Why, read_script};
+use std::alloc::Global;
+use std::test::*;
+
+const MAILS: &str =
+    "{\"c\":0,\"op\":\"add\",\"doc\":{\"key\":\"ann/1\",\"num\":{\"date\":20240301,\"size\":412}}}\n\
+     {\"c\":1,\"op\":\"add\",\"doc\":{\"key\":\"bob/1\",\"num\":{\"size\":298,\"date\":20240301}}}\n\
+     {\"c\":0,\"op\":\"add\",\"doc\":{\"key\":\"say \\\"\\u00e9\\n\\\"\",\"num\":{\"n\":-7}}}\n";
+
+/// The rows that a script's lines add.
+fn rows_of(alloc: Global, script: &str) -> Result<Vec<Row>, Fail> {
+    let read = read_script(alloc, script.as_bytes()).ok().ok_or("memory")?;
+    let mut rows = Vec::new(alloc);
+    for line in read.lines.into_vec() {
+        if let Act::Do(Operation::Add(doc)) = line.act {
+            rows.push(Row { birth: 1, doc })?;
+        }
+    }
+    Ok(rows)
+}
+
+#[test]
+fn faults(rt: HostRuntime) {
+    let most = u64::MAX;
+    let cases = [
+        (Fault::Words, 2, "{\"status\":2,\"why\":\"words\"}\n"),
+        (Fault::Source, 5, "{\"status\":5,\"why\":\"source\"}\n"),
+        (Fault::Store, 7, "{\"status\":7,\"why\":\"store\"}\n"),
+        (
+            Fault::Damaged(Damaged {
+                file: FileName::Commit(4),
+                at: 8,
+            }),
+            8,
+            "{\"at\":8,\"file\":\"segments_4\",\"status\":8}\n",
+        ),
+        (
+            Fault::Damaged(Damaged {
+                file: FileName::Values(most, most),
+                at: most,
+            }),
+            8,
+            "{\"at\":18446744073709551615,\"file\":\"seg_18446744073709551615_18446744073709551615.val\",\"status\":8}\n",
+        ),
+        (
+            Fault::Base(2_305_843_009_213_693_953),
+            10,
+            "{\"base\":2305843009213693953,\"status\":10}\n",
+        ),
+    ];
+    for (fault, status, line) in cases {
+        assert_eq!(rt; fault.status(), status);
+        assert_eq!(rt; fault.text().as_str(), line);
+    }
+}
+
+#[test]
+fn bad_lines(rt: HostRuntime) {
+    let cases = [
+        (0, Why::Long, "{\"line\":0,\"status\":3,\"why\":\"long\"}\n"),
+        (1, Why::Json, "{\"line\":1,\"status\":3,\"why\":\"json\"}\n"),
+        (
+            3,
+            Why::Caller,
+            "{\"line\":3,\"status\":3,\"why\":\"caller\"}\n",
+        ),
+        (4, Why::Op, "{\"line\":4,\"status\":3,\"why\":\"op\"}\n"),
+        (
+            5,
+            Why::Members,
+            "{\"line\":5,\"status\":3,\"why\":\"members\"}\n",
+        ),
+        (6, Why::Name, "{\"line\":6,\"status\":3,\"why\":\"name\"}\n"),
+        (7, Why::Text, "{\"line\":7,\"status\":3,\"why\":\"text\"}\n"),
+        (
+            8,
+            Why::Number,
+            "{\"line\":8,\"status\":3,\"why\":\"number\"}\n",
+        ),
+        (
+            9,
+            Why::Query,
+            "{\"line\":9,\"status\":3,\"why\":\"query\"}\n",
+        ),
+        (
+            u32::MAX,
+            Why::Doc,
+            "{\"line\":4294967295,\"status\":3,\"why\":\"doc\"}\n",
+        ),
+    ];
+    for (line, why, text) in cases {
+        let fault = Fault::BadLine(BadLine { line, why });
+        assert_eq!(rt; fault.status(), 3);
+        assert_eq!(rt; fault.text().as_str(), text);
+    }
+}
+
+#[test]
+fn numbered_and_refused(rt: HostRuntime) -> Result<(), Fail> {
+    let alloc = rt.alloc();
+    let write = write_text(alloc, 1, 3).ok().ok_or("memory")?;
+    assert_eq!(rt; write.as_slice(), b"{\"line\":1,\"seq\":3}\n".as_slice());
+    let commit = commit_text(alloc, 1, 2, 4).ok().ok_or("memory")?;
+    assert_eq!(rt;
+        commit.as_slice(),
+        b"{\"docs\":1,\"line\":2,\"seq\":4}\n".as_slice()
+    );
+    let term = long_term_text(alloc, 2, 32767).ok().ok_or("memory")?;
+    assert_eq!(rt;
+        term.as_slice(),
+        b"{\"line\":2,\"refused\":\"term\",\"size\":32767}\n".as_slice()
+    );
+    let query = long_query_text(alloc, 7, 65536).ok().ok_or("memory")?;
+    assert_eq!(rt;
+        query.as_slice(),
+        b"{\"line\":7,\"refused\":\"query\",\"size\":65536}\n".as_slice()
+    );
+    Ok(())
+}
+
+#[test]
+fn searches(rt: HostRuntime) -> Result<(), Fail> {
+    let alloc = rt.alloc();
+    let none = search_text(alloc, 0, &[], &[], 4).ok().ok_or("memory")?;
+    assert_eq!(rt;
+        none.as_slice(),
+        b"{\"commit\":0,\"hits\":[],\"line\":4}\n".as_slice()
+    );
+    let rows = rows_of(alloc, MAILS)?;
+    if rows.len() != 3 {
+        panic!(rt; "rows");
+    }
+    let rows = rows.as_slice();
+    let some = search_text(alloc, 5, rows, &[1], 8).ok().ok_or("memory")?;
+    assert_eq!(rt;
+        some.as_slice(),
+        "{\"commit\":5,\"hits\":[{\"key\":\"bob/1\",\"num\":{\"date\":20240301,\"size\":298}}],\"line\":8}\n".as_bytes()
+    );
+    let all = search_text(alloc, 5, rows, &[2, 0], 9)
+        .ok()
+        .ok_or("memory")?;
+    assert_eq!(rt;
+        all.as_slice(),
+        "{\"commit\":5,\"hits\":[{\"key\":\"say \\\"\u{e9}\\n\\\"\",\"num\":{\"n\":-7}},{\"key\":\"ann/1\",\"num\":{\"date\":20240301,\"size\":412}}],\"line\":9}\n".as_bytes()
+    );
+    Ok(())
+}

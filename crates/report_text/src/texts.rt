@@ -1,0 +1,143 @@
+//! The texts of the report's lines, written by serde_json.
+ghost use Rattle.std.specs.Prelude.{◌≡◌, ◌<◌, ◌∷◌, [], false, fold, map, length, All, IfOk, slice_get};
+ghost use Rattle.std.specs.List.{filter_map};
+ghost use Rattle.serde_json.specs.Data.{no_members};
+ghost use Rattle.serde_json.specs.View.{view, members_view};
+ghost use Rattle.serde_json.specs.Written.{has_float};
+ghost use Rattle.ix_base.specs.Refusals.{long_term, long_query};
+ghost use Rattle.report_text.specs.Lines.{text_line, write_value, commit_value, refused_value, search_value, hit_value, with_number};
+ghost use Rattle.report_text.specs.Lines.{shown_refusal};
+
+use ix_base::{Name, NoMemory, Row};
+use serde_json::{Map, Value, json};
+use std::alloc::{AllocError, Global};
+
+/// A value's text, and a line feed.
+fn text_of(alloc: Global, value: &Value) -> Result<Vec<u8>, NoMemory>
+    requires { has_float (view value.now) ≡ false }
+    ensures { IfOk result (λ text. text.items ≡ text_line (view value.now)) }
+{
+    let mut text = value.to_vec(alloc)?;
+    text.push(b'\n')?;
+    Ok(text)
+}
+
+/// The value of a line that got a number.
+fn write_data(alloc: Global, line: u32, number: u64) -> Result<Value, AllocError>
+    ensures { IfOk result (λ value. view value ≡ write_value line number) }
+{
+    json!(in alloc; {"line": line, "seq": number})
+}
+
+/// The text of a line that got a number, as `{"line":1,"seq":3}`, and a line feed. `NoMemory` is all
+/// that an error means, here and in the calls below.
+pub fn write_text(alloc: Global, line: u32, number: u64) -> Result<Vec<u8>, NoMemory>
+    ensures { IfOk result (λ text. text.items ≡ text_line (write_value line number)) }
+{
+    let value = write_data(alloc, line, number)?;
+    text_of(alloc, &value)
+}
+
+/// The value of a commit line.
+fn commit_data(alloc: Global, docs: u64, line: u32, number: u64) -> Result<Value, AllocError>
+    ensures { IfOk result (λ value. view value ≡ commit_value docs line number) }
+{
+    json!(in alloc; {"docs": docs, "line": line, "seq": number})
+}
+
+/// The text of a commit line, as `{"docs":1,"line":2,"seq":4}`, and a line feed: the commit of this
+/// number has so many documents.
+pub fn commit_text(alloc: Global, docs: u64, line: u32, number: u64) -> Result<Vec<u8>, NoMemory>
+    ensures { IfOk result (λ text. text.items ≡ text_line (commit_value docs line number)) }
+{
+    let value = commit_data(alloc, docs, line, number)?;
+    text_of(alloc, &value)
+}
+
+/// The value of a line that was refused.
+fn refused_data(alloc: Global, line: u32, what: &str, size: u64) -> Result<Value, AllocError>
+    ensures { IfOk result (λ value. view value ≡ shown_refusal line what.now size) }
+{
+    json!(in alloc; {"line": line, "refused": what, "size": size})
+}
+
+/// The text of a line that was refused for a term of this size in bytes, as
+/// `{"line":2,"refused":"term","size":32767}`, and a line feed.
+pub fn long_term_text(alloc: Global, line: u32, size: u64) -> Result<Vec<u8>, NoMemory>
+    ensures { IfOk result (λ text. text.items ≡ text_line (refused_value line (long_term size))) }
+{
+    let value = refused_data(alloc, line, "term", size)?;
+    text_of(alloc, &value)
+}
+
+/// The text of a line that was refused for a query of this size, as
+/// `{"line":2,"refused":"query","size":Z}`, and a line feed.
+pub fn long_query_text(alloc: Global, line: u32, size: u64) -> Result<Vec<u8>, NoMemory>
+    ensures { IfOk result (λ text. text.items ≡ text_line (refused_value line (long_query size))) }
+{
+    let value = refused_data(alloc, line, "query", size)?;
+    text_of(alloc, &value)
+}
+
+/// The numbers of a row, by name.
+fn number_members(alloc: Global, num: &[(Name, i64)]) -> Result<Map<String, Value>, AllocError>
+    ensures { IfOk result (λ found. members_view found.entries ≡ fold with_number no_members num.now) }
+{
+    let mut found = Map::new(alloc);
+    for (name, value) in num {
+        serde_json::put(&mut found, alloc, name.as_str(), Value::from(*value))?;
+    }
+    Ok(found)
+}
+
+/// What a search shows of a row: its key, and its numbers by name.
+fn hit_data(alloc: Global, row: &Row) -> Result<Value, AllocError>
+    ensures { IfOk result (λ value. view value ≡ hit_value row.now) }
+{
+    let num = Value::Object(number_members(alloc, row.doc.num.as_slice())?);
+    json!(in alloc; {"key": row.doc.key.as_str(), "num": num})
+}
+
+/// What a search shows of the rows with these numbers.
+fn hit_list(alloc: Global, rows: &[Row], numbers: &[u32]) -> Result<Vec<Value>, AllocError>
+    requires { All (λ n. n < length rows.now) numbers.now }
+    ensures { IfOk result (λ values. map view values.items ≡ map hit_value (filter_map (slice_get rows.now) numbers.now)) }
+{
+    let mut values = Vec::new(alloc);
+    for number in numbers {
+        values.push(hit_data(alloc, &rows[*number as usize])?)?;
+    }
+    Ok(values)
+}
+
+/// The value of a search line.
+fn search_data(
+    alloc: Global,
+    commit: u64,
+    rows: &[Row],
+    numbers: &[u32],
+    line: u32,
+) -> Result<Value, AllocError>
+    requires { All (λ n. n < length rows.now) numbers.now }
+    ensures { IfOk result (λ value. view value ≡ search_value commit (filter_map (slice_get rows.now) numbers.now) line) }
+{
+    let hits = Value::Array(hit_list(alloc, rows, numbers)?);
+    json!(in alloc; {"commit": commit, "hits": hits, "line": line})
+}
+
+/// The text of a search line, as `{"commit":2,"hits":[{"key":"a1","num":{}}],"line":3}`, and a line
+/// feed. The hits are the rows with these numbers, counted from 0 in the rows of the commit, in the
+/// order of the numbers; each shows its key and the numbers by name.
+pub fn search_text(
+    alloc: Global,
+    commit: u64,
+    rows: &[Row],
+    numbers: &[u32],
+    line: u32,
+) -> Result<Vec<u8>, NoMemory>
+    requires { All (λ n. n < length rows.now) numbers.now }
+    ensures { IfOk result (λ text. text.items ≡ text_line (search_value commit (filter_map (slice_get rows.now) numbers.now) line)) }
+{
+    let value = search_data(alloc, commit, rows, numbers, line)?;
+    text_of(alloc, &value)
+}
