@@ -154,7 +154,7 @@ pub script_stands : (base next : ℕ) (rows : List Row) (lines : List Line) (fil
     → told ≡ Some files → AreKept files start → NoMore start began → Follows (HasAll base next rows lines) began did → NoMore did after
     → IfOk result (λ bytes. Changes (DoesScript base next rows lines bytes.items) told now) → IfOk result (λ bytes. (c : Files) → after c → DoesScript base next rows lines bytes.items files c)
 script_stands base next rows lines files told now start began did after (Err stop) is are before stands reads does = tt
-script_stands base next rows lines files told now start began did after (Ok bytes) is are before stands reads does c image =
+script_stands base next rows lines files told now start began did after (Ok bytes) is are before stands reads does = λ c image.
     let all = stands c (reads c image) in
     let old = before all.0 all.1 in
     record {

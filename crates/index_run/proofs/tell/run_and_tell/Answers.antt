@@ -12,6 +12,13 @@ returns-in-Ok-clause-headline g c = λ bytes lines files base next rows told is 
 pub returns-in-Err-Sink-clause-front : goal.returns-in-Err-Sink-clause-front
 returns-in-Err-Sink-clause-front g c = λ bytes lines files base next rows told is store begins six. c.in-Err-Sink.ensures.front bytes lines files base next rows told is store begins (ap (λ (s : Stop). Err s) c.in-Err-Sink.field-0-is)
 
+pub returns-in-Ok-clause-acknowledged : goal.returns-in-Ok-clause-acknowledged
+returns-in-Ok-clause-acknowledged g c = λ bytes lines files base next rows told is store begins are zero. c.in-Ok.ensures.acknowledged bytes lines files base next rows told is store begins are
+
+pub returns-in-Err-Sink-clause-acknowledged_front : goal.returns-in-Err-Sink-clause-acknowledged_front
+returns-in-Err-Sink-clause-acknowledged_front g c = λ bytes lines files base next rows told is store begins are six.
+    c.in-Err-Sink.ensures.acknowledged_front bytes lines files base next rows told is store begins are (ap (λ (s : Stop). Err s) c.in-Err-Sink.field-0-is)
+
 pub returns-in-Err-Fault-clause-complete : goal.returns-in-Err-Fault-clause-complete
 returns-in-Err-Fault-clause-complete g c = λ bytes lines files base next rows accepted told is store last on low room source sink failed.
     let whole = subst (λ (s : Stop). IsOneOf (stop_status s) (0 ∷ 4 ∷ 5 ∷ 6 ∷ 7 ∷ [])) c.in-Err-Fault.field-0-is (c.in-Err-Fault.ensures.whole bytes lines files base next rows accepted told is store last on low room) in
