@@ -2,7 +2,8 @@
 use crate::call::top;
 use crate::tests::run_over;
 use ix_base::NoMemory;
-use ix_outside::{Gate, MemorySink, MemorySource, MemoryStore, Store};
+use ix_memory::{MemorySink, MemorySource, MemoryStore};
+use ix_outside::{Gate, Store};
 use std::alloc::Global;
 use std::sync::Wait;
 use std::sync::atomic::{AtomicU64, Ordering};
@@ -10,6 +11,7 @@ use std::thread::Threads;
 
 /// A gate that keeps what it hears, in order: a line before it is tried as its number, and a line
 /// that was told as 100 times its line and its number.
+#[derive(Drop)]
 struct Recorder {
     heard: [AtomicU64; 16],
     count: AtomicU64,
