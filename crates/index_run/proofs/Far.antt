@@ -18,9 +18,9 @@ use Rattle.op_script.specs.Shape.{is_read_act, is_read_operation, is_apart, AreR
 use Rattle.op_script.specs.declared.script.Line.{Line}
 use Rattle.op_script.specs.declared.script.Act.{Act}
 use Rattle.op_script.specs.declared.script.Act.TheVariants.{Do, Search}
-use Rattle.index_run.specs.declared.outcome.Outcome.{Outcome}
-use Rattle.index_run.specs.declared.outcome.Answer.{Answer}
-use Rattle.index_run.specs.declared.outcome.Answer.TheVariants.{Numbered, Committed, RefusedTerm, RefusedQuery, Searched}
+use Rattle.run_report.specs.declared.outcome.Outcome.{Outcome}
+use Rattle.run_report.specs.declared.outcome.Answer.{Answer}
+use Rattle.run_report.specs.declared.outcome.Answer.TheVariants.{Numbered, Committed, RefusedTerm, RefusedQuery, Searched}
 use Rattle.index_run.specs.declared.writer.Writer.{Writer}
 use Rattle.index_run.specs.Numbering.{is_numbered, is_commit, numbered, operations, commit_numbers, rows_at}
 use Rattle.index_run.specs.Outcomes.{number_after, rows_after, commit_after, outcome_of, answer_of, told_answer, done_answer, outcomes_from}

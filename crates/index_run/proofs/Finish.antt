@@ -7,19 +7,20 @@ use Rattle.ix_outside.specs.Files.{Files, Changes, onto}
 use Rattle.commit_point.specs.Holds.{KeepsCommits}
 use Rattle.op_script.specs.Shape.{LinesRise}
 use Rattle.op_script.specs.declared.script.Line.{Line}
-use Rattle.index_run.specs.declared.outcome.Outcome.{Outcome}
-use Rattle.index_run.specs.declared.stop.Stop.{Stop}
-use Rattle.index_run.specs.declared.stop.Stop.TheVariants as stop
+use Rattle.run_report.specs.declared.outcome.Outcome.{Outcome}
+use Rattle.run_report.specs.declared.stop.Stop.{Stop}
+use Rattle.run_report.specs.declared.stop.Stop.TheVariants as stop
 use Rattle.report_text.specs.declared.fault.Fault.{Fault}
 use Rattle.report_text.specs.declared.fault.Fault.TheVariants as fault
 use Rattle.report_text.specs.Faults.{status_of}
 use Rattle.index_run.specs.Causes.{IsOneOf, stop_status}
 use Rattle.index_run.specs.Numbering.{numbered, commit_numbers}
-use Rattle.index_run.specs.Outcomes.{outcomes_from, texts}
+use Rattle.run_report.specs.Texts.{texts}
+use Rattle.index_run.specs.Outcomes.{outcomes_from}
 use Rattle.index_run.specs.Beginning.{IsOn}
 use Rattle.index_run.specs.Headline.{HasCommits, RunsRight}
 use Rattle.index_run.specs.Script.{DoesScript}
-use Rattle.index_run.specs.Searching.{CanSearch}
+use Rattle.run_report.specs.Searching.{CanSearch}
 use Rattle.index_run.proofs.Far.{has_widen}
 use Rattle.index_run.proofs.Searchable.{can_search, no_rows}
 use Rattle.index_run.proofs.Told.{rows_of, report_is}

@@ -22,7 +22,7 @@ use Rattle.op_script.specs.Shape.{is_read_act}
 use Rattle.op_script.specs.declared.script.Line.{Line}
 use Rattle.op_script.specs.declared.script.Act.{Act}
 use Rattle.op_script.specs.declared.script.Act.TheVariants.{Do, Search}
-use Rattle.index_run.specs.declared.outcome.Outcome.{Outcome}
+use Rattle.run_report.specs.declared.outcome.Outcome.{Outcome}
 use Rattle.index_run.specs.declared.writer.Writer.{Writer}
 use Rattle.index_run.specs.Numbering.{numbered, is_numbered, commit_numbers}
 use Rattle.index_run.specs.Doing.{writer_after, FilesAfter, ImageAfter, MayLeave}

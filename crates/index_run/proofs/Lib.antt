@@ -5,9 +5,6 @@ pub mod Kept
 pub mod Going
 pub mod Far
 pub mod Images
-pub mod Hits
-pub mod Found
-pub mod Filled
 pub mod Told
 pub mod Beginnings
 pub mod Inputs

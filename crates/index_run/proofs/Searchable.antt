@@ -13,12 +13,12 @@ use Rattle.commit_point.specs.Holds.{Holds}
 use Rattle.op_script.specs.declared.script.Line.{Line}
 use Rattle.op_script.specs.declared.script.Act.{Act}
 use Rattle.op_script.specs.declared.script.Act.TheVariants.{Do, Search}
-use Rattle.index_run.specs.declared.outcome.Outcome.{Outcome}
+use Rattle.run_report.specs.declared.outcome.Outcome.{Outcome}
 use Rattle.index_run.specs.Numbering.{is_numbered, is_commit, numbered, operations, commit_numbers}
 use Rattle.index_run.specs.Outcomes.{commit_after, outcomes_from, answer_of, told_answer, done_answer, number_after, rows_after}
 use Rattle.index_run.specs.Headline.{HasCommits, IsIn}
 use Rattle.index_run.specs.Beginning.{IsOn}
-use Rattle.index_run.specs.Searching.{AnswerHolds, CanSearch, HoldsCommit}
+use Rattle.run_report.specs.Searching.{AnswerHolds, CanSearch, HoldsCommit}
 use Rattle.index_run.proofs.Kept.{Made}
 use Rattle.index_run.proofs.Told.{rows_of, rows_of-is}
 

@@ -13,7 +13,7 @@ use Rattle.commit_point.specs.declared.heads.HeadSegment.{HeadSegment}
 use Rattle.commit_point.specs.Holds.{Holds, HaveRows, ListsId, IsFileOf, KeepsCommits}
 use Rattle.commit_point.specs.Putting.{Reaches}
 use Rattle.op_script.specs.declared.script.Line.{Line}
-use Rattle.index_run.specs.declared.stop.Stop.{Stop}
+use Rattle.run_report.specs.declared.stop.Stop.{Stop}
 use Rattle.index_run.specs.Numbering.{numbered, commit_numbers}
 use Rattle.index_run.specs.Report.{report}
 use Rattle.index_run.specs.Headline.{HasCommits, IsIn, Starts}

@@ -8,8 +8,8 @@ use Rattle.ix_outside.specs.Files.{Files, Changes}
 use Rattle.commit_point.specs.Writing.{Commits, MayCommit, next_after}
 use Rattle.op_script.specs.declared.script.Act.{Act}
 use Rattle.op_script.specs.declared.script.Act.TheVariants.{Do, Search}
-use Rattle.index_run.specs.declared.outcome.Answer.{Answer}
-use Rattle.index_run.specs.declared.outcome.Answer.TheVariants.{Searched}
+use Rattle.run_report.specs.declared.outcome.Answer.{Answer}
+use Rattle.run_report.specs.declared.outcome.Answer.TheVariants.{Searched}
 use Rattle.index_run.specs.declared.writer.Writer.{Writer}
 use Rattle.index_run.specs.Outcomes.{told_answer, done_answer}
 

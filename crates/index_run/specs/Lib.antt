@@ -7,7 +7,5 @@ pub mod Crashes
 pub mod Causes
 pub mod Writer
 pub mod Doing
-pub mod Searching
-pub mod Assembling
 pub mod Beginning
 pub mod Script

@@ -1,6 +1,5 @@
 -- What becomes of the lines of a script that are done in its order.
 use Rattle.std.specs.Prelude.{ℕ, ◌+◌, List, [], ◌∷◌, ◌++◌, length, ◌&&◌, ◌==◌, if◌then◌else◌, Option, Some, None}
-use Rattle.std.specs.List.{flat_map}
 use Rattle.ix_base.specs.declared.document.Operation.{Operation}
 use Rattle.ix_base.specs.declared.document.Operation.TheVariants.{Commit}
 use Rattle.ix_base.specs.declared.document.Row.{Row}
@@ -9,12 +8,10 @@ use Rattle.ix_base.specs.Steps.{after}
 use Rattle.op_script.specs.declared.script.Line.{Line}
 use Rattle.op_script.specs.declared.script.Act.{Act}
 use Rattle.op_script.specs.declared.script.Act.TheVariants.{Do, Search}
-use Rattle.report_text.specs.Lines.{text_line, write_value, commit_value, refused_value, search_value}
-use Rattle.index_run.specs.declared.outcome.Outcome.{Outcome}
-use Rattle.index_run.specs.declared.outcome.Answer.{Answer}
-use Rattle.index_run.specs.declared.outcome.Answer.TheVariants.{Numbered, Committed, RefusedTerm, RefusedQuery, Searched}
+use Rattle.run_report.specs.declared.outcome.Outcome.{Outcome}
+use Rattle.run_report.specs.declared.outcome.Answer.{Answer}
+use Rattle.run_report.specs.declared.outcome.Answer.TheVariants.{Numbered, Committed, RefusedTerm, RefusedQuery, Searched}
 use Rattle.index_run.specs.Numbering.{is_numbered, is_commit, numbered, operations}
-use Rattle.index_run.specs.Report.{matching}
 
 -- the last number after these lines
 abbrev pub number_after : ℕ → List Line → ℕ
@@ -53,17 +50,3 @@ outcome_of base rows done l = record { line = l.line; answer = answer_of base ro
 abbrev pub outcomes_from : ℕ → List Row → List Line → List Line → List Outcome
 outcomes_from base rows done [] = []
 outcomes_from base rows done (l ∷ ls) = outcome_of base rows done l ∷ outcomes_from base rows (done ++ l ∷ []) ls
-
--- the text of an outcome, where the rows of each commit are known
-abbrev pub answer_text : (ℕ → List Row) → ℕ → Answer → List ℕ
-answer_text rows_of line (Numbered s) = text_line (write_value line s)
-answer_text rows_of line (Committed s docs) = text_line (commit_value docs line s)
-answer_text rows_of line (RefusedTerm size) = text_line (refused_value line (long_term size))
-answer_text rows_of line (RefusedQuery size) = text_line (refused_value line (long_query size))
-answer_text rows_of line (Searched s query) = text_line (search_value s (matching query (rows_of s)) line)
-
-abbrev pub outcome_text : (ℕ → List Row) → Outcome → List ℕ
-outcome_text rows_of o = answer_text rows_of o.line o.answer
-
-abbrev pub texts : (ℕ → List Row) → List Outcome → List ℕ
-texts rows_of = flat_map (outcome_text rows_of)

@@ -1,22 +1,15 @@
 -- The report: the text of each line of the script, in its order.
 use Rattle.std.specs.Prelude.{ℕ, List, [], ◌∷◌, ◌++◌, length, ◌&&◌, ◌==◌, if◌then◌else◌, Option, Some, None}
-use Rattle.std.specs.List.{filter}
 use Rattle.ix_base.specs.declared.document.Operation.{Operation}
 use Rattle.ix_base.specs.declared.document.Operation.TheVariants.{Commit}
 use Rattle.ix_base.specs.declared.document.Row.{Row}
-use Rattle.ix_base.specs.declared.query.Query.{Query}
-use Rattle.ix_base.specs.Matches.{matches}
 use Rattle.ix_base.specs.Refusals.{Refusal, refusal}
-use Rattle.ix_base.specs.Query.{tree_of}
 use Rattle.op_script.specs.declared.script.Line.{Line}
 use Rattle.op_script.specs.declared.script.Act.{Act}
 use Rattle.op_script.specs.declared.script.Act.TheVariants.{Do, Search}
 use Rattle.report_text.specs.Lines.{text_line, write_value, commit_value, refused_value, search_value}
+use Rattle.run_report.specs.Texts.{matching}
 use Rattle.index_run.specs.Numbering.{is_commit, number_of, rows_at}
-
--- the rows that match, in order of birth
-abbrev pub matching : Query → List Row → List Row
-matching query rows = filter (λ row. matches (tree_of query) row.doc) rows
 
 -- The commit of a caller's search: that of the last commit line among these, or else the one that was found before.
 abbrev pub last_commit : ℕ → List Line → ℕ → ℕ → List Line → ℕ

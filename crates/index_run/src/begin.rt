@@ -8,11 +8,11 @@ ghost use Rattle.commit_point.specs.Holds.{Holds};
 ghost use Rattle.commit_point.specs.declared.fault.Damaged.{Damaged};
 ghost use Rattle.index_run.specs.Headline.{IsLast};
 ghost use Rattle.index_run.specs.Causes.{IsOneOf, stop_status};
-ghost use Rattle.index_run.specs.Searching.{IsDamagedIn};
+ghost use Rattle.run_report.specs.Searching.{IsDamagedIn};
 ghost use Rattle.index_run.specs.Beginning.{IsOn, IsHighBase, last_or_zero};
 ghost use Rattle.index_run.specs.Writer.{CanBegin};
 
-use crate::stop::Stop;
+use run_report::Stop;
 use crate::writer::Writer;
 use commit_point::{OpenFault, list_commits, read_commit};
 use ix_base::List;

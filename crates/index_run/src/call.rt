@@ -15,7 +15,7 @@ ghost use Rattle.index_run.specs.Causes.{IsOneOf, WritesFront, IsBadIn};
 ghost use Rattle.report_text.specs.Faults.{fault_text};
 ghost use Rattle.index_run.specs.Crashes.{AreKept, StopsRight};
 ghost use Rattle.index_run.specs.Headline.{Begins, IsLast, RunsRight};
-ghost use Rattle.index_run.specs.Searching.{IsDamagedIn};
+ghost use Rattle.run_report.specs.Searching.{IsDamagedIn};
 ghost use Rattle.index_run.specs.Words.{IsAccepted};
 
 use crate::tell::run_and_tell;

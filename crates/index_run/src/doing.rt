@@ -13,12 +13,12 @@ ghost use Rattle.index_run.specs.Crashes.{AreKept, HasFront};
 ghost use Rattle.index_run.specs.Headline.{Begins, IsLast};
 ghost use Rattle.index_run.specs.Numbering.{numbered};
 ghost use Rattle.index_run.specs.Script.{DoesScript};
-ghost use Rattle.index_run.specs.Searching.{IsDamagedIn};
+ghost use Rattle.run_report.specs.Searching.{IsDamagedIn};
 
 use crate::begin::begin;
 use crate::lines::do_lines;
-use crate::report::report;
-use crate::stop::Stop;
+use run_report::report;
+use run_report::Stop;
 use ix_base::List;
 use ix_outside::{Gate, Store, StoreFault};
 use op_script::Line;

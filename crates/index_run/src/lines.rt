@@ -17,7 +17,7 @@ ghost use Rattle.index_run.specs.Outcomes.{outcomes_from};
 ghost use Rattle.index_run.specs.Headline.{HasCommits, Starts};
 ghost use Rattle.index_run.specs.Writer.{CanGoOn};
 
-use crate::outcome::{Answer, Outcome};
+use run_report::{Answer, Outcome};
 use crate::writer::Writer;
 use ix_base::{List, NoMemory, Operation};
 use ix_outside::{Gate, Store, StoreFault};

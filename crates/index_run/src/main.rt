@@ -13,13 +13,9 @@ mod call;
 mod doing;
 mod input;
 mod lines;
-mod outcome;
 mod output;
 mod reading;
-mod report;
 mod run;
-mod searches;
-mod stop;
 mod tell;
 #[cfg(test)]
 mod tests;

@@ -10,7 +10,7 @@ ghost use Rattle.index_run.specs.Causes.{IsBadIn, IsOneOf, stop_status};
 ghost use Rattle.index_run.specs.Words.{IsAccepted};
 
 use crate::input::read_input;
-use crate::stop::Stop;
+use run_report::Stop;
 use crate::words::is_run;
 use ix_base::List;
 use ix_outside::Source;

@@ -15,13 +15,13 @@ ghost use Rattle.index_run.specs.Causes.{IsOneOf, IsBadIn, stop_status, run_stat
 ghost use Rattle.report_text.specs.Faults.{status_of};
 ghost use Rattle.index_run.specs.Crashes.{AreKept, StopsRight};
 ghost use Rattle.index_run.specs.Headline.{Begins, IsLast, RunsRight};
-ghost use Rattle.index_run.specs.Searching.{IsDamagedIn};
+ghost use Rattle.run_report.specs.Searching.{IsDamagedIn};
 ghost use Rattle.index_run.specs.Words.{IsAccepted};
 
 use crate::doing::do_script;
 use crate::output::write_all;
 use crate::reading::read_lines;
-use crate::stop::Stop;
+use run_report::Stop;
 use ix_outside::{Gate, Sink, Source, Store};
 use report_text::Fault;
 use std::alloc::Global;

@@ -15,12 +15,12 @@ ghost use Rattle.index_run.specs.Causes.{IsOneOf, WritesFront, IsBadIn};
 ghost use Rattle.report_text.specs.Faults.{fault_text, status_of};
 ghost use Rattle.index_run.specs.Crashes.{AreKept, StopsRight};
 ghost use Rattle.index_run.specs.Headline.{Begins, IsLast, RunsRight};
-ghost use Rattle.index_run.specs.Searching.{IsDamagedIn};
+ghost use Rattle.run_report.specs.Searching.{IsDamagedIn};
 ghost use Rattle.index_run.specs.Words.{IsAccepted};
 
 use crate::output::write_all;
 use crate::run::run;
-use crate::stop::Stop;
+use run_report::Stop;
 use ix_outside::{Gate, Sink, Source, Store};
 use report_text::Fault;
 use std::alloc::Global;

@@ -13,21 +13,30 @@ use std::thread::Threads;
 /// that was told as 100 times its line and its number.
 #[derive(Drop)]
 struct Recorder {
-    heard: [AtomicU64; 16],
+    heard: [AtomicU64; 8],
     count: AtomicU64,
 }
 
 impl Recorder {
     fn new() -> Recorder {
         Recorder {
-            heard: [const { AtomicU64::new(0) }; 16],
+            heard: [
+                AtomicU64::new(0),
+                AtomicU64::new(0),
+                AtomicU64::new(0),
+                AtomicU64::new(0),
+                AtomicU64::new(0),
+                AtomicU64::new(0),
+                AtomicU64::new(0),
+                AtomicU64::new(0),
+            ],
             count: AtomicU64::new(0),
         }
     }
 
     fn hear(&self, what: u64) {
         let place = self.count.fetch_add(1, Ordering::SeqCst);
-        if place < 16 {
+        if place < 8 {
             self.heard[place as usize].store(what, Ordering::SeqCst);
         }
     }

@@ -5,7 +5,7 @@ use Rattle.ix_outside.specs.Files.{Changes}
 use Rattle.ix_outside.specs.Images.{Follows}
 use Rattle.commit_point.specs.Putting.{Reaches}
 use Rattle.index_run.specs.declared.writer.Writer.{Writer}
-use Rattle.index_run.specs.declared.stop.Stop.{Stop}
+use Rattle.run_report.specs.declared.stop.Stop.{Stop}
 use Rattle.index_run.specs.Causes.{IsOneOf, stop_status}
 use Rattle.index_run.specs.Numbering.{numbered, commit_numbers}
 use Rattle.index_run.specs.Outcomes.{outcomes_from}

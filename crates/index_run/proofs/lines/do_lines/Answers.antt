@@ -5,7 +5,7 @@ use Rattle.ix_outside.specs.Images.{Follows}
 use Rattle.op_script.specs.declared.script.Line.{Line}
 use Rattle.index_run.specs.Doing.{writer_after, lasts_after, answer_by}
 use Rattle.index_run.specs.declared.writer.Writer.{Writer}
-use Rattle.index_run.specs.declared.outcome.Outcome.{Outcome}
+use Rattle.run_report.specs.declared.outcome.Outcome.{Outcome}
 use Rattle.index_run.proofs.Far.{Far, SoFar, far_start, made_start, kept_start, act_known, can_go_on, room_left, far_line, files_line, kept_line, elsewhere_of, all_done, commits_done}
 use Rattle.index_run.proofs.Images.{Stands, stands_start, crash_start, stands_more, crash_more, all_stands, told_mid}
 use Rattle.index_run.proofs.lines.do_lines.Goals as goal

@@ -1,0 +1,62 @@
+use Rattle.std.proofs.Common.{◌≡◌, ◌∙◌, ◌<◌, ℕ, List, [], ◌∷◌, suc, ◌+◌, refl, length, get_or, map, Some, sym, ap, subst, arith, Vec}
+use Rattle.std.specs.declared.alloc.Global.{Global}
+use Rattle.std.proofs.lemmas.List.{map-set, length-set}
+use Rattle.std.proofs.lemmas.List.Elements.{All-get_or}
+use Rattle.ix_base.specs.declared.document.Row.{Row}
+use Rattle.ix_outside.specs.Files.{Files}
+use Rattle.run_report.specs.declared.outcome.Outcome.{Outcome}
+use Rattle.run_report.specs.declared.assembly.Turn.{Turn}
+use Rattle.run_report.specs.Searching.{AnswerHolds, CanSearch}
+use Rattle.run_report.proofs.Filled.{FilledAt, filled_more, all_filled, turn_in_range, get_or_any}
+use Rattle.ix_outside.specs.CallLaws.{reads_then}
+use Rattle.run_report.proofs.assembly.texts_in_turn.Goals as goal
+
+holds_at : (files : Files) (rows_of : ℕ → List Row) (outcomes : List Outcome) (at : ℕ) (o : Outcome) → at < length outcomes → o ≡ get_or outcomes at o → CanSearch files rows_of outcomes → AnswerHolds files rows_of o.answer
+holds_at files rows_of outcomes at o lt is can =
+    subst (λ (x : Outcome). AnswerHolds files rows_of x.answer) (sym is) (All-get_or (λ (x : Outcome). AnswerHolds files rows_of x.answer) outcomes at o lt can.each)
+
+length_items : (vs : List (Vec ℕ Global)) → length (map (λ (v : Vec ℕ Global). v.items) vs) ≡ length vs
+length_items [] = refl
+length_items (v ∷ vs) = ap suc (length_items vs)
+
+pub prove-unreachable-requires : goal.prove-unreachable-requires
+prove-unreachable-requires g c =
+    let some : Turn = record { commit = 0; at = 0 } in
+    let lt = turn_in_range (length c.args.outcomes.now) c.args.turns.now c.loop-turn.turn-index some c.requires c.loop-turn-test.true in
+    omega arith
+
+pub loop-turn-preserved : goal.loop-turn-preserved
+loop-turn-preserved g c =
+    let some : Turn = record { commit = 0; at = 0 } in
+    let outcomes = c.args.outcomes.now in
+    let turns = c.args.turns.now in
+    let inv = c.loop-turn.invariant in
+    let i = c.loop-turn.turn-index in
+    let at = (get_or turns i some).at in
+    let made = c.loop-turn.made.items in
+    let text = c.in-Ok-line_text.text in
+    let lt = turn_in_range (length outcomes) turns i some c.requires c.loop-turn-test.true in
+    let done = λ (files : Files) (rows_of : ℕ → List Row) (told : g.S.Store.files c.args.store.now ≡ Some files) (can : CanSearch files rows_of outcomes).
+    c.in-Ok-line_text.ensures.text files rows_of (inv.reads.same ∙ told) (inv.rows_are files rows_of told can) can.none (holds_at files rows_of outcomes at c.index-outcomes-turn.result lt c.index-outcomes-turn.is can) in
+    record {
+      count = length-set made at text ∙ inv.count;
+      indexed = c.in-Ok-line_text.ensures.indexed;
+      rows_are = λ files rows_of told can. (done files rows_of told can).1;
+      filled = λ files rows_of told can.
+          subst (λ (texts : List (List ℕ)). (k : ℕ) (d : Turn) → k < i + 1 → FilledAt rows_of outcomes texts (get_or turns k d).at) (sym (map-set (λ (v : Vec ℕ Global). v.items) made at text))
+          (filled_more rows_of outcomes (map (λ (v : Vec ℕ Global). v.items) made) turns i at text.items c.index-outcomes-turn.result (length_items made ∙ inv.count) lt
+          (λ d. ap (λ (turn : Turn). turn.at) (get_or_any turns i d some c.loop-turn-test.true)) c.index-outcomes-turn.is (done files rows_of told can).0 (inv.filled files rows_of told can));
+      reads = reads_then _ _ _ _ _ c.args.store.now c.loop-turn.store c.line_text.new.store inv.reads c.line_text.ensures.reads;
+      later = omega (arith, inv.later, c.line_text.ensures.later);
+    }
+
+pub returns-in-Err-line_text-clause-whole : goal.returns-in-Err-line_text-clause-whole
+returns-in-Err-line_text-clause-whole g c = λ files rows_of told can.
+    let some : Turn = record { commit = 0; at = 0 } in
+    let lt = turn_in_range (length c.args.outcomes.now) c.args.turns.now c.loop-turn.turn-index some c.requires c.loop-turn-test.true in
+    c.in-Err-line_text.ensures.whole files rows_of (c.loop-turn.invariant.reads.same ∙ told) (holds_at files rows_of c.args.outcomes.now _ c.index-outcomes-turn.result lt c.index-outcomes-turn.is can)
+
+pub returns-clause-texts : goal.returns-clause-texts
+returns-clause-texts g c = λ files rows_of told can.
+    all_filled rows_of c.args.outcomes.now _ c.args.turns.now (length_items c.loop-turn.made.items ∙ c.loop-turn.invariant.count) c.requires
+    (λ k d lt. c.loop-turn.invariant.filled files rows_of told can k d (omega (arith, lt, c.loop-turn-test.false)))

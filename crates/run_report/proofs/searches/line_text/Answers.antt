@@ -1,0 +1,24 @@
+use Rattle.std.proofs.Common.{◌∙◌, ap, sym, subst}
+use Rattle.std.proofs.lemmas.Result.{IfOk-weaker}
+use Rattle.run_report.specs.declared.outcome.Answer.{Answer}
+use Rattle.run_report.specs.Searching.{AnswerHolds}
+use Rattle.run_report.proofs.Found.{not_search, same_text, searched_text}
+use Rattle.run_report.proofs.searches.line_text.Goals as goal
+
+pub returns-in-Err-clause-whole : goal.returns-in-Err-clause-whole
+returns-in-Err-clause-whole g c = λ files rows_of told holds.
+    c.in-Err.ensures.whole files (rows_of c.in-Searched.number) told (subst (λ (a : Answer). AnswerHolds files rows_of a) c.in-Searched.is holds)
+
+pub returns-in-Ok-clause-text : goal.returns-in-Ok-clause-text
+returns-in-Ok-clause-text g c = λ files rows_of told same none holds.
+    let rows = c.in-Ok.ensures.rows files rows_of told same none (subst (λ (a : Answer). AnswerHolds files rows_of a) c.in-Searched.is holds) in
+    same_text _ c.found_text.result _ c.or_no_memory.ensures.ok
+    (IfOk-weaker c.found_text.result _ _ (λ text is. (
+      searched_text rows_of c.args.outcome.now _ _ _ _ text.items c.in-Searched.is c.in-Ok.ensures.number rows is,
+      rows ∙ ap rows_of (sym c.in-Ok.ensures.number),
+    )) c.found_text.ensures)
+
+pub returns-clause-text : goal.returns-clause-text
+returns-clause-text g c = λ files rows_of told same none holds.
+    same_text _ c.plain_text.result _ c.or_no_memory-2.ensures.ok
+    (IfOk-weaker c.plain_text.result _ _ (λ text is. (is, same)) (c.plain_text.ensures rows_of (not_search c.args.outcome.now.answer c.in_default.not-Searched)))

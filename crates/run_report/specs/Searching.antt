@@ -1,0 +1,39 @@
+-- What a search line reads of the store.
+use Rattle.std.specs.Prelude.{◌≡◌, ◌⊎◌, ℕ, ◌≤◌, List, [], length, map, Option, All, Err, Bool, true, false, ⊤}
+use Rattle.ix_base.specs.Inversion.{IsInversion}
+use Rattle.ix_base.specs.declared.document.Row.{Row}
+use Rattle.ix_outside.specs.Files.{Files, Was}
+use Rattle.commit_point.specs.Holds.{Holds}
+use Rattle.commit_point.specs.Reading.{reading}
+use Rattle.commit_point.specs.declared.fault.Damaged.{Damaged}
+use Rattle.run_report.specs.declared.outcome.Outcome.{Outcome}
+use Rattle.run_report.specs.declared.outcome.Answer.{Answer}
+use Rattle.run_report.specs.declared.outcome.Answer.TheVariants.{Searched}
+use Rattle.run_report.specs.declared.searches.SearchedCommit.{SearchedCommit}
+
+-- the index is that of the rows
+pub record IsIndexed (commit : SearchedCommit) : Type 0 where
+  pub count : commit.index.rows ≡ length commit.rows
+  pub inversion : IsInversion (map (λ row. row.doc) commit.rows) commit.index.postings
+
+-- the files hold these rows as the commit of this number
+abbrev pub HoldsCommit : Files → ℕ → List Row → Type 0
+HoldsCommit files s rows = (next : ℕ) × Holds files s next rows
+
+-- the commit that an outcome searches has these rows; the number 0 stands for no commit
+abbrev pub AnswerHolds : Files → (ℕ → List Row) → Answer → Type 0
+AnswerHolds files rows_of (Searched s query) = (s ≡ 0) ⊎ ((1 ≤ s) × HoldsCommit files s (rows_of s))
+AnswerHolds files rows_of answer = ⊤
+
+abbrev pub is_search : Answer → Bool
+is_search (Searched s query) = true
+is_search answer = false
+
+-- the commits that the outcomes search have these rows, and no commit has none
+pub record CanSearch (files : Files) (rows_of : ℕ → List Row) (outcomes : List Outcome) : Type 0 where
+  pub none : rows_of 0 ≡ []
+  pub each : All (λ (o : Outcome). AnswerHolds files rows_of o.answer) outcomes
+
+-- some commit of the store is first broken at this place
+abbrev pub IsDamagedIn : Option Files → Damaged → Type 0
+IsDamagedIn told damaged = (files : Files) × Was told files × (s : ℕ) × (reading files s ≡ Err damaged)

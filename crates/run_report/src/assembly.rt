@@ -1,0 +1,132 @@
+//! The report: one text for each line, in the order of the script.
+ghost use Rattle.std.specs.Prelude.{◌≡◌, ◌⊎◌, ◌<◌, ◌≤◌, ℕ, List, [], length, map, OnOk, IfOk, IfErr, Err, Some, All, replicate};
+ghost use Rattle.std.specs.List.{concat};
+ghost use Rattle.ix_base.specs.declared.document.Row.{Row};
+ghost use Rattle.ix_outside.specs.Causes.{Rose};
+ghost use Rattle.ix_outside.specs.Calls.{OnlyReads};
+ghost use Rattle.ix_outside.specs.Files.{Files};
+ghost use Rattle.commit_point.specs.declared.fault.Damaged.{Damaged};
+ghost use Rattle.run_report.specs.Texts.{outcome_text, texts};
+ghost use Rattle.run_report.specs.Searching.{CanSearch, IsDamagedIn};
+ghost use Rattle.run_report.specs.Assembling.{IsOrderOf};
+
+use crate::outcome::{Answer, Outcome};
+use crate::searches::{SearchedCommit, line_text};
+use crate::stop::Stop;
+use ix_base::NoMemory;
+use ix_outside::Store;
+use report_text::Fault;
+use std::alloc::Global;
+
+/// A line by the commit that it searches, and then by its place, so that a commit that several
+/// lines search is opened once.
+#[derive(Clone, Copy, Debug, PartialEq, Eq, PartialOrd, Ord)]
+pub struct Turn {
+    pub commit: u64,
+    pub at: usize,
+}
+
+/// The commit that a line searches, or 0.
+fn searched_commit(outcome: &Outcome) -> u64 {
+    match &outcome.answer {
+        Answer::Searched(commit, _) => *commit,
+        _ => 0,
+    }
+}
+
+/// The lines by the commits that they search.
+fn turns_of(alloc: Global, outcomes: &[Outcome]) -> Result<Vec<Turn>, NoMemory>
+    ensures { IfOk result (λ turns. IsOrderOf (length outcomes.now) turns.items) }
+{
+    let mut turns = Vec::new(alloc);
+    for at in 0..outcomes.len() {
+        let commit = searched_commit(&outcomes[at]);
+        turns.push(Turn { commit, at })?;
+    }
+    turns.sort_unstable();
+    Ok(turns)
+}
+
+/// So many empty texts.
+fn empty_texts(alloc: Global, count: usize) -> Result<Vec<Vec<u8>>, NoMemory>
+    ensures { IfOk result (λ texts. length texts.items ≡ count) }
+{
+    let mut texts = Vec::new(alloc);
+    for _ in 0..count {
+        texts.push(Vec::new(alloc))?;
+    }
+    Ok(texts)
+}
+
+/// The texts of the lines, made in these turns.
+fn texts_in_turn<S: Store>(
+    alloc: Global,
+    store: &mut S,
+    outcomes: &[Outcome],
+    turns: &[Turn],
+) -> Result<Vec<Vec<u8>>, Stop>
+    requires { IsOrderOf (length outcomes.now) turns.now }
+    ensures texts { (files : Files) (rows_of : ℕ → List Row) → S.files store.old ≡ Some files → CanSearch files rows_of outcomes.now
+        → IfOk result (λ made. map (λ text. text.items) made.items ≡ map (outcome_text rows_of) outcomes.now) }
+    ensures whole { (files : Files) (rows_of : ℕ → List Row) → S.files store.old ≡ Some files → CanSearch files rows_of outcomes.now
+        → IfErr result (λ stop. (stop ≡ Stop.Fault Fault.Store) ⊎ (stop ≡ Stop.NoMemory)) }
+    ensures damaged { (damaged : Damaged) → result ≡ Err (Stop.Fault (Fault.Damaged damaged)) → IsDamagedIn (S.files store.old) damaged }
+    ensures reads { OnlyReads S.files S.unsynced S.images S.moment S.left_since store.old store.new }
+    ensures later { S.fault_count store.old ≤ S.fault_count store.new }
+    ensures failed { result ≡ Err (Stop.Fault Fault.Store) → Rose (S.fault_count store.old) (S.fault_count store.new) }
+    ensures others { IfErr result (λ stop. (stop ≡ Stop.Fault Fault.Store) ⊎ ((stop ≡ Stop.NoMemory) ⊎ ((damaged : Damaged) × (stop ≡ Stop.Fault (Fault.Damaged damaged))))) }
+{
+    let mut commit = match SearchedCommit::none(alloc) {
+        Ok(commit) => commit,
+        Err(NoMemory) => return Err(Stop::NoMemory),
+    };
+    let mut made = match empty_texts(alloc, outcomes.len()) {
+        Ok(made) => made,
+        Err(NoMemory) => return Err(Stop::NoMemory),
+    };
+    for turn in turns {
+        prove!(turn.at < outcomes.len());
+        match line_text(alloc, store, &mut commit, &outcomes[turn.at]) {
+            Ok(text) => made[turn.at] = text,
+            Err(stop) => return Err(stop),
+        }
+    }
+    Ok(made)
+}
+
+/// The texts one behind the other.
+fn joined(alloc: Global, made: &[Vec<u8>]) -> Result<Vec<u8>, NoMemory>
+    ensures { IfOk result (λ bytes. bytes.items ≡ concat (map (λ text. text.items) made.now)) }
+{
+    let mut bytes = Vec::new(alloc);
+    for text in made {
+        bytes.extend_from_slice(text.as_slice())?;
+    }
+    Ok(bytes)
+}
+
+/// The whole report, for a script with these outcomes. Search lines read their commits from the
+/// store.
+pub fn report<S: Store>(alloc: Global, store: &mut S, outcomes: &[Outcome]) -> Result<Vec<u8>, Stop>
+    ensures text { (files : Files) (rows_of : ℕ → List Row) → S.files store.old ≡ Some files → CanSearch files rows_of outcomes.now
+        → IfOk result (λ bytes. bytes.items ≡ texts rows_of outcomes.now) }
+    ensures whole { (files : Files) (rows_of : ℕ → List Row) → S.files store.old ≡ Some files → CanSearch files rows_of outcomes.now
+        → IfErr result (λ stop. (stop ≡ Stop.Fault Fault.Store) ⊎ (stop ≡ Stop.NoMemory)) }
+    ensures damaged { (damaged : Damaged) → result ≡ Err (Stop.Fault (Fault.Damaged damaged)) → IsDamagedIn (S.files store.old) damaged }
+    ensures reads { OnlyReads S.files S.unsynced S.images S.moment S.left_since store.old store.new }
+    ensures later { S.fault_count store.old ≤ S.fault_count store.new }
+    ensures failed { result ≡ Err (Stop.Fault Fault.Store) → Rose (S.fault_count store.old) (S.fault_count store.new) }
+    ensures others { IfErr result (λ stop. (stop ≡ Stop.Fault Fault.Store) ⊎ ((stop ≡ Stop.NoMemory) ⊎ ((damaged : Damaged) × (stop ≡ Stop.Fault (Fault.Damaged damaged))))) }
+{
+    let turns = match turns_of(alloc, outcomes) {
+        Ok(turns) => turns,
+        Err(NoMemory) => return Err(Stop::NoMemory),
+    };
+    match texts_in_turn(alloc, store, outcomes, turns.as_slice()) {
+        Ok(made) => match joined(alloc, made.as_slice()) {
+            Ok(bytes) => Ok(bytes),
+            Err(NoMemory) => Err(Stop::NoMemory),
+        },
+        Err(stop) => Err(stop),
+    }
+}

@@ -1,0 +1,14 @@
+//! The report of a run: one text for each line of the script, made from what became of the lines.
+//! Search lines are answered from what the store holds of their commits, each of which is read once.
+#![tactic(auto)]
+
+mod assembly;
+mod outcome;
+mod searches;
+mod stop;
+#[cfg(test)]
+mod tests;
+
+pub use assembly::report;
+pub use outcome::{Answer, Outcome};
+pub use stop::Stop;
