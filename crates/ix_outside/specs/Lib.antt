@@ -2,3 +2,4 @@ pub mod Calls
 pub mod Causes
 pub mod Files
 pub mod Images
+pub mod Listing
