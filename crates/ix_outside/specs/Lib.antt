@@ -1,3 +1,4 @@
+pub mod CallLaws
 pub mod Calls
 pub mod Causes
 pub mod Files
