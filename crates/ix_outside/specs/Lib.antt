@@ -1,5 +1,6 @@
+pub mod CallLaws
+pub mod Calls
 pub mod Causes
 pub mod Files
 pub mod Images
-pub mod Calls
-pub mod CallLaws
+pub mod Listing

@@ -1,7 +1,8 @@
 //! A directory of the system as a store. It tells nothing of its contents.
-ghost use Rattle.std.specs.Prelude.{◌≡◌, ◌≢◌, ◌↔◌, All, IfErr, IfOk, IsErrOf, OnOk};
+ghost use Rattle.std.specs.Prelude.{◌≡◌, ◌≢◌, ◌↔◌, ◌++◌, codes, string_bytes, All, IfErr, IfOk, IsErrOf, OnOk};
 ghost use Rattle.std.specs.IoError.{error_kind};
-ghost use Rattle.ix_base.specs.FileNames.{IsName};
+ghost use Rattle.ix_base.specs.FileNames.{IsName, name_text};
+ghost use Rattle.ix_outside.specs.Listing.{MayTake};
 ghost use Rattle.ix_outside.specs.Causes.{HasStoreCause};
 
 use crate::fault_count::FaultCount;
@@ -39,7 +40,9 @@ impl<R: Files + AllocGlobal + Clone + Drop> DirStore<R> {
     }
 
     /// The path of the file.
-    fn path_of(&self, name: FileName) -> io::Result<String> {
+    fn path_of(&self, name: FileName) -> io::Result<String>
+        ensures { IfOk result (λ path. string_bytes path ≡ string_bytes self.now.path ++ (codes "/" ++ name_text name)) }
+    {
         let mut path = String::from_str(self.runtime.alloc(), self.path.as_str())?;
         path.push('/')?;
         path.push_str(name.text().as_str())?;
@@ -114,7 +117,8 @@ impl<R: Files + AllocGlobal + Clone + Drop> DirStore<R> {
 
 /// Puts the name that the text is into the list, unless it is foreign.
 fn keep_name(names: &mut Vec<FileName>, text: &str) -> io::Result<()>
-    ensures { OnOk result (All IsName names.old.items → All IsName names.new.items) }
+    ensures real { OnOk result (All IsName names.old.items → All IsName names.new.items) }
+    ensures taken { OnOk result (MayTake text.now names.old.items names.new.items) }
 {
     match FileName::parse(text) {
         Some(name) => {
