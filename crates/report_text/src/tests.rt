@@ -14,8 +14,9 @@ const MAILS: &str =
 fn rows_of(alloc: Global, script: &str) -> Result<Vec<Row>, Fail> {
     let read = read_script(alloc, script.as_bytes()).ok().ok_or("memory")?;
     let mut rows = Vec::new(alloc);
-    for line in read.lines.into_vec() {
-        if let Act::Do(Operation::Add(doc)) = line.act {
+    for line in read.lines.as_slice() {
+        if let Act::Do(Operation::Add(doc)) = &line.act {
+            let doc = doc.clone_in(alloc).ok().ok_or("memory")?;
             rows.push(Row { birth: 1, doc })?;
         }
     }
