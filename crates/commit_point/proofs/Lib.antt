@@ -12,7 +12,6 @@ pub mod Births
 pub mod Segments
 pub mod CommitNumbers
 pub mod Loading
-pub mod OnlyReading
 pub mod Opening
 pub mod Telling
 pub mod ReadingLaws

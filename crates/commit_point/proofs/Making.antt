@@ -10,15 +10,15 @@ use Rattle.ix_base.specs.declared.document.Row.{Row}
 use Rattle.ix_outside.specs.Files.{Files, Changes, SameBut, then}
 use Rattle.ix_outside.specs.Images.{IsDurable, Follows}
 use Rattle.ix_outside.specs.Calls.{LeavesOnly}
+use Rattle.ix_outside.specs.CallLaws.{leaves_then}
 use Rattle.ix_outside.specs.declared.store.StoreFault.TheVariants.{NoMemory}
 use Rattle.commit_point.specs.declared.fault.CommitRefused.{CommitRefused}
 use Rattle.commit_point.specs.declared.heads.Head.{Head}
 use Rattle.commit_point.specs.Fits.{BirthsRise, DocumentFits}
 use Rattle.commit_point.specs.Holds.{Holds}
-use Rattle.commit_point.specs.Putting.{Reaches, PutsRows, PutsCommit, MayPutCommit, head_of}
+use Rattle.commit_point.specs.Putting.{Reaches, PutsRows, PutsCommit, MayPutCommit, SameButCommit, head_of}
 use Rattle.commit_point.specs.Spelling.{rows_file, commit_file}
 use Rattle.commit_point.specs.Writing.{Commits, MayCommit, next_after}
-use Rattle.commit_point.proofs.Crashes.{leaves_then}
 
 -- rows that may be written as a commit
 pub record AreNew (s id : ℕ) (rows : List Row) : Type 0 where
@@ -127,6 +127,35 @@ crash_of moment left_since images told a b c s id rows head files head-is is new
     first after
     (λ x p. (p.0, p.1, record { elsewhere = λ name other pending commit. p.2 name other; whole = inl (p.2 (Commit s) (λ e. cc)) }))
     (λ x q. let p = follows q.0 q.1 in (p.0, p.1, may_commit s id rows p.0 q.0 x new p.2 (λ some. stands some q.0 q.1) q.2))
+
+-- the commit file that was written stands in each image
+commit_stands : (s : ℕ) (bytes : List ℕ) (b c : Option Files) (images : Files → Type 0) → IsSome b → Changes (PutsCommit s bytes) b c → IsDurable (Commit s) images c
+    → (x : Files) → images x → x (Commit s) ≡ Some bytes
+commit_stands s bytes None c images some puts durable x image = absurd cc
+commit_stands s bytes (Some mid) None images some puts durable x image = absurd puts
+commit_stands s bytes (Some mid) (Some new) images some puts durable x image = durable x image ∙ puts.there
+
+-- the rows were written, and then the commit file, and both stand on the disk
+pub acknowledged_of : (s id : ℕ) (rows : List Row) (head : Head) (files : Files) (a b c : Option Files) (before mid after : Files → Type 0)
+    → head ≡ head_of s id rows → a ≡ Some files → AreNew s id rows → Changes (PutsRows id rows) a b → (1 ≤ length rows → IsDurable (Rows id) mid b) → Follows (SameBut (Rows id)) before mid
+    → Changes (PutsCommit head.number (commit_file head)) b c → IsDurable (Commit head.number) after c → Follows (SameButCommit head.number) mid after
+    → Follows (Commits s id rows) before after
+acknowledged_of s id rows head files a b c before mid after head-is is new puts durable first commits stays second x image =
+    let from_told : Changes (PutsRows id rows) (Some files) b = subst (λ (o : Option Files). Changes (PutsRows id rows) o b) is puts in
+    let stands : Stands id rows mid = told_stands id rows files b mid from_told durable in
+    let commit : x (Commit s) ≡ Some (commit_file (head_of s id rows)) =
+    subst (λ (h : Head). x (Commit h.number) ≡ Some (commit_file h)) head-is (commit_stands head.number (commit_file head) b c after (goes_on_telling (PutsRows id rows) files b from_told) commits stays x image) in
+    let step = subst (λ (h : Head). Follows (SameButCommit h.number) mid after) head-is second in
+    let q = step x image in
+    let p = first q.0 q.1 in
+    (
+      p.0,
+      p.1,
+      record {
+        holds = holds_new s id rows x new commit (λ some. q.2 (Rows id) (other_than_pending s id) (other_than_rows s id) ∙ stands some q.0 q.1);
+        elsewhere = λ name y z w. q.2 name z w ∙ p.2 name y;
+      },
+    )
 
 -- what want of memory says of the commit file
 abbrev TellsRenamed : ℕ → Option Files → Option Files → CommitRefused → Type 0

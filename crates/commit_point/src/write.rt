@@ -109,7 +109,10 @@ pub fn write_commit<S: Store>(
     ensures ok { OnOk result (next_id < 2 ^ 62 → Changes (Commits number next_id rows.now) (S.files store.old) (S.files store.new)) }
     ensures err { OnErr result (Changes (SameElsewhere number next_id) (S.files store.old) (S.files store.new)) }
 
-    // Once it is acknowledged, each crash leaves the commit's files as reads give them.
+    // Once it is acknowledged, what a crash leaves is what one before the call might have left, with this commit whole.
+    ensures acknowledged { (files : Files) → S.files store.old ≡ Some files → next_id < 2 ^ 62
+        → OnOk result (Follows (Commits number next_id rows.now) (S.images store.old) (S.images store.new)) }
+    // Its files stand as reads give them.
     ensures durable { OnOk result (IsDurable (Commit number) (S.images store.new) (S.files store.new)) }
     ensures durable_rows { OnOk result (1 ≤ length rows.now → IsDurable (Rows next_id) (S.images store.new) (S.files store.new)) }
 

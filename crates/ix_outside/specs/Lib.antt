@@ -4,6 +4,7 @@ pub mod History
 pub mod HistoryLaws
 pub mod Images
 pub mod Calls
+pub mod CallLaws
 pub mod Left
 pub mod Names
 pub mod Records

@@ -4,7 +4,7 @@ use Rattle.std.specs.Ordering.{nat_cmp}
 use Rattle.std.proofs.lemmas.Result.{err_from_is_err_and}
 use Rattle.commit_point.specs.declared.heads.HeadSegment.{HeadSegment}
 use Rattle.commit_point.proofs.Loading.{one_more_seen, breaks_seen, all_read}
-use Rattle.commit_point.proofs.OnlyReading.{reads_then}
+use Rattle.ix_outside.specs.CallLaws.{reads_then}
 use Rattle.commit_point.proofs.load.read_segments.Goals as goal
 
 pub returns-in_err-part-clause-damaged : goal.returns-in_err-part-clause-damaged

@@ -3,7 +3,8 @@ use Rattle.ix_base.specs.declared.file_name.FileName.TheVariants.{Commit, Pendin
 use Rattle.ix_outside.specs.Files.{Files}
 use Rattle.ix_outside.specs.Images.{MayHaveRenamed}
 use Rattle.commit_point.specs.Putting.{Reaches}
-use Rattle.commit_point.proofs.Crashes.{leaves_one, leaves_then, follows_of}
+use Rattle.ix_outside.specs.CallLaws.{leaves_one, leaves_then}
+use Rattle.commit_point.proofs.Crashes.{follows_of}
 use Rattle.commit_point.proofs.put.publish.Goals as goal
 
 pub returns-in-Err-clause-crash : goal.returns-in-Err-clause-crash

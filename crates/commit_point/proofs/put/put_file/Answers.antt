@@ -1,6 +1,7 @@
 use Rattle.ix_outside.specs.Files.{SameBut}
 use Rattle.commit_point.specs.Putting.{Reaches}
-use Rattle.commit_point.proofs.Crashes.{leaves_one, leaves_then, follows_of, follows_twice, same_but_still, same_but_twice}
+use Rattle.ix_outside.specs.CallLaws.{leaves_one, leaves_then}
+use Rattle.commit_point.proofs.Crashes.{follows_of, follows_twice, same_but_still, same_but_twice}
 use Rattle.commit_point.proofs.put.put_file.Goals as goal
 
 pub returns-in_err-write-clause-crash : goal.returns-in_err-write-clause-crash

@@ -1,5 +1,5 @@
 use Rattle.std.proofs.Common.{arith}
-use Rattle.commit_point.proofs.Making.{commits_both, crash_of, tells_renamed}
+use Rattle.commit_point.proofs.Making.{commits_both, crash_of, acknowledged_of, tells_renamed}
 use Rattle.commit_point.proofs.write.write_commit.Goals as goal
 
 pub returns-in-Ok-put_rows_file-clause-ok : goal.returns-in-Ok-put_rows_file-clause-ok
@@ -7,6 +7,13 @@ returns-in-Ok-put_rows_file-clause-ok g c room =
     commits_both c.args.number c.args.next_id c.args.rows.now c.in-Ok.head _ _ _ c.in-Ok.ensures
     (record { number = c.requires.some; fits = omega arith; some_id = c.requires.some_id; room = room; count = omega arith; births = c.requires.births; documents = c.in-Ok-put_rows_file.ensures.fits })
     c.in-Ok-put_rows_file.ensures.ok c.in_ok-write_head-in-Ok-put_rows_file.ensures.ok
+
+pub returns-in-Ok-put_rows_file-clause-acknowledged : goal.returns-in-Ok-put_rows_file-clause-acknowledged
+returns-in-Ok-put_rows_file-clause-acknowledged g c files told room =
+    acknowledged_of c.args.number c.args.next_id c.args.rows.now c.in-Ok.head files _ _ _ _ _ _ c.in-Ok.ensures told
+    (record { number = c.requires.some; fits = omega arith; some_id = c.requires.some_id; room = room; count = omega arith; births = c.requires.births; documents = c.in-Ok-put_rows_file.ensures.fits })
+    c.in-Ok-put_rows_file.ensures.ok c.in-Ok-put_rows_file.ensures.durable c.put_rows_file.ensures.images c.in_ok-write_head-in-Ok-put_rows_file.ensures.ok
+    c.in_ok-write_head-in-Ok-put_rows_file.ensures.durable c.write_head.ensures.images
 
 pub returns-in-Ok-put_rows_file-clause-crash : goal.returns-in-Ok-put_rows_file-clause-crash
 returns-in-Ok-put_rows_file-clause-crash g c files told room =
