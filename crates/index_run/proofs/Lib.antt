@@ -16,3 +16,5 @@ pub mod Beginnings
 pub mod Inputs
 pub mod Searchable
 pub mod Finish
+pub mod Changed
+pub mod NumbersRise

@@ -11,3 +11,5 @@ pub mod Searching
 pub mod Assembling
 pub mod Beginning
 pub mod Script
+pub mod Refusing
+pub mod Verdicts

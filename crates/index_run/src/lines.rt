@@ -1,6 +1,5 @@
 //! The lines of a script, done in its order.
-ghost use Rattle.std.specs.Prelude.{◌≡◌, ◌<◌, ◌≤◌, ◌+◌, ◌^◌, ℕ, List, [], length, true, OnOk, OnErr, IfOk, Err, Some, option_map, slice_index, replicate};
-ghost use Rattle.ix_base.specs.Refusals.{refusal, long_term};
+ghost use Rattle.std.specs.Prelude.{◌≡◌, ◌<◌, ◌≤◌, ◌+◌, ◌^◌, ℕ, List, [], length, true, OnOk, OnErr, IfOk, Err, Some, slice_index, replicate};
 ghost use Rattle.ix_base.specs.declared.document.Row.{Row};
 ghost use Rattle.ix_outside.specs.Causes.{Rose};
 ghost use Rattle.ix_outside.specs.Files.{Files, Changes};
@@ -14,23 +13,12 @@ ghost use Rattle.index_run.specs.Headline.{HasCommits, Starts};
 ghost use Rattle.index_run.specs.Writer.{CanGoOn};
 
 use crate::outcome::{Answer, Outcome};
+use crate::refusal::refusal_of;
 use crate::writer::Writer;
-use ix_base::{List, NoMemory, Operation};
+use ix_base::{List, Operation};
 use ix_outside::{Gate, Store, StoreFault};
 use op_script::{Act, Line};
 use std::alloc::Global;
-
-/// The size of the first term of an operation's document that is too long, if there is one.
-fn refused_size(alloc: Global, operation: &Operation) -> Result<Option<u64>, NoMemory>
-    requires { is_read_operation operation.now ≡ true }
-    ensures { IfOk result (λ size. refusal operation.now ≡ option_map long_term size) }
-{
-    if let Operation::Add(doc) = operation {
-        analysis::long_term(alloc, doc)
-    } else {
-        Ok(None)
-    }
-}
 
 /// Does an operation under the next number, unless it is refused, and tells the gate.
 fn do_operation<S: Store, G: Gate>(
@@ -51,11 +39,11 @@ fn do_operation<S: Store, G: Gate>(
     ensures failed { result ≡ Err StoreFault.Failed → Rose (S.fault_count store.old) (S.fault_count store.new) }
 {
     gate.before(line);
-    if let Some(size) = refused_size(alloc, &operation)? {
-        return Ok(Answer::RefusedTerm(size));
+    if let Some(refusal) = refusal_of(alloc, &operation)? {
+        return Ok(refusal.answer());
     }
     let commits = matches!(&operation, Operation::Commit);
-    writer.apply(operation)?;
+    writer.apply(alloc, operation)?;
     gate.told(line, writer.number);
     if commits {
         let docs = writer.commit(alloc, store)?;

@@ -11,12 +11,15 @@ use std::{env, io};
 mod begin;
 mod call;
 mod doing;
+mod effect;
 mod fault;
 mod input;
 mod lines;
+mod numbers;
 mod outcome;
 mod output;
 mod reading;
+mod refusal;
 mod report;
 mod run;
 mod searches;
@@ -24,7 +27,10 @@ mod stop;
 mod tell;
 #[cfg(test)]
 mod tests;
+#[cfg(test)]
+mod tests_operations;
 mod texts;
+mod verdicts;
 mod words;
 mod writer;
 

@@ -1,0 +1,37 @@
+-- What verdicts on rows leave, in the words of the operations' definition.
+use Rattle.std.proofs.Common.{◌≡◌, ℕ, ℤ, List, [], ◌∷◌, ◌++◌, Bool, true, false, cond, not, map, refl, ap, if◌then◌else◌}
+use Rattle.std.specs.List.{filter}
+use Rattle.ix_base.specs.Matches.{matches}
+use Rattle.ix_base.specs.Steps.{with_value}
+use Rattle.ix_base.specs.Tree.{Tree}
+use Rattle.ix_base.specs.declared.document.Row.{Row}
+use Rattle.index_run.specs.Verdicts.{changed, verdict_by, in_place_of, rows_left, rows_changed}
+use Rattle.index_run.specs.declared.verdicts.Change.{Change}
+use Rattle.index_run.specs.declared.verdicts.Change.TheVariants.{Remove, SetNumber}
+use Rattle.index_run.specs.declared.verdicts.Verdict.{Verdict}
+use Rattle.index_run.specs.declared.verdicts.Verdict.TheVariants.{Kept, Removed}
+
+-- a verdict on each row leaves what the change leaves
+pub left_changed : (query : Tree) (change : Change) (rows : List Row) → rows_left rows (map (verdict_by query change) rows) ≡ rows_changed query change rows
+left_changed query change [] = refl
+left_changed query change (row ∷ rows) = ap (λ (rest : List Row). in_place_of row (verdict_by query change row) ++ rest) (left_changed query change rows)
+
+-- a removal keeps the rows that don't match
+pub rows_removed : (query : Tree) (rows : List Row) → rows_changed query Remove rows ≡ filter (λ row. not (matches query row.doc)) rows
+rows_removed query [] = refl
+rows_removed query (row ∷ rows) = by_test (matches query row.doc) _ _ (rows_removed query rows)
+  where
+    by_test : (b : Bool) (rest kept : List Row) → rest ≡ kept → in_place_of row (if b then Removed else Kept) ++ rest ≡ cond (not b) (row ∷ kept) kept
+    by_test true rest kept e = e
+    by_test false rest kept e = ap (λ (rs : List Row). row ∷ rs) e
+
+-- setting a number changes the rows that match, and no other
+pub rows_set : (query : Tree) (name : List ℕ) (value : ℤ) (rows : List Row)
+    → rows_changed query (SetNumber name value) rows ≡ map (λ row. if matches query row.doc then with_value name value row else row) rows
+rows_set query name value [] = refl
+rows_set query name value (row ∷ rows) = by_test (matches query row.doc) _ _ (rows_set query name value rows)
+  where
+    by_test : (b : Bool) (rest set : List Row) → rest ≡ set
+        → in_place_of row (if b then changed (SetNumber name value) row else Kept) ++ rest ≡ (if b then with_value name value row else row) ∷ set
+    by_test true rest set e = ap (λ (rs : List Row). with_value name value row ∷ rs) e
+    by_test false rest set e = ap (λ (rs : List Row). row ∷ rs) e
