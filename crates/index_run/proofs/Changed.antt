@@ -1,10 +1,18 @@
 -- What verdicts on rows leave, in the words of the operations' definition.
-use Rattle.std.proofs.Common.{◌≡◌, ℕ, ℤ, List, [], ◌∷◌, ◌++◌, Bool, true, false, cond, not, map, refl, ap, if◌then◌else◌}
+use Rattle.std.proofs.Common.{◌≡◌, ℕ, ℤ, List, [], ◌∷◌, ◌++◌, Bool, true, false, cond, not, map, refl, ap, ◌∙◌, append-nil, if◌then◌else◌}
 use Rattle.std.specs.List.{filter}
+use Rattle.std.specs.Option.{option_to_list}
+use Rattle.std.specs.Prelude.{Some, None}
 use Rattle.ix_base.specs.Matches.{matches}
-use Rattle.ix_base.specs.Steps.{with_value}
+use Rattle.ix_base.specs.Query.{tree_of}
+use Rattle.ix_base.specs.Steps.{step, with_value}
 use Rattle.ix_base.specs.Tree.{Tree}
+use Rattle.ix_base.specs.declared.document.Document.{Document}
 use Rattle.ix_base.specs.declared.document.Row.{Row}
+use Rattle.ix_base.specs.declared.document.Term.{Term}
+use Rattle.ix_base.specs.declared.document.Operation.TheVariants as operation
+use Rattle.ix_base.specs.declared.query.Query.{Query}
+use Rattle.ix_base.specs.declared.query.Query.TheVariants as q_of
 use Rattle.index_run.specs.Verdicts.{changed, verdict_by, in_place_of, rows_left, rows_changed}
 use Rattle.index_run.specs.declared.verdicts.Change.{Change}
 use Rattle.index_run.specs.declared.verdicts.Change.TheVariants.{Remove, SetNumber}
@@ -35,3 +43,19 @@ rows_set query name value (row ∷ rows) = by_test (matches query row.doc) _ _ (
         → in_place_of row (if b then changed (SetNumber name value) row else Kept) ++ rest ≡ (if b then with_value name value row else row) ∷ set
     by_test true rest set e = ap (λ (rs : List Row). with_value name value row ∷ rs) e
     by_test false rest set e = ap (λ (rs : List Row). row ∷ rs) e
+
+-- ---- each operation, by the change that is made for it
+
+pub updated : (rows : List Row) (n : ℕ) (t : Term) (doc : Document)
+    → rows_changed (tree_of (q_of.Term t)) Remove rows ++ option_to_list {X = Row} (Some (record { birth = n; doc = doc })) ≡ step rows n (operation.Update t doc)
+updated rows n t doc = ap (λ (rs : List Row). rs ++ record { birth = n; doc = doc } ∷ []) (rows_removed (tree_of (q_of.Term t)) rows)
+
+pub deleted : (rows : List Row) (n : ℕ) (t : Term) → rows_changed (tree_of (q_of.Term t)) Remove rows ++ option_to_list {X = Row} None ≡ step rows n (operation.DeleteTerm t)
+deleted rows n t = append-nil _ ∙ rows_removed (tree_of (q_of.Term t)) rows
+
+pub deleted_by : (rows : List Row) (n : ℕ) (q : Query) → rows_changed (tree_of q) Remove rows ++ option_to_list {X = Row} None ≡ step rows n (operation.DeleteQuery q)
+deleted_by rows n q = append-nil _ ∙ rows_removed (tree_of q) rows
+
+pub number_set : (rows : List Row) (n : ℕ) (t : Term) (name : List ℕ) (value : ℤ)
+    → rows_changed (tree_of (q_of.Term t)) (SetNumber name value) rows ++ option_to_list {X = Row} None ≡ step rows n (operation.SetNumber t name value)
+number_set rows n t name value = append-nil _ ∙ rows_set (tree_of (q_of.Term t)) name value rows

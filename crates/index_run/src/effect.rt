@@ -1,5 +1,6 @@
 //! What an operation does to the rows.
-ghost use Rattle.std.specs.Prelude.{◌≡◌, ◌++◌, OnOk, OnErr, option_to_list};
+ghost use Rattle.std.specs.Prelude.{◌≡◌, ◌<◌, ◌++◌, OnOk, OnErr, option_to_list};
+ghost use Rattle.std.specs.Vec.{vec_len, vec_capacity};
 ghost use Rattle.ix_base.specs.Query.{tree_of};
 ghost use Rattle.ix_base.specs.Steps.{step};
 ghost use Rattle.index_run.specs.Verdicts.{rows_changed};
@@ -58,10 +59,19 @@ fn change_rows(
     let verdicts = verdicts_on(alloc, query, change, rows.as_slice())?;
     let room = Vec::with_capacity(alloc, rows.as_slice().len() + 1)?;
     let before = mem::replace(rows, List::new(alloc));
-    let mut left = rows_left(before.into_vec(), verdicts, room);
-    if let Some(row) = added {
-        left.push_reserved(row);
-    }
-    *rows = List::from_vec(left);
+    let left = rows_left(before.into_vec(), verdicts, room);
+    *rows = List::from_vec(with_added(left, added));
     Ok(())
+}
+
+/// The rows, and after them the added one.
+fn with_added(rows: Vec<Row>, added: Option<Row>) -> Vec<Row>
+    requires { vec_len rows < vec_capacity rows }
+    ensures { result.items ≡ rows.items ++ option_to_list added }
+{
+    let mut rows = rows;
+    if let Some(row) = added {
+        rows.push_reserved(row);
+    }
+    rows
 }
