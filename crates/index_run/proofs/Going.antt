@@ -1,12 +1,15 @@
 -- A writer can go on after each line.
-use Rattle.std.proofs.Common.{◌≡◌, ℕ, ◌+◌, ◌≤◌, true, List, [], ◌∷◌, ◌++◌, arith}
+use Rattle.std.proofs.Common.{◌≡◌, ℕ, ℤ, ◌+◌, ◌≤◌, Bool, true, false, cond, if◌then◌else◌, List, [], ◌∷◌, ◌++◌, map, refl, sym, subst, arith}
 use Rattle.std.specs.Prelude.{All}
-use Rattle.std.proofs.lemmas.List.Elements.{All-push}
+use Rattle.std.specs.List.{filter}
+use Rattle.std.proofs.lemmas.List.Elements.{All-push, All-filter, All-map, All-weaker}
+use Rattle.ix_base.specs.Matches.{holds_term}
+use Rattle.ix_base.specs.declared.document.Term.{Term}
 use Rattle.ix_base.specs.declared.document.Document.{Document}
 use Rattle.ix_base.specs.declared.document.Operation.{Operation}
 use Rattle.ix_base.specs.declared.document.Operation.TheVariants.{Add, Update, DeleteTerm, DeleteQuery, SetNumber, Commit}
 use Rattle.ix_base.specs.declared.document.Row.{Row}
-use Rattle.ix_base.specs.Steps.{step}
+use Rattle.ix_base.specs.Steps.{step, without, with_value}
 use Rattle.commit_point.specs.Fits.{BirthsRise}
 use Rattle.op_script.specs.Shape.{is_read_operation, is_apart}
 use Rattle.index_run.specs.declared.writer.Writer.{Writer}
@@ -20,20 +23,60 @@ births-push : (low limit : ℕ) (rows : List Row) (doc : Document) → low ≤ l
 births-push low limit [] doc le h = (le, omega arith, tt)
 births-push low limit (r ∷ rows) doc le h = (h.0, omega (arith, h.1), births-push (r.birth + 1) limit rows doc (omega (arith, h.1)) h.2)
 
-pub births-step : (last : ℕ) (rows : List Row) (op : Operation) → is_read_operation op ≡ true → BirthsRise 1 last rows → BirthsRise 1 (last + 1) (step rows (last + 1) op)
-births-step last rows (Add doc) e h = births-push 1 last rows doc (omega arith) h
-births-step last rows (Update t doc) e h = absurd cc
-births-step last rows (DeleteTerm t) e h = absurd cc
-births-step last rows (DeleteQuery q) e h = absurd cc
-births-step last rows (SetNumber t n v) e h = absurd cc
-births-step last rows Commit e h = births-widen 1 last (last + 1) rows (omega arith) h
+births-lower : (low low' limit : ℕ) (rows : List Row) → low ≤ low' → BirthsRise low' limit rows → BirthsRise low limit rows
+births-lower low low' limit [] le h = tt
+births-lower low low' limit (r ∷ rows) le h = (omega (arith, h.0), h.1, h.2)
+
+births-filter : (keeps : Row → Bool) (low limit : ℕ) (rows : List Row) → BirthsRise low limit rows → BirthsRise low limit (filter keeps rows)
+births-filter keeps low limit [] h = tt
+births-filter keeps low limit (r ∷ rows) h = by_test (keeps r) (births-filter keeps (r.birth + 1) limit rows h.2)
+  where
+    by_test : (b : Bool) → BirthsRise (r.birth + 1) limit (filter keeps rows) → BirthsRise low limit (cond b (r ∷ filter keeps rows) (filter keeps rows))
+    by_test true rest = (h.0, h.1, rest)
+    by_test false rest = births-lower low (r.birth + 1) limit (filter keeps rows) (omega (arith, h.0)) rest
+
+births-same : (f : Row → Row) → ((row : Row) → (f row).birth ≡ row.birth) → (low limit : ℕ) (rows : List Row) → BirthsRise low limit rows → BirthsRise low limit (map f rows)
+births-same f same low limit [] h = tt
+births-same f same low limit (r ∷ rows) h = (
+  omega (arith, h.0, same r),
+  omega (arith, h.1, same r),
+  subst (λ (n : ℕ). BirthsRise (n + 1) limit (map f rows)) (sym (same r)) (births-same f same (r.birth + 1) limit rows h.2),
+)
+
+-- a row whose number may be set
+abbrev set_by : Term → List ℕ → ℤ → Row → Row
+set_by term name value row = if holds_term term.field term.bytes row.doc then with_value name value row else row
+
+set-birth : (term : Term) (name : List ℕ) (value : ℤ) (row : Row) → (set_by term name value row).birth ≡ row.birth
+set-birth term name value row = by_test (holds_term term.field term.bytes row.doc)
+  where
+    by_test : (b : Bool) → (if b then with_value name value row else row).birth ≡ row.birth
+    by_test true = refl
+    by_test false = refl
+
+set-apart : (term : Term) (name : List ℕ) (value : ℤ) (row : Row) → is_apart row.doc ≡ true → is_apart (set_by term name value row).doc ≡ true
+set-apart term name value row is = by_test (holds_term term.field term.bytes row.doc)
+  where
+    by_test : (b : Bool) → is_apart (if b then with_value name value row else row).doc ≡ true
+    by_test true = is
+    by_test false = is
+
+pub births-step : (last : ℕ) (rows : List Row) (op : Operation) → BirthsRise 1 last rows → BirthsRise 1 (last + 1) (step rows (last + 1) op)
+births-step last rows (Add doc) h = births-push 1 last rows doc (omega arith) h
+births-step last rows (Update t doc) h = births-push 1 last (without t rows) doc (omega arith) (births-filter _ 1 last rows h)
+births-step last rows (DeleteTerm t) h = births-widen 1 last (last + 1) (without t rows) (omega arith) (births-filter _ 1 last rows h)
+births-step last rows (DeleteQuery q) h = births-widen 1 last (last + 1) (step rows (last + 1) (DeleteQuery q)) (omega arith) (births-filter _ 1 last rows h)
+births-step last rows (SetNumber t n v) h = births-widen 1 last (last + 1) (step rows (last + 1) (SetNumber t n v)) (omega arith) (births-same (set_by t n v) (set-birth t n v) 1 last rows h)
+births-step last rows Commit h = births-widen 1 last (last + 1) rows (omega arith) h
 
 pub apart-step : (rows : List Row) (n : ℕ) (op : Operation) → is_read_operation op ≡ true → All (λ row. is_apart row.doc ≡ true) rows → All (λ row. is_apart row.doc ≡ true) (step rows n op)
 apart-step rows n (Add doc) e h = All-push (λ (row : Row). is_apart row.doc ≡ true) rows (record { birth = n; doc = doc }) h e
-apart-step rows n (Update t doc) e h = absurd cc
-apart-step rows n (DeleteTerm t) e h = absurd cc
-apart-step rows n (DeleteQuery q) e h = absurd cc
-apart-step rows n (SetNumber t m v) e h = absurd cc
+apart-step rows n (Update t doc) e h = All-push (λ (row : Row). is_apart row.doc ≡ true) (without t rows) (record { birth = n; doc = doc }) (All-filter (λ (row : Row). is_apart row.doc ≡ true) _ rows h) e
+apart-step rows n (DeleteTerm t) e h = All-filter (λ (row : Row). is_apart row.doc ≡ true) _ rows h
+apart-step rows n (DeleteQuery q) e h = All-filter (λ (row : Row). is_apart row.doc ≡ true) _ rows h
+apart-step rows n (SetNumber t m v) e h =
+    All-map (λ (row : Row). is_apart row.doc ≡ true) (set_by t m v) rows
+    (All-weaker (λ (row : Row). is_apart row.doc ≡ true) (λ (row : Row). is_apart (set_by t m v row).doc ≡ true) (set-apart t m v) rows h)
 apart-step rows n Commit e h = h
 
 pub can_commit : (w : Writer) (op : Operation) → is_read_operation op ≡ true → CanGoOn w → CanCommit (record { rows = step w.rows (w.number + 1) op; number = w.number + 1; next_id = w.next_id })
@@ -41,6 +84,6 @@ can_commit w op e can = record {
   some = omega arith;
   some_id = can.some_id;
   room = can.room;
-  births = births-step w.number w.rows op e can.births;
+  births = births-step w.number w.rows op can.births;
   apart = apart-step w.rows (w.number + 1) op e can.apart;
 }

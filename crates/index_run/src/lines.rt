@@ -1,6 +1,5 @@
 //! The lines of a script, done in its order.
-ghost use Rattle.std.specs.Prelude.{◌≡◌, ◌<◌, ◌≤◌, ◌+◌, ◌^◌, ℕ, List, [], length, true, OnOk, OnErr, IfOk, Err, Some, option_map, slice_index, replicate};
-ghost use Rattle.ix_base.specs.Refusals.{refusal, long_term};
+ghost use Rattle.std.specs.Prelude.{◌≡◌, ◌<◌, ◌≤◌, ◌+◌, ◌^◌, ℕ, List, [], length, true, OnOk, OnErr, IfOk, Err, Some, slice_index, replicate};
 ghost use Rattle.ix_base.specs.declared.document.Row.{Row};
 ghost use Rattle.ix_outside.specs.Causes.{Rose};
 ghost use Rattle.ix_outside.specs.Calls.{LeavesOnly};
@@ -10,29 +9,30 @@ ghost use Rattle.commit_point.specs.Putting.{Reaches};
 ghost use Rattle.commit_point.specs.Writing.{SameElsewhere};
 ghost use Rattle.commit_point.specs.Holds.{KeepsCommits};
 ghost use Rattle.op_script.specs.Shape.{is_read_act, is_read_operation, AreScriptLines};
+ghost use Rattle.row_changes.specs.Refusing.{refusal_as};
+ghost use Rattle.run_report.specs.declared.outcome.Answer.{Answer};
 ghost use Rattle.index_run.specs.Crashes.{HasAll, HasFront};
 ghost use Rattle.index_run.specs.Doing.{writer_after, answer_by, lasts_after, FilesAfter, ImageAfter, MayLeave};
 ghost use Rattle.index_run.specs.Numbering.{numbered, commit_numbers};
-ghost use Rattle.index_run.specs.Outcomes.{outcomes_from};
+ghost use Rattle.index_run.specs.Outcomes.{outcomes_from, told_answer};
 ghost use Rattle.index_run.specs.Headline.{HasCommits, Starts};
 ghost use Rattle.index_run.specs.Writer.{CanGoOn};
 
-use run_report::{Answer, Outcome};
 use crate::writer::Writer;
-use ix_base::{List, NoMemory, Operation};
+use ix_base::{List, Operation};
 use ix_outside::{Gate, Store, StoreFault};
 use op_script::{Act, Line};
+use row_changes::{Refusal, refusal_of};
+use run_report::{Answer, Outcome};
 use std::alloc::Global;
 
-/// The size of the first term of an operation's document that is too long, if there is one.
-fn refused_size(alloc: Global, operation: &Operation) -> Result<Option<u64>, NoMemory>
-    requires { is_read_operation operation.now ≡ true }
-    ensures { IfOk result (λ size. refusal operation.now ≡ option_map long_term size) }
+/// What becomes of a line that is refused so.
+fn refused(refusal: Refusal) -> Answer
+    ensures { (other : Answer) → result ≡ told_answer (Some (refusal_as refusal)) other }
 {
-    if let Operation::Add(doc) = operation {
-        analysis::long_term(alloc, doc)
-    } else {
-        Ok(None)
+    match refusal {
+        Refusal::Term(size) => Answer::RefusedTerm(size),
+        Refusal::Query(size) => Answer::RefusedQuery(size),
     }
 }
 
@@ -59,11 +59,11 @@ fn do_operation<S: Store, G: Gate>(
     ensures failed { result ≡ Err StoreFault.Failed → Rose (S.fault_count store.old) (S.fault_count store.new) }
 {
     gate.before(line);
-    if let Some(size) = refused_size(alloc, &operation)? {
-        return Ok(Answer::RefusedTerm(size));
+    if let Some(refusal) = refusal_of(alloc, &operation)? {
+        return Ok(refused(refusal));
     }
     let commits = matches!(&operation, Operation::Commit);
-    writer.apply(operation)?;
+    writer.apply(alloc, operation)?;
     gate.told(line, writer.number);
     if commits {
         let docs = writer.commit(alloc, store)?;

@@ -21,6 +21,8 @@ mod tell;
 mod tests;
 #[cfg(test)]
 mod tests_gate;
+#[cfg(test)]
+mod tests_operations;
 mod words;
 mod writer;
 

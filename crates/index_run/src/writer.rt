@@ -1,5 +1,5 @@
 //! The private writer: the rows as they stand, the last number and the next segment id.
-ghost use Rattle.std.specs.Prelude.{◌≡◌, ◌<◌, ◌≤◌, ◌+◌, ◌^◌, length, true, OnOk, OnErr, IfOk, Err, Some};
+ghost use Rattle.std.specs.Prelude.{◌≡◌, ◌<◌, ◌≤◌, ◌+◌, ◌^◌, length, OnOk, OnErr, IfOk, Err, Some};
 ghost use Rattle.ix_base.specs.Steps.{step};
 ghost use Rattle.ix_base.specs.declared.file_name.FileName.TheVariants.{Commit, Rows};
 ghost use Rattle.ix_outside.specs.Causes.{Rose};
@@ -8,12 +8,12 @@ ghost use Rattle.ix_outside.specs.Files.{Files, Changes};
 ghost use Rattle.ix_outside.specs.Images.{Follows};
 ghost use Rattle.commit_point.specs.Putting.{Reaches};
 ghost use Rattle.commit_point.specs.Writing.{Commits, MayCommit, SameElsewhere, next_after};
-ghost use Rattle.op_script.specs.Shape.{is_read_operation};
 ghost use Rattle.index_run.specs.Writer.{CanCommit};
 
 use commit_point::write_commit;
 use ix_base::{List, NoMemory, Operation, Row};
 use ix_outside::{Store, StoreFault};
+use row_changes::take_effect;
 use std::alloc::Global;
 
 /// The rows of an index as the lines so far leave them, the number of the last of these lines, and
@@ -27,16 +27,13 @@ pub struct Writer {
 
 impl Writer {
     /// Does the operation under the next number. After an error the writer is as before.
-    pub fn apply(&mut self, operation: Operation) -> Result<(), NoMemory>
-        requires known { is_read_operation operation ≡ true }
-        requires room { self.old.number < 2 ^ 62 }
+    pub fn apply(&mut self, alloc: Global, operation: Operation) -> Result<(), NoMemory>
+        requires { self.old.number < 2 ^ 62 }
         ensures ok { OnOk result (self.new ≡ record { rows = step self.old.rows (self.old.number + 1) operation; number = self.old.number + 1; next_id = self.old.next_id }) }
         ensures err { OnErr result (self.new ≡ self.old) }
     {
         let number = self.number + 1;
-        if let Operation::Add(doc) = operation {
-            self.rows.push(Row { birth: number, doc })?;
-        }
+        take_effect(alloc, &mut self.rows, number, operation)?;
         self.number = number;
         Ok(())
     }

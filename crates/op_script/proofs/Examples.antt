@@ -1,5 +1,5 @@
 -- Scripts that are written out.
-use Rattle.std.proofs.Common.{◌≡◌, [], ◌∷◌, codes, Ok, Err, refl}
+use Rattle.std.proofs.Common.{◌≡◌, negsuc, [], ◌∷◌, codes, Ok, Err, refl}
 use Rattle.std.specs.Str.{chars, is_utf8}
 use Rattle.std.specs.Char.{encode_utf8}
 use Rattle.serde_json.proofs.OnLiterals.{serde_json_on_literals}
@@ -17,6 +17,34 @@ one_add = refl
 one_commit : script (codes " {\"op\":\"commit\",\"c\":0}\r") ≡ Ok (record { line = 1; caller = 0; act = act.Do operation.Commit } ∷ [])
 unfolding script serde_json_on_literals is_utf8 chars encode_utf8
 one_commit = refl
+
+one_update : script (codes "{\"c\":7,\"op\":\"update\",\"field\":\"key\",\"term\":\"a1\",\"doc\":{\"key\":\"a2\"}}") ≡ Ok (record { line = 1; caller = 7; act = act.Do (operation.Update (record { field = codes "key"; bytes = codes "a1" }) (record { key = codes "a2"; text = []; exact = []; num = [] })) } ∷ [])
+unfolding script serde_json_on_literals is_utf8 chars encode_utf8
+one_update = refl
+
+one_delete : script (codes "{\"c\":7,\"op\":\"delete\",\"field\":\"key\",\"term\":\"a1\"}") ≡ Ok (record { line = 1; caller = 7; act = act.Do (operation.DeleteTerm (record { field = codes "key"; bytes = codes "a1" })) } ∷ [])
+unfolding script serde_json_on_literals is_utf8 chars encode_utf8
+one_delete = refl
+
+one_delete_query : script (codes "{\"c\":7,\"op\":\"delete_query\",\"query\":\"all\"}") ≡ Ok (record { line = 1; caller = 7; act = act.Do (operation.DeleteQuery query.All) } ∷ [])
+unfolding script serde_json_on_literals is_utf8 chars encode_utf8
+one_delete_query = refl
+
+one_set : script (codes "{\"c\":7,\"op\":\"set\",\"field\":\"key\",\"term\":\"a1\",\"num\":\"n\",\"value\":-5}") ≡ Ok (record { line = 1; caller = 7; act = act.Do (operation.SetNumber (record { field = codes "key"; bytes = codes "a1" }) (codes "n") (negsuc 4)) } ∷ [])
+unfolding script serde_json_on_literals is_utf8 chars encode_utf8
+one_set = refl
+
+number_name_before_term : script (codes "{\"c\":7,\"op\":\"set\",\"field\":\"key\",\"term\":1,\"num\":\"\",\"value\":\"\"}") ≡ Err (record { line = 1; why = why.Name })
+unfolding script serde_json_on_literals is_utf8 chars encode_utf8
+number_name_before_term = refl
+
+term_before_doc : script (codes "{\"c\":7,\"op\":\"update\",\"field\":\"key\",\"term\":1,\"doc\":{}}") ≡ Err (record { line = 1; why = why.Text })
+unfolding script serde_json_on_literals is_utf8 chars encode_utf8
+term_before_doc = refl
+
+value_is_whole : script (codes "{\"c\":7,\"op\":\"set\",\"field\":\"key\",\"term\":\"\",\"num\":\"n\",\"value\":1.0}") ≡ Err (record { line = 1; why = why.Number })
+unfolding script serde_json_on_literals is_utf8 chars encode_utf8
+value_is_whole = refl
 
 one_search : script (codes "{\"c\":255,\"op\":\"search\",\"query\":{\"term\":[\"key\",\"a1\"]}}") ≡ Ok (record { line = 1; caller = 255; act = act.Search (query.Term (record { field = codes "key"; bytes = codes "a1" })) } ∷ [])
 unfolding script serde_json_on_literals is_utf8 chars encode_utf8

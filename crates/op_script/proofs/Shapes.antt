@@ -7,17 +7,14 @@ use Rattle.std.proofs.lemmas.List.Sums.{count_by-le-length}
 use Rattle.serde_json.specs.Data.{Data, null, boolean, number, string, array, object, Members}
 use Rattle.serde_json.specs.Find.{get, as_number, as_u64}
 use Rattle.ix_base.specs.declared.document.Document.{Document}
-use Rattle.ix_base.specs.declared.document.Operation.TheVariants as operation
-use Rattle.ix_base.specs.declared.query.Query.{Query}
 use Rattle.op_script.specs.Values.{value_of, has_exactly, has_only, names_of, member_names}
 use Rattle.op_script.specs.Lines.{lines_of, is_blank}
 use Rattle.op_script.specs.Verbs.{members_of}
 use Rattle.op_script.specs.Documents.{document_of, document_from, document_names, are_apart, texts_at, texts_of, names_at, few_by, is_few}
-use Rattle.op_script.specs.Queries.{query_of}
-use Rattle.op_script.specs.Language.{byte_of, caller_of, verb_of, act_by, act_of, line_with, line_by, line_of, placed, request_of, line_at, and_then, lines_from, most_bytes}
+use Rattle.op_script.specs.Arguments.{text_at, name_at, number_at, query_at, document_at, given}
+use Rattle.op_script.specs.Language.{byte_of, caller_of, verb_of, act_of, line_with, line_by, line_of, placed, request_of, line_at, and_then, lines_from, most_bytes}
 use Rattle.op_script.specs.Shape.{is_apart, is_read_act, LinesRise, AreReadActs, AreScriptLines}
 use Rattle.op_script.specs.declared.script.Act.{Act}
-use Rattle.op_script.specs.declared.script.Act.TheVariants as act
 use Rattle.op_script.specs.declared.script.Line.{Line}
 use Rattle.op_script.specs.declared.script.BadLine.{BadLine}
 use Rattle.op_script.specs.declared.script.Why.{Why}
@@ -72,22 +69,38 @@ document_is_apart d doc is = doc_is_apart (has_only document_names d) (are_apart
 
 -- ---- acts
 
-add_is_read : (found : Option Data) (asked : Act) → act_by why.Doc (λ doc. act.Do (operation.Add doc)) (option_and_then document_of found) ≡ Ok asked → is_read_act asked ≡ true
-add_is_read None asked is = cc
-add_is_read (Some d) asked is = go (document_of d) refl is
-  where
-    go : (o : Option Document) → document_of d ≡ o → act_by why.Doc (λ doc. act.Do (operation.Add doc)) o ≡ Ok asked → is_read_act asked ≡ true
-    go None e is = cc
-    go (Some doc) e is = let same : act.Do (operation.Add doc) ≡ asked = cc in subst (λ asked. is_read_act asked ≡ true) same (document_is_apart d doc e)
+found_is_apart : (found : Option Data) (doc : Document) → option_and_then document_of found ≡ Some doc → is_apart doc ≡ true
+found_is_apart None doc is = cc
+found_is_apart (Some d) doc is = document_is_apart d doc is
 
-search_is_read : (found : Option Query) (asked : Act) → act_by why.Query act.Search found ≡ Ok asked → is_read_act asked ≡ true
-search_is_read None asked is = cc
-search_is_read (Some q) asked is = let same : act.Search q ≡ asked = cc in subst (λ asked. is_read_act asked ≡ true) same refl
+given_is_read : {X : Type 0} (reason : Why) (o : Option X) (f : X → Result Act Why) (asked : Act)
+    → ((x : X) → o ≡ Some x → f x ≡ Ok asked → is_read_act asked ≡ true) → given reason o f ≡ Ok asked → is_read_act asked ≡ true
+given_is_read reason None f asked good is = cc
+given_is_read reason (Some x) f asked good is = good x refl is
+
+done_is_read : (done asked : Act) → is_read_act done ≡ true → ◌≡◌ {A = Result Act Why} (Ok done) (Ok asked) → is_read_act asked ≡ true
+done_is_read done asked good is = let same : done ≡ asked = cc in subst (λ asked. is_read_act asked ≡ true) same good
 
 act_is_read : (v : Verb) (d : Data) (asked : Act) → act_of v d ≡ Ok asked → is_read_act asked ≡ true
-act_is_read verb.Add d asked is = add_is_read (get (codes "doc") d) asked is
-act_is_read verb.Commit d asked is = let same : act.Do operation.Commit ≡ asked = cc in subst (λ asked. is_read_act asked ≡ true) same refl
-act_is_read verb.Search d asked is = search_is_read (option_and_then query_of (get (codes "query") d)) asked is
+act_is_read verb.Add d asked is =
+    given_is_read why.Doc (document_at (codes "doc") d) _ asked (λ doc found made. done_is_read _ asked (found_is_apart (get (codes "doc") d) doc found) made) is
+act_is_read verb.Update d asked is =
+    given_is_read why.Name (name_at (codes "field") d) _ asked (λ field named.
+    given_is_read why.Text (text_at (codes "term") d) _ asked (λ bytes told.
+    given_is_read why.Doc (document_at (codes "doc") d) _ asked (λ doc found made. done_is_read _ asked (found_is_apart (get (codes "doc") d) doc found) made))) is
+act_is_read verb.Delete d asked is =
+    given_is_read why.Name (name_at (codes "field") d) _ asked (λ field named.
+    given_is_read why.Text (text_at (codes "term") d) _ asked (λ bytes told made. done_is_read _ asked refl made)) is
+act_is_read verb.DeleteQuery d asked is =
+    given_is_read why.Query (query_at (codes "query") d) _ asked (λ query found made. done_is_read _ asked refl made) is
+act_is_read verb.Set d asked is =
+    given_is_read why.Name (name_at (codes "field") d) _ asked (λ field named.
+    given_is_read why.Name (name_at (codes "num") d) _ asked (λ num called.
+    given_is_read why.Text (text_at (codes "term") d) _ asked (λ bytes told.
+    given_is_read why.Number (number_at (codes "value") d) _ asked (λ value found made. done_is_read _ asked refl made)))) is
+act_is_read verb.Commit d asked is = done_is_read _ asked refl is
+act_is_read verb.Search d asked is =
+    given_is_read why.Query (query_at (codes "query") d) _ asked (λ query found made. done_is_read _ asked refl made) is
 
 -- ---- lines
 

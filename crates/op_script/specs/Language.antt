@@ -7,8 +7,7 @@ use Rattle.ix_base.specs.declared.document.Operation.TheVariants as operation
 use Rattle.op_script.specs.Values.{value_of, has_exactly}
 use Rattle.op_script.specs.Lines.{lines_of, is_blank}
 use Rattle.op_script.specs.Verbs.{verb_named, members_of}
-use Rattle.op_script.specs.Documents.{document_of}
-use Rattle.op_script.specs.Queries.{query_of}
+use Rattle.op_script.specs.Arguments.{text_at, name_at, number_at, query_at, document_at, given}
 use Rattle.op_script.specs.declared.script.Act.{Act}
 use Rattle.op_script.specs.declared.script.Act.TheVariants as act
 use Rattle.op_script.specs.declared.script.Line.{Line}
@@ -28,16 +27,24 @@ caller_of d = option_and_then byte_of (option_and_then as_u64 (option_and_then a
 abbrev pub verb_of : Data → Option Verb
 verb_of d = option_and_then verb_named (option_and_then as_str (get (codes "op") d))
 
--- what f makes of the value, if that is anything
-abbrev pub act_by : {X : Type 0} → Why → (X → Act) → Option X → Result Act Why
-act_by missing f None = Err missing
-act_by missing f (Some x) = Ok (f x)
-
--- what the line asks for
+-- what the line asks for; its members are tested in this order, and the first that is wrong counts
 abbrev pub act_of : Verb → Data → Result Act Why
-act_of verb.Add d = act_by why.Doc (λ doc. act.Do (operation.Add doc)) (option_and_then document_of (get (codes "doc") d))
+act_of verb.Add d = given why.Doc (document_at (codes "doc") d) (λ doc. Ok (act.Do (operation.Add doc)))
+act_of verb.Update d =
+    given why.Name (name_at (codes "field") d) (λ field.
+    given why.Text (text_at (codes "term") d) (λ bytes.
+    given why.Doc (document_at (codes "doc") d) (λ doc. Ok (act.Do (operation.Update (record { field = field; bytes = bytes }) doc)))))
+act_of verb.Delete d =
+    given why.Name (name_at (codes "field") d) (λ field.
+    given why.Text (text_at (codes "term") d) (λ bytes. Ok (act.Do (operation.DeleteTerm (record { field = field; bytes = bytes })))))
+act_of verb.DeleteQuery d = given why.Query (query_at (codes "query") d) (λ query. Ok (act.Do (operation.DeleteQuery query)))
+act_of verb.Set d =
+    given why.Name (name_at (codes "field") d) (λ field.
+    given why.Name (name_at (codes "num") d) (λ num.
+    given why.Text (text_at (codes "term") d) (λ bytes.
+    given why.Number (number_at (codes "value") d) (λ value. Ok (act.Do (operation.SetNumber (record { field = field; bytes = bytes }) num value))))))
 act_of verb.Commit d = Ok (act.Do operation.Commit)
-act_of verb.Search d = act_by why.Query act.Search (option_and_then query_of (get (codes "query") d))
+act_of verb.Search d = given why.Query (query_at (codes "query") d) (λ query. Ok (act.Search query))
 
 abbrev pub line_with : ℕ → ℕ → Result Act Why → Result Line Why
 line_with at caller (Err reason) = Err reason

@@ -1,5 +1,5 @@
 -- What holds of every script that was read.
-use Rattle.std.specs.Prelude.{◌≡◌, ℕ, ◌+◌, ◌<◌, ◌≤◌, ◌^◌, List, [], ◌∷◌, Bool, true, false, length, map, ⊤}
+use Rattle.std.specs.Prelude.{◌≡◌, ℕ, ◌+◌, ◌<◌, ◌≤◌, ◌^◌, List, [], ◌∷◌, Bool, true, length, map, ⊤}
 use Rattle.ix_base.specs.Limits.{names_are_apart}
 use Rattle.ix_base.specs.declared.document.Document.{Document}
 use Rattle.ix_base.specs.declared.document.Operation.{Operation}
@@ -12,13 +12,13 @@ use Rattle.op_script.specs.declared.script.Act.TheVariants.{Do, Search}
 abbrev pub is_apart : Document → Bool
 is_apart doc = names_are_apart (map (λ pair. pair.0) doc.text) (map (λ pair. pair.0) doc.exact)
 
--- the operations of this language
+-- what holds of every operation that is read: of a document that it brings
 abbrev pub is_read_operation : Operation → Bool
 is_read_operation (Add doc) = is_apart doc
-is_read_operation (Update t doc) = false
-is_read_operation (DeleteTerm t) = false
-is_read_operation (DeleteQuery q) = false
-is_read_operation (SetNumber t n v) = false
+is_read_operation (Update t doc) = is_apart doc
+is_read_operation (DeleteTerm t) = true
+is_read_operation (DeleteQuery q) = true
+is_read_operation (SetNumber t n v) = true
 is_read_operation Commit = true
 
 abbrev pub is_read_act : Act → Bool
@@ -34,7 +34,7 @@ abbrev pub AreReadActs : List Line → Type 0
 AreReadActs [] = ⊤
 AreReadActs (l ∷ ls) = (is_read_act l.act ≡ true) × (l.caller < 256) × AreReadActs ls
 
--- a script that was read: its lines rise, are few, and are of this language
+-- a script that was read: its lines rise, are few, and their documents' names are apart
 pub record AreScriptLines (lines : List Line) : Type 0 where
   pub rise : LinesRise 1 lines
   pub few : length lines < 2 ^ 27

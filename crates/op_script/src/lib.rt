@@ -1,6 +1,8 @@
 //! Scripts: one JSON object a line, each an operation of a caller or a search.
 #![tactic(auto)]
 
+mod acts;
+mod arguments;
 mod documents;
 mod line_fault;
 mod members;

@@ -6,10 +6,9 @@ ghost use Rattle.op_script.specs.Language.{caller_of, verb_of, act_of, line_of, 
 ghost use Rattle.op_script.specs.declared.script.BadLine.{BadLine};
 ghost use Rattle.op_script.specs.declared.script.Why.{Why};
 
-use crate::documents::read_document;
+use crate::acts::{add_in, delete_in, delete_query_in, search_in, set_in, update_in};
 use crate::line_fault::LineFault;
 use crate::members::read_value;
-use crate::queries::read_query;
 use crate::script::{Act, BadLine, Line, ScriptFault, Why};
 use crate::verbs::{Verb, has_members_of, verb_named};
 use ix_base::Operation;
@@ -98,33 +97,11 @@ fn act_in(alloc: Global, verb: Verb, value: &Value) -> Result<Act, LineFault>
 {
     match verb {
         Verb::Add => add_in(alloc, value),
+        Verb::Update => update_in(alloc, value),
+        Verb::Delete => delete_in(alloc, value),
+        Verb::DeleteQuery => delete_query_in(alloc, value),
+        Verb::Set => set_in(alloc, value),
         Verb::Commit => Ok(Act::Do(Operation::Commit)),
         Verb::Search => search_in(alloc, value),
-    }
-}
-
-fn add_in(alloc: Global, value: &Value) -> Result<Act, LineFault>
-    ensures ok { IfOk result (λ act. act_of Verb.Add (view value.now) ≡ Ok act) }
-    ensures bad { (why : Why) → result ≡ Err (LineFault.Bad why) → act_of Verb.Add (view value.now) ≡ Err why }
-{
-    let Some(doc) = value.get("doc") else {
-        return Err(LineFault::Bad(Why::Doc));
-    };
-    match read_document(alloc, doc)? {
-        Some(doc) => Ok(Act::Do(Operation::Add(doc))),
-        None => Err(LineFault::Bad(Why::Doc)),
-    }
-}
-
-fn search_in(alloc: Global, value: &Value) -> Result<Act, LineFault>
-    ensures ok { IfOk result (λ act. act_of Verb.Search (view value.now) ≡ Ok act) }
-    ensures bad { (why : Why) → result ≡ Err (LineFault.Bad why) → act_of Verb.Search (view value.now) ≡ Err why }
-{
-    let Some(query) = value.get("query") else {
-        return Err(LineFault::Bad(Why::Query));
-    };
-    match read_query(alloc, query)? {
-        Some(query) => Ok(Act::Search(query)),
-        None => Err(LineFault::Bad(Why::Query)),
     }
 }

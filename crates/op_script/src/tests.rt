@@ -107,6 +107,101 @@ fn hostile_scripts(rt: HostRuntime) -> Result<(), Fail> {
     Ok(())
 }
 
+/// The members of each operation after `c`, with their values, and what is said of the line.
+#[test]
+fn operations(rt: HostRuntime) -> Result<(), Fail> {
+    let alloc = rt.alloc();
+    let cases = [
+        (
+            "\"op\":\"update\",\"field\":\"key\",\"term\":\"a\",\"doc\":{\"key\":\"b\"}",
+            "1 lines",
+        ),
+        (
+            "\"op\":\"update\",\"field\":\"\",\"term\":1,\"doc\":{}",
+            "1 Name",
+        ),
+        (
+            "\"op\":\"update\",\"field\":\"key\",\"term\":1,\"doc\":{}",
+            "1 Text",
+        ),
+        (
+            "\"op\":\"update\",\"field\":\"key\",\"term\":\"a\",\"doc\":{}",
+            "1 Doc",
+        ),
+        ("\"op\":\"update\",\"field\":\"\",\"doc\":{}", "1 Members"),
+        (
+            "\"op\":\"delete\",\"field\":\"key\",\"term\":\"\"",
+            "1 lines",
+        ),
+        ("\"op\":\"delete\",\"field\":\"\",\"term\":\"a\"", "1 Name"),
+        ("\"op\":\"delete\",\"field\":7,\"term\":1", "1 Name"),
+        ("\"op\":\"delete\",\"field\":\"key\",\"term\":1", "1 Text"),
+        (
+            "\"op\":\"delete\",\"field\":\"key\",\"term\":\"a\",\"doc\":{}",
+            "1 Members",
+        ),
+        ("\"op\":\"delete_query\",\"query\":\"all\"", "1 lines"),
+        ("\"op\":\"delete_query\",\"query\":[]", "1 Query"),
+        ("\"op\":\"delete_query\",\"field\":\"\"", "1 Members"),
+        (
+            "\"op\":\"set\",\"field\":\"key\",\"term\":\"a\",\"num\":\"n\",\"value\":0",
+            "1 lines",
+        ),
+        (
+            "\"op\":\"set\",\"field\":\"\",\"term\":1,\"num\":\"n\",\"value\":\"\"",
+            "1 Name",
+        ),
+        (
+            "\"op\":\"set\",\"field\":\"key\",\"term\":1,\"num\":\"\",\"value\":\"\"",
+            "1 Name",
+        ),
+        (
+            "\"op\":\"set\",\"field\":\"key\",\"term\":1,\"num\":\"n\",\"value\":\"\"",
+            "1 Text",
+        ),
+        (
+            "\"op\":\"set\",\"field\":\"key\",\"term\":\"a\",\"num\":\"n\",\"value\":\"\"",
+            "1 Number",
+        ),
+        (
+            "\"op\":\"set\",\"field\":\"key\",\"term\":\"a\",\"num\":\"n\"",
+            "1 Members",
+        ),
+        ("\"op\":\"Delete\",\"field\":\"key\",\"term\":\"a\"", "1 Op"),
+    ];
+    for (members, want) in cases {
+        let text = format!(in alloc; "{{\"c\":0,{members}}}")?;
+        let found = answer(alloc, text.as_bytes())?;
+        assert_eq!(rt; found.as_str(), want, "at {members}");
+    }
+    Ok(())
+}
+
+/// The values that a number may be set to.
+#[test]
+fn values(rt: HostRuntime) -> Result<(), Fail> {
+    let alloc = rt.alloc();
+    let cases = [
+        ("9223372036854775807", "1 lines"),
+        ("-9223372036854775808", "1 lines"),
+        ("9223372036854775808", "1 Number"),
+        ("-9223372036854775809", "1 Number"),
+        ("0", "1 lines"),
+        ("-0", "1 Number"),
+        ("1.0", "1 Number"),
+        ("1e2", "1 Number"),
+        ("null", "1 Number"),
+    ];
+    for (value, want) in cases {
+        let text = format!(in alloc;
+            "{{\"c\":0,\"op\":\"set\",\"field\":\"key\",\"term\":\"a\",\"num\":\"n\",\"value\":{value}}}"
+        )?;
+        let found = answer(alloc, text.as_bytes())?;
+        assert_eq!(rt; found.as_str(), want, "at {value}");
+    }
+    Ok(())
+}
+
 /// Documents by what they hold beside the key.
 #[test]
 fn documents(rt: HostRuntime) -> Result<(), Fail> {
@@ -184,6 +279,12 @@ fn numbered(alloc: Global, count: u32, len: u32) -> Result<String, Fail> {
     Ok(text)
 }
 
+/// A deletion by a term whose field has a name of so many bytes.
+fn named(alloc: Global, len: usize) -> Result<String, Fail> {
+    let name = "n".repeat(alloc, len)?;
+    Ok(format!(in alloc; "{{\"c\":0,\"op\":\"delete\",\"field\":\"{name}\",\"term\":\"\"}}")?)
+}
+
 /// Nesting, counts and lengths at their limits.
 #[test]
 fn limits(rt: HostRuntime) -> Result<(), Fail> {
@@ -200,6 +301,10 @@ fn limits(rt: HostRuntime) -> Result<(), Fail> {
     ] {
         let found = answer(alloc, numbered(alloc, count, len)?.as_bytes())?;
         assert_eq!(rt; found.as_str(), want, "{count} numbers, {len} bytes");
+    }
+    for (len, want) in [(255, "1 lines"), (256, "1 Name")] {
+        let found = answer(alloc, named(alloc, len)?.as_bytes())?;
+        assert_eq!(rt; found.as_str(), want, "{len} bytes");
     }
     Ok(())
 }

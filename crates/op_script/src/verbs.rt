@@ -11,6 +11,10 @@ use serde_json::Value;
 #[derive(Clone, Copy, Debug, PartialEq, Eq)]
 pub enum Verb {
     Add,
+    Update,
+    Delete,
+    DeleteQuery,
+    Set,
     Commit,
     Search,
 }
@@ -21,6 +25,14 @@ pub fn verb_named(name: &str) -> Option<Verb>
 {
     if name == "add" {
         Some(Verb::Add)
+    } else if name == "update" {
+        Some(Verb::Update)
+    } else if name == "delete" {
+        Some(Verb::Delete)
+    } else if name == "delete_query" {
+        Some(Verb::DeleteQuery)
+    } else if name == "set" {
+        Some(Verb::Set)
     } else if name == "commit" {
         Some(Verb::Commit)
     } else if name == "search" {
@@ -36,6 +48,10 @@ pub fn has_members_of(verb: Verb, value: &Value) -> bool
 {
     match verb {
         Verb::Add => has_exactly(value, &["c", "op", "doc"]),
+        Verb::Update => has_exactly(value, &["c", "op", "field", "term", "doc"]),
+        Verb::Delete => has_exactly(value, &["c", "op", "field", "term"]),
+        Verb::DeleteQuery => has_exactly(value, &["c", "op", "query"]),
+        Verb::Set => has_exactly(value, &["c", "op", "field", "term", "num", "value"]),
         Verb::Commit => has_exactly(value, &["c", "op"]),
         Verb::Search => has_exactly(value, &["c", "op", "query"]),
     }

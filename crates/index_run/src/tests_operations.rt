@@ -1,0 +1,243 @@
+//! Whole runs of each operation over an empty store, against reports that were worked out by hand.
+use crate::call::top;
+use commit_point::read_commit;
+use ix_base::NoMemory;
+use ix_outside::{EmptyGate, MemorySink, MemorySource, MemoryStore};
+use std::alloc::Global;
+use std::sync::Wait;
+use std::thread::Threads;
+
+const ADD_A1: &str = "{\"c\":0,\"op\":\"add\",\"doc\":{\"key\":\"a1\"}}\n";
+
+const DELETE_A1: &str = "{\"c\":0,\"op\":\"delete\",\"field\":\"key\",\"term\":\"a1\"}\n";
+
+const DELETE_TAG: &str = "{\"c\":0,\"op\":\"delete\",\"field\":\"tag\",\"term\":\"t\"}\n";
+
+const SET_BY_TAG: &str =
+    "{\"c\":0,\"op\":\"set\",\"field\":\"tag\",\"term\":\"x\",\"num\":\"price\",\"value\":5}\n";
+
+const SET_BY_KEY: &str =
+    "{\"c\":0,\"op\":\"set\",\"field\":\"key\",\"term\":\"a1\",\"num\":\"price\",\"value\":7}\n";
+
+const ADD_TAGGED: &str =
+    "{\"c\":0,\"op\":\"add\",\"doc\":{\"key\":\"a1\",\"exact\":{\"tag\":\"x\"}}}\n";
+
+const COMMIT: &str = "{\"c\":0,\"op\":\"commit\"}\n";
+
+const ALL: &str = "{\"c\":0,\"op\":\"search\",\"query\":\"all\"}\n";
+
+/// What a run of the lines wrote, and the store after it.
+#[derive(Drop)]
+struct Done {
+    status: u8,
+    written: Vec<u8>,
+    store: MemoryStore,
+}
+
+fn run_lines<R: Threads + Wait>(rt: &R, alloc: Global, lines: &[&str]) -> Result<Done, NoMemory> {
+    let mut bytes = Vec::new(alloc);
+    for line in lines {
+        bytes.extend_from_slice(line.as_bytes())?;
+    }
+    let mut words = Vec::new(alloc);
+    words.push(String::from_str(alloc, "run")?)?;
+    let mut input = MemorySource::failing(bytes, Vec::new(alloc));
+    let mut out = MemorySink::failing(alloc, 65536, Vec::new(alloc))?;
+    let ended = top(
+        rt,
+        alloc,
+        words.as_slice(),
+        &mut input,
+        &mut out,
+        MemoryStore::new(alloc),
+        &EmptyGate,
+    );
+    Ok(Done {
+        status: ended.status,
+        written: out.into_bytes(),
+        store: ended.store,
+    })
+}
+
+/// The birth of the first row of a commit, or 0.
+fn first_birth(alloc: Global, store: &mut MemoryStore, number: u64) -> u64 {
+    match read_commit(alloc, store, number) {
+        Ok(opened) => match opened.rows.as_slice().first() {
+            Some(row) => row.birth,
+            None => 0,
+        },
+        Err(_) => 0,
+    }
+}
+
+#[test]
+fn reports_of_operations(rt: HostRuntime) {
+    let alloc = rt.alloc();
+    let cases: [(&str, &[&str], &str); 8] = [
+        (
+            "a delete takes all that hold its term",
+            &[ADD_A1, ADD_A1, DELETE_A1, COMMIT],
+            "{\"line\":1,\"seq\":1}\n{\"line\":2,\"seq\":2}\n{\"line\":3,\"seq\":3}\n{\"docs\":0,\"line\":4,\"seq\":4}\n",
+        ),
+        (
+            "a delete before an add takes nothing",
+            &[DELETE_A1, ADD_A1, COMMIT],
+            "{\"line\":1,\"seq\":1}\n{\"line\":2,\"seq\":2}\n{\"docs\":1,\"line\":3,\"seq\":3}\n",
+        ),
+        (
+            "a delete by an exact field, before and after",
+            &[
+                DELETE_TAG,
+                "{\"c\":0,\"op\":\"add\",\"doc\":{\"key\":\"d\",\"exact\":{\"tag\":\"t\"}}}\n",
+                DELETE_TAG,
+                COMMIT,
+            ],
+            "{\"line\":1,\"seq\":1}\n{\"line\":2,\"seq\":2}\n{\"line\":3,\"seq\":3}\n{\"docs\":0,\"line\":4,\"seq\":4}\n",
+        ),
+        (
+            "the later set wins",
+            &[ADD_TAGGED, SET_BY_TAG, SET_BY_KEY, COMMIT, ALL],
+            "{\"line\":1,\"seq\":1}\n{\"line\":2,\"seq\":2}\n{\"line\":3,\"seq\":3}\n{\"docs\":1,\"line\":4,\"seq\":4}\n{\"commit\":4,\"hits\":[{\"key\":\"a1\",\"num\":{\"price\":7}}],\"line\":5}\n",
+        ),
+        (
+            "the later set wins, exchanged",
+            &[ADD_TAGGED, SET_BY_KEY, SET_BY_TAG, COMMIT, ALL],
+            "{\"line\":1,\"seq\":1}\n{\"line\":2,\"seq\":2}\n{\"line\":3,\"seq\":3}\n{\"docs\":1,\"line\":4,\"seq\":4}\n{\"commit\":4,\"hits\":[{\"key\":\"a1\",\"num\":{\"price\":5}}],\"line\":5}\n",
+        ),
+        (
+            "a set takes its place by name",
+            &[
+                "{\"c\":0,\"op\":\"add\",\"doc\":{\"key\":\"a1\",\"num\":{\"a\":1,\"z\":2}}}\n",
+                SET_BY_KEY,
+                COMMIT,
+                ALL,
+            ],
+            "{\"line\":1,\"seq\":1}\n{\"line\":2,\"seq\":2}\n{\"docs\":1,\"line\":3,\"seq\":3}\n{\"commit\":3,\"hits\":[{\"key\":\"a1\",\"num\":{\"a\":1,\"price\":7,\"z\":2}}],\"line\":4}\n",
+        ),
+        (
+            "a delete by a query keeps what doesn't match",
+            &[
+                ADD_A1,
+                "{\"c\":0,\"op\":\"add\",\"doc\":{\"key\":\"b1\",\"text\":{\"body\":\"Red fox\"}}}\n",
+                "{\"c\":0,\"op\":\"delete_query\",\"query\":{\"phrase\":[\"body\",\"RED FOX\"]}}\n",
+                COMMIT,
+                ALL,
+            ],
+            "{\"line\":1,\"seq\":1}\n{\"line\":2,\"seq\":2}\n{\"line\":3,\"seq\":3}\n{\"docs\":1,\"line\":4,\"seq\":4}\n{\"commit\":4,\"hits\":[{\"key\":\"a1\",\"num\":{}}],\"line\":5}\n",
+        ),
+        (
+            "a delete by an empty bool query takes nothing, one by `all` takes everything",
+            &[
+                ADD_A1,
+                "{\"c\":0,\"op\":\"delete_query\",\"query\":{\"bool\":{}}}\n",
+                COMMIT,
+                "{\"c\":0,\"op\":\"delete_query\",\"query\":\"all\"}\n",
+                COMMIT,
+            ],
+            "{\"line\":1,\"seq\":1}\n{\"line\":2,\"seq\":2}\n{\"docs\":1,\"line\":3,\"seq\":3}\n{\"line\":4,\"seq\":4}\n{\"docs\":0,\"line\":5,\"seq\":5}\n",
+        ),
+    ];
+    for (what, script, report) in cases {
+        let Ok(done) = run_lines(&rt, alloc, script) else {
+            panic!(rt; "memory");
+        };
+        assert_eq!(rt; done.status, 0, "{what}");
+        assert_eq!(rt; done.written.as_slice(), report.as_bytes(), "{what}");
+    }
+}
+
+#[test]
+fn an_update_replaces(rt: HostRuntime) {
+    let alloc = rt.alloc();
+    let update =
+        "{\"c\":0,\"op\":\"update\",\"field\":\"key\",\"term\":\"a1\",\"doc\":{\"key\":\"a1\",\"num\":{\"price\":7}}}\n";
+    let Ok(mut done) = run_lines(&rt, alloc, &[ADD_A1, update, COMMIT, ALL]) else {
+        panic!(rt; "memory");
+    };
+    assert_eq!(rt; done.status, 0);
+    assert_eq!(rt;
+        done.written.as_slice(),
+        "{\"line\":1,\"seq\":1}\n{\"line\":2,\"seq\":2}\n{\"docs\":1,\"line\":3,\"seq\":3}\n{\"commit\":3,\"hits\":[{\"key\":\"a1\",\"num\":{\"price\":7}}],\"line\":4}\n".as_bytes()
+    );
+    assert_eq!(rt; first_birth(alloc, &mut done.store, 3), 2);
+}
+
+/// A run that updates a document by one with a term of 32,766 bytes and more.
+fn run_with_long_update<R: Threads + Wait>(
+    rt: &R,
+    alloc: Global,
+    more: &str,
+) -> Result<Done, NoMemory> {
+    let letters = "a".repeat(alloc, 32766)?;
+    let front =
+        "{\"c\":0,\"op\":\"update\",\"field\":\"key\",\"term\":\"a1\",\"doc\":{\"key\":\"a1\",\"text\":{\"body\":\"";
+    run_lines(
+        rt,
+        alloc,
+        &[
+            ADD_A1,
+            front,
+            letters.as_str(),
+            more,
+            "\"}}}\n",
+            COMMIT,
+            ALL,
+        ],
+    )
+}
+
+/// A refused update leaves the old document and gets no number; one letter less takes effect.
+#[test]
+fn a_long_update_is_refused(rt: HostRuntime) {
+    let alloc = rt.alloc();
+    let cases = [
+        (
+            "a",
+            "{\"line\":1,\"seq\":1}\n{\"line\":2,\"refused\":\"term\",\"size\":32767}\n{\"docs\":1,\"line\":3,\"seq\":2}\n{\"commit\":2,\"hits\":[{\"key\":\"a1\",\"num\":{}}],\"line\":4}\n",
+            2,
+            1,
+        ),
+        (
+            "",
+            "{\"line\":1,\"seq\":1}\n{\"line\":2,\"seq\":2}\n{\"docs\":1,\"line\":3,\"seq\":3}\n{\"commit\":3,\"hits\":[{\"key\":\"a1\",\"num\":{}}],\"line\":4}\n",
+            3,
+            2,
+        ),
+    ];
+    for (more, report, commit, birth) in cases {
+        let Ok(mut done) = run_with_long_update(&rt, alloc, more) else {
+            panic!(rt; "memory");
+        };
+        assert_eq!(rt; done.status, 0);
+        assert_eq!(rt; done.written.as_slice(), report.as_bytes());
+        assert_eq!(rt; first_birth(alloc, &mut done.store, commit), birth);
+    }
+}
+
+/// A run of a deletion by a phrase of 131,059 letters and more.
+fn run_with_long_query<R: Threads + Wait>(
+    rt: &R,
+    alloc: Global,
+    more: &str,
+) -> Result<Done, NoMemory> {
+    let letters = "a".repeat(alloc, 131059)?;
+    let front = "{\"c\":0,\"op\":\"delete_query\",\"query\":{\"phrase\":[\"body\",\"";
+    run_lines(rt, alloc, &[front, letters.as_str(), more, "\"]}}\n"])
+}
+
+/// The query's encoded bytes decide: 131,073 are refused, and 131,072 aren't.
+#[test]
+fn a_long_query_is_refused(rt: HostRuntime) {
+    let alloc = rt.alloc();
+    let cases = [
+        ("a", "{\"line\":1,\"refused\":\"query\",\"size\":131073}\n"),
+        ("", "{\"line\":1,\"seq\":1}\n"),
+    ];
+    for (more, report) in cases {
+        let Ok(done) = run_with_long_query(&rt, alloc, more) else {
+            panic!(rt; "memory");
+        };
+        assert_eq!(rt; done.status, 0);
+        assert_eq!(rt; done.written.as_slice(), report.as_bytes());
+    }
+}
