@@ -24,7 +24,7 @@ use Rattle.run_report.specs.declared.outcome.Answer.TheVariants.{Numbered, Commi
 use Rattle.index_run.specs.declared.writer.Writer.{Writer}
 use Rattle.index_run.specs.Numbering.{is_numbered, is_commit, numbered, operations, commit_numbers, rows_at}
 use Rattle.index_run.specs.Outcomes.{number_after, rows_after, commit_after, outcome_of, answer_of, told_answer, done_answer, outcomes_from}
-use Rattle.index_run.specs.Doing.{writer_after, writer_by, answer_by, lasts_after, FilesAfter}
+use Rattle.index_run.specs.Doing.{writer_after, writer_by, next_id_after, answer_by, lasts_after, FilesAfter}
 use Rattle.index_run.specs.Headline.{HasCommits, Starts}
 use Rattle.index_run.specs.Writer.{CanGoOn}
 use Rattle.index_run.proofs.Going.{births-step, apart-step}
@@ -82,7 +82,7 @@ far_write base next rows done l op w lasts outcomes e one known other answers fa
       rows_are = ap (λ (rs : List Row). step rs (w.number + 1) op) far.rows_are ∙ ap (λ (n : ℕ). step (rows_after base rows done) n op) number ∙ sym (rows_after-push base rows done l op e one);
       low = far.low;
       high = omega (arith, far.high, count);
-      births = births-step w.number w.rows op known far.births;
+      births = births-step w.number w.rows op far.births;
       apart = apart-step w.rows (w.number + 1) op known far.apart;
       callers = far.callers;
       lasts_are = λ k lt. far.lasts_are k lt ∙ sym (commit_after-push base k base done l ∙ rw (one, commits) (same (eqb l.caller k) _ _));
@@ -120,7 +120,7 @@ far_commit base next rows done l w lasts outcomes e caller far =
       rows_are = far.rows_are ∙ sym (rows_after-push base rows done l Commit e (ap is_numbered e));
       low = omega (arith, far.low, steps.0);
       high = omega (arith, far.high, count, steps.1);
-      births = births-step w.number w.rows Commit refl far.births;
+      births = births-step w.number w.rows Commit far.births;
       apart = far.apart;
       callers = omega (arith, length-set lasts l.caller (w.number + 1), far.callers);
       lasts_are = λ k lt. by_caller k lt (eqb_tells l.caller k) ∙ sym (commit_after-push base k base done l ∙ rw e (ap (λ (n : ℕ). cond (eqb l.caller k && true) n (commit_after base k base done)) at));
@@ -134,18 +134,24 @@ far_commit base next rows done l w lasts outcomes e caller far =
     by_caller k lt (inl h) = rw h.0 (subst (λ (j : ℕ). get_or (set lasts l.caller (w.number + 1)) j 0 ≡ w.number + 1) h.1 (get_or-set_same lasts l.caller (w.number + 1) 0 (omega (arith, far.callers))))
     by_caller k lt (inr h) = rw h.0 (get_or-set_other lasts l.caller k (w.number + 1) 0 (λ e. h.1 (sym e)) ∙ far.lasts_are k lt)
 
--- an add, refused or not
-far_add : (base next : ℕ) (rows : List Row) (done : List Line) (l : Line) (doc : Document) (r : Option Refusal) (w : Writer) (lasts : List ℕ) (outcomes : List Outcome) → l.act ≡ Do (Add doc) → refusal (Add doc) ≡ r → is_apart doc ≡ true
+-- an operation that is no commit, refused or not
+far_op : (base next : ℕ) (rows : List Row) (done : List Line) (l : Line) (op : Operation) (r : Option Refusal) (w : Writer) (lasts : List ℕ) (outcomes : List Outcome)
+    → l.act ≡ Do op → refusal op ≡ r → is_read_operation op ≡ true → is_commit (Do op) ≡ false → next_id_after w op ≡ w.next_id → ((s docs : ℕ) → done_answer s docs op ≡ Numbered s)
     → Far base next rows done w lasts outcomes
-    → Far base next rows (done ++ l ∷ []) (writer_by r w (Add doc)) lasts (outcomes ++ record { line = l.line; answer = told_answer r (done_answer (w.number + 1) (length w.rows) (Add doc)) } ∷ [])
-far_add base next rows done l doc None w lasts outcomes e is known far =
-    far_write base next rows done l (Add doc) w lasts outcomes e (ap is_numbered e ∙ ap is_none is) known refl (sym (ap (λ (r : Option Refusal). told_answer r (Numbered (number_after base done + 1))) is)) far
-far_add base next rows done l doc (Some (long_term size)) w lasts outcomes e is known far =
+    → Far base next rows (done ++ l ∷ []) (writer_by r w op) lasts (outcomes ++ record { line = l.line; answer = told_answer r (done_answer (w.number + 1) (length w.rows) op) } ∷ [])
+far_op base next rows done l op None w lasts outcomes e is known other same_id plain far =
+    let told = ap (λ (r : Option Refusal). told_answer r (done_answer (number_after base done + 1) (length (rows_after base rows done)) op)) is ∙ plain (number_after base done + 1) (length (rows_after base rows done)) in
+    let written = far_write base next rows done l op w lasts outcomes e (ap is_numbered e ∙ ap is_none is) known other (sym told) far in
+    let answered = subst (λ (a : Answer). Far base next rows (done ++ l ∷ []) (record { rows = step w.rows (w.number + 1) op; number = w.number + 1; next_id = w.next_id }) lasts (outcomes ++ record { line = l.line; answer = a } ∷ []))
+    (sym (plain (w.number + 1) (length w.rows))) written in
+    subst (λ (id : ℕ). Far base next rows (done ++ l ∷ []) (record { rows = step w.rows (w.number + 1) op; number = w.number + 1; next_id = id }) lasts (outcomes ++ record { line = l.line; answer = done_answer (w.number + 1) (length w.rows) op } ∷ []))
+    (sym same_id) answered
+far_op base next rows done l op (Some (long_term size)) w lasts outcomes e is known other same_id plain far =
     far_same base next rows done l (RefusedTerm size) w lasts outcomes (ap is_numbered e ∙ ap is_none is)
-    (sym (ap (λ (a : Act). answer_of base rows done l a) e ∙ ap (λ (r : Option Refusal). told_answer r (Numbered (number_after base done + 1))) is)) far
-far_add base next rows done l doc (Some (long_query size)) w lasts outcomes e is known far =
+    (sym (ap (λ (a : Act). answer_of base rows done l a) e ∙ ap (λ (r : Option Refusal). told_answer r (done_answer (number_after base done + 1) (length (rows_after base rows done)) op)) is)) far
+far_op base next rows done l op (Some (long_query size)) w lasts outcomes e is known other same_id plain far =
     far_same base next rows done l (RefusedQuery size) w lasts outcomes (ap is_numbered e ∙ ap is_none is)
-    (sym (ap (λ (a : Act). answer_of base rows done l a) e ∙ ap (λ (r : Option Refusal). told_answer r (Numbered (number_after base done + 1))) is)) far
+    (sym (ap (λ (a : Act). answer_of base rows done l a) e ∙ ap (λ (r : Option Refusal). told_answer r (done_answer (number_after base done + 1) (length (rows_after base rows done)) op)) is)) far
 
 -- one line more
 pub far_line : (base next : ℕ) (rows : List Row) (done : List Line) (l : Line) (a : Act) (w : Writer) (lasts : List ℕ) (outcomes : List Outcome) → l.act ≡ a → is_read_act a ≡ true → l.caller < 256
@@ -154,11 +160,11 @@ pub far_line : (base next : ℕ) (rows : List Row) (done : List Line) (l : Line)
 far_line base next rows done l (Search q) w lasts outcomes e known caller far =
     far_same base next rows done l (Searched (get_or lasts l.caller 0) q) w lasts outcomes (ap is_numbered e)
     (ap (λ (s : ℕ). Searched s q) (far.lasts_are l.caller caller) ∙ ap (λ (a : Act). answer_of base rows done l a) (sym e)) far
-far_line base next rows done l (Do (Add doc)) w lasts outcomes e known caller far = far_add base next rows done l doc (refusal (Add doc)) w lasts outcomes e refl known far
-far_line base next rows done l (Do (Update t doc)) w lasts outcomes e known caller far = absurd cc
-far_line base next rows done l (Do (DeleteTerm t)) w lasts outcomes e known caller far = absurd cc
-far_line base next rows done l (Do (DeleteQuery q)) w lasts outcomes e known caller far = absurd cc
-far_line base next rows done l (Do (SetNumber t n v)) w lasts outcomes e known caller far = absurd cc
+far_line base next rows done l (Do (Add doc)) w lasts outcomes e known caller far = far_op base next rows done l (Add doc) (refusal (Add doc)) w lasts outcomes e refl known refl refl (λ s docs. refl) far
+far_line base next rows done l (Do (Update t doc)) w lasts outcomes e known caller far = far_op base next rows done l (Update t doc) (refusal (Update t doc)) w lasts outcomes e refl known refl refl (λ s docs. refl) far
+far_line base next rows done l (Do (DeleteTerm t)) w lasts outcomes e known caller far = far_op base next rows done l (DeleteTerm t) (refusal (DeleteTerm t)) w lasts outcomes e refl known refl refl (λ s docs. refl) far
+far_line base next rows done l (Do (DeleteQuery q)) w lasts outcomes e known caller far = far_op base next rows done l (DeleteQuery q) (refusal (DeleteQuery q)) w lasts outcomes e refl known refl refl (λ s docs. refl) far
+far_line base next rows done l (Do (SetNumber t n v)) w lasts outcomes e known caller far = far_op base next rows done l (SetNumber t n v) (refusal (SetNumber t n v)) w lasts outcomes e refl known refl refl (λ s docs. refl) far
 far_line base next rows done l (Do Commit) w lasts outcomes e known caller far = far_commit base next rows done l w lasts outcomes e caller far
 
 -- the commits so far, in the whole log
@@ -187,6 +193,19 @@ moved base next rows lines done l limit start mid now same numbers has =
     subst (λ (o : Option Files). Changes (SoFar base next rows lines (done ++ l ∷ []) limit) start o) (sym same)
     (subst (λ (ns : List ℕ). Changes (HasCommits base next rows (numbered lines) ns limit) start mid) (sym numbers) has)
 
+-- the files after an operation that is no commit, refused or not
+files_op : (base next : ℕ) (rows : List Row) (lines done : List Line) (l : Line) (op : Operation) (r : Option Refusal) (w : Writer) (start mid now : Option Files)
+    → l.act ≡ Do op → refusal op ≡ r → is_commit (Do op) ≡ false → next_id_after w op ≡ w.next_id → now ≡ mid → Changes (SoFar base next rows lines done w.next_id) start mid
+    → Changes (SoFar base next rows lines (done ++ l ∷ []) (writer_by r w op).next_id) start now
+files_op base next rows lines done l op None w start mid now e is other same_id same has =
+    let one : is_numbered l.act ≡ true = ap is_numbered e ∙ ap is_none is in
+    let commits : is_commit l.act ≡ false = ap is_commit e ∙ other in
+    subst (λ (id : ℕ). Changes (SoFar base next rows lines (done ++ l ∷ []) id) start now) (sym same_id)
+    (moved base next rows lines done l w.next_id start mid now same
+    (ap (λ (ls : List Line). commit_numbers base ls) (numbered-push done l one) ∙ commit_numbers-push base (numbered done) l ∙ rw commits (append-nil (commit_numbers base (numbered done)))) has)
+files_op base next rows lines done l op (Some r) w start mid now e is other same_id same has =
+    moved base next rows lines done l w.next_id start mid now same (ap (λ (ls : List Line). commit_numbers base ls) (numbered-same done l (ap is_numbered e ∙ ap is_none is))) has
+
 -- the files after one line more
 pub files_line : (base next : ℕ) (rows : List Row) (lines done rest : List Line) (l : Line) (a : Act) (w : Writer) (lasts : List ℕ) (outcomes : List Outcome) (start mid now : Option Files)
     → lines ≡ done ++ l ∷ rest → l.act ≡ a → is_read_act a ≡ true → w.next_id < 2 ^ 62 → Far base next rows done w lasts outcomes
@@ -194,20 +213,11 @@ pub files_line : (base next : ℕ) (rows : List Row) (lines done rest : List Lin
     → Changes (SoFar base next rows lines (done ++ l ∷ []) (writer_after w a).next_id) start now
 files_line base next rows lines done rest l (Search q) w lasts outcomes start mid now is e known room far same has =
     moved base next rows lines done l w.next_id start mid now same (ap (λ (ls : List Line). commit_numbers base ls) (numbered-same done l (rw e refl))) has
-files_line base next rows lines done rest l (Do (Add doc)) w lasts outcomes start mid now is e known room far same has =
-    by_refusal (refusal (Add doc)) refl
-  where
-    by_refusal : (r : Option Refusal) → refusal (Add doc) ≡ r → Changes (SoFar base next rows lines (done ++ l ∷ []) (writer_by r w (Add doc)).next_id) start now
-    by_refusal None none =
-        let one : is_numbered l.act ≡ true = ap is_numbered e ∙ ap is_none none in
-        let commits : is_commit l.act ≡ false = ap is_commit e in
-        moved base next rows lines done l w.next_id start mid now same
-        (ap (λ (ls : List Line). commit_numbers base ls) (numbered-push done l one) ∙ commit_numbers-push base (numbered done) l ∙ rw commits (append-nil (commit_numbers base (numbered done)))) has
-    by_refusal (Some r) some = moved base next rows lines done l w.next_id start mid now same (ap (λ (ls : List Line). commit_numbers base ls) (numbered-same done l (ap is_numbered e ∙ ap is_none some))) has
-files_line base next rows lines done rest l (Do (Update t doc)) w lasts outcomes start mid now is e known room far same has = absurd cc
-files_line base next rows lines done rest l (Do (DeleteTerm t)) w lasts outcomes start mid now is e known room far same has = absurd cc
-files_line base next rows lines done rest l (Do (DeleteQuery q)) w lasts outcomes start mid now is e known room far same has = absurd cc
-files_line base next rows lines done rest l (Do (SetNumber t n v)) w lasts outcomes start mid now is e known room far same has = absurd cc
+files_line base next rows lines done rest l (Do (Add doc)) w lasts outcomes start mid now is e known room far same has = files_op base next rows lines done l (Add doc) (refusal (Add doc)) w start mid now e refl refl refl same has
+files_line base next rows lines done rest l (Do (Update t doc)) w lasts outcomes start mid now is e known room far same has = files_op base next rows lines done l (Update t doc) (refusal (Update t doc)) w start mid now e refl refl refl same has
+files_line base next rows lines done rest l (Do (DeleteTerm t)) w lasts outcomes start mid now is e known room far same has = files_op base next rows lines done l (DeleteTerm t) (refusal (DeleteTerm t)) w start mid now e refl refl refl same has
+files_line base next rows lines done rest l (Do (DeleteQuery q)) w lasts outcomes start mid now is e known room far same has = files_op base next rows lines done l (DeleteQuery q) (refusal (DeleteQuery q)) w start mid now e refl refl refl same has
+files_line base next rows lines done rest l (Do (SetNumber t n v)) w lasts outcomes start mid now is e known room far same has = files_op base next rows lines done l (SetNumber t n v) (refusal (SetNumber t n v)) w start mid now e refl refl refl same has
 files_line base next rows lines done rest l (Do Commit) w lasts outcomes start mid now is e known room far made has =
     by_store start mid now has (made room)
   where

@@ -71,9 +71,9 @@ births-step last rows Commit h = births-widen 1 last (last + 1) rows (omega arit
 
 pub apart-step : (rows : List Row) (n : ℕ) (op : Operation) → is_read_operation op ≡ true → All (λ row. is_apart row.doc ≡ true) rows → All (λ row. is_apart row.doc ≡ true) (step rows n op)
 apart-step rows n (Add doc) e h = All-push (λ (row : Row). is_apart row.doc ≡ true) rows (record { birth = n; doc = doc }) h e
-apart-step rows n (Update t doc) e h = All-push (λ (row : Row). is_apart row.doc ≡ true) (without t rows) (record { birth = n; doc = doc }) (All-filter (λ (row : Row). is_apart row.doc ≡ true) _ rows h) e
-apart-step rows n (DeleteTerm t) e h = All-filter (λ (row : Row). is_apart row.doc ≡ true) _ rows h
-apart-step rows n (DeleteQuery q) e h = All-filter (λ (row : Row). is_apart row.doc ≡ true) _ rows h
+apart-step rows n (Update t doc) e h = All-push (λ (row : Row). is_apart row.doc ≡ true) (without t rows) (record { birth = n; doc = doc }) (All-filter _ (λ (row : Row). is_apart row.doc ≡ true) rows h) e
+apart-step rows n (DeleteTerm t) e h = All-filter _ (λ (row : Row). is_apart row.doc ≡ true) rows h
+apart-step rows n (DeleteQuery q) e h = All-filter _ (λ (row : Row). is_apart row.doc ≡ true) rows h
 apart-step rows n (SetNumber t m v) e h =
     All-map (λ (row : Row). is_apart row.doc ≡ true) (set_by t m v) rows
     (All-weaker (λ (row : Row). is_apart row.doc ≡ true) (λ (row : Row). is_apart (set_by t m v row).doc ≡ true) (set-apart t m v) rows h)
