@@ -66,6 +66,25 @@ after_of w (Do (DeleteQuery q)) d c same = ap (λ (f : Files). Some f) same
 after_of w (Do (SetNumber t n v)) d c same = ap (λ (f : Files). Some f) same
 after_of w (Do CommitOperation) d c made = λ room. made
 
+-- a line that did nothing leaves each image as it is
+pub may_stay : (w : Writer) (a : Act) (c : Files) → MayLeave w a c c
+may_stay w (Search q) c = refl
+may_stay w (Do (Add doc)) c = refl
+may_stay w (Do (Update t doc)) c = refl
+may_stay w (Do (DeleteTerm t)) c = refl
+may_stay w (Do (DeleteQuery q)) c = refl
+may_stay w (Do (SetNumber t n v)) c = refl
+may_stay w (Do CommitOperation) c = record { elsewhere = λ name x y z. refl; whole = inl refl }
+
+-- so does one that was refused, and no commit is
+pub image_stays : (w : Writer) (op : Operation) (r : Refusal) → refusal op ≡ Some r → (c : Files) → ImageAfter w (Do op) c c
+image_stays w (Add doc) r is c = refl
+image_stays w (Update t doc) r is c = refl
+image_stays w (DeleteTerm t) r is c = refl
+image_stays w (DeleteQuery q) r is c = refl
+image_stays w (SetNumber t n v) r is c = refl
+image_stays w CommitOperation r is c = absurd cc
+
 stands_line : (base next : ℕ) (rows : List Row) (lines done rest : List Line) (l : Line) (a : Act) (w : Writer) (lasts : List ℕ) (outcomes : List Outcome) (d e c : Files)
     → lines ≡ done ++ l ∷ rest → l.act ≡ a → is_read_act a ≡ true → w.next_id < 2 ^ 62 → Far base next rows done w lasts outcomes → Starts d base next
     → Stands base next rows lines done w.next_id d e → ImageAfter w a e c → Stands base next rows lines (done ++ l ∷ []) (writer_after w a).next_id d c
