@@ -199,8 +199,7 @@ crash_more moment left_since images start mid now base next rows lines done rest
 pub all_stands : (base next : ℕ) (rows : List Row) (lines done : List Line) (w : Writer) (lasts : List ℕ) (outcomes : List Outcome) (start now : Files → Type 0)
     → done ≡ lines → Far base next rows done w lasts outcomes → Follows (Stands base next rows lines done w.next_id) start now → Follows (HasAll base next rows lines) start now
 all_stands base next rows lines done w lasts outcomes start now is far stands c image =
-    let d = stands c image in
-    (
+    let d = stands c image in (
       d.0,
       d.1,
       record { commits = commits_done base next rows lines done w lasts outcomes (Some d.0) (Some c) is far d.2.commits; kept = d.2.kept },

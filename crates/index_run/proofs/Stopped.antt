@@ -126,14 +126,14 @@ script_crash told to_sync images moment left_since start began did now base next
     let first = leaves_reading told to_sync images moment left_since start began Front only_now before (no_front base next rows (numbered lines) (next + 2 * length (numbered lines)) files (images start) are) in
     let second = leaves_then moment left_since start began did Front (Reaches (HasFront base next rows (numbered lines) (next + length (numbered lines))) (images began)) Front first during (λ c front. front)
     (λ c left.
-        let image = before.crash left.0 left.1 in
-        let front = left.2 in
-        record {
-          count = front.count;
-          commits = wider base next rows (numbered lines) (commit_numbers base (take front.count (numbered lines))) (next + length (numbered lines)) (next + 2 * length (numbered lines)) files c (omega arith)
-              (commits_through base next rows (numbered lines) (commit_numbers base (take front.count (numbered lines))) (next + length (numbered lines)) files left.0 c (are.kept left.0 image) (are.only left.0 image) front.commits);
-          kept = kept_through files left.0 c (are.kept left.0 image) front.kept;
-        }) in
+    let image = before.crash left.0 left.1 in
+    let front = left.2 in
+    record {
+      count = front.count;
+      commits = wider base next rows (numbered lines) (commit_numbers base (take front.count (numbered lines))) (next + length (numbered lines)) (next + 2 * length (numbered lines)) files c (omega arith)
+          (commits_through base next rows (numbered lines) (commit_numbers base (take front.count (numbered lines))) (next + length (numbered lines)) files left.0 c (are.kept left.0 image) (are.only left.0 image) front.commits);
+      kept = kept_through files left.0 c (are.kept left.0 image) front.kept;
+    }) in
     leaves_then moment left_since start did now Front Front Front second (leaves_reading told to_sync images moment left_since did now Front only_now after (leaves_now moment left_since images start did Front counts_now second))
     (λ c front. front) (λ c front. front)
 

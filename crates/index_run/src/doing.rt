@@ -17,12 +17,11 @@ ghost use Rattle.run_report.specs.Searching.{IsDamagedIn};
 
 use crate::begin::begin;
 use crate::lines::do_lines;
-use run_report::report;
-use run_report::Stop;
 use ix_base::List;
 use ix_outside::{Gate, Store, StoreFault};
 use op_script::Line;
 use report_text::Fault;
+use run_report::{Stop, report};
 use std::alloc::Global;
 
 /// Does the lines over the store's last commit, and answers their report, of which nothing is

@@ -3,10 +3,10 @@ ghost use Rattle.std.specs.Prelude.{◌≡◌, ◌≤◌, ◌<◌, ◌+◌, ◌�
 ghost use Rattle.std.specs.Io.KnownBytes.{Consumes, IsAtEnd};
 ghost use Rattle.ix_outside.specs.Causes.{Rose};
 
-use run_report::Stop;
 use ix_outside::Source;
 use op_script::MOST_BYTES;
 use report_text::Fault;
+use run_report::Stop;
 use std::alloc::Global;
 
 const CHUNK: usize = 4096;

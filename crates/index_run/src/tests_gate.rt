@@ -70,7 +70,15 @@ fn watched_run<R: Threads + Wait>(rt: &R, alloc: Global, gate: &Recorder) -> Res
     let mut input = MemorySource::failing(bytes, Vec::new(alloc));
     let mut out = MemorySink::failing(alloc, 65536, Vec::new(alloc))?;
     let store = MemoryStore::new(alloc);
-    let ended = top(rt, alloc, words.as_slice(), &mut input, &mut out, store, gate);
+    let ended = top(
+        rt,
+        alloc,
+        words.as_slice(),
+        &mut input,
+        &mut out,
+        store,
+        gate,
+    );
     Ok(ended.status)
 }
 
@@ -118,7 +126,10 @@ fn files_of_a_run(rt: HostRuntime) {
             &["{\"c\":0,\"op\":\"add\",\"doc\":{\"key\":\"a1\"}}\n{\"c\":0,\"op\":\"commit\"}\n"],
             2,
         ),
-        (&["{\"c\":0,\"op\":\"commit\"}\n{\"c\":256,\"op\":\"commit\"}"], 0),
+        (
+            &["{\"c\":0,\"op\":\"commit\"}\n{\"c\":256,\"op\":\"commit\"}"],
+            0,
+        ),
     ];
     for (script, files) in cases {
         let Ok(left) = files_left(&rt, alloc, script) else {

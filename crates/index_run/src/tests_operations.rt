@@ -1,8 +1,8 @@
 //! Whole runs of each operation over an empty store, against reports that were worked out by hand.
-use crate::call::top;
+use crate::tests::{Done, run_over};
 use commit_point::read_commit;
 use ix_base::NoMemory;
-use ix_outside::{EmptyGate, MemorySink, MemorySource, MemoryStore};
+use ix_memory::MemoryStore;
 use std::alloc::Global;
 use std::sync::Wait;
 use std::thread::Threads;
@@ -26,37 +26,14 @@ const COMMIT: &str = "{\"c\":0,\"op\":\"commit\"}\n";
 
 const ALL: &str = "{\"c\":0,\"op\":\"search\",\"query\":\"all\"}\n";
 
-/// What a run of the lines wrote, and the store after it.
-#[derive(Drop)]
-struct Done {
-    status: u8,
-    written: Vec<u8>,
-    store: MemoryStore,
-}
-
-fn run_lines<R: Threads + Wait>(rt: &R, alloc: Global, lines: &[&str]) -> Result<Done, NoMemory> {
-    let mut bytes = Vec::new(alloc);
-    for line in lines {
-        bytes.extend_from_slice(line.as_bytes())?;
-    }
-    let mut words = Vec::new(alloc);
-    words.push(String::from_str(alloc, "run")?)?;
-    let mut input = MemorySource::failing(bytes, Vec::new(alloc));
-    let mut out = MemorySink::failing(alloc, 65536, Vec::new(alloc))?;
-    let ended = top(
-        rt,
-        alloc,
-        words.as_slice(),
-        &mut input,
-        &mut out,
-        MemoryStore::new(alloc),
-        &EmptyGate,
-    );
-    Ok(Done {
-        status: ended.status,
-        written: out.into_bytes(),
-        store: ended.store,
-    })
+/// A run of the lines over an empty store.
+fn run_lines<R: Threads + Wait>(
+    rt: &R,
+    alloc: Global,
+    lines: &[&str],
+) -> Result<Done<MemoryStore>, NoMemory> {
+    let store = MemoryStore::new(alloc);
+    run_over(rt, alloc, lines, store, Vec::new(alloc), Vec::new(alloc))
 }
 
 /// The birth of the first row of a commit, or 0.
@@ -167,7 +144,7 @@ fn run_with_long_update<R: Threads + Wait>(
     rt: &R,
     alloc: Global,
     more: &str,
-) -> Result<Done, NoMemory> {
+) -> Result<Done<MemoryStore>, NoMemory> {
     let letters = "a".repeat(alloc, 32766)?;
     let front =
         "{\"c\":0,\"op\":\"update\",\"field\":\"key\",\"term\":\"a1\",\"doc\":{\"key\":\"a1\",\"text\":{\"body\":\"";
@@ -219,7 +196,7 @@ fn run_with_long_query<R: Threads + Wait>(
     rt: &R,
     alloc: Global,
     more: &str,
-) -> Result<Done, NoMemory> {
+) -> Result<Done<MemoryStore>, NoMemory> {
     let letters = "a".repeat(alloc, 131059)?;
     let front = "{\"c\":0,\"op\":\"delete_query\",\"query\":{\"phrase\":[\"body\",\"";
     run_lines(rt, alloc, &[front, letters.as_str(), more, "\"]}}\n"])

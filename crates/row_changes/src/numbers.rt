@@ -74,12 +74,7 @@ fn add_last(
     add(alloc, pairs, name, value)
 }
 
-fn add(
-    alloc: Global,
-    pairs: &mut Vec<(Name, i64)>,
-    name: &Name,
-    value: i64,
-) -> Result<(), NoMemory>
+fn add(alloc: Global, pairs: &mut Vec<(Name, i64)>, name: &Name, value: i64) -> Result<(), NoMemory>
     ensures { OnOk result (pairs.new.items ≡ pairs.old.items ++ (name.now, value) ∷ []) }
 {
     pairs.push((name.clone_in(alloc)?, value))?;

@@ -1,6 +1,6 @@
 //! Reports of lines that search nothing, and of a search before any commit.
-use crate::outcome::{Answer, Outcome};
 use crate::assembly::report;
+use crate::outcome::{Answer, Outcome};
 use ix_base::{NoMemory, Query};
 use ix_memory::MemoryStore;
 use std::alloc::Global;
@@ -34,6 +34,7 @@ fn texts_stand_in_the_order_of_the_lines(rt: HostRuntime) {
     let Ok(bytes) = report(alloc, &mut store, outcomes.as_slice()) else {
         panic!(rt; "memory");
     };
-    let wanted = "{\"line\":1,\"seq\":1}\n{\"commit\":0,\"hits\":[],\"line\":2}\n{\"line\":3,\"refused\":\"term\",\"size\":32767}\n{\"docs\":1,\"line\":4,\"seq\":2}\n{\"line\":5,\"refused\":\"query\",\"size\":131073}\n{\"commit\":0,\"hits\":[],\"line\":6}\n";
+    let wanted =
+        "{\"line\":1,\"seq\":1}\n{\"commit\":0,\"hits\":[],\"line\":2}\n{\"line\":3,\"refused\":\"term\",\"size\":32767}\n{\"docs\":1,\"line\":4,\"seq\":2}\n{\"line\":5,\"refused\":\"query\",\"size\":131073}\n{\"commit\":0,\"hits\":[],\"line\":6}\n";
     assert_eq!(rt; bytes.as_slice(), wanted.as_bytes());
 }
