@@ -147,8 +147,7 @@ acknowledged_of s id rows head files a b c before mid after head-is is new puts 
     subst (λ (h : Head). x (Commit h.number) ≡ Some (commit_file h)) head-is (commit_stands head.number (commit_file head) b c after (goes_on_telling (PutsRows id rows) files b from_told) commits stays x image) in
     let step = subst (λ (h : Head). Follows (SameButCommit h.number) mid after) head-is second in
     let q = step x image in
-    let p = first q.0 q.1 in
-    (
+    let p = first q.0 q.1 in (
       p.0,
       p.1,
       record {
