@@ -1,2 +1,3 @@
 pub mod TermOrder
 mod Examples
+pub mod FileSpelling

@@ -1,7 +1,7 @@
 //! The names of a store's files.
-ghost use Rattle.std.specs.Prelude.{◌≡◌, ◌≤◌, ◌++◌, IfSome, IsTrue, length, codes};
+ghost use Rattle.std.specs.Prelude.{◌≡◌, ◌≤◌, ◌++◌, ℕ, None, IfSome, length, codes};
 ghost use Rattle.std.specs.Fmt.{decimal};
-ghost use Rattle.ix_base.specs.FileNames.{name_text, IsName};
+ghost use Rattle.ix_base.specs.FileNames.{name_text, IsCounted, IsName};
 
 use arrayvec::ArrayString;
 
@@ -40,57 +40,73 @@ impl FileName {
 
 impl FileName {
     /// The name that a directory shows as this text: `Some` only of a name with numbers from 1 whose
-    /// text this is, and `None` of a foreign name. It takes no memory.
+    /// text this is, and `None` exactly of a foreign name. It takes no memory.
     pub fn parse(text: &str) -> Option<FileName>
         ensures text { IfSome result (λ name. name_text name ≡ text.now) }
         ensures real { IfSome result IsName }
+        ensures foreign { result ≡ None → (name : FileName) → IsName name → name_text name ≡ text.now → ⊥ }
     {
-        let name = likely(text)?;
-        if name.has_counted_numbers() && name.text().as_str() == text {
-            Some(name)
-        } else {
-            None
+        if let Some(number) = number_between("segments_", text, "") {
+            return Some(FileName::Commit(number));
         }
-    }
-
-    /// Whether each number is at least 1.
-    fn has_counted_numbers(self) -> bool
-        ensures { IsTrue result → IsName self }
-    {
-        match self {
-            FileName::Commit(number) | FileName::Pending(number) => number > 0,
-            FileName::Rows(id) | FileName::Posts(id) => id > 0,
-            FileName::Live(id, number) | FileName::Values(id, number) => id > 0 && number > 0,
+        if let Some(number) = number_between("pending_segments_", text, "") {
+            return Some(FileName::Pending(number));
         }
+        if let Some(id) = number_between("seg_", text, ".row") {
+            return Some(FileName::Rows(id));
+        }
+        if let Some(id) = number_between("seg_", text, ".pst") {
+            return Some(FileName::Posts(id));
+        }
+        if let Some((id, number)) = numbers_before(text, ".liv") {
+            return Some(FileName::Live(id, number));
+        }
+        let (id, number) = numbers_before(text, ".val")?;
+        Some(FileName::Values(id, number))
     }
 }
 
-/// The name that a text seems to be, by its letters. Its numbers may be spelled otherwise there.
-fn likely(text: &str) -> Option<FileName> {
-    if let Some(number) = text.strip_prefix("segments_") {
-        return Some(FileName::Commit(number.parse::<u64>().ok()?));
-    }
-    if let Some(number) = text.strip_prefix("pending_segments_") {
-        return Some(FileName::Pending(number.parse::<u64>().ok()?));
-    }
-    let (numbers, end) = text.strip_prefix("seg_")?.split_once('.')?;
-    match end {
-        "row" => Some(FileName::Rows(numbers.parse::<u64>().ok()?)),
-        "pst" => Some(FileName::Posts(numbers.parse::<u64>().ok()?)),
-        _ => likely_with(numbers, end),
+/// The number from 1 that these digits spell, if they spell one without leading zeros.
+fn counted(digits: &str) -> Option<u64>
+    ensures some { IfSome result (λ number. IsCounted number × (digits.now ≡ decimal number)) }
+    ensures none { result ≡ None → (number : ℕ) → IsCounted number → digits.now ≡ decimal number → ⊥ }
+{
+    let number = digits.parse::<u64>().ok()?;
+    let mut spelling = itoa::Buffer::new();
+    if number > 0 && spelling.format(number) == digits {
+        Some(number)
+    } else {
+        None
     }
 }
 
-/// The same of a file that was written with a commit, by its two numbers and its end.
-fn likely_with(numbers: &str, end: &str) -> Option<FileName> {
-    let (id, number) = numbers.split_once('_')?;
-    let id = id.parse::<u64>().ok()?;
-    let number = number.parse::<u64>().ok()?;
-    match end {
-        "liv" => Some(FileName::Live(id, number)),
-        "val" => Some(FileName::Values(id, number)),
-        _ => None,
-    }
+/// The number from 1 that stands in the text between this front and this end.
+fn number_between(front: &str, text: &str, end: &str) -> Option<u64>
+    ensures some { IfSome result (λ number. IsCounted number × (text.now ≡ front.now ++ (decimal number ++ end.now))) }
+    ensures none { result ≡ None → (number : ℕ) → IsCounted number → text.now ≡ front.now ++ (decimal number ++ end.now) → ⊥ }
+{
+    let rest = text.strip_prefix(front)?;
+    let digits = rest.strip_suffix(end)?;
+    counted(digits)
+}
+
+/// The id and the number, each from 1, of a file that was written with a commit and has this end.
+fn numbers_before(text: &str, end: &str) -> Option<(u64, u64)>
+    ensures some { IfSome result (λ both. IsCounted both.0 × IsCounted both.1 × (text.now ≡ codes "seg_" ++ (decimal both.0 ++ (codes "_" ++ (decimal both.1 ++ end.now))))) }
+    ensures none { result ≡ None → (id number : ℕ) → IsCounted id → IsCounted number → text.now ≡ codes "seg_" ++ (decimal id ++ (codes "_" ++ (decimal number ++ end.now))) → ⊥ }
+{
+    let rest = text.strip_prefix("seg_")?;
+    two_counted(rest.strip_suffix(end)?)
+}
+
+/// Two numbers from 1 that stand round a `_`.
+fn two_counted(digits: &str) -> Option<(u64, u64)>
+    ensures some { IfSome result (λ both. IsCounted both.0 × IsCounted both.1 × (digits.now ≡ decimal both.0 ++ (codes "_" ++ decimal both.1))) }
+    ensures none { result ≡ None → (id number : ℕ) → IsCounted id → IsCounted number → digits.now ≡ decimal id ++ (codes "_" ++ decimal number) → ⊥ }
+{
+    let (id, number) = digits.split_once('_')?;
+    let id = counted(id)?;
+    Some((id, counted(number)?))
 }
 
 fn numbered(front: &str, number: u64, end: &str) -> ArrayString<56>
