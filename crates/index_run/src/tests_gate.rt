@@ -94,8 +94,8 @@ fn the_gate_hears_of_each_line(rt: HostRuntime) {
     assert_eq!(rt; status, 0);
     let wanted: [u64; 8] = [1, 101, 2, 3, 302, 5, 503, 0];
     assert_eq!(rt; gate.count.load(Ordering::SeqCst), 7);
-    for (place, what) in wanted.into_iter().enumerate() {
-        assert_eq!(rt; gate.heard[place].load(Ordering::SeqCst), what);
+    for place in 0..8usize {
+        assert_eq!(rt; gate.heard[place].load(Ordering::SeqCst), wanted[place]);
     }
 }
 

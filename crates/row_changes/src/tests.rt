@@ -4,8 +4,15 @@ use crate::refusal::{Refusal, refusal_of};
 use ix_base::{Document, List, Name, NoMemory, Operation, Query, Row, Term, Text};
 use std::alloc::Global;
 
-fn name(alloc: Global, text: &str) -> Result<Name, NoMemory> {
-    match Name::new(Text::copy_of(alloc, text)?) {
+fn text(alloc: Global, bytes: &str) -> Result<Text, NoMemory> {
+    match Text::new(String::from_str(alloc, bytes)?) {
+        Some(text) => Ok(text),
+        None => Err(NoMemory),
+    }
+}
+
+fn name(alloc: Global, bytes: &str) -> Result<Name, NoMemory> {
+    match Name::new(text(alloc, bytes)?) {
         Some(name) => Ok(name),
         None => Err(NoMemory),
     }
@@ -14,20 +21,18 @@ fn name(alloc: Global, text: &str) -> Result<Name, NoMemory> {
 fn key_term(alloc: Global, key: &str) -> Result<Term, NoMemory> {
     Ok(Term {
         field: name(alloc, "key")?,
-        bytes: Text::copy_of(alloc, key)?,
+        bytes: text(alloc, key)?,
     })
 }
 
 fn document(alloc: Global, key: &str) -> Result<Document, NoMemory> {
-    Ok(Document::of_key(alloc, Text::copy_of(alloc, key)?))
+    Ok(Document::of_key(alloc, text(alloc, key)?))
 }
 
 /// The rows of the keys a, b and a, born by the operations 1, 2 and 3.
 fn three_rows(alloc: Global) -> Result<List<Row>, NoMemory> {
     let mut rows = List::new(alloc);
-    let mut birth = 0;
-    for key in ["a", "b", "a"] {
-        birth += 1;
+    for (birth, key) in [(1, "a"), (2, "b"), (3, "a")] {
         let doc = document(alloc, key)?;
         rows.push(Row { birth, doc })?;
     }
@@ -51,16 +56,16 @@ fn operation(alloc: Global, which: u8) -> Result<Operation, NoMemory> {
 
 /// Each row as its key, its birth and its numbers, as `b2n7`.
 fn shown(alloc: Global, rows: &[Row]) -> Result<String, NoMemory> {
-    let mut text = String::new(alloc);
+    let mut shown = String::new(alloc);
     for row in rows {
-        text.push_str(row.doc.key.as_str())?;
-        text.push((b'0' + (row.birth % 10) as u8) as char)?;
+        shown.push_str(row.doc.key.as_str())?;
+        shown.push((b'0' + (row.birth % 10) as u8) as char)?;
         for (name, value) in row.doc.num.as_slice() {
-            text.push_str(name.as_str())?;
-            text.push(if *value == 7 { '7' } else { '?' })?;
+            shown.push_str(name.as_str())?;
+            shown.push(if *value == 7 { '7' } else { '?' })?;
         }
     }
-    Ok(text)
+    Ok(shown)
 }
 
 fn shown_after(alloc: Global, which: u8) -> Result<String, NoMemory> {

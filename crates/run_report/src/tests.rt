@@ -9,16 +9,14 @@ use std::alloc::Global;
 fn six_outcomes(alloc: Global) -> Result<Vec<Outcome>, NoMemory> {
     let mut outcomes = Vec::new(alloc);
     let answers = [
-        Answer::Numbered(1),
-        Answer::Searched(0, Query::All),
-        Answer::RefusedTerm(32_767),
-        Answer::Committed(2, 1),
-        Answer::RefusedQuery(131_073),
-        Answer::Searched(0, Query::All),
+        (1, Answer::Numbered(1)),
+        (2, Answer::Searched(0, Query::All)),
+        (3, Answer::RefusedTerm(32_767)),
+        (4, Answer::Committed(2, 1)),
+        (5, Answer::RefusedQuery(131_073)),
+        (6, Answer::Searched(0, Query::All)),
     ];
-    let mut line = 0;
-    for answer in answers {
-        line += 1;
+    for (line, answer) in answers {
         outcomes.push(Outcome { line, answer })?;
     }
     Ok(outcomes)
