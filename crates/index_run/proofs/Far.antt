@@ -6,7 +6,6 @@ use Rattle.std.proofs.lemmas.List.{append-nil, length-append, get_or-set_same, g
 use Rattle.std.proofs.lemmas.Bool.Decides.{eqb_tells}
 use Rattle.ix_base.specs.declared.document.Operation.{Operation}
 use Rattle.ix_base.specs.declared.document.Operation.TheVariants.{Add, Update, DeleteTerm, DeleteQuery, SetNumber, Commit}
-use Rattle.ix_base.specs.declared.document.Document.{Document}
 use Rattle.ix_base.specs.declared.document.Row.{Row}
 use Rattle.ix_base.specs.Refusals.{Refusal, long_term, long_query, refusal}
 use Rattle.ix_base.specs.Steps.{step, after}

@@ -1,5 +1,5 @@
 -- What the images of a store have while the lines of a script are done.
-use Rattle.std.proofs.Common.{◌≡◌, ◌≢◌, ◌⊎◌, inl, inr, ℕ, ◌+◌, ◌<◌, ◌≤◌, ◌^◌, true, List, [], ◌∷◌, ◌++◌, length, take, Some, None, refl, sym, ap, subst, ◌∙◌, append_assoc, arith}
+use Rattle.std.proofs.Common.{◌≡◌, ◌⊎◌, inl, inr, ℕ, ◌+◌, ◌<◌, ◌≤◌, ◌^◌, true, List, [], ◌∷◌, ◌++◌, length, take, Some, None, refl, sym, ap, subst, ◌∙◌, append_assoc, arith}
 use Rattle.std.specs.Prelude.{IsSome, Option}
 use Rattle.std.specs.List.{AllByRecursion}
 use Rattle.std.proofs.lemmas.List.{length-append}
@@ -17,7 +17,7 @@ use Rattle.ix_outside.specs.Images.{Follows}
 use Rattle.commit_point.specs.Holds.{Holds, KeepsCommits}
 use Rattle.commit_point.specs.Laws.{holds_kept, other_commit}
 use Rattle.commit_point.specs.Putting.{Reaches}
-use Rattle.commit_point.specs.Writing.{SameElsewhere, Commits, MayCommit, next_after}
+use Rattle.commit_point.specs.Writing.{SameElsewhere, MayCommit, next_after}
 use Rattle.op_script.specs.Shape.{is_read_act}
 use Rattle.op_script.specs.declared.script.Line.{Line}
 use Rattle.op_script.specs.declared.script.Act.{Act}
@@ -26,7 +26,7 @@ use Rattle.run_report.specs.declared.outcome.Outcome.{Outcome}
 use Rattle.index_run.specs.declared.writer.Writer.{Writer}
 use Rattle.index_run.specs.Numbering.{numbered, is_numbered, commit_numbers}
 use Rattle.index_run.specs.Doing.{writer_after, FilesAfter, ImageAfter, MayLeave}
-use Rattle.index_run.specs.Headline.{HasCommits, IsIn, Starts}
+use Rattle.index_run.specs.Headline.{HasCommits, Starts}
 use Rattle.index_run.specs.Crashes.{HasAll, HasFront}
 use Rattle.index_run.proofs.Far.{Far, SoFar, files_line, kept_line, elsewhere_of, has_widen, commits_done}
 use Rattle.index_run.proofs.Kept.{AllBelow, Made, commits_none, kept_more, keeps_itself, nat_or}

@@ -1,5 +1,5 @@
 -- What a crash leaves of a run, over commits that are kept.
-use Rattle.std.proofs.Common.{◌≡◌, ◌⊎◌, inl, inr, ℕ, suc, ◌+◌, ◌*◌, ◌<◌, ◌≤◌, List, [], ◌∷◌, length, take, Some, None, Ok, Err, Result, refl, sym, subst, ◌∙◌, arith, Vec}
+use Rattle.std.proofs.Common.{◌≡◌, inl, inr, ℕ, suc, ◌+◌, ◌*◌, ◌≤◌, List, [], ◌∷◌, length, take, Some, None, Ok, Err, Result, refl, sym, subst, ◌∙◌, arith, Vec}
 use Rattle.std.specs.Prelude.{IsSome, Option, Contains, IfOk}
 use Rattle.std.specs.declared.alloc.Global.{Global}
 use Rattle.ix_base.specs.declared.document.Row.{Row}
@@ -10,13 +10,13 @@ use Rattle.ix_outside.specs.CallLaws.{leaves_reading, leaves_then, leaves_now}
 use Rattle.ix_outside.specs.Files.{Files, Changes}
 use Rattle.ix_outside.specs.Images.{Follows, NoMore}
 use Rattle.commit_point.specs.declared.heads.HeadSegment.{HeadSegment}
-use Rattle.commit_point.specs.Holds.{Holds, HaveRows, ListsId, IsFileOf, KeepsCommits}
+use Rattle.commit_point.specs.Holds.{Holds, HaveRows, IsFileOf, KeepsCommits}
 use Rattle.commit_point.specs.Putting.{Reaches}
 use Rattle.op_script.specs.declared.script.Line.{Line}
 use Rattle.run_report.specs.declared.stop.Stop.{Stop}
 use Rattle.index_run.specs.Numbering.{numbered, commit_numbers}
 use Rattle.index_run.specs.Report.{report}
-use Rattle.index_run.specs.Headline.{HasCommits, IsIn, Starts}
+use Rattle.index_run.specs.Headline.{HasCommits, Starts}
 use Rattle.index_run.specs.Crashes.{AreKept, HasAll, HasFront, StopsRight}
 use Rattle.index_run.specs.Script.{DoesScript}
 use Rattle.index_run.proofs.Beginnings.{none_of}

@@ -1,6 +1,6 @@
 use Rattle.std.proofs.Common.{◌≡◌, ◌+◌, ◌≤◌, ◌^◌, ℕ, List, [], ◌∷◌, ◌++◌, length, get_or, refl, sym, ap, subst, ◌∙◌, append_assoc, arith}
 use Rattle.std.specs.Vec.Iter.{into_iter_items}
-use Rattle.ix_outside.specs.Files.{Files, Changes}
+use Rattle.ix_outside.specs.Files.{Changes}
 use Rattle.ix_outside.specs.Images.{Follows}
 use Rattle.op_script.specs.declared.script.Line.{Line}
 use Rattle.index_run.specs.Doing.{writer_after, lasts_after, answer_by}

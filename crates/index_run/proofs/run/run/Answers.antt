@@ -1,9 +1,7 @@
 use Rattle.std.proofs.Common.{◌≡◌, ℕ, ◌+◌, ◌*◌, List, length, take, Some, subst}
 use Rattle.std.specs.Io.KnownBytes.{Appends}
 use Rattle.ix_outside.specs.CallLaws.{leaves_none, leaves_less}
-use Rattle.ix_outside.specs.Files.{Files}
 use Rattle.commit_point.specs.Holds.{KeepsCommits}
-use Rattle.op_script.specs.declared.script.Line.{Line}
 use Rattle.index_run.specs.Causes.{stop_status}
 use Rattle.index_run.specs.Crashes.{HasFront, StopsRight}
 use Rattle.index_run.specs.Numbering.{numbered}
