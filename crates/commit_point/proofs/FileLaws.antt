@@ -10,7 +10,7 @@ use Rattle.ix_base.specs.declared.file_name.FileName.{FileName}
 use Rattle.ix_base.specs.declared.document.Row.{Row}
 use Rattle.commit_point.specs.declared.heads.HeadSegment.{HeadSegment}
 use Rattle.commit_point.specs.declared.heads.Head.{Head}
-use Rattle.commit_point.specs.declared.fault.Damaged.{Damaged}
+use Rattle.ix_base.specs.declared.damaged.Damaged.{Damaged}
 use Rattle.commit_point.specs.declared.fault.FileFault.{FileFault}
 use Rattle.commit_point.specs.Spelling.{be32, be64, rows_mark, commit_mark, document, row, rows_file, entry, commit_file}
 use Rattle.commit_point.specs.Fits.{DocumentFits, BirthsRise, IdsRise, EntryFits, HeadFits, IsSegment}

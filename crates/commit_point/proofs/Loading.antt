@@ -5,7 +5,7 @@ use Rattle.std.proofs.lemmas.List.{take_more, take_all, take-append-drop}
 use Rattle.ix_base.specs.declared.file_name.FileName.TheVariants.{Commit, Rows}
 use Rattle.ix_base.specs.declared.document.Row.{Row}
 use Rattle.ix_outside.specs.Files.{Files, Was, Reads}
-use Rattle.commit_point.specs.declared.fault.Damaged.{Damaged}
+use Rattle.ix_base.specs.declared.damaged.Damaged.{Damaged}
 use Rattle.commit_point.specs.declared.heads.HeadSegment.{HeadSegment}
 use Rattle.commit_point.specs.declared.heads.Head.{Head}
 use Rattle.commit_point.specs.Spelling.{rows_file}

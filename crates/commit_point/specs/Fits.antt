@@ -2,7 +2,8 @@
 use Rattle.std.specs.Prelude.{◌≡◌, ℕ, ℤ, ◌+◌, ◌<◌, ◌≤◌, ◌^◌, List, [], ◌∷◌, Bool, true, false, length, map, IsUtf8, FitsSigned, ⊤}
 use Rattle.std.specs.Int.{w64}
 use Rattle.std.specs.List.{AllByRecursion}
-use Rattle.ix_base.specs.Limits.{is_name, names_rise, names_are_apart}
+use Rattle.ix_base.specs.Limits.{is_name, names_rise}
+use Rattle.ix_base.specs.Documents.{is_apart}
 use Rattle.ix_base.specs.declared.document.Document.{Document}
 use Rattle.ix_base.specs.declared.document.Row.{Row}
 use Rattle.commit_point.specs.declared.heads.HeadSegment.{HeadSegment}
@@ -38,7 +39,7 @@ pub record DocumentFits (doc : Document) : Type 0 where
   pub num_count : length doc.num < 2 ^ 64
   pub num : AllByRecursion NumberFits doc.num
   pub num_rises : names_rise (map (λ pair. pair.0) doc.num) ≡ true
-  pub apart : names_are_apart (map (λ pair. pair.0) doc.text) (map (λ pair. pair.0) doc.exact) ≡ true
+  pub apart : is_apart doc ≡ true
 
 -- births rise, from some number up to a limit
 abbrev pub BirthsRise : ℕ → ℕ → List Row → Type 0

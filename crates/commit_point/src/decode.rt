@@ -11,11 +11,11 @@ ghost use Rattle.commit_point.specs.Reading.{GivesFile, FailsFile, row_at, rows_
 ghost use Rattle.commit_point.specs.Spelling.{rows_file, commit_file};
 
 use crate::broken::Broken;
-use crate::fault::{Damaged, FileFault};
+use crate::fault::FileFault;
 use crate::heads::{Head, HeadSegment};
 use crate::read_documents::row_of;
 use crate::read_fields::{commit_mark_at, rows_mark_at, u32_at, u64_at};
-use ix_base::{FileName, List, Row};
+use ix_base::{Damaged, FileName, List, Row};
 use std::alloc::Global;
 use std::collections::BTreeSet;
 

@@ -1,7 +1,8 @@
 //! Documents and rows as bytes. What is put fits the grammar, as the types of its parts say.
 ghost use Rattle.std.specs.Prelude.{◌≡◌, ◌<◌, ◌^◌, ◌++◌, length, map, true, OnOk};
 ghost use Rattle.std.specs.List.{AllByRecursion};
-ghost use Rattle.ix_base.specs.Limits.{names_are_apart, names_rise};
+ghost use Rattle.ix_base.specs.Limits.{names_rise};
+ghost use Rattle.ix_base.specs.Documents.{is_apart};
 ghost use Rattle.commit_point.specs.Spelling.{field, fields, number, numbers, document, row};
 ghost use Rattle.commit_point.specs.Fits.{FieldFits, NumberFits, DocumentFits};
 
@@ -55,7 +56,7 @@ fn put_numbers(out: &mut Vec<u8>, pairs: &Numbers) -> Result<(), NoMemory>
 }
 
 fn put_document(out: &mut Vec<u8>, doc: &Document) -> Result<(), NoMemory>
-    requires { names_are_apart (map (λ pair. pair.0) doc.now.text) (map (λ pair. pair.0) doc.now.exact) ≡ true }
+    requires { is_apart doc.now ≡ true }
     ensures bytes { OnOk result (out.new.items ≡ out.old.items ++ document doc.now) }
     ensures fits { OnOk result (DocumentFits doc.now) }
 {
@@ -68,7 +69,7 @@ fn put_document(out: &mut Vec<u8>, doc: &Document) -> Result<(), NoMemory>
 
 /// A row, behind what stands there.
 pub(crate) fn put_row(out: &mut Vec<u8>, item: &Row) -> Result<(), NoMemory>
-    requires { names_are_apart (map (λ pair. pair.0) item.now.doc.text) (map (λ pair. pair.0) item.now.doc.exact) ≡ true }
+    requires { is_apart item.now.doc ≡ true }
     ensures bytes { OnOk result (out.new.items ≡ out.old.items ++ row item.now) }
     ensures fits { OnOk result (DocumentFits item.now.doc) }
 {

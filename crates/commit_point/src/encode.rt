@@ -1,7 +1,7 @@
 //! The files of a commit as bytes.
 ghost use Rattle.std.specs.Prelude.{◌≡◌, ◌<◌, ◌^◌, ◌++◌, All, length, map, true, OnOk, IfOk};
 ghost use Rattle.std.specs.List.{AllByRecursion};
-ghost use Rattle.ix_base.specs.Limits.{names_are_apart};
+ghost use Rattle.ix_base.specs.Documents.{is_apart};
 ghost use Rattle.commit_point.specs.Spelling.{rows_file, entry, commit_file};
 ghost use Rattle.commit_point.specs.Fits.{DocumentFits};
 
@@ -13,7 +13,7 @@ use std::alloc::Global;
 
 fn put_rows(out: &mut Vec<u8>, id: u64, rows: &[Row]) -> Result<(), NoMemory>
     requires count { length rows.now < 2 ^ 32 }
-    requires documents { All (λ row. names_are_apart (map (λ pair. pair.0) row.doc.text) (map (λ pair. pair.0) row.doc.exact) ≡ true) rows.now }
+    requires documents { All (λ row. is_apart row.doc ≡ true) rows.now }
     ensures bytes { OnOk result (out.new.items ≡ out.old.items ++ rows_file id rows.now) }
     ensures fits { OnOk result (AllByRecursion (λ row. DocumentFits row.doc) rows.now) }
 {
@@ -31,7 +31,7 @@ fn put_rows(out: &mut Vec<u8>, id: u64, rows: &[Row]) -> Result<(), NoMemory>
 /// their types keep.
 pub fn encode_row(alloc: Global, id: u64, rows: &[Row]) -> Result<Vec<u8>, NoMemory>
     requires count { length rows.now < 2 ^ 32 }
-    requires documents { All (λ row. names_are_apart (map (λ pair. pair.0) row.doc.text) (map (λ pair. pair.0) row.doc.exact) ≡ true) rows.now }
+    requires documents { All (λ row. is_apart row.doc ≡ true) rows.now }
     ensures file { IfOk result (λ bytes. bytes.items ≡ rows_file id rows.now) }
     ensures fits { OnOk result (AllByRecursion (λ row. DocumentFits row.doc) rows.now) }
 {

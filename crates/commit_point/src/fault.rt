@@ -2,16 +2,8 @@
 ghost use Rattle.std.specs.Prelude.{◌≡◌};
 ghost use Rattle.commit_point.specs.declared.fault.OpenFault.TheVariants.{NoMemory};
 
-use ix_base::FileName;
+use ix_base::Damaged;
 use ix_outside::StoreFault;
-
-/// A file whose bytes are not in the grammar, and the first broken place: the offset of the first
-/// byte of the first field that is cut short or breaks a rule. An absent file is broken at 0.
-#[derive(Clone, Copy, Debug, PartialEq, Eq)]
-pub struct Damaged {
-    pub file: FileName,
-    pub at: u64,
-}
 
 /// Why a file's bytes were not read.
 #[derive(Clone, Copy, Debug, PartialEq, Eq)]

@@ -19,7 +19,7 @@ mod write;
 
 pub use decode::{decode_commit, decode_row};
 pub use encode::{encode_commit, encode_row};
-pub use fault::{CommitRefused, Damaged, FileFault, OpenFault};
+pub use fault::{CommitRefused, FileFault, OpenFault};
 pub use heads::{Head, HeadSegment};
 pub use listing::list_commits;
 pub use open::{Opened, head, open_commit, read_commit};

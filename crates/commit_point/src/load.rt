@@ -6,16 +6,16 @@ ghost use Rattle.ix_base.specs.declared.file_name.FileName.TheVariants.{Commit, 
 ghost use Rattle.ix_outside.specs.Causes.{Rose};
 ghost use Rattle.ix_outside.specs.Files.{Files, Was, Reads};
 ghost use Rattle.ix_outside.specs.Calls.{OnlyReads};
-ghost use Rattle.commit_point.specs.declared.fault.Damaged.{Damaged};
+ghost use Rattle.ix_base.specs.declared.damaged.Damaged.{Damaged};
 ghost use Rattle.commit_point.specs.Fits.{HeadFits, IsSegment};
 ghost use Rattle.commit_point.specs.Loading.{IsBroken, AreRead, BreakAt};
 ghost use Rattle.commit_point.specs.Reading.{head_in, rows_in, has_birth};
 ghost use Rattle.commit_point.specs.Spelling.{rows_file, commit_file};
 
 use crate::decode::{decode_commit, decode_row};
-use crate::fault::{Damaged, FileFault, OpenFault};
+use crate::fault::{FileFault, OpenFault};
 use crate::heads::{Head, HeadSegment};
-use ix_base::{FileName, List, NoMemory, Row};
+use ix_base::{Damaged, FileName, List, NoMemory, Row};
 use ix_outside::{Store, StoreFault};
 use std::alloc::Global;
 use std::collections::BTreeSet;

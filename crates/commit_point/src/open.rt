@@ -8,14 +8,14 @@ ghost use Rattle.ix_outside.specs.Files.{Files, Was};
 ghost use Rattle.ix_outside.specs.Calls.{OnlyReads};
 ghost use Rattle.commit_point.specs.Holds.{HasHead, Holds};
 ghost use Rattle.commit_point.specs.Reading.{head_from, reading};
-ghost use Rattle.commit_point.specs.declared.fault.Damaged.{Damaged};
+ghost use Rattle.ix_base.specs.declared.damaged.Damaged.{Damaged};
 ghost use Rattle.commit_point.specs.declared.heads.Head.{Head};
 
-use crate::fault::{Damaged, OpenFault};
+use crate::fault::OpenFault;
 use crate::heads::Head;
 use crate::listing::list_commits;
 use crate::load::{read_head, read_segments};
-use ix_base::{FileName, List, Row};
+use ix_base::{Damaged, FileName, List, Row};
 use ix_outside::{Store, StoreFault};
 use std::alloc::Global;
 

@@ -2,7 +2,7 @@
 ghost use Rattle.std.specs.Prelude.{◌≡◌, ◌≢◌, ◌<◌, ◌≤◌, ◌^◌, ℕ, true, false, All, length, map, IfErr, OnOk, OnErr, IsTrue, Err};
 ghost use Rattle.std.specs.List.{AllByRecursion};
 ghost use Rattle.ix_base.specs.FileNames.{IsName};
-ghost use Rattle.ix_base.specs.Limits.{names_are_apart};
+ghost use Rattle.ix_base.specs.Documents.{is_apart};
 ghost use Rattle.ix_base.specs.declared.file_name.FileName.{FileName};
 ghost use Rattle.ix_base.specs.declared.file_name.FileName.TheVariants.{Commit, Pending, Rows};
 ghost use Rattle.ix_outside.specs.Causes.{Rose};
@@ -48,7 +48,7 @@ fn put_segment<S: Store>(
 ) -> Result<(), StoreFault>
     requires some { 1 ≤ id }
     requires count { length rows.now < 2 ^ 32 }
-    requires documents { All (λ row. names_are_apart (map (λ pair. pair.0) row.doc.text) (map (λ pair. pair.0) row.doc.exact) ≡ true) rows.now }
+    requires documents { All (λ row. is_apart row.doc ≡ true) rows.now }
     ensures ok { OnOk result (Changes (Puts (Rows id) (rows_file id rows.now)) (S.files store.old) (S.files store.new)) }
     ensures err { OnErr result (Changes (SameBut (Rows id)) (S.files store.old) (S.files store.new)) }
     ensures fits { OnOk result (AllByRecursion (λ row. DocumentFits row.doc) rows.now) }
@@ -74,7 +74,7 @@ pub(crate) fn put_rows_file<S: Store>(
 ) -> Result<(), StoreFault>
     requires some { 1 ≤ id }
     requires count { length rows.now < 2 ^ 32 }
-    requires documents { All (λ row. names_are_apart (map (λ pair. pair.0) row.doc.text) (map (λ pair. pair.0) row.doc.exact) ≡ true) rows.now }
+    requires documents { All (λ row. is_apart row.doc ≡ true) rows.now }
     ensures ok { OnOk result (Changes (PutsRows id rows.now) (S.files store.old) (S.files store.new)) }
     ensures err { OnErr result (Changes (SameBut (Rows id)) (S.files store.old) (S.files store.new)) }
     ensures fits { OnOk result (AllByRecursion (λ row. DocumentFits row.doc) rows.now) }

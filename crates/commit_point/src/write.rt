@@ -1,6 +1,6 @@
 //! Writing a commit.
 ghost use Rattle.std.specs.Prelude.{◌≡◌, ◌≢◌, ◌<◌, ◌≤◌, ◌+◌, ◌^◌, ◌↔◌, ℕ, length, map, true, false, All, IsTrue, IsSome, OnOk, OnErr, IfOk, IfErr, Some, None, Err};
-ghost use Rattle.ix_base.specs.Limits.{names_are_apart};
+ghost use Rattle.ix_base.specs.Documents.{is_apart};
 ghost use Rattle.ix_base.specs.declared.file_name.FileName.{FileName};
 ghost use Rattle.ix_base.specs.declared.file_name.FileName.TheVariants.{Commit, Rows};
 ghost use Rattle.ix_outside.specs.Causes.{Rose};
@@ -103,7 +103,7 @@ pub fn write_commit<S: Store>(
     requires some_id { 1 ≤ next_id }
     requires room { next_id < 2 ^ 62 + 2 ^ 62 }
     requires births { BirthsRise 1 number rows.now }
-    requires documents { All (λ row. names_are_apart (map (λ pair. pair.0) row.doc.text) (map (λ pair. pair.0) row.doc.exact) ≡ true) rows.now }
+    requires documents { All (λ row. is_apart row.doc ≡ true) rows.now }
 
     ensures docs { IfOk result (λ docs. docs ≡ length rows.now) }
     ensures ok { OnOk result (next_id < 2 ^ 62 → Changes (Commits number next_id rows.now) (S.files store.old) (S.files store.new)) }

@@ -14,7 +14,7 @@ use Rattle.commit_point.specs.declared.heads.Head.{Head}
 use Rattle.commit_point.specs.Fits.{DocumentFits, IdsRise}
 use Rattle.commit_point.specs.Holds.{Holds, HaveRows, HasHead, ListsId, IsLawful}
 use Rattle.commit_point.specs.Laws.{one_head}
-use Rattle.op_script.specs.Shape.{is_apart}
+use Rattle.ix_base.specs.Documents.{is_apart}
 use Rattle.index_run.specs.declared.writer.Writer.{Writer}
 use Rattle.index_run.specs.Headline.{IsLast, Begins, Starts}
 use Rattle.index_run.specs.Beginning.{last_or_zero, IsOn}

@@ -11,7 +11,8 @@ use Rattle.ix_base.specs.declared.document.Operation.TheVariants.{Add, Update, D
 use Rattle.ix_base.specs.declared.document.Row.{Row}
 use Rattle.ix_base.specs.Steps.{step, without, with_value}
 use Rattle.commit_point.specs.Fits.{BirthsRise}
-use Rattle.op_script.specs.Shape.{is_read_operation, is_apart}
+use Rattle.op_script.specs.Shape.{is_read_operation}
+use Rattle.ix_base.specs.Documents.{is_apart}
 use Rattle.index_run.specs.declared.writer.Writer.{Writer}
 use Rattle.index_run.specs.Writer.{CanGoOn, CanCommit}
 

@@ -5,7 +5,7 @@ ghost use Rattle.ix_outside.specs.Causes.{Rose};
 ghost use Rattle.ix_outside.specs.Calls.{OnlyReads};
 ghost use Rattle.ix_outside.specs.Files.{Files, Was};
 ghost use Rattle.commit_point.specs.Holds.{Holds};
-ghost use Rattle.commit_point.specs.declared.fault.Damaged.{Damaged};
+ghost use Rattle.ix_base.specs.declared.damaged.Damaged.{Damaged};
 ghost use Rattle.index_run.specs.Headline.{IsLast};
 ghost use Rattle.index_run.specs.Causes.{IsOneOf, stop_status};
 ghost use Rattle.run_report.specs.Searching.{IsDamagedIn};

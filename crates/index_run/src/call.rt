@@ -6,7 +6,7 @@ ghost use Rattle.ix_outside.specs.Causes.{Rose};
 ghost use Rattle.ix_outside.specs.Calls.{LeavesOnly};
 ghost use Rattle.ix_outside.specs.Files.{Files, Changes};
 ghost use Rattle.commit_point.specs.Holds.{KeepsCommits};
-ghost use Rattle.commit_point.specs.declared.fault.Damaged.{Damaged};
+ghost use Rattle.ix_base.specs.declared.damaged.Damaged.{Damaged};
 ghost use Rattle.op_script.specs.Language.{script};
 ghost use Rattle.op_script.specs.declared.script.BadLine.{BadLine};
 ghost use Rattle.op_script.specs.declared.script.Line.{Line};

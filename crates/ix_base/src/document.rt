@@ -16,7 +16,7 @@ pub struct Term {
 
 /// A document. Its key is found as a term of the field `key`, each text of `exact` as one term,
 /// each text of `text` by its folded words; `num` holds its numbers. No name of `text` or `exact`
-/// is `key`, and none stands in both: `is_document` says so wherever it matters.
+/// is `key`, and none stands in both: `is_apart` says so wherever it matters.
 #[derive(Drop)]
 pub struct Document {
     pub key: Text,

@@ -6,6 +6,7 @@
 //! where a user would call them equal.
 #![tactic(auto)]
 
+mod damaged;
 mod document;
 mod fields;
 mod file_name;
@@ -15,6 +16,7 @@ mod postings;
 mod query;
 mod text;
 
+pub use damaged::Damaged;
 pub use document::{Document, Operation, Row, Term};
 pub use fields::{Fields, Numbers};
 pub use file_name::FileName;

@@ -13,7 +13,8 @@ use Rattle.op_script.specs.Verbs.{members_of}
 use Rattle.op_script.specs.Documents.{document_of, document_from, document_names, are_apart, texts_at, texts_of, names_at, few_by, is_few}
 use Rattle.op_script.specs.Arguments.{text_at, name_at, number_at, query_at, document_at, given}
 use Rattle.op_script.specs.Language.{byte_of, caller_of, verb_of, act_of, line_with, line_by, line_of, placed, request_of, line_at, and_then, lines_from, most_bytes}
-use Rattle.op_script.specs.Shape.{is_apart, is_read_act, LinesRise, AreReadActs, AreScriptLines}
+use Rattle.op_script.specs.Shape.{is_read_act, LinesRise, AreReadActs, AreScriptLines}
+use Rattle.ix_base.specs.Documents.{is_apart}
 use Rattle.op_script.specs.declared.script.Act.{Act}
 use Rattle.op_script.specs.declared.script.Line.{Line}
 use Rattle.op_script.specs.declared.script.BadLine.{BadLine}

@@ -1,16 +1,11 @@
 -- What holds of every script that was read.
-use Rattle.std.specs.Prelude.{◌≡◌, ℕ, ◌+◌, ◌<◌, ◌≤◌, ◌^◌, List, [], ◌∷◌, Bool, true, length, map, ⊤}
-use Rattle.ix_base.specs.Limits.{names_are_apart}
-use Rattle.ix_base.specs.declared.document.Document.{Document}
+use Rattle.std.specs.Prelude.{◌≡◌, ℕ, ◌+◌, ◌<◌, ◌≤◌, ◌^◌, List, [], ◌∷◌, Bool, true, length, ⊤}
+use Rattle.ix_base.specs.Documents.{is_apart}
 use Rattle.ix_base.specs.declared.document.Operation.{Operation}
 use Rattle.ix_base.specs.declared.document.Operation.TheVariants.{Add, Update, DeleteTerm, DeleteQuery, SetNumber, Commit}
 use Rattle.op_script.specs.declared.script.Line.{Line}
 use Rattle.op_script.specs.declared.script.Act.{Act}
 use Rattle.op_script.specs.declared.script.Act.TheVariants.{Do, Search}
-
--- no name of a document stands twice among its texts, nor is one `key`
-abbrev pub is_apart : Document → Bool
-is_apart doc = names_are_apart (map (λ pair. pair.0) doc.text) (map (λ pair. pair.0) doc.exact)
 
 -- what holds of every operation that is read: of a document that it brings
 abbrev pub is_read_operation : Operation → Bool

@@ -3,7 +3,7 @@ use Rattle.std.proofs.Common.{◌≡◌, ℕ, List, ◌++◌, codes, refl, ◌�
 use Rattle.std.specs.Fmt.{decimal, digits}
 use Rattle.serde_json.proofs.OnLiterals.{serde_json_on_literals}
 use Rattle.ix_base.specs.FileNames.{name_text}
-use Rattle.commit_point.specs.declared.fault.Damaged.{Damaged}
+use Rattle.ix_base.specs.declared.damaged.Damaged.{Damaged}
 use Rattle.json.specs.Print.{escape}
 use Rattle.report_text.proofs.Escapes.{name_plain}
 use Rattle.op_script.specs.declared.script.Why.{Why}

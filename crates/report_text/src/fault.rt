@@ -4,7 +4,7 @@ ghost use Rattle.ix_base.specs.FileNames.{name_text};
 ghost use Rattle.report_text.specs.Faults.{fault_text, status_of, why_text};
 
 use arrayvec::ArrayString;
-use commit_point::Damaged;
+use ix_base::Damaged;
 use op_script::{BadLine, Why};
 
 /// A fault that ends the program. Each has a status and a line of its own.

@@ -1,5 +1,5 @@
 use super::*;
-use commit_point::Damaged;
+use ix_base::Damaged;
 use ix_base::{FileName, Operation, Row};
 use op_script::{Act, BadLine, Why, read_script};
 use std::alloc::Global;

@@ -5,7 +5,7 @@ use Rattle.ix_base.specs.declared.document.Row.{Row}
 use Rattle.ix_outside.specs.Files.{Files, Was}
 use Rattle.commit_point.specs.Holds.{Holds}
 use Rattle.commit_point.specs.Reading.{reading}
-use Rattle.commit_point.specs.declared.fault.Damaged.{Damaged}
+use Rattle.ix_base.specs.declared.damaged.Damaged.{Damaged}
 use Rattle.run_report.specs.declared.outcome.Outcome.{Outcome}
 use Rattle.run_report.specs.declared.outcome.Answer.{Answer}
 use Rattle.run_report.specs.declared.outcome.Answer.TheVariants.{Searched}

@@ -5,7 +5,7 @@ ghost use Rattle.ix_base.specs.declared.document.Row.{Row};
 ghost use Rattle.ix_outside.specs.Causes.{Rose};
 ghost use Rattle.ix_outside.specs.Calls.{OnlyReads};
 ghost use Rattle.ix_outside.specs.Files.{Files};
-ghost use Rattle.commit_point.specs.declared.fault.Damaged.{Damaged};
+ghost use Rattle.ix_base.specs.declared.damaged.Damaged.{Damaged};
 ghost use Rattle.run_report.specs.Texts.{outcome_text, texts};
 ghost use Rattle.run_report.specs.Searching.{CanSearch, IsDamagedIn};
 ghost use Rattle.run_report.specs.Assembling.{IsOrderOf};

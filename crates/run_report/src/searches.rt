@@ -6,7 +6,7 @@ ghost use Rattle.ix_outside.specs.Calls.{OnlyReads};
 ghost use Rattle.ix_outside.specs.Files.{Files, Was};
 ghost use Rattle.commit_point.specs.Holds.{Holds};
 ghost use Rattle.commit_point.specs.Reading.{reading};
-ghost use Rattle.commit_point.specs.declared.fault.Damaged.{Damaged};
+ghost use Rattle.ix_base.specs.declared.damaged.Damaged.{Damaged};
 ghost use Rattle.run_report.specs.Texts.{outcome_text, answer_text};
 ghost use Rattle.report_text.specs.Lines.{text_line, search_value};
 ghost use Rattle.run_report.specs.Texts.{matching};
