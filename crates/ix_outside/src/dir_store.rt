@@ -166,6 +166,8 @@ impl<R: Files + AllocGlobal + Clone + Drop> Store for DirStore<R> {
 
     ghost only_now = { λ store c left. left };
 
+    ghost reads_are_image = { λ store here told. tt };
+
     fn list(&mut self, alloc: Global) -> Result<Vec<FileName>, StoreFault> {
         let answer = self.list_names(alloc);
         told(&mut self.faults, answer)
