@@ -1,95 +1,68 @@
--- Laws of several calls of a store, one after another.
-use Rattle.std.proofs.Common.{◌∙◌, ◌≤◌, inl, inr, ℕ, refl, arith}
-use Rattle.std.specs.Prelude.{◌⊎◌, Option}
-use Rattle.ix_base.specs.declared.file_name.FileName.{FileName}
+-- Laws of what a crash leaves of several calls of a store, one after another.
+use Rattle.std.specs.Prelude.{◌≡◌, ◌⊎◌, [], ◌++◌, List, length, Option, Some, None, refl}
+use Rattle.std.proofs.Common.{inl, inr, sym, subst, ap, ◌∙◌, append_assoc}
 use Rattle.ix_outside.specs.Files.{Files}
-use Rattle.ix_outside.specs.Images.{Elapses}
-use Rattle.ix_outside.specs.Calls.{OnlyReads, LeavesOnly}
+use Rattle.ix_outside.specs.Disk.{Disk, Stops, Told, taken, DoesOn, files, told_files}
+use Rattle.ix_outside.specs.declared.step.Step.{Step}
+use Rattle.std.specs.Prelude.{Result, Ok, Err}
+use Rattle.ix_outside.specs.DiskLaws.{stops_done}
+use Rattle.ix_outside.specs.Crash.{Extends, IsImage, MayHold, MayLeave}
+use Rattle.ix_outside.specs.CrashLaws.{last_is_now, now_is_left, leave_then, left_by_stops, extends_stops, reads_are_image}
+use Rattle.ix_outside.specs.Calls.{OnlyLeaves, LeavesOnly}
 
-either : {A B C : Type 0} → (A → C) → (B → C) → A ⊎ B → C
-either f g (inl a) = f a
-either f g (inr b) = g b
-
--- ---- calls that only read
-
-pub reads_none : {S : Type 0} (files : S → Option Files) (to_sync : S → FileName → Type 0) (images : S → Files → Type 0) (moment : S → ℕ) (left_since : S → ℕ → Files → Type 0) (a : S)
-    → OnlyReads files to_sync images moment left_since a a
-reads_none files to_sync images moment left_since a = record {
-  same = refl;
-  unsynced = λ name h. h;
-  crash = λ c h. h;
-  time = record { later = omega arith; nothing_else = λ t c le h. inl h; keeps = λ t c le h. h };
+extends_then : (a b c : Disk) → Extends a b → Extends b c → Extends a c
+extends_then a b c first second = record {
+  further = second.further ++ first.further;
+  is = second.is ∙ ap (λ (d : Disk). second.further ++ d) first.is ∙ sym (append_assoc second.further first.further a);
 }
-
-pub reads_then : {S : Type 0} (files : S → Option Files) (to_sync : S → FileName → Type 0) (images : S → Files → Type 0) (moment : S → ℕ) (left_since : S → ℕ → Files → Type 0) (a b c : S)
-    → OnlyReads files to_sync images moment left_since a b → OnlyReads files to_sync images moment left_since b c → OnlyReads files to_sync images moment left_since a c
-reads_then files to_sync images moment left_since a b c first second = record {
-  same = second.same ∙ first.same;
-  unsynced = λ name h. first.unsynced name (second.unsynced name h);
-  crash = λ x h. first.crash x (second.crash x h);
-  time = record {
-    later = omega (arith, first.time.later, second.time.later);
-    nothing_else = λ t x le since.
-        either (λ left. first.time.nothing_else t x le left) (λ image. inr (first.crash x image)) (second.time.nothing_else t x (omega (arith, first.time.later)) since);
-    keeps = λ t x le past. second.time.keeps t x (omega (arith, first.time.later)) (first.time.keeps t x le past);
-  };
-}
-
--- ---- what a crash leaves
 
 -- no call at all
-pub leaves_none : {S : Type 0} (moment : S → ℕ) (left_since : S → ℕ → Files → Type 0) (images : S → Files → Type 0) (old : S) (P : Files → Type 0)
-    → ((store : S) (c : Files) → left_since store (moment store) c → images store c) → ((c : Files) → images old c → P c) → LeavesOnly moment left_since old old P
-leaves_none moment left_since images old P only_now has = record {
-  later = omega arith;
-  each = λ c left. has c (only_now old c left);
-  before = λ t c le left. inl left;
-  keeps = λ t c le left. left;
-}
-
--- one call
-pub leaves_one : {S : Type 0} (moment : S → ℕ) (left_since : S → ℕ → Files → Type 0) (images : S → Files → Type 0) (old new : S) (P : Files → Type 0)
-    → ((store : S) (c : Files) → left_since store (moment store) c → images store c) → Elapses (moment old) (moment new) (left_since old) (left_since new) (images new)
-    → ((c : Files) → images old c → P c) → ((c : Files) → images new c → P c) → LeavesOnly moment left_since old new P
-leaves_one moment left_since images old new P only_now time had has = record {
-  later = time.later;
-  each = λ c left. either (λ past. had c (only_now old c past)) (has c) (time.nothing_else (moment old) c (omega arith) left);
-  before = λ t c le left. either (λ past. inl past) (λ now. inr (has c now)) (time.nothing_else t c le left);
-  keeps = time.keeps;
-}
+pub leaves_none : (a : Option Disk) (P : Files → Type 0) → ((c : Files) → MayHold a c → P c) → LeavesOnly a a P
+leaves_none None P has = tt
+leaves_none (Some disk) P has = (record { further = []; is = refl }, λ c left. has c (last_is_now disk c left))
 
 -- calls that only read
-pub leaves_reading : {S : Type 0} (files : S → Option Files) (to_sync : S → FileName → Type 0) (images : S → Files → Type 0) (moment : S → ℕ) (left_since : S → ℕ → Files → Type 0) (old new : S) (P : Files → Type 0)
-    → ((store : S) (c : Files) → left_since store (moment store) c → images store c) → OnlyReads files to_sync images moment left_since old new → ((c : Files) → images old c → P c)
-    → LeavesOnly moment left_since old new P
-leaves_reading files to_sync images moment left_since old new P only_now reads has = record {
-  later = reads.time.later;
-  each = λ c left. either (λ past. has c (only_now old c past)) (has c) (reads.time.nothing_else (moment old) c (omega arith) left);
-  before = λ t c le left. either (λ past. inl past) (λ now. inr (has c now)) (reads.time.nothing_else t c le left);
-  keeps = reads.time.keeps;
-}
+pub leaves_reading : (a b : Option Disk) (P : Files → Type 0) → b ≡ a → ((c : Files) → MayHold a c → P c) → LeavesOnly a b P
+leaves_reading a b P same has = subst (λ (d : Option Disk). LeavesOnly a d P) (sym same) (leaves_none a P has)
 
 -- calls, and then others
-pub leaves_then : {S : Type 0} (moment : S → ℕ) (left_since : S → ℕ → Files → Type 0) (a b c : S) (P Q R : Files → Type 0)
-    → LeavesOnly moment left_since a b P → LeavesOnly moment left_since b c Q → ((x : Files) → P x → R x) → ((x : Files) → Q x → R x) → LeavesOnly moment left_since a c R
-leaves_then moment left_since a b c P Q R first second p q = record {
-  later = omega (arith, first.later, second.later);
-  each = λ x left. either (λ past. p x (first.each x past)) (q x) (second.before (moment a) x first.later left);
-  before = λ t x le left. either (λ past. either (λ older. inl older) (λ now. inr (p x now)) (first.before t x le past)) (λ now. inr (q x now)) (second.before t x (omega (arith, first.later)) left);
-  keeps = λ t x le left. second.keeps t x (omega (arith, first.later)) (first.keeps t x le left);
-}
+pub leaves_then : (a b c : Option Disk) (P Q R : Files → Type 0) → LeavesOnly a b P → LeavesOnly b c Q → ((x : Files) → P x → R x) → ((x : Files) → Q x → R x) → LeavesOnly a c R
+leaves_then None b c P Q R first second p q = tt
+leaves_then (Some x) None c P Q R first second p q = absurd first
+leaves_then (Some x) (Some y) None P Q R first second p q = absurd second
+leaves_then (Some x) (Some y) (Some z) P Q R first second p q = (
+      extends_then x y z first.0 second.0,
+      λ c left. either c (leave_then x y z c second.0 left),
+    )
+  where
+    either : (c : Files) → MayLeave x y c ⊎ MayLeave y z c → R c
+    either c (inl before) = p c (first.1 c before)
+    either c (inr after) = q c (second.1 c after)
 
 -- the same calls, of whose crashes less is said
-pub leaves_less : {S : Type 0} (moment : S → ℕ) (left_since : S → ℕ → Files → Type 0) (a b : S) (P R : Files → Type 0)
-    → LeavesOnly moment left_since a b P → ((x : Files) → P x → R x) → LeavesOnly moment left_since a b R
-leaves_less moment left_since a b P R first p = record {
-  later = first.later;
-  each = λ x left. p x (first.each x left);
-  before = λ t x le left. either (λ older. inl older) (λ now. inr (p x now)) (first.before t x le left);
-  keeps = first.keeps;
-}
+pub leaves_less : (a b : Option Disk) (P R : Files → Type 0) → LeavesOnly a b P → ((x : Files) → P x → R x) → LeavesOnly a b R
+leaves_less None b P R first p = tt
+leaves_less (Some x) None P R first p = first
+leaves_less (Some x) (Some y) P R first p = (first.0, λ c left. p c (first.1 c left))
 
 -- a crash now is one since the first call
-pub leaves_now : {S : Type 0} (moment : S → ℕ) (left_since : S → ℕ → Files → Type 0) (images : S → Files → Type 0) (old new : S) (P : Files → Type 0)
-    → ((store : S) (t : ℕ) (c : Files) → t ≤ moment store → images store c → left_since store t c) → LeavesOnly moment left_since old new P → (c : Files) → images new c → P c
-leaves_now moment left_since images old new P counts_now leaves c image = leaves.each c (counts_now new (moment old) c leaves.later image)
+pub leaves_now : (a b : Option Disk) (files : Files) (P : Files → Type 0) → told_files a ≡ Some files → LeavesOnly a b P → (c : Files) → MayHold b c → P c
+leaves_now None b files P told leaves c image = absurd cc
+leaves_now (Some x) None files P told leaves c image = absurd image
+leaves_now (Some x) (Some y) files P told leaves c image = leaves.1 c (now_is_left (length x) y c image)
+
+-- what reads give is one of the images
+pub reads_may_hold : (a : Option Disk) (here : Files) → told_files a ≡ Some here → MayHold a here
+reads_may_hold None here told = absurd cc
+reads_may_hold (Some disk) here told = let same : files disk ≡ here = cc in subst (λ (c : Files). IsImage disk c) same (reads_are_image disk)
+
+-- Calls that took these steps, or the first few of them: a crash leaves what one leaves where they had stopped.
+pub leaves_steps : {T E : Type 0} (steps : List Step) (a b : Option Disk) (result : Result T E) (P : Files → Type 0)
+    → Told (λ old now. DoesOn steps old now result) a b → ((old at : Disk) (c : Files) → a ≡ Some old → Stops steps old at → IsImage at c → P c) → LeavesOnly a b P
+leaves_steps steps None b result P does has = tt
+leaves_steps steps (Some x) None result P does has = absurd does
+leaves_steps steps (Some x) (Some y) (Ok r) P does has =
+    let stops = stops_done steps x y does in
+    (extends_stops steps x y stops, λ c left. let found = left_by_stops steps x y c stops left in has x found.0 c refl found.1 found.2)
+leaves_steps steps (Some x) (Some y) (Err e) P does has =
+    (extends_stops steps x y does, λ c left. let found = left_by_stops steps x y c does left in has x found.0 c refl found.1 found.2)

@@ -1,21 +1,13 @@
--- What several calls of a store did to it, one after another.
-use Rattle.std.specs.Prelude.{◌≡◌, ◌⊎◌, ℕ, ◌≤◌, Option}
-use Rattle.ix_base.specs.declared.file_name.FileName.{FileName}
+-- What a crash leaves at some moment of several calls of a store.
+use Rattle.std.specs.Prelude.{Option}
 use Rattle.ix_outside.specs.Files.{Files}
-use Rattle.ix_outside.specs.Images.{NoMore, NoMoreUnsynced, Elapses}
+use Rattle.ix_outside.specs.Disk.{Disk, Told}
+use Rattle.ix_outside.specs.Crash.{Extends, MayLeave}
 
--- The calls only read: the files are as before, and a crash meanwhile leaves what it might have left at first.
-pub record OnlyReads {S : Type 0} (files : S → Option Files) (to_sync : S → FileName → Type 0) (images : S → Files → Type 0)
-    (moment : S → ℕ) (left_since : S → ℕ → Files → Type 0) (old new : S) : Type 0 where
-  pub same : files new ≡ files old
-  pub unsynced : NoMoreUnsynced (to_sync old) (to_sync new)
-  pub crash : NoMore (images old) (images new)
-  pub time : Elapses (moment old) (moment new) (left_since old) (left_since new) (images old)
+-- The calls only took steps, and a crash at any moment from the old disk to the new leaves files that have P.
+abbrev pub OnlyLeaves : (Files → Type 0) → Disk → Disk → Type 0
+OnlyLeaves P old new = Extends old new × ((c : Files) → MayLeave old new c → P c)
 
--- A crash at any moment since the old state leaves files that have P.
-pub record LeavesOnly {S : Type 0} (moment : S → ℕ) (left_since : S → ℕ → Files → Type 0) (old new : S) (P : Files → Type 0) : Type 0 where
-  pub later : moment old ≤ moment new
-  pub each : (c : Files) → left_since new (moment old) c → P c
-  -- for a run that began earlier
-  pub before : (t : ℕ) (c : Files) → t ≤ moment old → left_since new t c → left_since old t c ⊎ P c
-  pub keeps : (t : ℕ) (c : Files) → t ≤ moment old → left_since old t c → left_since new t c
+-- the same where a store tells
+abbrev pub LeavesOnly : Option Disk → Option Disk → (Files → Type 0) → Type 0
+LeavesOnly old new P = Told (OnlyLeaves P) old new

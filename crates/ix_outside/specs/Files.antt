@@ -1,9 +1,7 @@
 -- The files of a store, and what its calls do to them.
-use Rattle.std.specs.Prelude.{◌≡◌, ◌≢◌, ◌↔◌, ◌⊎◌, ℕ, List, Option, Some, None, Result, Ok, Err, Contains, AllPairs, IsSome, ⊤}
+use Rattle.std.specs.Prelude.{◌≡◌, ◌≢◌, ◌↔◌, ℕ, List, Option, Some, None, Contains, AllPairs, IsSome, ⊤}
 use Rattle.std.proofs.Common.{subst, sym}
 use Rattle.ix_base.specs.declared.file_name.FileName.{FileName}
-use Rattle.ix_outside.specs.declared.store.StoreFault.{StoreFault}
-use Rattle.ix_outside.specs.declared.store.StoreFault.TheVariants.{Failed, NoMemory}
 
 -- the bytes of each file that is there, as reads give them
 abbrev pub Files : Type 0
@@ -37,30 +35,11 @@ pub record Renames («from» to : FileName) (old new : Files) : Type 0 where
 abbrev pub Same : Files → Files → Type 0
 Same old new = new ≡ old
 
--- the file may have another name now, and every other file is as it was
-abbrev pub MayRename : FileName → FileName → Files → Files → Type 0
-MayRename «from» to old new = (Renames «from» to old new) ⊎ Same old new
-
--- the file may be gone, and every other file is as it was
-abbrev pub MayRemove : FileName → Files → Files → Type 0
-MayRemove name old new = (Removes name old new) ⊎ Same old new
-
 -- Where a store tells its files, it goes on telling, and the change leads from the old ones to the new.
 abbrev pub Changes : (Files → Files → Type 0) → Option Files → Option Files → Type 0
 Changes change None new = ⊤
 Changes change (Some old) None = ⊥
 Changes change (Some old) (Some new) = change old new
-
--- A call is done, or has failed and left what it may, or wanted memory and changed nothing.
-abbrev pub Does : {T : Type 0} → (done failed : Files → Files → Type 0) → Option Files → Option Files → Result T StoreFault → Type 0
-Does done failed old new (Ok x) = Changes done old new
-Does done failed old new (Err Failed) = Changes failed old new
-Does done failed old new (Err NoMemory) = new ≡ old
-
--- what is read is what is there, where that is told
-abbrev pub Reads : Option Files → FileName → Option (List ℕ) → Type 0
-Reads None name found = ⊤
-Reads (Some files) name found = found ≡ files name
 
 -- what is told is this, where anything is told
 abbrev pub Was : {A : Type 0} → Option A → A → Type 0

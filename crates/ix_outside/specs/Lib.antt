@@ -1,6 +1,10 @@
-pub mod CallLaws
-pub mod Calls
 pub mod Causes
 pub mod Files
 pub mod Images
+pub mod Disk
+pub mod Crash
+pub mod DiskLaws
+pub mod CrashLaws
+pub mod Calls
+pub mod CallLaws
 pub mod Listing

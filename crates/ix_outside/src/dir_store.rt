@@ -147,26 +147,11 @@ fn told<T: Drop>(faults: &mut FaultCount, answer: io::Result<T>) -> Result<T, St
 }
 
 impl<R: Files + AllocGlobal + Clone + Drop> Store for DirStore<R> {
-    ghost use Rattle.std.specs.Prelude.{None, ⊤};
-    ghost use Rattle.std.proofs.Common.{inl, inr, refl};
+    ghost use Rattle.std.specs.Prelude.{None};
 
-    ghost files = { λ _. None };
-
-    ghost unsynced = { λ _ _. ⊥ };
-
-    ghost images = { λ _ _. ⊤ };
-
-    ghost moment = { λ _. 0 };
-
-    ghost left_since = { λ _ _ _. ⊤ };
+    ghost disk = { λ _. None };
 
     ghost fault_count = { λ store. store.faults.count };
-
-    ghost counts_now = { λ store t c le now. now };
-
-    ghost only_now = { λ store c left. left };
-
-    ghost reads_are_image = { λ store here told. tt };
 
     fn list(&mut self, alloc: Global) -> Result<Vec<FileName>, StoreFault> {
         let answer = self.list_names(alloc);

@@ -11,6 +11,7 @@ mod gate;
 mod odd_outside;
 mod sink;
 mod source;
+mod step;
 mod store;
 mod streams;
 
@@ -18,6 +19,7 @@ pub use dir_store::DirStore;
 pub use gate::{EmptyGate, Gate};
 pub use sink::Sink;
 pub use source::{Failed, Source};
+pub use step::Step;
 pub use store::{Store, StoreFault};
 pub use streams::{ReadSource, WriteSink};
 

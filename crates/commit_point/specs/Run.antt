@@ -1,0 +1,79 @@
+-- Writing files one by one, and publishing them by a rename.
+use Rattle.std.specs.Prelude.{◌≡◌, ◌≢◌, ◌⊎◌, ℕ, List, [], ◌∷◌, ◌++◌, Some, ⊤, Bool, true, false}
+use Rattle.std.specs.List.{flat_map, AllByRecursion}
+use Rattle.ix_base.specs.declared.file_name.FileName.{FileName}
+use Rattle.ix_outside.specs.Files.{Files}
+use Rattle.ix_outside.specs.declared.store.StoreFault.{StoreFault}
+use Rattle.ix_outside.specs.declared.store.StoreFault.TheVariants.{NoMemory}
+use Rattle.ix_outside.specs.declared.step.Step.{Step}
+use Rattle.ix_outside.specs.Disk.{Disk, taken, Stops}
+use Rattle.ix_outside.specs.declared.step.Step.TheVariants.{Wrote, Synced, Renamed, Settled}
+
+-- a file to be written: its name and its bytes
+abbrev pub File : Type 0
+File = FileName × List ℕ
+
+-- a file is written, and then put on the disk
+abbrev pub puts : FileName → List ℕ → List Step
+puts name bytes = Wrote name bytes ∷ Synced name ∷ []
+
+-- each file in turn
+abbrev pub puts_all : List File → List Step
+puts_all list = flat_map (λ (file : File). puts file.0 file.1) list
+
+-- The files are put, then a last one under a pending name, which is then renamed; last the directory is synced.
+abbrev pub publishes : List File → FileName → FileName → List ℕ → List Step
+publishes list pending final bytes = puts_all list ++ (puts pending bytes ++ (Renamed pending final ∷ Settled ∷ []))
+
+-- no file of the list has this name
+abbrev pub IsNoneOf : List File → FileName → Type 0
+IsNoneOf list name = AllByRecursion (λ (file : File). file.0 ≢ name) list
+
+-- no two files of the list have one name
+abbrev pub AreApart : List File → Type 0
+AreApart [] = ⊤
+AreApart (file ∷ more) = IsNoneOf more file.0 × AreApart more
+
+-- every file is as it was, but those of the list
+abbrev pub Touches : List File → Files → Files → Type 0
+Touches list old new = (name : FileName) → IsNoneOf list name → new name ≡ old name
+
+-- the files of the list have their bytes
+abbrev pub AreThere : List File → Files → Type 0
+AreThere list files = AllByRecursion (λ (file : File). files file.0 ≡ Some file.1) list
+
+-- the files of the list have their bytes, and every other file is as it was
+pub record Adds (list : List File) (old new : Files) : Type 0 where
+  pub there : AreThere list new
+  pub others : Touches list old new
+
+-- every file is as it was, but those of the list, the pending one and the last one
+abbrev pub SameElsewhere : List File → FileName → FileName → Files → Files → Type 0
+SameElsewhere list pending final old new = (name : FileName) → IsNoneOf list name → name ≢ pending → name ≢ final → new name ≡ old name
+
+-- the last file has its bytes, and so has each of the list
+pub record IsWhole (list : List File) (final : FileName) (bytes : List ℕ) (files : Files) : Type 0 where
+  pub last : files final ≡ Some bytes
+  pub there : AreThere list files
+
+-- all was published
+pub record Publishes (list : List File) (pending final : FileName) (bytes : List ℕ) (old new : Files) : Type 0 where
+  pub whole : IsWhole list final bytes new
+  pub elsewhere : SameElsewhere list pending final old new
+
+-- all was published, or the last file is as before
+pub record MayPublish (list : List File) (pending final : FileName) (bytes : List ℕ) (old new : Files) : Type 0 where
+  pub whole : (new final ≡ old final) ⊎ IsWhole list final bytes new
+  pub elsewhere : SameElsewhere list pending final old new
+
+-- the files, the pending name and the last one are apart
+pub record CanPublish (list : List File) (pending final : FileName) : Type 0 where
+  pub files : AreApart list
+  pub pending_none : IsNoneOf list pending
+  pub final_none : IsNoneOf list final
+  pub differ : pending ≢ final
+
+-- A rename after other steps was done, or want of memory came before it.
+pub record Refuses (before : List Step) (rename : Step) (fault : StoreFault) (renamed : Bool) (old new : Disk) : Type 0 where
+  pub done : renamed ≡ true → new ≡ taken (before ++ rename ∷ []) old
+  pub not_done : renamed ≡ false → fault ≡ NoMemory → Stops before old new

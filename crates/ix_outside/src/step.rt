@@ -1,0 +1,23 @@
+//! The steps that make a store what it is.
+use ix_base::{FileName, List};
+
+/// What a call made of the store.
+#[derive(Drop)]
+pub enum Step {
+    /// The file has these bytes now.
+    Wrote(FileName, List<u8>),
+    /// The file's bytes were put on the disk.
+    Synced(FileName),
+    /// The file of the first name has the second one now.
+    Renamed(FileName, FileName),
+    /// The file is gone.
+    Deleted(FileName),
+    /// All renames and deletes were put on the disk.
+    Settled,
+    /// A write or a sync failed, and reads of the file give this now.
+    Spoilt(FileName, Option<List<u8>>),
+    /// A rename failed. Reads give the old name, and a crash may show the new one.
+    HalfRenamed(FileName, FileName),
+    /// A delete failed. Reads give the file, and a crash may show it gone.
+    HalfDeleted(FileName),
+}
