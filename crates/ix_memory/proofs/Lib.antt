@@ -2,4 +2,3 @@ pub mod Fronts
 pub mod Looks
 pub mod NameLists
 pub mod SettledFiles
-pub mod StoreCalls

@@ -5,10 +5,10 @@ use Rattle.std.proofs.lemmas.List.Kept.{AllPairs-filter}
 use Rattle.std.proofs.lemmas.List.Quantifiers.{all_pairs_push}
 use Rattle.ix_base.specs.declared.file_name.FileName.{FileName}
 use Rattle.ix_outside.specs.Files.{Files, Lists}
-use Rattle.ix_memory.specs.History.{is_same, with_at, moved, files_of}
-use Rattle.ix_memory.specs.HistoryLaws.{is_same-refl, is_same-true, is_same-apart, moved-apart}
+use Rattle.ix_outside.specs.Disk.{is_same, with_at, moved, files as files_of}
+use Rattle.ix_outside.specs.CrashLaws.{is_same-refl, is_same-true, is_same-apart, moved-apart}
 use Rattle.ix_memory.specs.Names.{Gains, Loses, GoesOn}
-use Rattle.ix_memory.specs.declared.history.Call.TheVariants.{Written, Renamed, Deleted}
+use Rattle.ix_outside.specs.declared.step.Step.TheVariants.{Wrote, Renamed, Deleted, Spoilt}
 
 -- the names but this one
 abbrev pub without : FileName → List FileName → List FileName
@@ -135,11 +135,19 @@ none_where (Some x) not = absurd (not refl)
 
 -- ---- one call more
 
-pub on_written : (name : FileName) (bytes : List ℕ) (old new : List FileName) → Gains name old new → GoesOn (Written name bytes) old new
+pub on_written : (name : FileName) (bytes : List ℕ) (old new : List FileName) → Gains name old new → GoesOn (Wrote name bytes) old new
 on_written name bytes old new gained older lists = lists_gain name (Some bytes) (files_of older) old new refl gained lists
 
 pub on_deleted : (name : FileName) (old new : List FileName) → Loses name old new → GoesOn (Deleted name) old new
 on_deleted name old new lost older lists = lists_lose name None (files_of older) old new refl lost lists
+
+-- a failed call has left the file with these bytes
+pub on_spoilt : (name : FileName) (bytes : List ℕ) (old new : List FileName) → Gains name old new → GoesOn (Spoilt name (Some bytes)) old new
+on_spoilt name bytes old new gained older lists = lists_gain name (Some bytes) (files_of older) old new refl gained lists
+
+-- a failed call has left no file
+pub on_spoilt_away : (name : FileName) (old new : List FileName) → Loses name old new → GoesOn (Spoilt name None) old new
+on_spoilt_away name old new lost older lists = lists_lose name None (files_of older) old new refl lost lists
 
 pub on_same : («from» to : FileName) (names : List FileName) → is_same «from» to ≡ true → GoesOn (Renamed «from» to) names names
 on_same «from» to names same older lists = subst (λ f. Lists f names) (sym unmoved) lists

@@ -5,25 +5,27 @@ use Rattle.std.proofs.Math.Path.{fun_ext}
 use Rattle.std.specs.declared.alloc.Global.{Global}
 use Rattle.ix_base.specs.declared.file_name.FileName.{FileName}
 use Rattle.ix_outside.specs.Files.{Files}
-use Rattle.ix_memory.specs.History.{is_same, with_at, moved, files_of, outcome_of, leaves_step, IsUnsynced, IsImage}
+use Rattle.ix_outside.specs.Disk.{Disk, is_same, with_at, moved, files as files_of}
+use Rattle.ix_memory.specs.History.{outcome_of, leaves_step}
 use Rattle.ix_memory.proofs.Looks.{newest}
-use Rattle.ix_memory.specs.HistoryLaws.{is_same-true, read_is_image, whole_is_read}
+use Rattle.ix_outside.specs.CrashLaws.{is_same-true, reads_are_image}
+use Rattle.ix_memory.specs.HistoryLaws.{whole_is_read}
 use Rattle.ix_memory.specs.Settled.{AreDurable, AllSynced, Fills, no_files, with_pairs, are_made, taken_at, file_made}
 use Rattle.ix_memory.specs.declared.outcome.StepsLeft.{StepsLeft}
 use Rattle.ix_memory.specs.declared.outcome.StepsLeft.TheVariants.{Every}
 use Rattle.ix_memory.specs.declared.outcome.BytesLeft.{BytesLeft}
 use Rattle.ix_memory.specs.declared.outcome.BytesLeft.TheVariants.{Whole}
-use Rattle.ix_memory.specs.declared.history.Call.{Call}
-use Rattle.ix_memory.specs.declared.history.Call.TheVariants.{Written, Synced, Renamed, Deleted, Settled}
+use Rattle.ix_outside.specs.declared.step.Step.{Step}
+use Rattle.ix_outside.specs.declared.step.Step.TheVariants.{Wrote, Synced, Renamed, Deleted, Settled, Spoilt, HalfRenamed, HalfDeleted}
 
 differ : false ≡ true → ⊥
 differ e = cc
 
-pub durable : (old new : List Call) → new ≡ Settled ∷ old → AllSynced old → AreDurable (files_of new) (IsImage new) (IsUnsynced new)
-durable old new is synced = subst (λ (calls : List Call). AreDurable (files_of calls) (IsImage calls) (IsUnsynced calls)) (sym is) (record {
-  left = read_is_image (Settled ∷ old);
-  nothing_else = λ c image name. image.1 name (λ e. differ (sym (synced name) ∙ e));
-  synced = λ name e. differ (sym (synced name) ∙ e);
+pub durable : (old new : Disk) → new ≡ Settled ∷ old → AllSynced old → AreDurable (files_of new) new
+durable old new is synced = subst (λ (disk : Disk). AreDurable (files_of disk) disk) (sym is) (record {
+  read = refl;
+  nothing_else = λ c image name. image.2.kept name (λ e. differ (sym (synced name) ∙ e)) ;
+  synced = synced;
 })
 
 one_more : (pairs : List (FileName × Vec ℕ Global)) (pair : FileName × Vec ℕ Global) (files : Files)
@@ -82,9 +84,9 @@ none_moved «from» to name f apart none =
     (none_at (is_same name «from») None (with_at to (f «from») f name) refl (rw apart none))
 
 -- A file that no call made isn't there.
-pub unmade : (steps : StepsLeft) (bytes : BytesLeft) (calls : List Call) (name : FileName) → are_made calls name ≡ false → outcome_of steps bytes calls name ≡ None
+pub unmade : (steps : StepsLeft) (bytes : BytesLeft) (calls : List Step) (name : FileName) → are_made calls name ≡ false → outcome_of steps bytes calls name ≡ None
 unmade steps bytes [] = λ name none. refl
-unmade steps bytes (Written at written ∷ older) = λ name none.
+unmade steps bytes (Wrote at written ∷ older) = λ name none.
     let p = not_made at name (are_made older) none in
     rw p.0 (unmade steps bytes older name p.1)
 unmade steps bytes (Synced at ∷ older) = λ name none.
@@ -99,9 +101,14 @@ unmade steps bytes (Deleted at ∷ older) = λ name none.
     none_by (leaves_step steps (length older)) (with_at at None (outcome_of steps bytes older)) (outcome_of steps bytes older) name
     (none_at (is_same name at) None (outcome_of steps bytes older name) refl less) less
 unmade steps bytes (Settled ∷ older) = unmade Every bytes older
+unmade steps bytes (Spoilt at found ∷ older) = λ name none.
+    let p = not_made at name (are_made older) none in
+    rw p.0 (unmade steps bytes older name p.1)
+unmade steps bytes (HalfRenamed «from» to ∷ older) = unmade steps bytes older
+unmade steps bytes (HalfDeleted at ∷ older) = unmade steps bytes older
 
 -- Files that are the outcome's where a call made them are the outcome's files.
-pub filled : (steps : StepsLeft) (bytes : BytesLeft) (calls : List Call) (files : Files) → Fills (are_made calls) (outcome_of steps bytes calls) files → files ≡ outcome_of steps bytes calls
+pub filled : (steps : StepsLeft) (bytes : BytesLeft) (calls : List Step) (files : Files) → Fills (are_made calls) (outcome_of steps bytes calls) files → files ≡ outcome_of steps bytes calls
 filled steps bytes calls files fills = fun_ext (λ name. tell name (are_made calls name) refl)
   where
     tell : (name : FileName) (b : Bool) → are_made calls name ≡ b → files name ≡ outcome_of steps bytes calls name
@@ -110,20 +117,20 @@ filled steps bytes calls files fills = fun_ext (λ name. tell name (are_made cal
 
 -- ---- the same along the calls, the oldest first
 
-pub fills_on : (calls history : List Call) (k : ℕ) (call : Call) (steps : StepsLeft) (bytes : BytesLeft) (old new : Files) → k < length calls → get_or calls k call ≡ call → reverse calls ≡ history
+pub fills_on : (calls history : List Step) (k : ℕ) (call : Step) (steps : StepsLeft) (bytes : BytesLeft) (old new : Files) → k < length calls → get_or calls k call ≡ call → reverse calls ≡ history
     → Fills (are_made (reverse (take k calls))) (outcome_of steps bytes (reverse calls)) old → new ≡ taken_at (file_made call) (outcome_of steps bytes history) old
     → Fills (are_made (reverse (take (k + 1) calls))) (outcome_of steps bytes (reverse calls)) new
 fills_on calls history k call steps bytes old new lt here whole fills is =
-    let last : reverse (take (k + 1) calls) ≡ call ∷ reverse (take k calls) = newest calls k call lt ∙ ap (λ (x : Call). x ∷ reverse (take k calls)) here in
+    let last : reverse (take (k + 1) calls) ≡ call ∷ reverse (take k calls) = newest calls k call lt ∙ ap (λ (x : Step). x ∷ reverse (take k calls)) here in
     let same : taken_at (file_made call) (outcome_of steps bytes (reverse calls)) old ≡ new =
-    ap (λ (h : List Call). taken_at (file_made call) (outcome_of steps bytes h) old) whole ∙ sym is in
-    subst (λ (h : List Call). Fills (are_made h) (outcome_of steps bytes (reverse calls)) new) (sym last)
+    ap (λ (h : List Step). taken_at (file_made call) (outcome_of steps bytes h) old) whole ∙ sym is in
+    subst (λ (h : List Step). Fills (are_made h) (outcome_of steps bytes (reverse calls)) new) (sym last)
     (subst (λ (f : Files). Fills (are_made (call ∷ reverse (take k calls))) (outcome_of steps bytes (reverse calls)) f) same
     (fills_more (file_made call) (are_made (reverse (take k calls))) (outcome_of steps bytes (reverse calls)) old fills))
 
-pub filled_all : (calls history : List Call) (k : ℕ) (steps : StepsLeft) (bytes : BytesLeft) (files : Files) → length calls ≤ k → reverse calls ≡ history
+pub filled_all : (calls history : List Step) (k : ℕ) (steps : StepsLeft) (bytes : BytesLeft) (files : Files) → length calls ≤ k → reverse calls ≡ history
     → Fills (are_made (reverse (take k calls))) (outcome_of steps bytes (reverse calls)) files → files ≡ outcome_of steps bytes history
 filled_all calls history k steps bytes files all whole fills =
     filled steps bytes (reverse calls) files
-    (subst (λ (h : List Call). Fills (are_made (reverse h)) (outcome_of steps bytes (reverse calls)) files) (take_all k calls all) fills)
-    ∙ ap (λ (h : List Call). outcome_of steps bytes h) whole
+    (subst (λ (h : List Step). Fills (are_made (reverse h)) (outcome_of steps bytes (reverse calls)) files) (take_all k calls all) fills)
+    ∙ ap (λ (h : List Step). outcome_of steps bytes h) whole

@@ -3,5 +3,5 @@ pub mod History
 pub mod HistoryLaws
 pub mod Left
 pub mod Names
-pub mod Records
+pub mod Recording
 pub mod Settled

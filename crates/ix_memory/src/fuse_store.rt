@@ -64,37 +64,21 @@ impl Fuse {
 impl<S: Store> Store for FuseStore<S> {
     ghost use Rattle.std.specs.Prelude.{◌+◌, ◌-◌, ◌^◌, min};
 
-    ghost files = { λ store. S.files store.inner };
-
-    ghost unsynced = { λ store. S.unsynced store.inner };
-
-    ghost images = { λ store. S.images store.inner };
-
-    ghost moment = { λ store. S.moment store.inner };
-
-    ghost left_since = { λ store. S.left_since store.inner };
+    ghost disk = { λ store. S.disk store.inner };
 
     ghost fault_count = { λ store. min (S.fault_count store.inner + store.fuse.faults) (2 ^ 64 - 1) };
 
-    ghost counts_now = { λ store t c le now. S.counts_now store.inner t c le now };
-
-    ghost only_now = { λ store c left. S.only_now store.inner c left };
-
-    ghost reads_are_image = { λ store here told. S.reads_are_image store.inner here told };
-
-    ghost use Rattle.std.specs.Prelude.{◌≡◌, ◌≢◌, ◌<◌, Err, IfOk, OnOk, All, IfSome, option_map};
+    ghost use Rattle.std.specs.Prelude.{◌≡◌, ◌≢◌, ◌<◌, Err, IfOk, All, option_map};
     ghost use Rattle.ix_base.specs.FileNames.{IsName};
-    ghost use Rattle.ix_outside.specs.Files.{Lists, Puts, Removes, Renames, MayRename, MayRemove, SameBut, Same, Does, Reads};
-    ghost use Rattle.ix_outside.specs.Images.{NoMore, Leaves, MayHaveRenamed, MayHaveRemoved, Elapses, IsDurable, AreSettled, AddsUnsynced, Syncs, MovesUnsynced, NoMoreUnsynced};
+    ghost use Rattle.ix_outside.specs.Files.{Lists};
+    ghost use Rattle.ix_outside.specs.Disk.{IfTold, Takes, files};
     ghost use Rattle.ix_outside.specs.Causes.{HasStoreCause};
+    ghost use Rattle.ix_outside.specs.declared.step.Step.TheVariants.{Wrote, Synced, Renamed, Deleted, Settled};
 
     fn list(&mut self, alloc: Global) -> Result<Vec<FileName>, StoreFault>
-        ensures names { IfOk result (λ names. IfSome (S.files self.old.inner) (λ here. Lists here names.items)) }
+        ensures names { IfOk result (λ names. IfTold (λ disk. Lists (files disk) names.items) (S.disk self.old.inner)) }
         ensures real { IfOk result (λ names. All IsName names.items) }
-        ensures same { S.files self.new.inner ≡ S.files self.old.inner }
-        ensures crash { NoMore (S.images self.old.inner) (S.images self.new.inner) }
-        ensures unsynced { NoMoreUnsynced (S.unsynced self.old.inner) (S.unsynced self.new.inner) }
-        ensures time { Elapses (S.moment self.old.inner) (S.moment self.new.inner) (S.left_since self.old.inner) (S.left_since self.new.inner) (S.images self.new.inner) }
+        ensures disk { S.disk self.new.inner ≡ S.disk self.old.inner }
         ensures cause { HasStoreCause (min (S.fault_count self.old.inner + self.old.fuse.faults) (2 ^ 64 - 1)) (min (S.fault_count self.new.inner + self.new.fuse.faults) (2 ^ 64 - 1)) result }
         ensures burnt { self.old.fuse.passes ≡ 0 → result ≡ Err StoreFault.Failed }
         ensures kept { self.old.fuse.passes ≡ 0 → self.new.inner ≡ self.old.inner }
@@ -108,11 +92,8 @@ impl<S: Store> Store for FuseStore<S> {
     }
 
     fn read(&mut self, alloc: Global, name: FileName) -> Result<Option<Vec<u8>>, StoreFault>
-        ensures bytes { IfOk result (λ found. Reads (S.files self.old.inner) name (option_map (λ bytes. bytes.items) found)) }
-        ensures same { S.files self.new.inner ≡ S.files self.old.inner }
-        ensures crash { NoMore (S.images self.old.inner) (S.images self.new.inner) }
-        ensures unsynced { NoMoreUnsynced (S.unsynced self.old.inner) (S.unsynced self.new.inner) }
-        ensures time { Elapses (S.moment self.old.inner) (S.moment self.new.inner) (S.left_since self.old.inner) (S.left_since self.new.inner) (S.images self.new.inner) }
+        ensures bytes { IfOk result (λ found. IfTold (λ disk. option_map (λ bytes. bytes.items) found ≡ files disk name) (S.disk self.old.inner)) }
+        ensures disk { S.disk self.new.inner ≡ S.disk self.old.inner }
         ensures cause { HasStoreCause (min (S.fault_count self.old.inner + self.old.fuse.faults) (2 ^ 64 - 1)) (min (S.fault_count self.new.inner + self.new.fuse.faults) (2 ^ 64 - 1)) result }
         ensures burnt { self.old.fuse.passes ≡ 0 → result ≡ Err StoreFault.Failed }
         ensures kept { self.old.fuse.passes ≡ 0 → self.new.inner ≡ self.old.inner }
@@ -127,10 +108,7 @@ impl<S: Store> Store for FuseStore<S> {
 
     fn write(&mut self, name: FileName, bytes: &[u8]) -> Result<(), StoreFault>
         requires { IsName name }
-        ensures does { Does (Puts name bytes.now) (SameBut name) (S.files self.old.inner) (S.files self.new.inner) result }
-        ensures crash { Leaves (SameBut name) (S.images self.old.inner) (S.images self.new.inner) result }
-        ensures unsynced { AddsUnsynced name (S.unsynced self.old.inner) (S.unsynced self.new.inner) }
-        ensures time { Elapses (S.moment self.old.inner) (S.moment self.new.inner) (S.left_since self.old.inner) (S.left_since self.new.inner) (S.images self.new.inner) }
+        ensures disk { Takes (Wrote name bytes.now) (S.disk self.old.inner) (S.disk self.new.inner) result }
         ensures cause { HasStoreCause (min (S.fault_count self.old.inner + self.old.fuse.faults) (2 ^ 64 - 1)) (min (S.fault_count self.new.inner + self.new.fuse.faults) (2 ^ 64 - 1)) result }
         ensures burnt { self.old.fuse.passes ≡ 0 → result ≡ Err StoreFault.Failed }
         ensures kept { self.old.fuse.passes ≡ 0 → self.new.inner ≡ self.old.inner }
@@ -144,12 +122,7 @@ impl<S: Store> Store for FuseStore<S> {
     }
 
     fn sync(&mut self, name: FileName) -> Result<(), StoreFault>
-        ensures does { Does Same (SameBut name) (S.files self.old.inner) (S.files self.new.inner) result }
-        ensures crash { Leaves (SameBut name) (S.images self.old.inner) (S.images self.new.inner) result }
-        ensures durable { OnOk result (IsDurable name (S.images self.new.inner) (S.files self.new.inner)) }
-        ensures synced { OnOk result (Syncs name (S.unsynced self.old.inner) (S.unsynced self.new.inner)) }
-        ensures unsynced { AddsUnsynced name (S.unsynced self.old.inner) (S.unsynced self.new.inner) }
-        ensures time { Elapses (S.moment self.old.inner) (S.moment self.new.inner) (S.left_since self.old.inner) (S.left_since self.new.inner) (S.images self.new.inner) }
+        ensures disk { Takes (Synced name) (S.disk self.old.inner) (S.disk self.new.inner) result }
         ensures cause { HasStoreCause (min (S.fault_count self.old.inner + self.old.fuse.faults) (2 ^ 64 - 1)) (min (S.fault_count self.new.inner + self.new.fuse.faults) (2 ^ 64 - 1)) result }
         ensures burnt { self.old.fuse.passes ≡ 0 → result ≡ Err StoreFault.Failed }
         ensures kept { self.old.fuse.passes ≡ 0 → self.new.inner ≡ self.old.inner }
@@ -165,11 +138,7 @@ impl<S: Store> Store for FuseStore<S> {
     fn rename(&mut self, from: FileName, to: FileName) -> Result<(), StoreFault>
         requires name { IsName to }
         requires apart { from ≢ to }
-        ensures does { Does (Renames from to) (MayRename from to) (S.files self.old.inner) (S.files self.new.inner) result }
-        ensures crash { Leaves (MayHaveRenamed from to) (S.images self.old.inner) (S.images self.new.inner) result }
-        ensures moved { OnOk result (MovesUnsynced from to (S.unsynced self.old.inner) (S.unsynced self.new.inner)) }
-        ensures unsynced { AddsUnsynced to (S.unsynced self.old.inner) (S.unsynced self.new.inner) }
-        ensures time { Elapses (S.moment self.old.inner) (S.moment self.new.inner) (S.left_since self.old.inner) (S.left_since self.new.inner) (S.images self.new.inner) }
+        ensures disk { Takes (Renamed from to) (S.disk self.old.inner) (S.disk self.new.inner) result }
         ensures cause { HasStoreCause (min (S.fault_count self.old.inner + self.old.fuse.faults) (2 ^ 64 - 1)) (min (S.fault_count self.new.inner + self.new.fuse.faults) (2 ^ 64 - 1)) result }
         ensures burnt { self.old.fuse.passes ≡ 0 → result ≡ Err StoreFault.Failed }
         ensures kept { self.old.fuse.passes ≡ 0 → self.new.inner ≡ self.old.inner }
@@ -183,10 +152,7 @@ impl<S: Store> Store for FuseStore<S> {
     }
 
     fn delete(&mut self, name: FileName) -> Result<(), StoreFault>
-        ensures does { Does (Removes name) (MayRemove name) (S.files self.old.inner) (S.files self.new.inner) result }
-        ensures crash { Leaves (MayHaveRemoved name) (S.images self.old.inner) (S.images self.new.inner) result }
-        ensures unsynced { NoMoreUnsynced (S.unsynced self.old.inner) (S.unsynced self.new.inner) }
-        ensures time { Elapses (S.moment self.old.inner) (S.moment self.new.inner) (S.left_since self.old.inner) (S.left_since self.new.inner) (S.images self.new.inner) }
+        ensures disk { Takes (Deleted name) (S.disk self.old.inner) (S.disk self.new.inner) result }
         ensures cause { HasStoreCause (min (S.fault_count self.old.inner + self.old.fuse.faults) (2 ^ 64 - 1)) (min (S.fault_count self.new.inner + self.new.fuse.faults) (2 ^ 64 - 1)) result }
         ensures burnt { self.old.fuse.passes ≡ 0 → result ≡ Err StoreFault.Failed }
         ensures kept { self.old.fuse.passes ≡ 0 → self.new.inner ≡ self.old.inner }
@@ -200,11 +166,7 @@ impl<S: Store> Store for FuseStore<S> {
     }
 
     fn sync_all(&mut self) -> Result<(), StoreFault>
-        ensures same { S.files self.new.inner ≡ S.files self.old.inner }
-        ensures crash { NoMore (S.images self.old.inner) (S.images self.new.inner) }
-        ensures settled { OnOk result (AreSettled (S.unsynced self.new.inner) (S.images self.new.inner) (S.files self.new.inner)) }
-        ensures unsynced { NoMoreUnsynced (S.unsynced self.old.inner) (S.unsynced self.new.inner) }
-        ensures time { Elapses (S.moment self.old.inner) (S.moment self.new.inner) (S.left_since self.old.inner) (S.left_since self.new.inner) (S.images self.new.inner) }
+        ensures disk { Takes Settled (S.disk self.old.inner) (S.disk self.new.inner) result }
         ensures cause { HasStoreCause (min (S.fault_count self.old.inner + self.old.fuse.faults) (2 ^ 64 - 1)) (min (S.fault_count self.new.inner + self.new.fuse.faults) (2 ^ 64 - 1)) result }
         ensures burnt { self.old.fuse.passes ≡ 0 → result ≡ Err StoreFault.Failed }
         ensures kept { self.old.fuse.passes ≡ 0 → self.new.inner ≡ self.old.inner }

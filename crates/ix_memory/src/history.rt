@@ -1,4 +1,4 @@
-//! The calls that changed a store in memory.
+//! The steps that made a store in memory.
 ghost use Rattle.std.specs.Prelude.{◌≡◌, ◌∷◌, [], All, IfOk, OnOk, OnErr};
 
 use crate::left::left_of;
@@ -6,70 +6,58 @@ use crate::names::go_on;
 use crate::outcome::{BytesLeft, StepsLeft};
 use crate::settled::{put, settle, take_out};
 use ix_base::{FileName, List, NoMemory};
+use ix_outside::Step;
 use std::alloc::Global;
 use std::marker::Model;
 
-/// A call that was done.
-#[derive(Drop)]
-pub enum Call {
-    /// The file has these bytes now.
-    Written(FileName, List<u8>),
-    /// The file's bytes were put on the disk.
-    Synced(FileName),
-    /// The file of the first name has the second one now.
-    Renamed(FileName, FileName),
-    /// The file is gone.
-    Deleted(FileName),
-    /// All renames and deletes were put on the disk.
-    Settled,
-}
-
-/// The calls that changed a store which was empty. Contracts see them as a list, the newest first.
+/// The steps that made a store from an empty one. Contracts see them as a list, the newest first.
 #[derive(Drop)]
 pub struct History {
     alloc: Global,
-    calls: Vec<Call>,
+    steps: Vec<Step>,
 }
 
 impl Model for History {
     ghost use Rattle.std.specs.Prelude.{List, reverse};
-    ghost use Rattle.ix_memory.specs.declared.history.Call.{Call};
+    ghost use Rattle.ix_outside.specs.declared.step.Step.{Step};
 
-    ghost Value = { List Call };
+    ghost Value = { List Step };
 
-    ghost view = { λ history. reverse history.calls.items };
+    ghost view = { λ history. reverse history.steps.items };
 
     ghost use Rattle.std.specs.Prelude.{All};
     ghost use Rattle.ix_memory.specs.Names.{NamesFile};
 
-    ghost invariant = { λ history. All NamesFile history.calls.items };
+    ghost invariant = { λ history. All NamesFile history.steps.items };
 }
 
 impl History {
     ghost use Rattle.std.specs.Option.{option_copied};
     ghost use Rattle.ix_base.specs.FileNames.{IsName};
     ghost use Rattle.ix_outside.specs.Files.{Lists};
-    ghost use Rattle.ix_memory.specs.History.{files_of, outcome_of, with_at, IsImage, IsUnsynced};
+    ghost use Rattle.ix_outside.specs.Disk.{with_at, is_unsynced, files as files_of};
+    ghost use Rattle.ix_outside.specs.Crash.{IsImage};
+    ghost use Rattle.ix_memory.specs.History.{outcome_of};
     ghost use Rattle.ix_memory.specs.Settled.{AreDurable, AllSynced, taken_at, file_made};
     ghost use Rattle.ix_memory.specs.Names.{NamesFile};
 
-    /// No call. It takes no memory.
+    /// No step. It takes no memory.
     pub fn new(alloc: Global) -> Self
         ensures { result ≡ [] }
     {
         History {
             alloc,
-            calls: Vec::new(alloc),
+            steps: Vec::new(alloc),
         }
     }
 
-    /// One call more.
-    pub fn push(&mut self, call: Call) -> Result<(), NoMemory>
-        requires { NamesFile call }
-        ensures ok { OnOk result (self.new ≡ call ∷ self.old) }
+    /// One step more.
+    pub fn push(&mut self, step: Step) -> Result<(), NoMemory>
+        requires { NamesFile step }
+        ensures ok { OnOk result (self.new ≡ step ∷ self.old) }
         ensures err { OnErr result (self.new ≡ self.old) }
     {
-        self.calls.push(call)?;
+        self.steps.push(step)?;
         Ok(())
     }
 
@@ -86,8 +74,8 @@ impl History {
         ensures real { IfOk result (λ names. All IsName names.items) }
     {
         let mut names = Vec::new(alloc);
-        for call in &self.calls {
-            go_on(&mut names, call)?;
+        for step in &self.steps {
+            go_on(&mut names, step)?;
         }
         Ok(names)
     }
@@ -96,7 +84,7 @@ impl History {
     pub fn left(&self, steps: StepsLeft, bytes: BytesLeft, name: FileName) -> Option<&[u8]>
         ensures { option_copied result ≡ outcome_of steps bytes self.now name }
     {
-        left_of(&self.calls, steps, bytes, name)
+        left_of(&self.steps, steps, bytes, name)
     }
 
     /// The bytes of the file: `None` where there is no such file.
@@ -106,7 +94,7 @@ impl History {
         self.left(StepsLeft::Every, BytesLeft::Whole, name)
     }
 
-    /// The files that a crash of this outcome leaves, as the calls that make them on the disk.
+    /// The files that a crash of this outcome leaves, as the steps that make them on the disk.
     pub fn crash(
         &self,
         alloc: Global,
@@ -114,32 +102,37 @@ impl History {
         bytes: BytesLeft,
     ) -> Result<History, NoMemory>
         ensures files { IfOk result (λ left. files_of left ≡ outcome_of steps bytes self.now) }
-        ensures durable { IfOk result (λ left. AreDurable (files_of left) (IsImage left) (IsUnsynced left)) }
+        ensures durable { IfOk result (λ left. AreDurable (files_of left) left) }
     {
         let mut left = History::new(alloc);
-        for call in &self.calls {
-            self.leave(&mut left, steps, bytes, call)?;
+        for step in &self.steps {
+            self.leave(&mut left, steps, bytes, step)?;
         }
         settle(&mut left)?;
         Ok(left)
     }
 
-    /// Puts the file that this call made among those that a crash of this outcome leaves.
+    /// Puts the file that this step made among those that a crash of this outcome leaves.
     fn leave(
         &self,
         left: &mut History,
         steps: StepsLeft,
         bytes: BytesLeft,
-        call: &Call,
+        step: &Step,
     ) -> Result<(), NoMemory>
-        requires { NamesFile call.now }
-        ensures files { OnOk result (files_of left.new ≡ taken_at (file_made call.now) (outcome_of steps bytes self.now) (files_of left.old)) }
+        requires { NamesFile step.now }
+        ensures files { OnOk result (files_of left.new ≡ taken_at (file_made step.now) (outcome_of steps bytes self.now) (files_of left.old)) }
         ensures synced { OnOk result (AllSynced left.old → AllSynced left.new) }
     {
-        match call {
-            Call::Written(name, _) => self.leave_file(left, steps, bytes, *name),
-            Call::Renamed(_, name) => self.leave_file(left, steps, bytes, *name),
-            Call::Synced(_) | Call::Deleted(_) | Call::Settled => Ok(()),
+        match step {
+            Step::Wrote(name, _) => self.leave_file(left, steps, bytes, *name),
+            Step::Renamed(_, name) => self.leave_file(left, steps, bytes, *name),
+            Step::Spoilt(name, _) => self.leave_file(left, steps, bytes, *name),
+            Step::Synced(_)
+            | Step::Deleted(_)
+            | Step::Settled
+            | Step::HalfRenamed(_, _)
+            | Step::HalfDeleted(_) => Ok(()),
         }
     }
 

@@ -1,38 +1,39 @@
-//! What a list of calls leaves of a file.
-ghost use Rattle.std.specs.Prelude.{◌≡◌, ◌∷◌, ◌/◌, List, ℕ, Option, None, Some, length, reverse, take};
+//! What a list of steps leaves of a file.
+ghost use Rattle.std.specs.Prelude.{◌≡◌, ◌∷◌, ◌/◌, List as ListOf, ℕ, Option, None, Some, length, reverse, take, option_and_then};
 ghost use Rattle.std.specs.Option.{option_copied};
-ghost use Rattle.ix_memory.specs.History.{bytes_left, moved, outcome_of};
+ghost use Rattle.ix_outside.specs.Disk.{moved};
+ghost use Rattle.ix_memory.specs.History.{bytes_left, outcome_of};
 ghost use Rattle.ix_memory.specs.Left.{Goes};
-ghost use Rattle.ix_memory.specs.declared.history.Call.{Call as CallOf};
+ghost use Rattle.ix_outside.specs.declared.step.Step.{Step as StepOf};
 
-use crate::history::Call;
 use crate::names::is_same;
 use crate::outcome::{BytesLeft, StepsLeft};
-use ix_base::FileName;
+use ix_base::{FileName, List};
+use ix_outside::Step;
 
-/// Where the search for a file's bytes goes from a call.
+/// Where the search for a file's bytes goes from a step.
 pub enum Found<'a> {
     /// These are its bytes.
     Bytes(&'a [u8]),
     /// There is no such file.
     Absent,
-    /// As the calls before have left the file of this name, with this outcome.
+    /// As the steps before have left the file of this name, with this outcome.
     Before(StepsLeft, BytesLeft, FileName),
 }
 
-/// What the calls leave of the file, the newest last.
+/// What the steps leave of the file, the newest last.
 pub fn left_of(
-    calls: &[Call],
+    made: &[Step],
     mut steps: StepsLeft,
     mut bytes: BytesLeft,
     mut name: FileName,
 ) -> Option<&[u8]>
-    ensures { option_copied result ≡ outcome_of steps bytes (reverse calls.now) name }
+    ensures { option_copied result ≡ outcome_of steps bytes (reverse made.now) name }
 {
-    let mut count = calls.len();
+    let mut count = made.len();
     while count > 0 {
         count -= 1;
-        match look(&calls[count], count, steps, bytes, name) {
+        match look(&made[count], count, steps, bytes, name) {
             Found::Bytes(found) => return Some(found),
             Found::Absent => return None,
             Found::Before(next_steps, next_bytes, next_name) => {
@@ -45,33 +46,44 @@ pub fn left_of(
     None
 }
 
-/// Looks at one call, with so many calls before it.
-fn look(call: &Call, before: usize, steps: StepsLeft, bytes: BytesLeft, name: FileName) -> Found<'_>
-    ensures { (older : List CallOf) → length older ≡ before → Goes older (outcome_of steps bytes (call.now ∷ older) name) result }
+/// Looks at one step, with so many steps before it.
+fn look(step: &Step, before: usize, steps: StepsLeft, bytes: BytesLeft, name: FileName) -> Found<'_>
+    ensures { (older : ListOf StepOf) → length older ≡ before → Goes older (outcome_of steps bytes (step.now ∷ older) name) result }
 {
-    match call {
-        Call::Written(at, written) if is_same(name, *at) => look_written(written.as_slice(), bytes),
-        Call::Synced(at) if is_same(name, *at) => {
+    match step {
+        Step::Wrote(at, written) if is_same(name, *at) => look_written(written.as_slice(), bytes),
+        Step::Synced(at) if is_same(name, *at) => {
             Found::Before(StepsLeft::Every, BytesLeft::Whole, name)
         }
-        Call::Renamed(from, to) if steps.leaves(before) => {
+        Step::Renamed(from, to) if steps.leaves(before) => {
             look_renamed(*from, *to, steps, bytes, name)
         }
-        Call::Deleted(at) if steps.leaves(before) && is_same(name, *at) => Found::Absent,
-        Call::Settled => Found::Before(StepsLeft::Every, bytes, name),
+        Step::Deleted(at) if steps.leaves(before) && is_same(name, *at) => Found::Absent,
+        Step::Settled => Found::Before(StepsLeft::Every, bytes, name),
+        Step::Spoilt(at, found) if is_same(name, *at) => look_spoilt(found, bytes),
         _ => Found::Before(steps, bytes, name),
     }
 }
 
 /// What is left of bytes that were written.
 fn look_written(written: &[u8], bytes: BytesLeft) -> Found<'_>
-    ensures { (older : List CallOf) → Goes older (bytes_left bytes written.now) result }
+    ensures { (older : ListOf StepOf) → Goes older (bytes_left bytes written.now) result }
 {
     match bytes {
         BytesLeft::Whole => Found::Bytes(written),
         BytesLeft::Absent => Found::Absent,
         BytesLeft::Empty => Found::Bytes(&[]),
         BytesLeft::Half => Found::Bytes(&written[..written.len() / 2]),
+    }
+}
+
+/// What is left of a file that a failed call left like this.
+fn look_spoilt(found: &Option<List<u8>>, bytes: BytesLeft) -> Found<'_>
+    ensures { (older : ListOf StepOf) → Goes older (option_and_then (bytes_left bytes) found.now) result }
+{
+    match found {
+        Some(written) => look_written(written.as_slice(), bytes),
+        None => Found::Absent,
     }
 }
 
@@ -83,7 +95,7 @@ fn look_renamed<'a>(
     bytes: BytesLeft,
     name: FileName,
 ) -> Found<'a>
-    ensures { (older : List CallOf) → Goes older (moved from to None (outcome_of steps bytes older) name) result }
+    ensures { (older : ListOf StepOf) → Goes older (moved from to None (outcome_of steps bytes older) name) result }
 {
     if is_same(from, to) {
         Found::Before(steps, bytes, name)

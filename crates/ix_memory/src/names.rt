@@ -1,11 +1,11 @@
 //! Lists of the names of files, each once.
 ghost use Rattle.std.specs.Prelude.{◌≡◌, ◌↔◌, All, Contains, IsTrue, OnOk, filter, not};
 ghost use Rattle.ix_base.specs.FileNames.{IsName};
-ghost use Rattle.ix_memory.specs.History.{is_same};
+ghost use Rattle.ix_outside.specs.Disk.{is_same};
 ghost use Rattle.ix_memory.specs.Names.{Gains, Loses, GoesOn, NamesFile};
 
-use crate::history::Call;
-use ix_base::{FileName, NoMemory};
+use ix_base::{FileName, List, NoMemory};
+use ix_outside::Step;
 
 /// Whether two names are the same.
 pub fn is_same(one: FileName, other: FileName) -> bool
@@ -39,25 +39,44 @@ fn gain(names: &mut Vec<FileName>, name: FileName) -> Result<(), NoMemory>
     Ok(())
 }
 
-/// The names of the files before the call become those after it.
-pub fn go_on(names: &mut Vec<FileName>, call: &Call) -> Result<(), NoMemory>
-    ensures change { OnOk result (GoesOn call.now names.old.items names.new.items) }
-    ensures real { OnOk result (NamesFile call.now → All IsName names.old.items → All IsName names.new.items) }
+/// The names of the files before the step become those after it.
+pub fn go_on(names: &mut Vec<FileName>, step: &Step) -> Result<(), NoMemory>
+    ensures change { OnOk result (GoesOn step.now names.old.items names.new.items) }
+    ensures real { OnOk result (NamesFile step.now → All IsName names.old.items → All IsName names.new.items) }
 {
-    match call {
-        Call::Written(name, _) => gain(names, *name),
-        Call::Renamed(from, to) => rename(names, *from, *to),
-        Call::Deleted(name) => {
+    match step {
+        Step::Wrote(name, _) => gain(names, *name),
+        Step::Renamed(from, to) => rename(names, *from, *to),
+        Step::Deleted(name) => {
             lose(names, *name);
             Ok(())
         }
-        Call::Synced(_) | Call::Settled => Ok(()),
+        Step::Spoilt(name, found) => spoil(names, *name, found),
+        Step::Synced(_) | Step::Settled | Step::HalfRenamed(_, _) | Step::HalfDeleted(_) => Ok(()),
+    }
+}
+
+/// The file has these bytes now, or is gone.
+fn spoil(
+    names: &mut Vec<FileName>,
+    name: FileName,
+    found: &Option<List<u8>>,
+) -> Result<(), NoMemory>
+    ensures change { OnOk result (GoesOn (Step.Spoilt name found.now) names.old.items names.new.items) }
+    ensures real { OnOk result (IsName name → All IsName names.old.items → All IsName names.new.items) }
+{
+    match found {
+        Some(_) => gain(names, name),
+        None => {
+            lose(names, name);
+            Ok(())
+        }
     }
 }
 
 /// The file of the first name, if it is there, has the second one now, in place of another file.
 fn rename(names: &mut Vec<FileName>, from: FileName, to: FileName) -> Result<(), NoMemory>
-    ensures change { OnOk result (GoesOn (Call.Renamed from to) names.old.items names.new.items) }
+    ensures change { OnOk result (GoesOn (Step.Renamed from to) names.old.items names.new.items) }
     ensures real { OnOk result (IsName to → All IsName names.old.items → All IsName names.new.items) }
 {
     if is_same(from, to) {

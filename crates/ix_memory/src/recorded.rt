@@ -1,22 +1,22 @@
-//! The calls of a store in memory, on the list of its calls.
+//! The calls of a store in memory, on the list of its steps.
 ghost use Rattle.std.specs.Prelude.{◌≡◌, All, IfOk, IsErrOf, option_map};
 ghost use Rattle.ix_base.specs.FileNames.{IsName};
 ghost use Rattle.ix_outside.specs.Files.{Lists};
-ghost use Rattle.ix_memory.specs.History.{files_of};
+ghost use Rattle.ix_outside.specs.Disk.{files as files_of};
 ghost use Rattle.ix_memory.specs.Names.{NamesFile};
-ghost use Rattle.ix_memory.specs.Records.{Records};
+ghost use Rattle.ix_memory.specs.Recording.{Records};
 
-use crate::history::{Call, History};
+use crate::history::History;
 use ix_base::FileName;
-use ix_outside::StoreFault;
+use ix_outside::{Step, StoreFault};
 use std::alloc::Global;
 
-/// One call more.
-pub fn record(history: &mut History, call: Call) -> Result<(), StoreFault>
-    requires { NamesFile call }
-    ensures { Records call history.old history.new result }
+/// One step more.
+pub fn record(history: &mut History, step: Step) -> Result<(), StoreFault>
+    requires { NamesFile step }
+    ensures { Records step history.old history.new result }
 {
-    match history.push(call) {
+    match history.push(step) {
         Ok(()) => Ok(()),
         Err(_) => Err(StoreFault::NoMemory),
     }
@@ -25,10 +25,10 @@ pub fn record(history: &mut History, call: Call) -> Result<(), StoreFault>
 /// The file has these bytes now.
 pub fn record_write(history: &mut History, name: FileName, bytes: &[u8]) -> Result<(), StoreFault>
     requires { IsName name }
-    ensures { Records (Call.Written name bytes.now) history.old history.new result }
+    ensures { Records (Step.Wrote name bytes.now) history.old history.new result }
 {
     match history.copy_of(bytes) {
-        Ok(copy) => record(history, Call::Written(name, copy)),
+        Ok(copy) => record(history, Step::Wrote(name, copy)),
         Err(_) => Err(StoreFault::NoMemory),
     }
 }

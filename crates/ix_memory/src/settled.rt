@@ -1,11 +1,13 @@
 //! Histories that leave their files on the disk.
 ghost use Rattle.std.specs.Prelude.{◌≡◌, All, IfOk, OnOk};
 ghost use Rattle.ix_base.specs.FileNames.{IsName};
-ghost use Rattle.ix_memory.specs.History.{files_of, with_at, IsImage, IsUnsynced};
+ghost use Rattle.ix_outside.specs.Disk.{with_at, is_unsynced, files as files_of};
+ghost use Rattle.ix_outside.specs.Crash.{IsImage};
 ghost use Rattle.ix_memory.specs.Settled.{AreDurable, AllSynced, no_files, with_pairs};
 
-use crate::history::{Call, History};
+use crate::history::History;
 use ix_base::{FileName, NoMemory};
+use ix_outside::Step;
 use std::alloc::Global;
 
 /// Puts a file into a store and syncs it.
@@ -15,8 +17,8 @@ pub fn put(history: &mut History, name: FileName, bytes: &[u8]) -> Result<(), No
     ensures synced { OnOk result (AllSynced history.old → AllSynced history.new) }
 {
     let copy = history.copy_of(bytes)?;
-    history.push(Call::Written(name, copy))?;
-    history.push(Call::Synced(name))
+    history.push(Step::Wrote(name, copy))?;
+    history.push(Step::Synced(name))
 }
 
 /// Puts a file into a store and syncs it.
@@ -33,22 +35,22 @@ pub fn take_out(history: &mut History, name: FileName) -> Result<(), NoMemory>
     ensures files { OnOk result (files_of history.new ≡ with_at name None (files_of history.old)) }
     ensures synced { OnOk result (AllSynced history.old → AllSynced history.new) }
 {
-    history.push(Call::Deleted(name))
+    history.push(Step::Deleted(name))
 }
 
 /// Puts all renames and deletes of a store on the disk.
 pub fn settle(history: &mut History) -> Result<(), NoMemory>
     ensures files { OnOk result (files_of history.new ≡ files_of history.old) }
-    ensures durable { OnOk result (AllSynced history.old → AreDurable (files_of history.new) (IsImage history.new) (IsUnsynced history.new)) }
+    ensures durable { OnOk result (AllSynced history.old → AreDurable (files_of history.new) history.new) }
 {
-    history.push(Call::Settled)
+    history.push(Step::Settled)
 }
 
 /// A store with these files, of which the last of a name counts, all of them on the disk.
 pub fn settled_files(alloc: Global, files: Vec<(FileName, Vec<u8>)>) -> Result<History, NoMemory>
     requires { All (λ file. IsName file.0) files.items }
     ensures files { IfOk result (λ history. files_of history ≡ with_pairs files.items no_files) }
-    ensures durable { IfOk result (λ history. AreDurable (files_of history) (IsImage history) (IsUnsynced history)) }
+    ensures durable { IfOk result (λ history. AreDurable (files_of history) history) }
 {
     let mut history = History::new(alloc);
     for file in &files {

@@ -1,12 +1,12 @@
 //! A store in memory that never fails.
 ghost use Rattle.std.specs.Prelude.{◌≡◌};
 
-use crate::history::{Call, History};
+use crate::history::History;
 use crate::outcome::{BytesLeft, StepsLeft};
 use crate::recorded::{list_names, read_bytes, record, record_write};
 use crate::settled::settled_files;
 use ix_base::{FileName, NoMemory};
-use ix_outside::{Store, StoreFault};
+use ix_outside::{Step, Store, StoreFault};
 use std::alloc::Global;
 
 /// Files in memory. No call fails. A rename of an absent file takes away the file of the new name,
@@ -17,15 +17,16 @@ pub struct SteadyStore {
 }
 
 impl SteadyStore {
-    ghost use Rattle.std.specs.Prelude.{◌/◌, All, IfOk, IfSome, IsSome, Some};
+    ghost use Rattle.std.specs.Prelude.{◌/◌, All, IfOk, IfSome};
+    ghost use Rattle.ix_outside.specs.Disk.{Tells, told_files};
+    ghost use Rattle.ix_outside.specs.Crash.{IsImage};
     ghost use Rattle.ix_base.specs.FileNames.{IsName};
     ghost use Rattle.ix_memory.specs.History.{bytes_of, outcome_of, steps_of};
     ghost use Rattle.ix_memory.specs.Settled.{AreDurable, no_files, with_pairs};
 
     /// The store without a file. It takes no memory.
     pub fn new(alloc: Global) -> Self
-        ensures files { ⟦<SteadyStore as Store>⟧.files result ≡ Some no_files }
-        ensures durable { AreDurable no_files (⟦<SteadyStore as Store>⟧.images result) (⟦<SteadyStore as Store>⟧.unsynced result) }
+        ensures { Tells (AreDurable no_files) (⟦<SteadyStore as Store>⟧.disk result) }
     {
         SteadyStore {
             history: History::new(alloc),
@@ -35,8 +36,7 @@ impl SteadyStore {
     /// The store of these files, all of them on the disk. Of files with one name the last counts.
     pub fn with_files(alloc: Global, files: Vec<(FileName, Vec<u8>)>) -> Result<Self, NoMemory>
         requires { All (λ file. IsName file.0) files.items }
-        ensures files { IfOk result (λ store. ⟦<SteadyStore as Store>⟧.files store ≡ Some (with_pairs files.items no_files)) }
-        ensures durable { IfOk result (λ store. AreDurable (with_pairs files.items no_files) (⟦<SteadyStore as Store>⟧.images store) (⟦<SteadyStore as Store>⟧.unsynced store)) }
+        ensures { IfOk result (λ store. Tells (AreDurable (with_pairs files.items no_files)) (⟦<SteadyStore as Store>⟧.disk store)) }
     {
         Ok(SteadyStore {
             history: settled_files(alloc, files)?,
@@ -46,12 +46,9 @@ impl SteadyStore {
     /// A store with the files that a crash now may leave, all of them on the disk, by a choice as
     /// that of a `MemoryStore`.
     pub fn crash(&self, alloc: Global, choice: u32) -> Result<SteadyStore, NoMemory>
-        ensures image { IfOk result (λ left. IfSome (⟦<SteadyStore as Store>⟧.files left) (⟦<SteadyStore as Store>⟧.images self.now)) }
-        ensures chosen { IfOk result (λ left. ⟦<SteadyStore as Store>⟧.files left ≡ Some (outcome_of (steps_of choice) (bytes_of (choice / 4)) self.now.history)) }
-        ensures told { IfOk result (λ left. IsSome (⟦<SteadyStore as Store>⟧.files left)) }
-        ensures all_left { choice ≡ 0 → IfOk result (λ left. ⟦<SteadyStore as Store>⟧.files left ≡ ⟦<SteadyStore as Store>⟧.files self.now) }
-        ensures durable { IfOk result (λ left. IfSome (⟦<SteadyStore as Store>⟧.files left)
-            (λ files. AreDurable files (⟦<SteadyStore as Store>⟧.images left) (⟦<SteadyStore as Store>⟧.unsynced left))) }
+        ensures image { IfOk result (λ left. IfSome (told_files (⟦<SteadyStore as Store>⟧.disk left)) (IsImage self.now.history)) }
+        ensures chosen { IfOk result (λ left. Tells (AreDurable (outcome_of (steps_of choice) (bytes_of (choice / 4)) self.now.history)) (⟦<SteadyStore as Store>⟧.disk left)) }
+        ensures all_left { choice ≡ 0 → IfOk result (λ left. told_files (⟦<SteadyStore as Store>⟧.disk left) ≡ told_files (⟦<SteadyStore as Store>⟧.disk self.now)) }
     {
         let steps = StepsLeft::of_choice(choice);
         let bytes = BytesLeft::of_choice(choice / 4);
@@ -62,27 +59,11 @@ impl SteadyStore {
 }
 
 impl Store for SteadyStore {
-    ghost use Rattle.std.specs.Prelude.{Some, length};
-    ghost use Rattle.ix_memory.specs.History.{files_of, IsUnsynced, IsImage, HasLeft};
-    ghost use Rattle.ix_memory.specs.HistoryLaws.{now_is_left, last_is_now, reads_now};
+    ghost use Rattle.std.specs.Prelude.{Some};
 
-    ghost files = { λ store. Some (files_of store.history) };
-
-    ghost unsynced = { λ store. IsUnsynced store.history };
-
-    ghost images = { λ store. IsImage store.history };
-
-    ghost moment = { λ store. length store.history };
-
-    ghost left_since = { λ store. HasLeft store.history };
+    ghost disk = { λ store. Some store.history };
 
     ghost fault_count = { λ _. 0 };
-
-    ghost counts_now = { λ store t c le now. now_is_left store.history t c le now };
-
-    ghost only_now = { λ store c left. last_is_now store.history c left };
-
-    ghost reads_are_image = { λ store here told. reads_now store.history here told };
 
     fn list(&mut self, alloc: Global) -> Result<Vec<FileName>, StoreFault> {
         list_names(&self.history, alloc)
@@ -97,19 +78,19 @@ impl Store for SteadyStore {
     }
 
     fn sync(&mut self, name: FileName) -> Result<(), StoreFault> {
-        record(&mut self.history, Call::Synced(name))
+        record(&mut self.history, Step::Synced(name))
     }
 
     fn rename(&mut self, from: FileName, to: FileName) -> Result<(), StoreFault> {
-        record(&mut self.history, Call::Renamed(from, to))
+        record(&mut self.history, Step::Renamed(from, to))
     }
 
     fn delete(&mut self, name: FileName) -> Result<(), StoreFault> {
-        record(&mut self.history, Call::Deleted(name))
+        record(&mut self.history, Step::Deleted(name))
     }
 
     fn sync_all(&mut self) -> Result<(), StoreFault> {
-        record(&mut self.history, Call::Settled)
+        record(&mut self.history, Step::Settled)
     }
 
     fn faults(&self) -> u64 {

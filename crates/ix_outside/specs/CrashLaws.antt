@@ -54,6 +54,9 @@ with_at-same name x f = rw is_same-refl refl
 pub with_at-other : {A : Type 0} (name other : FileName) (x : A) (f : FileName → A) → other ≢ name → with_at name x f other ≡ f other
 with_at-other name other x f apart = let e : is_same other name ≡ false = is_same-apart other name apart in rw e refl
 
+pub moved-apart : {A : Type 0} («from» to : FileName) (x : A) (f : FileName → A) → «from» ≢ to → moved «from» to x f ≡ with_at «from» x (with_at to (f «from») f)
+moved-apart «from» to x f apart = let e : is_same «from» to ≡ false = is_same-apart «from» to apart in rw e refl
+
 pub moved-to : {A : Type 0} («from» to : FileName) (x : A) (f : FileName → A) → «from» ≢ to → moved «from» to x f to ≡ f «from»
 moved-to «from» to x f apart =
     let e : is_same «from» to ≡ false = is_same-apart «from» to apart in
@@ -148,7 +151,7 @@ images_follow step older c image = image
 abbrev pub IsRead : Disk → Files → Type 0
 IsRead disk c = c ≡ files disk
 
-may_rename : («from» to : FileName) (f : Files) → MayHaveRenamed «from» to f (moved «from» to None f)
+pub may_rename : («from» to : FileName) (f : Files) → MayHaveRenamed «from» to f (moved «from» to None f)
 may_rename «from» to f = tell (is_same «from» to) refl
   where
     differ : false ≡ true → ⊥

@@ -4,8 +4,8 @@ use Rattle.ix_memory.proofs.left.left_of.Given as goal
 
 abbrev pub invariant-loop-count : goal.invariant-loop-count
 invariant-loop-count l = record {
-  within : l.count ≤ length l.calls;
-  same : outcome_of l.steps l.bytes (reverse (take l.count l.calls)) l.name ≡ outcome_of l.fn.steps l.fn.bytes (reverse l.calls) l.fn.name;
+  within : l.count ≤ length l.made;
+  same : outcome_of l.steps l.bytes (reverse (take l.count l.made)) l.name ≡ outcome_of l.fn.steps l.fn.bytes (reverse l.made) l.fn.name;
 }
 
 abbrev pub decreases-loop-count : goal.decreases-loop-count

@@ -1,7 +1,7 @@
 use Rattle.std.proofs.Common.{not, rules, ◌≡◌, ◌++◌, ◌∷◌, []}
 use Rattle.std.proofs.lemmas.List.Elements.{All-filter, All-push}
 use Rattle.ix_base.specs.FileNames.{IsName}
-use Rattle.ix_memory.specs.History.{is_same}
+use Rattle.ix_outside.specs.Disk.{is_same}
 use Rattle.ix_memory.proofs.NameLists.{without, gains}
 use Rattle.ix_memory.proofs.names.gain.Goals as goal
 

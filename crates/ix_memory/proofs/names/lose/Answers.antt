@@ -1,7 +1,7 @@
 use Rattle.std.proofs.Common.{not}
 use Rattle.std.proofs.lemmas.List.Elements.{All-filter}
 use Rattle.ix_base.specs.FileNames.{IsName}
-use Rattle.ix_memory.specs.History.{is_same}
+use Rattle.ix_outside.specs.Disk.{is_same}
 use Rattle.ix_memory.proofs.NameLists.{loses}
 use Rattle.ix_memory.proofs.names.lose.Goals as goal
 

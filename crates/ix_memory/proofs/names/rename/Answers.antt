@@ -1,6 +1,6 @@
 use Rattle.std.proofs.Common.{rules, ◌≡◌, false, Contains}
 use Rattle.ix_memory.proofs.NameLists.{on_renamed, on_absent}
-use Rattle.ix_memory.specs.History.{is_same}
+use Rattle.ix_outside.specs.Disk.{is_same}
 use Rattle.ix_memory.proofs.names.rename.Goals as goal
 
 pub returns-in_ok-gain-clause-change : goal.returns-in_ok-gain-clause-change

@@ -4,7 +4,7 @@ use Rattle.std.proofs.lemmas.List.Elements.{All-get_or}
 use Rattle.ix_base.specs.FileNames.{IsName}
 use Rattle.ix_base.specs.declared.file_name.FileName.{FileName}
 use Rattle.ix_outside.specs.Files.{Files}
-use Rattle.ix_memory.specs.History.{with_at}
+use Rattle.ix_outside.specs.Disk.{with_at}
 use Rattle.ix_memory.proofs.SettledFiles.{more_pairs}
 use Rattle.ix_memory.proofs.settled.settled_files.Goals as goal
 

@@ -1,5 +1,5 @@
 use Rattle.std.proofs.Common.{◌≡◌, take}
-use Rattle.ix_memory.specs.History.{files_of}
+use Rattle.ix_outside.specs.Disk.{files as files_of}
 use Rattle.ix_memory.specs.Settled.{AllSynced, no_files, with_pairs}
 use Rattle.ix_memory.proofs.settled.settled_files.Given as goal
 

@@ -3,4 +3,4 @@ use Rattle.ix_memory.specs.Names.{NamesFile}
 use Rattle.ix_memory.proofs.history.History.push.Goals as goal
 
 pub invariant_of-self-2 : goal.invariant_of-self-2
-invariant_of-self-2 c = rw c.in_ok-push.ensures.items (All-push NamesFile c.self.inside.calls.items c.args.call c.self.invariant c.requires)
+invariant_of-self-2 c = rw c.in_ok-push.ensures.items (All-push NamesFile c.self.inside.steps.items c.args.step c.self.invariant c.requires)

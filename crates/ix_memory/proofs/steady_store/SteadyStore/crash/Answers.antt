@@ -1,6 +1,8 @@
 use Rattle.std.proofs.Common.{◌≡◌, subst, sym, rules, ap, ◌∙◌, ◌/◌, Some}
 use Rattle.ix_outside.specs.Files.{Files}
-use Rattle.ix_memory.specs.History.{IsImage, files_of, outcome_of, steps_of, bytes_of}
+use Rattle.ix_outside.specs.Disk.{files as files_of}
+use Rattle.ix_outside.specs.Crash.{IsImage}
+use Rattle.ix_memory.specs.History.{outcome_of, steps_of, bytes_of}
 use Rattle.ix_memory.specs.HistoryLaws.{outcome_is_image, whole_is_read}
 use Rattle.ix_memory.specs.declared.outcome.StepsLeft.{StepsLeft}
 use Rattle.ix_memory.specs.declared.outcome.StepsLeft.TheVariants.{Every}
