@@ -47,7 +47,7 @@ pub(crate) fn run_over<R: Threads + Wait, S: Store + Drop>(
     let mut words = Vec::new(alloc);
     words.push(String::from_str(alloc, "run")?)?;
     let mut input = MemorySource::failing(bytes, failing_reads);
-    let mut out = MemorySink::failing(alloc, 65536, failing_writes)?;
+    let mut out = MemorySink::failing(alloc, 1_048_576, failing_writes)?;
     let ended = top(
         rt,
         alloc,
@@ -67,8 +67,13 @@ pub(crate) fn run_over<R: Threads + Wait, S: Store + Drop>(
 #[test]
 fn reports(rt: HostRuntime) {
     let alloc = rt.alloc();
-    let cases: [(&[&str], u8, &str); 10] = [
+    let cases: [(&[&str], u8, &str); 11] = [
         (&[], 0, ""),
+        (
+            &["{\"c\":0"],
+            3,
+            "{\"line\":1,\"status\":3,\"why\":\"json\"}\n",
+        ),
         (&[ADD_A1, COMMIT, ALL], 0, FIRST_REPORT),
         (
             &[COMMIT, ALL],

@@ -1,0 +1,118 @@
+//! A run with some thousand documents, whose files have some megabytes, against a report that is
+//! computed from the numbers of its lines.
+//!
+//! It has three rounds of 1,004 lines. A round adds 1,000 documents, numbered on from those of the
+//! round before, deletes the first of them, makes a commit, and searches it for all documents and
+//! for those whose number ends in 7.
+use crate::tests::run_over;
+use ix_base::{FileName, NoMemory};
+use ix_memory::MemoryStore;
+use ix_outside::Store;
+use std::alloc::Global;
+use std::test::*;
+
+/// The line at this place of the script, counted from 0.
+fn script_line(alloc: Global, index: u32, long: &str) -> Result<String, NoMemory> {
+    let number = index / 1004 * 1000 + index % 1004;
+    let line = match index % 1004 {
+        0..1000 => {
+            let word = number % 10;
+            format!(in alloc;
+                "{{\"c\":0,\"op\":\"add\",\"doc\":{{\"key\":\"k{number}\",\"text\":{{\"body\":\"Number w{word}\"}},\"exact\":{{\"long\":\"{long}\"}},\"num\":{{\"n\":{number}}}}}}}\n"
+            )?
+        }
+        1000 => {
+            let first = index / 1004 * 1000;
+            format!(in alloc;
+                "{{\"c\":0,\"op\":\"delete\",\"field\":\"key\",\"term\":\"k{first}\"}}\n"
+            )?
+        }
+        1001 => String::from_str(alloc, "{\"c\":0,\"op\":\"commit\"}\n")?,
+        1002 => String::from_str(alloc, "{\"c\":0,\"op\":\"search\",\"query\":\"all\"}\n")?,
+        _ => String::from_str(
+            alloc,
+            "{\"c\":0,\"op\":\"search\",\"query\":{\"term\":[\"body\",\"w7\"]}}\n",
+        )?,
+    };
+    Ok(line)
+}
+
+/// What a search shows of those of the first documents that are there, or of these the ones whose
+/// number ends in 7.
+fn hits(alloc: Global, documents: u32, all: bool) -> Result<String, NoMemory> {
+    let mut list = String::new(alloc);
+    for number in 0..documents {
+        if number % 1000 != 0 && (all || number % 10 == 7) {
+            if !list.is_empty() {
+                list.push_str(",")?;
+            }
+            list.push_str(&format!(in alloc;
+                "{{\"key\":\"k{number}\",\"num\":{{\"n\":{number}}}}}"
+            )?)?;
+        }
+    }
+    Ok(list)
+}
+
+/// The report's line for the line at this place of the script, counted from 0.
+fn report_line(alloc: Global, index: u32) -> Result<String, NoMemory> {
+    let round = index / 1004;
+    let line = u64::from(index) + 1;
+    let commit = round * 1002 + 1002;
+    let text = match index % 1004 {
+        0..1001 => {
+            let number = round * 1002 + index % 1004 + 1;
+            format!(in alloc; "{{\"line\":{line},\"seq\":{number}}}\n")?
+        }
+        1001 => {
+            let docs = round * 999 + 999;
+            format!(in alloc; "{{\"docs\":{docs},\"line\":{line},\"seq\":{commit}}}\n")?
+        }
+        place => {
+            let found = hits(alloc, round * 1000 + 1000, place == 1002)?;
+            format!(in alloc; "{{\"commit\":{commit},\"hits\":[{found}],\"line\":{line}}}\n")?
+        }
+    };
+    Ok(text)
+}
+
+/// The script and its report.
+fn script_and_report(alloc: Global) -> Result<(String, String), NoMemory> {
+    let long = "x".repeat(alloc, 1000)?;
+    let mut script = String::new(alloc);
+    let mut report = String::new(alloc);
+    for index in 0..3012u32 {
+        script.push_str(&script_line(alloc, index, &long)?)?;
+        report.push_str(&report_line(alloc, index)?)?;
+    }
+    Ok((script, report))
+}
+
+#[test]
+fn many_documents(rt: HostRuntime) -> Result<(), Fail> {
+    let alloc = rt.alloc();
+    let (script, report) = script_and_report(alloc).ok().ok_or("memory")?;
+    let done = run_over(
+        &rt,
+        alloc,
+        &[script.as_str()],
+        MemoryStore::new(alloc),
+        Vec::new(alloc),
+        Vec::new(alloc),
+    )
+    .ok()
+    .ok_or("memory")?;
+    assert_eq!(rt; done.status, 0);
+    assert!(rt;
+        done.written.as_slice() == report.as_bytes(),
+        "another report"
+    );
+    let mut store = done.store;
+    let rows = store
+        .read(alloc, FileName::Rows(3))
+        .ok()
+        .ok_or("a read that fails")?;
+    let rows = rows.ok_or("an absent file")?;
+    assert!(rt; rows.len() > 3_000_000, "a small file");
+    Ok(())
+}
