@@ -1,7 +1,7 @@
 pub mod Loops
-pub mod Crashes
+pub mod PutFiles
+pub mod Joined
 pub mod Making
-pub mod Putting
 pub mod Readers
 pub mod NameSearch
 pub mod Loop

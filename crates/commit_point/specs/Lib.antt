@@ -6,5 +6,6 @@ pub mod Reading
 pub mod Writing
 pub mod HeadLaws
 pub mod Laws
-pub mod Putting
+pub mod Publishing
+pub mod PublishLaws
 pub mod Loading

@@ -9,8 +9,8 @@ use Rattle.ix_outside.specs.declared.step.Step.TheVariants.{Wrote, Synced, Renam
 use Rattle.ix_outside.specs.Disk.{Disk, files, is_unsynced, taken, Stops}
 use Rattle.ix_outside.specs.Crash.{IsImage, MayLeave}
 use Rattle.ix_outside.specs.DiskLaws.{taken_then}
-use Rattle.ix_outside.specs.CrashLaws.{FollowsSteps, IsRead, images_follow, reads_follow, left_by_stops, with_at-same, moved-to}
-use Rattle.ix_outside.specs.Run.{File, puts, puts_all, publishes, IsNoneOf, AreApart, AreThere, Adds, Touches, SameElsewhere, Publishes, MayPublish, CanPublish}
+use Rattle.ix_outside.specs.CrashLaws.{FollowsSteps, IsRead, images_follow, reads_follow, left_by_stops, with_at-same, moved-to, moved-from}
+use Rattle.commit_point.specs.Publishing.{File, puts, puts_all, publishes, IsNoneOf, AreApart, AreThere, Adds, Touches, SameBesides, Publishes, MayPublish, CanPublish}
 
 -- ---- one file
 
@@ -121,6 +121,7 @@ publish_stops Sees follows list pending final bytes old at can stops c sees =
           | inl renamed ↦ record {
             whole = inr (record {
               last = renamed.there ∙ two.3;
+              gone = renamed.gone;
               there = there_still list pending final two.0 c can.pending_none can.final_none (λ name p f. renamed.others name p f ∙ two.2 name p) one.2.there;
             });
             elsewhere = λ name none p f. renamed.others name p f ∙ two.2 name p ∙ one.2.others name none;
@@ -165,11 +166,13 @@ publish_done Sees follows list pending final bytes old new can is c sees =
     let synced : is_unsynced (Renamed pending final ∷ put) final ≡ false = moved-to pending final false (is_unsynced put) can.differ ∙ with_at-same pending false (is_unsynced (Wrote pending bytes ∷ taken (puts_all list) old)) in
     let last : c final ≡ Some bytes =
     four.2.kept final (λ unsynced. differ (sym synced ∙ unsynced)) ∙ moved-to pending final None (files put) can.differ ∙ with_at-same pending (Some bytes) (files (taken (puts_all list) old)) in
+    let settled : is_unsynced (Renamed pending final ∷ put) pending ≡ false = moved-from pending final false (is_unsynced put) can.differ in
+    let gone : c pending ≡ None = four.2.kept pending (λ unsynced. differ (sym settled ∙ unsynced)) ∙ moved-from pending final None (files put) can.differ in
     let elsewhere : (name : FileName) → name ≢ pending → name ≢ final → c name ≡ two.0 name = λ name p f. ap (λ (x : Files). x name) four.2.same ∙ renamed_elsewhere three.0 four.0 three.2 name p f ∙ two.2 name p in (
       one.0,
       one.1,
       record {
-        whole = record { last = last; there = there_still list pending final two.0 c can.pending_none can.final_none elsewhere one.2.there };
+        whole = record { last = last; gone = gone; there = there_still list pending final two.0 c can.pending_none can.final_none elsewhere one.2.there };
         elsewhere = λ name none p f. elsewhere name p f ∙ one.2.others name none;
       },
     )
@@ -214,7 +217,7 @@ reads_of_stop list pending final bytes old new can stops =
 -- the last file is as before, and every other file but those of the list and the pending one
 pub record StaysAway (list : List File) (pending final : FileName) (old new : Files) : Type 0 where
   pub last : new final ≡ old final
-  pub elsewhere : SameElsewhere list pending final old new
+  pub elsewhere : SameBesides list pending final old new
 
 -- What is seen where calls have stopped before the rename: it asks nothing of what the files hold.
 pub publish_early : (Sees : Disk → Files → Type 0) → FollowsSteps Sees → (list : List File) (pending final : FileName) (bytes : List ℕ) (old at : Disk) → CanPublish list pending final

@@ -4,9 +4,11 @@ use Rattle.ix_base.specs.declared.file_name.FileName.{FileName}
 use Rattle.ix_base.specs.declared.file_name.FileName.TheVariants.{Commit, Pending, Rows}
 use Rattle.ix_base.specs.declared.document.Row.{Row}
 use Rattle.ix_outside.specs.Files.{Files}
+use Rattle.ix_outside.specs.declared.step.Step.{Step}
 use Rattle.commit_point.specs.declared.heads.HeadSegment.{HeadSegment}
 use Rattle.commit_point.specs.declared.heads.Head.{Head}
 use Rattle.commit_point.specs.Holds.{Holds}
+use Rattle.commit_point.specs.Publishing.{File, publishes}
 use Rattle.commit_point.specs.Spelling.{rows_file, commit_file}
 
 -- a commit with a row takes an id for its segment, and one without takes none
@@ -22,6 +24,16 @@ segments_of s id (r ∷ rs) = record { id = id; n = length (r ∷ rs); v = s } �
 -- what the commit file of new rows says
 abbrev pub head_of : ℕ → ℕ → List Row → Head
 head_of s id rows = record { number = s; docs = length rows; next_id = next_after id rows; segments = segments_of s id rows }
+
+-- the files that are written before the commit file: that of the segment, where there are rows
+abbrev pub segment_list : ℕ → List Row → List File
+segment_list id [] = []
+segment_list id (r ∷ rs) = (Rows id, rows_file id (r ∷ rs)) ∷ []
+
+-- What making the commit s does, step by step: the rows of its segment, the commit file under its pending name, and
+-- the rename, each on the disk before the next.
+abbrev pub commit_steps : ℕ → ℕ → List Row → List Step
+commit_steps s id rows = publishes (segment_list id rows) (Pending s) (Commit s) (commit_file (head_of s id rows))
 
 -- what the file of the segment of this id becomes: the rows, and without a row what it was
 abbrev pub segment_file : ℕ → List Row → Option (List ℕ) → Option (List ℕ)

@@ -12,7 +12,7 @@ mod heads;
 mod listing;
 mod load;
 mod open;
-mod put;
+mod publishing;
 mod read_documents;
 mod read_fields;
 mod write;

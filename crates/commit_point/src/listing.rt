@@ -1,12 +1,12 @@
 //! The commits of a store.
 ghost use Rattle.std.specs.Prelude.{◌≡◌, ◌<◌, ◌≤◌, ◌↔◌, ◌||◌, ℕ, Contains, All, AllPairs, IfOk, OnOk, IsSome, IfSome, Err};
+ghost use Rattle.ix_outside.specs.Disk.{told_files};
 ghost use Rattle.std.specs.BTreeSet.{contains};
 ghost use Rattle.std.specs.List.{list_any};
 ghost use Rattle.std.specs.Ordering.{nat_cmp};
 ghost use Rattle.ix_base.specs.FileNames.{IsCounted};
 ghost use Rattle.ix_base.specs.declared.file_name.FileName.TheVariants.{Commit};
 ghost use Rattle.ix_outside.specs.Causes.{Rose};
-ghost use Rattle.ix_outside.specs.Calls.{OnlyReads};
 ghost use Rattle.commit_point.specs.Loading.{is_commit};
 
 use ix_base::{FileName, List, NoMemory};
@@ -45,10 +45,10 @@ fn numbers_of(alloc: Global, names: &[FileName]) -> Result<List<u64>, NoMemory>
 
 /// The numbers of the store's commits, rising.
 pub fn list_commits<S: Store>(alloc: Global, store: &mut S) -> Result<List<u64>, StoreFault>
-    ensures commits { IfOk result (λ numbers. IfSome (S.files store.old) (λ files. (s : ℕ) → Contains numbers s ↔ IsSome (files (Commit s)))) }
+    ensures commits { IfOk result (λ numbers. IfSome (told_files (S.disk store.old)) (λ files. (s : ℕ) → Contains numbers s ↔ IsSome (files (Commit s)))) }
     ensures rise { IfOk result (λ numbers. AllPairs ◌<◌ numbers) }
     ensures counted { IfOk result (λ numbers. (s : ℕ) → Contains numbers s → IsCounted s) }
-    ensures reads { OnlyReads S.files S.unsynced S.images S.moment S.left_since store.old store.new }
+    ensures reads { S.disk store.new ≡ S.disk store.old }
     ensures later { S.fault_count store.old ≤ S.fault_count store.new }
     ensures failed { result ≡ Err StoreFault.Failed → Rose (S.fault_count store.old) (S.fault_count store.new) }
 {

@@ -1,11 +1,11 @@
 //! Reading the files of a commit from a store.
 ghost use Rattle.std.specs.Prelude.{◌≡◌, ◌≤◌, ◌++◌, ◌||◌, ◌^◌, ◌<◌, ℕ, Some, None, Err, IfOk, OnOk};
+ghost use Rattle.ix_outside.specs.Disk.{told_files};
 ghost use Rattle.std.specs.BTreeSet.{contains};
 ghost use Rattle.std.specs.Ordering.{nat_cmp};
 ghost use Rattle.ix_base.specs.declared.file_name.FileName.TheVariants.{Commit, Rows};
 ghost use Rattle.ix_outside.specs.Causes.{Rose};
 ghost use Rattle.ix_outside.specs.Files.{Files, Was, Reads};
-ghost use Rattle.ix_outside.specs.Calls.{OnlyReads};
 ghost use Rattle.ix_base.specs.declared.damaged.Damaged.{Damaged};
 ghost use Rattle.commit_point.specs.Fits.{HeadFits, IsSegment};
 ghost use Rattle.commit_point.specs.Loading.{IsBroken, AreRead, BreakAt};
@@ -22,10 +22,10 @@ use std::collections::BTreeSet;
 
 /// The bytes of a file. An absent one is damaged at 0.
 fn bytes_of<S: Store>(alloc: Global, store: &mut S, name: FileName) -> Result<Vec<u8>, OpenFault>
-    ensures bytes { IfOk result (λ bytes. Reads (S.files store.old) name (Some bytes.items)) }
-    ensures absent { (damaged : Damaged) → result ≡ Err (OpenFault.Damaged damaged) → (damaged ≡ record { file = name; at = 0 }) × Reads (S.files store.old) name None }
+    ensures bytes { IfOk result (λ bytes. Reads (told_files (S.disk store.old)) name (Some bytes.items)) }
+    ensures absent { (damaged : Damaged) → result ≡ Err (OpenFault.Damaged damaged) → (damaged ≡ record { file = name; at = 0 }) × Reads (told_files (S.disk store.old)) name None }
     ensures listed { (other : ℕ) → result ≡ Err (OpenFault.NoSuch other) → ⊥ }
-    ensures reads { OnlyReads S.files S.unsynced S.images S.moment S.left_since store.old store.new }
+    ensures reads { S.disk store.new ≡ S.disk store.old }
     ensures later { S.fault_count store.old ≤ S.fault_count store.new }
     ensures failed { result ≡ Err OpenFault.Store → Rose (S.fault_count store.old) (S.fault_count store.new) }
 {
@@ -43,10 +43,10 @@ pub(crate) fn read_head<S: Store>(
     store: &mut S,
     number: u64,
 ) -> Result<Head, OpenFault>
-    ensures found { IfOk result (λ head. Reads (S.files store.old) (Commit number) (Some (commit_file head)) × (head.number ≡ number) × HeadFits head) }
-    ensures damaged { (damaged : Damaged) → result ≡ Err (OpenFault.Damaged damaged) → IsBroken (S.files store.old) (Commit number) (head_in number) damaged }
+    ensures found { IfOk result (λ head. Reads (told_files (S.disk store.old)) (Commit number) (Some (commit_file head)) × (head.number ≡ number) × HeadFits head) }
+    ensures damaged { (damaged : Damaged) → result ≡ Err (OpenFault.Damaged damaged) → IsBroken (told_files (S.disk store.old)) (Commit number) (head_in number) damaged }
     ensures listed { (other : ℕ) → result ≡ Err (OpenFault.NoSuch other) → ⊥ }
-    ensures reads { OnlyReads S.files S.unsynced S.images S.moment S.left_since store.old store.new }
+    ensures reads { S.disk store.new ≡ S.disk store.old }
     ensures later { S.fault_count store.old ≤ S.fault_count store.new }
     ensures failed { result ≡ Err OpenFault.Store → Rose (S.fault_count store.old) (S.fault_count store.new) }
 {
@@ -66,10 +66,10 @@ fn read_segment<S: Store>(
     segment: HeadSegment,
     earlier: &BTreeSet<u64>,
 ) -> Result<List<Row>, OpenFault>
-    ensures found { IfOk result (λ rows. Reads (S.files store.old) (Rows segment.id) (Some (rows_file segment.id rows)) × IsSegment number segment.n (contains nat_cmp earlier.now) rows) }
-    ensures damaged { (damaged : Damaged) → result ≡ Err (OpenFault.Damaged damaged) → IsBroken (S.files store.old) (Rows segment.id) (rows_in segment.id segment.n number (contains nat_cmp earlier.now)) damaged }
+    ensures found { IfOk result (λ rows. Reads (told_files (S.disk store.old)) (Rows segment.id) (Some (rows_file segment.id rows)) × IsSegment number segment.n (contains nat_cmp earlier.now) rows) }
+    ensures damaged { (damaged : Damaged) → result ≡ Err (OpenFault.Damaged damaged) → IsBroken (told_files (S.disk store.old)) (Rows segment.id) (rows_in segment.id segment.n number (contains nat_cmp earlier.now)) damaged }
     ensures listed { (other : ℕ) → result ≡ Err (OpenFault.NoSuch other) → ⊥ }
-    ensures reads { OnlyReads S.files S.unsynced S.images S.moment S.left_since store.old store.new }
+    ensures reads { S.disk store.new ≡ S.disk store.old }
     ensures later { S.fault_count store.old ≤ S.fault_count store.new }
     ensures failed { result ≡ Err OpenFault.Store → Rose (S.fault_count store.old) (S.fault_count store.new) }
 {
@@ -104,10 +104,10 @@ pub(crate) fn read_segments<S: Store>(
     head: &Head,
 ) -> Result<Vec<Row>, OpenFault>
     requires { HeadFits head.now }
-    ensures found { (before : Files) → Was (S.files store.old) before → IfOk result (λ rows. AreRead (S.files store.old) head.now before rows.items) }
-    ensures damaged { (before : Files) (damaged : Damaged) → Was (S.files store.old) before → result ≡ Err (OpenFault.Damaged damaged) → BreakAt (S.files store.old) head.now before damaged }
+    ensures found { (before : Files) → Was (told_files (S.disk store.old)) before → IfOk result (λ rows. AreRead (told_files (S.disk store.old)) head.now before rows.items) }
+    ensures damaged { (before : Files) (damaged : Damaged) → Was (told_files (S.disk store.old)) before → result ≡ Err (OpenFault.Damaged damaged) → BreakAt (told_files (S.disk store.old)) head.now before damaged }
     ensures listed { (other : ℕ) → result ≡ Err (OpenFault.NoSuch other) → ⊥ }
-    ensures reads { OnlyReads S.files S.unsynced S.images S.moment S.left_since store.old store.new }
+    ensures reads { S.disk store.new ≡ S.disk store.old }
     ensures later { S.fault_count store.old ≤ S.fault_count store.new }
     ensures failed { result ≡ Err OpenFault.Store → Rose (S.fault_count store.old) (S.fault_count store.new) }
 {

@@ -1,11 +1,11 @@
 //! Reading a commit back.
 ghost use Rattle.std.specs.Prelude.{◌≡◌, ◌≤◌, ◌⊎◌, ◌↔◌, ℕ, List, IfOk, IfErr, IsErrAnd, IsPermutation, IsSome, IsTrue, Some, None, Err};
+ghost use Rattle.ix_outside.specs.Disk.{told_files};
 ghost use Rattle.std.specs.List.Sorted.{IsNonDecreasingBy};
 ghost use Rattle.ix_base.specs.declared.document.Row.{Row};
 ghost use Rattle.ix_base.specs.declared.file_name.FileName.TheVariants.{Commit};
 ghost use Rattle.ix_outside.specs.Causes.{Rose};
 ghost use Rattle.ix_outside.specs.Files.{Files, Was};
-ghost use Rattle.ix_outside.specs.Calls.{OnlyReads};
 ghost use Rattle.commit_point.specs.Holds.{HasHead, Holds};
 ghost use Rattle.commit_point.specs.Reading.{head_from, reading};
 ghost use Rattle.ix_base.specs.declared.damaged.Damaged.{Damaged};
@@ -37,11 +37,11 @@ fn sort_by_birth(rows: &mut Vec<Row>)
 
 fn read_whole<S: Store>(alloc: Global, store: &mut S, number: u64) -> Result<Opened, OpenFault>
     ensures number { IfOk result (λ opened. opened.number ≡ number) }
-    ensures found { IfOk result (λ opened. (files : Files) × Was (S.files store.old) files × Holds files number opened.next_id opened.rows) }
+    ensures found { IfOk result (λ opened. (files : Files) × Was (told_files (S.disk store.old)) files × Holds files number opened.next_id opened.rows) }
     ensures damaged { (damaged : Damaged) → result ≡ Err (OpenFault.Damaged damaged)
-        → (files : Files) × Was (S.files store.old) files × (reading files number ≡ Err damaged) }
+        → (files : Files) × Was (told_files (S.disk store.old)) files × (reading files number ≡ Err damaged) }
     ensures listed { (other : ℕ) → result ≡ Err (OpenFault.NoSuch other) → ⊥ }
-    ensures reads { OnlyReads S.files S.unsynced S.images S.moment S.left_since store.old store.new }
+    ensures reads { S.disk store.new ≡ S.disk store.old }
     ensures later { S.fault_count store.old ≤ S.fault_count store.new }
     ensures failed { result ≡ Err OpenFault.Store → Rose (S.fault_count store.old) (S.fault_count store.new) }
 {
@@ -66,17 +66,17 @@ fn read_whole<S: Store>(alloc: Global, store: &mut S, number: u64) -> Result<Ope
 pub fn read_commit<S: Store>(alloc: Global, store: &mut S, number: u64) -> Result<Opened, OpenFault>
     ensures number { IfOk result (λ opened. opened.number ≡ number) }
     // What is read is what the files spell.
-    ensures found { IfOk result (λ opened. (files : Files) × Was (S.files store.old) files × Holds files number opened.next_id opened.rows) }
+    ensures found { IfOk result (λ opened. (files : Files) × Was (told_files (S.disk store.old)) files × Holds files number opened.next_id opened.rows) }
     // What the files spell is read, unless the store fails or memory runs out.
-    ensures only { (files : Files) (next : ℕ) (rows : List Row) → S.files store.old ≡ Some files → Holds files number next rows
+    ensures only { (files : Files) (next : ℕ) (rows : List Row) → told_files (S.disk store.old) ≡ Some files → Holds files number next rows
         → IfOk result (λ opened. (opened.next_id ≡ next) × (opened.rows ≡ rows)) }
-    ensures whole { (files : Files) (next : ℕ) (rows : List Row) → S.files store.old ≡ Some files → Holds files number next rows
+    ensures whole { (files : Files) (next : ℕ) (rows : List Row) → told_files (S.disk store.old) ≡ Some files → Holds files number next rows
         → IfErr result (λ fault. (fault ≡ OpenFault.Store) ⊎ (fault ≡ OpenFault.NoMemory)) }
     // Which place is the first broken one.
     ensures damaged { (damaged : Damaged) → result ≡ Err (OpenFault.Damaged damaged)
-        → (files : Files) × Was (S.files store.old) files × (reading files number ≡ Err damaged) }
+        → (files : Files) × Was (told_files (S.disk store.old)) files × (reading files number ≡ Err damaged) }
     ensures listed { (other : ℕ) → result ≡ Err (OpenFault.NoSuch other) → ⊥ }
-    ensures reads { OnlyReads S.files S.unsynced S.images S.moment S.left_since store.old store.new }
+    ensures reads { S.disk store.new ≡ S.disk store.old }
     ensures later { S.fault_count store.old ≤ S.fault_count store.new }
     ensures failed { result ≡ Err OpenFault.Store → Rose (S.fault_count store.old) (S.fault_count store.new) }
 {
@@ -85,9 +85,9 @@ pub fn read_commit<S: Store>(alloc: Global, store: &mut S, number: u64) -> Resul
 
 /// Whether the store's list has the commit of this number.
 fn is_listed<S: Store>(alloc: Global, store: &mut S, number: u64) -> Result<bool, OpenFault>
-    ensures told { IfOk result (λ listed. (files : Files) → S.files store.old ≡ Some files → (IsTrue listed ↔ IsSome (files (Commit number)))) }
+    ensures told { IfOk result (λ listed. (files : Files) → told_files (S.disk store.old) ≡ Some files → (IsTrue listed ↔ IsSome (files (Commit number)))) }
     ensures fault { IfErr result (λ fault. (fault ≡ OpenFault.Store) ⊎ (fault ≡ OpenFault.NoMemory)) }
-    ensures reads { OnlyReads S.files S.unsynced S.images S.moment S.left_since store.old store.new }
+    ensures reads { S.disk store.new ≡ S.disk store.old }
     ensures later { S.fault_count store.old ≤ S.fault_count store.new }
     ensures failed { result ≡ Err OpenFault.Store → Rose (S.fault_count store.old) (S.fault_count store.new) }
 {
@@ -101,19 +101,19 @@ fn is_listed<S: Store>(alloc: Global, store: &mut S, number: u64) -> Result<bool
 /// Reads the commit file of this number. `NoSuch` comes where the store's list lacks the number.
 pub fn head<S: Store>(alloc: Global, store: &mut S, number: u64) -> Result<Head, OpenFault>
     // What is read is what the file spells.
-    ensures found { IfOk result (λ head. (files : Files) × Was (S.files store.old) files × HasHead files number head) }
+    ensures found { IfOk result (λ head. (files : Files) × Was (told_files (S.disk store.old)) files × HasHead files number head) }
     // What the file spells is read, unless the store fails or memory runs out.
-    ensures only { (files : Files) (head : Head) → S.files store.old ≡ Some files → HasHead files number head → IfOk result (λ read. read ≡ head) }
-    ensures whole { (files : Files) (head : Head) → S.files store.old ≡ Some files → HasHead files number head
+    ensures only { (files : Files) (head : Head) → told_files (S.disk store.old) ≡ Some files → HasHead files number head → IfOk result (λ read. read ≡ head) }
+    ensures whole { (files : Files) (head : Head) → told_files (S.disk store.old) ≡ Some files → HasHead files number head
         → IfErr result (λ fault. (fault ≡ OpenFault.Store) ⊎ (fault ≡ OpenFault.NoMemory)) }
     // Which place is the first broken one.
     ensures damaged { (damaged : Damaged) → result ≡ Err (OpenFault.Damaged damaged)
-        → (files : Files) × Was (S.files store.old) files × (head_from files number ≡ Err damaged) }
+        → (files : Files) × Was (told_files (S.disk store.old)) files × (head_from files number ≡ Err damaged) }
     // There is no such commit, and this is said.
-    ensures no_such { (other : ℕ) → result ≡ Err (OpenFault.NoSuch other) → (other ≡ number) × ((files : Files) → S.files store.old ≡ Some files → files (Commit number) ≡ None) }
-    ensures absent { (files : Files) → S.files store.old ≡ Some files → files (Commit number) ≡ None
+    ensures no_such { (other : ℕ) → result ≡ Err (OpenFault.NoSuch other) → (other ≡ number) × ((files : Files) → told_files (S.disk store.old) ≡ Some files → files (Commit number) ≡ None) }
+    ensures absent { (files : Files) → told_files (S.disk store.old) ≡ Some files → files (Commit number) ≡ None
         → IsErrAnd result (λ fault. (fault ≡ OpenFault.NoSuch number) ⊎ ((fault ≡ OpenFault.Store) ⊎ (fault ≡ OpenFault.NoMemory))) }
-    ensures reads { OnlyReads S.files S.unsynced S.images S.moment S.left_since store.old store.new }
+    ensures reads { S.disk store.new ≡ S.disk store.old }
     ensures later { S.fault_count store.old ≤ S.fault_count store.new }
     ensures failed { result ≡ Err OpenFault.Store → Rose (S.fault_count store.old) (S.fault_count store.new) }
 {
@@ -127,20 +127,20 @@ pub fn head<S: Store>(alloc: Global, store: &mut S, number: u64) -> Result<Head,
 pub fn open_commit<S: Store>(alloc: Global, store: &mut S, number: u64) -> Result<Opened, OpenFault>
     ensures number { IfOk result (λ opened. opened.number ≡ number) }
     // What is read is what the files spell.
-    ensures found { IfOk result (λ opened. (files : Files) × Was (S.files store.old) files × Holds files number opened.next_id opened.rows) }
+    ensures found { IfOk result (λ opened. (files : Files) × Was (told_files (S.disk store.old)) files × Holds files number opened.next_id opened.rows) }
     // What the files spell is read, unless the store fails or memory runs out.
-    ensures only { (files : Files) (next : ℕ) (rows : List Row) → S.files store.old ≡ Some files → Holds files number next rows
+    ensures only { (files : Files) (next : ℕ) (rows : List Row) → told_files (S.disk store.old) ≡ Some files → Holds files number next rows
         → IfOk result (λ opened. (opened.next_id ≡ next) × (opened.rows ≡ rows)) }
-    ensures whole { (files : Files) (next : ℕ) (rows : List Row) → S.files store.old ≡ Some files → Holds files number next rows
+    ensures whole { (files : Files) (next : ℕ) (rows : List Row) → told_files (S.disk store.old) ≡ Some files → Holds files number next rows
         → IfErr result (λ fault. (fault ≡ OpenFault.Store) ⊎ (fault ≡ OpenFault.NoMemory)) }
     // Which place is the first broken one.
     ensures damaged { (damaged : Damaged) → result ≡ Err (OpenFault.Damaged damaged)
-        → (files : Files) × Was (S.files store.old) files × (reading files number ≡ Err damaged) }
+        → (files : Files) × Was (told_files (S.disk store.old)) files × (reading files number ≡ Err damaged) }
     // There is no such commit, and this is said.
-    ensures no_such { (other : ℕ) → result ≡ Err (OpenFault.NoSuch other) → (other ≡ number) × ((files : Files) → S.files store.old ≡ Some files → files (Commit number) ≡ None) }
-    ensures absent { (files : Files) → S.files store.old ≡ Some files → files (Commit number) ≡ None
+    ensures no_such { (other : ℕ) → result ≡ Err (OpenFault.NoSuch other) → (other ≡ number) × ((files : Files) → told_files (S.disk store.old) ≡ Some files → files (Commit number) ≡ None) }
+    ensures absent { (files : Files) → told_files (S.disk store.old) ≡ Some files → files (Commit number) ≡ None
         → IsErrAnd result (λ fault. (fault ≡ OpenFault.NoSuch number) ⊎ ((fault ≡ OpenFault.Store) ⊎ (fault ≡ OpenFault.NoMemory))) }
-    ensures reads { OnlyReads S.files S.unsynced S.images S.moment S.left_since store.old store.new }
+    ensures reads { S.disk store.new ≡ S.disk store.old }
     ensures later { S.fault_count store.old ≤ S.fault_count store.new }
     ensures failed { result ≡ Err OpenFault.Store → Rose (S.fault_count store.old) (S.fault_count store.new) }
 {

@@ -68,15 +68,15 @@ impl<S: Store> Store for FuseStore<S> {
 
     ghost fault_count = { λ store. min (S.fault_count store.inner + store.fuse.faults) (2 ^ 64 - 1) };
 
-    ghost use Rattle.std.specs.Prelude.{◌≡◌, ◌≢◌, ◌<◌, Err, IfOk, All, option_map};
+    ghost use Rattle.std.specs.Prelude.{◌≡◌, ◌≢◌, ◌<◌, Err, IfOk, IfSome, All, option_map};
     ghost use Rattle.ix_base.specs.FileNames.{IsName};
-    ghost use Rattle.ix_outside.specs.Files.{Lists};
-    ghost use Rattle.ix_outside.specs.Disk.{IfTold, Takes, files};
+    ghost use Rattle.ix_outside.specs.Files.{Lists, Reads};
+    ghost use Rattle.ix_outside.specs.Disk.{Takes, told_files};
     ghost use Rattle.ix_outside.specs.Causes.{HasStoreCause};
     ghost use Rattle.ix_outside.specs.declared.step.Step.TheVariants.{Wrote, Synced, Renamed, Deleted, Settled};
 
     fn list(&mut self, alloc: Global) -> Result<Vec<FileName>, StoreFault>
-        ensures names { IfOk result (λ names. IfTold (λ disk. Lists (files disk) names.items) (S.disk self.old.inner)) }
+        ensures names { IfOk result (λ names. IfSome (told_files (S.disk self.old.inner)) (λ here. Lists here names.items)) }
         ensures real { IfOk result (λ names. All IsName names.items) }
         ensures disk { S.disk self.new.inner ≡ S.disk self.old.inner }
         ensures cause { HasStoreCause (min (S.fault_count self.old.inner + self.old.fuse.faults) (2 ^ 64 - 1)) (min (S.fault_count self.new.inner + self.new.fuse.faults) (2 ^ 64 - 1)) result }
@@ -92,7 +92,7 @@ impl<S: Store> Store for FuseStore<S> {
     }
 
     fn read(&mut self, alloc: Global, name: FileName) -> Result<Option<Vec<u8>>, StoreFault>
-        ensures bytes { IfOk result (λ found. IfTold (λ disk. option_map (λ bytes. bytes.items) found ≡ files disk name) (S.disk self.old.inner)) }
+        ensures bytes { IfOk result (λ found. Reads (told_files (S.disk self.old.inner)) name (option_map (λ bytes. bytes.items) found)) }
         ensures disk { S.disk self.new.inner ≡ S.disk self.old.inner }
         ensures cause { HasStoreCause (min (S.fault_count self.old.inner + self.old.fuse.faults) (2 ^ 64 - 1)) (min (S.fault_count self.new.inner + self.new.fuse.faults) (2 ^ 64 - 1)) result }
         ensures burnt { self.old.fuse.passes ≡ 0 → result ≡ Err StoreFault.Failed }

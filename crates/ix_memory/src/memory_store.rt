@@ -101,16 +101,16 @@ impl Store for MemoryStore {
 
     ghost fault_count = { λ store. store.calls.faults };
 
-    ghost use Rattle.std.specs.Prelude.{◌≡◌, ◌≢◌, ◌⊎◌, ◌↔◌, None, IfOk, All, IsErrOf, option_map};
+    ghost use Rattle.std.specs.Prelude.{◌≡◌, ◌≢◌, ◌⊎◌, ◌↔◌, None, IfOk, IfSome, All, IsErrOf, option_map};
     ghost use Rattle.ix_base.specs.FileNames.{IsName};
-    ghost use Rattle.ix_outside.specs.Files.{Lists};
-    ghost use Rattle.ix_outside.specs.Disk.{IfTold, Takes, files};
+    ghost use Rattle.ix_outside.specs.Files.{Lists, Reads};
+    ghost use Rattle.ix_outside.specs.Disk.{Takes, told_files, files};
     ghost use Rattle.ix_outside.specs.Causes.{HasStoreCause};
     ghost use Rattle.ix_outside.specs.declared.step.Step.TheVariants.{Wrote, Synced, Renamed, Deleted, Settled};
     ghost use Rattle.ix_memory.specs.Failing.{Counts, NextFails};
 
     fn list(&mut self, alloc: Global) -> Result<Vec<FileName>, StoreFault>
-        ensures names { IfOk result (λ names. IfTold (λ disk. Lists (files disk) names.items) (Some self.old.history)) }
+        ensures names { IfOk result (λ names. IfSome (told_files (Some self.old.history)) (λ here. Lists here names.items)) }
         ensures real { IfOk result (λ names. All IsName names.items) }
         ensures disk { Some self.new.history ≡ Some self.old.history }
         ensures cause { HasStoreCause self.old.calls.faults self.new.calls.faults result }
@@ -124,7 +124,7 @@ impl Store for MemoryStore {
     }
 
     fn read(&mut self, alloc: Global, name: FileName) -> Result<Option<Vec<u8>>, StoreFault>
-        ensures bytes { IfOk result (λ found. IfTold (λ disk. option_map (λ bytes. bytes.items) found ≡ files disk name) (Some self.old.history)) }
+        ensures bytes { IfOk result (λ found. Reads (told_files (Some self.old.history)) name (option_map (λ bytes. bytes.items) found)) }
         ensures disk { Some self.new.history ≡ Some self.old.history }
         ensures cause { HasStoreCause self.old.calls.faults self.new.calls.faults result }
         ensures fails { IsErrOf result StoreFault.Failed ↔ NextFails self.old.calls }

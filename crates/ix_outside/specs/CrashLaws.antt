@@ -64,6 +64,9 @@ moved-to «from» to x f apart =
     ap (λ g. g to) opened
     ∙ (with_at-other «from» to x (with_at to (f «from») f) (λ same. apart (sym same)) ∙ with_at-same to (f «from») f)
 
+pub moved-from : {A : Type 0} («from» to : FileName) (x : A) (f : FileName → A) → «from» ≢ to → moved «from» to x f «from» ≡ x
+moved-from «from» to x f apart = ap (λ g. g «from») (moved-apart «from» to x f apart) ∙ with_at-same «from» x (with_at to (f «from») f)
+
 -- ---- time
 
 -- a crash since this moment is a crash at it

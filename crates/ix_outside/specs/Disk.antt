@@ -86,11 +86,12 @@ DoesOn steps old new (Err e) = Stops steps old new
 
 -- ---- a store that may tell nothing
 
--- Where a store tells its disk, it goes on telling, and the change leads from the old one to the new.
+-- Where a store tells its disk it goes on telling, and the change leads from the old one to the new. Where it tells
+-- nothing it goes on telling nothing.
 abbrev pub Told : (Disk → Disk → Type 0) → Option Disk → Option Disk → Type 0
-Told change None new = ⊤
-Told change (Some old) None = ⊥
+Told change None None = ⊤
 Told change (Some old) (Some new) = change old new
+Told change old new = ⊥
 
 -- what reads give, where that is told
 abbrev pub told_files : Option Disk → Option Files

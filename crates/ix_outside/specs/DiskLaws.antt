@@ -39,13 +39,16 @@ does_early T xs ys a b fault stops = stops_early xs ys a b stops
 
 pub told_then : (first second both : Disk → Disk → Type 0) (a b c : Option Disk) → ((x y z : Disk) → first x y → second y z → both x z)
     → Told first a b → Told second b c → Told both a c
-told_then first second both None b c joined p q = tt
+told_then first second both None None None joined p q = tt
+told_then first second both None None (Some z) joined p q = absurd q
+told_then first second both None (Some y) c joined p q = absurd p
 told_then first second both (Some x) (Some y) (Some z) joined p q = joined x y z p q
 told_then first second both (Some x) (Some y) None joined p q = absurd q
 told_then first second both (Some x) None c joined p q = absurd p
 
 pub told_onto : (change other : Disk → Disk → Type 0) (a b : Option Disk) → ((x y : Disk) → change x y → other x y) → Told change a b → Told other a b
-told_onto change other None b implies p = tt
+told_onto change other None None implies p = tt
+told_onto change other None (Some y) implies p = absurd p
 told_onto change other (Some x) (Some y) implies p = implies x y p
 told_onto change other (Some x) None implies p = absurd p
 

@@ -41,6 +41,11 @@ Changes change None new = ⊤
 Changes change (Some old) None = ⊥
 Changes change (Some old) (Some new) = change old new
 
+-- what is read is what is there, where that is told
+abbrev pub Reads : Option Files → FileName → Option (List ℕ) → Type 0
+Reads None name found = ⊤
+Reads (Some files) name found = found ≡ files name
+
 -- what is told is this, where anything is told
 abbrev pub Was : {A : Type 0} → Option A → A → Type 0
 Was None x = ⊤

@@ -17,3 +17,7 @@ MayHaveRemoved name old new = (Removes name old new) ⊎ (new ≡ old)
 abbrev pub IsDurable : FileName → (Files → Type 0) → Option Files → Type 0
 IsDurable name images None = ⊤
 IsDurable name images (Some files) = (c : Files) → images c → c name ≡ files name
+
+-- a step from one of these files led to c
+abbrev pub Reaches : (Files → Files → Type 0) → (Files → Type 0) → Files → Type 0
+Reaches step before c = (d : Files) × before d × step d c

@@ -1,8 +1,8 @@
 //! Where the files are.
-ghost use Rattle.std.specs.Prelude.{◌≡◌, ◌≢◌, ℕ, Option, IfOk, All, option_map};
+ghost use Rattle.std.specs.Prelude.{◌≡◌, ◌≢◌, ℕ, Option, IfOk, IfSome, All, option_map};
 ghost use Rattle.ix_base.specs.FileNames.{IsName};
-ghost use Rattle.ix_outside.specs.Files.{Lists};
-ghost use Rattle.ix_outside.specs.Disk.{Disk, Takes, IfTold, files};
+ghost use Rattle.ix_outside.specs.Files.{Lists, Reads};
+ghost use Rattle.ix_outside.specs.Disk.{Disk, Takes, told_files};
 ghost use Rattle.ix_outside.specs.Causes.{HasStoreCause};
 
 use ix_base::{FileName, NoMemory};
@@ -69,14 +69,14 @@ pub trait Store {
 
     /// The names of the files, each once. Foreign names are passed over.
     fn list(&mut self, alloc: Global) -> Result<Vec<FileName>, StoreFault>
-        ensures names { IfOk result (λ names. IfTold (λ disk. Lists (files disk) names.items) (disk self.old)) }
+        ensures names { IfOk result (λ names. IfSome (told_files (disk self.old)) (λ here. Lists here names.items)) }
         ensures real { IfOk result (λ names. All IsName names.items) }
         ensures disk { disk self.new ≡ disk self.old }
         ensures cause { HasStoreCause (fault_count self.old) (fault_count self.new) result };
 
     /// The bytes of a file: `None` where there is no such file.
     fn read(&mut self, alloc: Global, name: FileName) -> Result<Option<Vec<u8>>, StoreFault>
-        ensures bytes { IfOk result (λ found. IfTold (λ disk. option_map (λ bytes. bytes.items) found ≡ files disk name) (disk self.old)) }
+        ensures bytes { IfOk result (λ found. Reads (told_files (disk self.old)) name (option_map (λ bytes. bytes.items) found)) }
         ensures disk { disk self.new ≡ disk self.old }
         ensures cause { HasStoreCause (fault_count self.old) (fault_count self.new) result };
 

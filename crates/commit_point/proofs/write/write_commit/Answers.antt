@@ -1,35 +1,52 @@
-use Rattle.std.proofs.Common.{ap, arith}
-use Rattle.commit_point.proofs.Making.{commits_both, crash_of, acknowledged_of, tells_renamed}
+use Rattle.std.proofs.Common.{◌≡◌, List, arith, ◌∙◌, ℕ}
+use Rattle.commit_point.specs.Publishing.{File}
+use Rattle.commit_point.specs.Spelling.{commit_file}
+use Rattle.commit_point.specs.Writing.{head_of, segment_list}
+use Rattle.commit_point.proofs.Making.{Did, Stopped, did_at, stopped_at, did_stop, makes, leaves_others, images_have, images_elsewhere, crash_leaves, crash_before, durable_commit, durable_segment, tells_rename}
 use Rattle.commit_point.proofs.write.write_commit.Goals as goal
 
-pub returns-in-Ok-put_rows_file-clause-ok : goal.returns-in-Ok-put_rows_file-clause-ok
-returns-in-Ok-put_rows_file-clause-ok g c room =
-    commits_both c.args.number c.args.next_id c.args.rows.now c.in-Ok.head _ _ _ c.in-Ok.ensures
-    (record { number = c.requires.some; fits = omega arith; some_id = c.requires.some_id; room = room; count = omega arith; births = c.requires.births; documents = c.in-Ok-put_rows_file.ensures.fits })
-    c.in-Ok-put_rows_file.ensures.ok c.in_ok-write_head-in-Ok-put_rows_file.ensures.ok
+pub returns-then-rows-gt-MOST_ROWS-clause-crash : goal.returns-then-rows-gt-MOST_ROWS-clause-crash
+returns-then-rows-gt-MOST_ROWS-clause-crash g c room = crash_before c.args.number c.args.next_id c.args.rows.now _
 
-pub returns-in-Ok-put_rows_file-clause-acknowledged : goal.returns-in-Ok-put_rows_file-clause-acknowledged
-returns-in-Ok-put_rows_file-clause-acknowledged g c files told room =
-    acknowledged_of c.args.number c.args.next_id c.args.rows.now c.in-Ok.head files _ _ _ _ _ _ c.in-Ok.ensures told
-    (record { number = c.requires.some; fits = omega arith; some_id = c.requires.some_id; room = room; count = omega arith; births = c.requires.births; documents = c.in-Ok-put_rows_file.ensures.fits })
-    c.in-Ok-put_rows_file.ensures.ok c.in-Ok-put_rows_file.ensures.durable (λ empty. ap g.S.Store.images (c.put_rows_file.ensures.no_rows empty)) c.put_rows_file.ensures.images c.in_ok-write_head-in-Ok-put_rows_file.ensures.ok
-    c.in_ok-write_head-in-Ok-put_rows_file.ensures.durable c.in_ok-write_head-in-Ok-put_rows_file.ensures.pending c.write_head.ensures.images
+pub returns-in-Err-clause-crash : goal.returns-in-Err-clause-crash
+returns-in-Err-clause-crash g c room = crash_before c.args.number c.args.next_id c.args.rows.now _
 
-pub returns-in-Ok-put_rows_file-clause-crash : goal.returns-in-Ok-put_rows_file-clause-crash
-returns-in-Ok-put_rows_file-clause-crash g c files told room =
-    crash_of {S = g.row.S.Denot} g.S.Store.moment g.S.Store.left_since g.S.Store.images g.S.Store.files c.args.store.now c.put_rows_file.new.store c.write_head.new.store
-    c.args.number c.args.next_id c.args.rows.now c.in-Ok.head files c.in-Ok.ensures told
-    (record { number = c.requires.some; fits = omega arith; some_id = c.requires.some_id; room = room; count = omega arith; births = c.requires.births; documents = c.in-Ok-put_rows_file.ensures.fits })
-    c.in-Ok-put_rows_file.ensures.ok c.in-Ok-put_rows_file.ensures.durable c.put_rows_file.ensures.no_rows c.put_rows_file.ensures.images c.put_rows_file.ensures.crash c.write_head.ensures.crash
+pub returns-in-Err-commit_bytes-clause-crash : goal.returns-in-Err-commit_bytes-clause-crash
+returns-in-Err-commit_bytes-clause-crash g c room = crash_before c.args.number c.args.next_id c.args.rows.now _
 
-pub returns-in_err-write_head-in-Ok-put_rows_file-clause-crash : goal.returns-in_err-write_head-in-Ok-put_rows_file-clause-crash
-returns-in_err-write_head-in-Ok-put_rows_file-clause-crash g c files told room =
-    crash_of {S = g.row.S.Denot} g.S.Store.moment g.S.Store.left_since g.S.Store.images g.S.Store.files c.args.store.now c.put_rows_file.new.store c.write_head.new.store
-    c.args.number c.args.next_id c.args.rows.now c.in-Ok.head files c.in-Ok.ensures told
-    (record { number = c.requires.some; fits = omega arith; some_id = c.requires.some_id; room = room; count = omega arith; births = c.requires.births; documents = c.in-Ok-put_rows_file.ensures.fits })
-    c.in-Ok-put_rows_file.ensures.ok c.in-Ok-put_rows_file.ensures.durable c.put_rows_file.ensures.no_rows c.put_rows_file.ensures.images c.put_rows_file.ensures.crash c.write_head.ensures.crash
+-- ---- all was published
 
-pub returns-in_err-write_head-in-Ok-put_rows_file-clause-renamed : goal.returns-in_err-write_head-in-Ok-put_rows_file-clause-renamed
-returns-in_err-write_head-in-Ok-put_rows_file-clause-renamed g c =
-    tells_renamed c.args.number c.args.next_id c.args.rows.now c.in-Ok.head _ _ _ c.in_err-write_head-in-Ok-put_rows_file.field-0.0 _ c.from_residual.result c.in-Ok.ensures
-    c.in-Ok-put_rows_file.ensures.ok c.in_err-write_head-in-Ok-put_rows_file.ensures.renamed (λ e q. q) c.from_residual.ensures.1
+pub returns-in-Ok-publish-clause-steps : goal.returns-in-Ok-publish-clause-steps
+returns-in-Ok-publish-clause-steps g c = did_at c.args.number c.args.next_id c.args.rows.now _ _ _ _ (c.deref.ensures.value ∙ c.in-Ok.ensures.files) (c.deref-2.ensures.value ∙ c.in-Ok-commit_bytes.ensures) c.in-Ok-publish.ensures.disk
+
+pub returns-in-Ok-publish-clause-ok : goal.returns-in-Ok-publish-clause-ok
+returns-in-Ok-publish-clause-ok g c room = makes c.args.number c.args.next_id c.args.rows.now _ _ (record { number = c.requires.some; fits = c.ranges.number.fits; some_id = c.requires.some_id; room = room; count = omega arith; births = c.requires.births; documents = c.in-Ok.ensures.fits }) (returns-in-Ok-publish-clause-steps g c)
+
+pub returns-in-Ok-publish-clause-acknowledged : goal.returns-in-Ok-publish-clause-acknowledged
+returns-in-Ok-publish-clause-acknowledged g c room = images_have c.args.number c.args.next_id c.args.rows.now _ _ (record { number = c.requires.some; fits = c.ranges.number.fits; some_id = c.requires.some_id; room = room; count = omega arith; births = c.requires.births; documents = c.in-Ok.ensures.fits }) (returns-in-Ok-publish-clause-steps g c)
+
+pub returns-in-Ok-publish-clause-durable : goal.returns-in-Ok-publish-clause-durable
+returns-in-Ok-publish-clause-durable g c = durable_commit c.args.number c.args.next_id c.args.rows.now _ _ (returns-in-Ok-publish-clause-steps g c)
+
+pub returns-in-Ok-publish-clause-durable_rows : goal.returns-in-Ok-publish-clause-durable_rows
+returns-in-Ok-publish-clause-durable_rows g c some = durable_segment c.args.number c.args.next_id c.args.rows.now _ _ (returns-in-Ok-publish-clause-steps g c) some
+
+pub returns-in-Ok-publish-clause-crash : goal.returns-in-Ok-publish-clause-crash
+returns-in-Ok-publish-clause-crash g c room = crash_leaves c.args.number c.args.next_id c.args.rows.now _ _ (record { number = c.requires.some; fits = c.ranges.number.fits; some_id = c.requires.some_id; room = room; count = omega arith; births = c.requires.births; documents = c.in-Ok.ensures.fits }) (did_stop c.args.number c.args.next_id c.args.rows.now _ _ (returns-in-Ok-publish-clause-steps g c))
+
+pub returns-in-Ok-publish-clause-images : goal.returns-in-Ok-publish-clause-images
+returns-in-Ok-publish-clause-images g c = images_elsewhere c.args.number c.args.next_id c.args.rows.now _ _ (did_stop c.args.number c.args.next_id c.args.rows.now _ _ (returns-in-Ok-publish-clause-steps g c))
+
+-- ---- not all was
+
+pub returns-clause-steps : goal.returns-clause-steps
+returns-clause-steps g c = stopped_at c.args.number c.args.next_id c.args.rows.now _ _ _ _ (c.deref.ensures.value ∙ c.in-Ok.ensures.files) (c.deref-2.ensures.value ∙ c.in-Ok-commit_bytes.ensures) c.in-Err-publish.ensures.disk
+
+pub returns-clause-err : goal.returns-clause-err
+returns-clause-err g c = leaves_others c.args.number c.args.next_id c.args.rows.now _ _ (returns-clause-steps g c)
+
+pub returns-clause-crash : goal.returns-clause-crash
+returns-clause-crash g c room = crash_leaves c.args.number c.args.next_id c.args.rows.now _ _ (record { number = c.requires.some; fits = c.ranges.number.fits; some_id = c.requires.some_id; room = room; count = omega arith; births = c.requires.births; documents = c.in-Ok.ensures.fits }) (returns-clause-steps g c)
+
+pub returns-clause-images : goal.returns-clause-images
+returns-clause-images g c = images_elsewhere c.args.number c.args.next_id c.args.rows.now _ _ (returns-clause-steps g c)

@@ -1,10 +1,12 @@
 -- Writing files one by one, and publishing them by a rename.
-use Rattle.std.specs.Prelude.{◌≡◌, ◌≢◌, ◌⊎◌, ℕ, List, [], ◌∷◌, ◌++◌, Some, ⊤, Bool, true, false}
+use Rattle.std.specs.Prelude.{◌≡◌, ◌≢◌, ◌⊎◌, ℕ, ◌≤◌, Result, IfErr, List, [], ◌∷◌, ◌++◌, Some, None, ⊤, Bool, true, false}
 use Rattle.std.specs.List.{flat_map, AllByRecursion}
 use Rattle.ix_base.specs.declared.file_name.FileName.{FileName}
 use Rattle.ix_outside.specs.Files.{Files}
+use Rattle.ix_outside.specs.Causes.{Rose}
+use Rattle.commit_point.specs.declared.fault.CommitRefused.{CommitRefused}
 use Rattle.ix_outside.specs.declared.store.StoreFault.{StoreFault}
-use Rattle.ix_outside.specs.declared.store.StoreFault.TheVariants.{NoMemory}
+use Rattle.ix_outside.specs.declared.store.StoreFault.TheVariants.{Failed, NoMemory}
 use Rattle.ix_outside.specs.declared.step.Step.{Step}
 use Rattle.ix_outside.specs.Disk.{Disk, taken, Stops}
 use Rattle.ix_outside.specs.declared.step.Step.TheVariants.{Wrote, Synced, Renamed, Settled}
@@ -48,23 +50,24 @@ pub record Adds (list : List File) (old new : Files) : Type 0 where
   pub others : Touches list old new
 
 -- every file is as it was, but those of the list, the pending one and the last one
-abbrev pub SameElsewhere : List File → FileName → FileName → Files → Files → Type 0
-SameElsewhere list pending final old new = (name : FileName) → IsNoneOf list name → name ≢ pending → name ≢ final → new name ≡ old name
+abbrev pub SameBesides : List File → FileName → FileName → Files → Files → Type 0
+SameBesides list pending final old new = (name : FileName) → IsNoneOf list name → name ≢ pending → name ≢ final → new name ≡ old name
 
--- the last file has its bytes, and so has each of the list
-pub record IsWhole (list : List File) (final : FileName) (bytes : List ℕ) (files : Files) : Type 0 where
+-- the last file has its bytes, and so has each of the list; nothing is left under the pending name
+pub record IsWhole (list : List File) (pending final : FileName) (bytes : List ℕ) (files : Files) : Type 0 where
   pub last : files final ≡ Some bytes
+  pub gone : files pending ≡ None
   pub there : AreThere list files
 
 -- all was published
 pub record Publishes (list : List File) (pending final : FileName) (bytes : List ℕ) (old new : Files) : Type 0 where
-  pub whole : IsWhole list final bytes new
-  pub elsewhere : SameElsewhere list pending final old new
+  pub whole : IsWhole list pending final bytes new
+  pub elsewhere : SameBesides list pending final old new
 
 -- all was published, or the last file is as before
 pub record MayPublish (list : List File) (pending final : FileName) (bytes : List ℕ) (old new : Files) : Type 0 where
-  pub whole : (new final ≡ old final) ⊎ IsWhole list final bytes new
-  pub elsewhere : SameElsewhere list pending final old new
+  pub whole : (new final ≡ old final) ⊎ IsWhole list pending final bytes new
+  pub elsewhere : SameBesides list pending final old new
 
 -- the files, the pending name and the last one are apart
 pub record CanPublish (list : List File) (pending final : FileName) : Type 0 where
@@ -73,7 +76,12 @@ pub record CanPublish (list : List File) (pending final : FileName) : Type 0 whe
   pub final_none : IsNoneOf list final
   pub differ : pending ≢ final
 
--- A rename after other steps was done, or want of memory came before it.
+-- A rename after other steps was done, or memory ran out before it.
 pub record Refuses (before : List Step) (rename : Step) (fault : StoreFault) (renamed : Bool) (old new : Disk) : Type 0 where
   pub done : renamed ≡ true → new ≡ taken (before ++ rename ∷ []) old
   pub not_done : renamed ≡ false → fault ≡ NoMemory → Stops before old new
+
+-- no count of faults fell, and it rose where the refusal is for a failed call
+pub record BlamesRefusal {T : Type 0} (before now : ℕ) (result : Result T CommitRefused) : Type 0 where
+  pub later : before ≤ now
+  pub failed : IfErr result (λ refused. refused.fault ≡ Failed → Rose before now)
