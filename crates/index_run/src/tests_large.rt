@@ -4,7 +4,7 @@
 //! It has three rounds of 1,004 lines. A round adds 1,000 documents, numbered on from those of the
 //! round before, deletes the first of them, makes a commit, and searches it for all documents and
 //! for those whose number ends in 7.
-use crate::tests::run_over;
+use crate::tests::run_script;
 use ix_base::{FileName, NoMemory};
 use ix_memory::MemoryStore;
 use ix_outside::Store;
@@ -92,16 +92,7 @@ fn script_and_report(alloc: Global) -> Result<(String, String), NoMemory> {
 fn many_documents(rt: HostRuntime) -> Result<(), Fail> {
     let alloc = rt.alloc();
     let (script, report) = script_and_report(alloc).ok().ok_or("memory")?;
-    let done = run_over(
-        &rt,
-        alloc,
-        &[script.as_str()],
-        MemoryStore::new(alloc),
-        Vec::new(alloc),
-        Vec::new(alloc),
-    )
-    .ok()
-    .ok_or("memory")?;
+    let done = run_script(&rt, alloc, &[script.as_str()], MemoryStore::new(alloc))?;
     assert_eq!(rt; done.status, 0);
     assert!(rt;
         done.written.as_slice() == report.as_bytes(),

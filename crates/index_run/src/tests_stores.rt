@@ -1,13 +1,11 @@
 //! What whole runs leave in the store, and the example scripts with the reports that are printed
 //! beside them.
-use crate::tests::{Done, run_over};
+use crate::tests::run_script;
 use ix_base::{FileName, NoMemory};
 use ix_memory::MemoryStore;
 use ix_outside::Store;
 use std::alloc::Global;
-use std::sync::Wait;
 use std::test::*;
-use std::thread::Threads;
 
 /// A document of a key alone, a commit and a search.
 const SHORT: &str = "{\"c\":0,\"op\":\"add\",\"doc\":{\"key\":\"a1\"}}\n\
@@ -75,23 +73,6 @@ const MAILS_AGAIN: &str = "{\"line\":1,\"seq\":6}\n\
      {\"commit\":10,\"hits\":[{\"key\":\"ann/1\",\"num\":{\"date\":20240301,\"size\":412}},{\"key\":\"bob/1\",\"num\":{\"date\":20240301,\"size\":298}},{\"key\":\"ann/1\",\"num\":{\"date\":20240301,\"size\":412}},{\"key\":\"bob/1\",\"num\":{\"date\":20240301,\"size\":298}}],\"line\":10}\n\
      {\"commit\":10,\"hits\":[],\"line\":11}\n";
 
-/// A run of the script over the store, in which nothing fails.
-fn run_script<R: Threads + Wait>(
-    rt: &R,
-    alloc: Global,
-    script: &str,
-    store: MemoryStore,
-) -> Result<Done<MemoryStore>, NoMemory> {
-    run_over(
-        rt,
-        alloc,
-        &[script],
-        store,
-        Vec::new(alloc),
-        Vec::new(alloc),
-    )
-}
-
 /// Two hexadecimal digits for each of the bytes.
 fn hex_of(alloc: Global, bytes: &[u8]) -> Result<Vec<u8>, NoMemory> {
     let digits = b"0123456789abcdef";
@@ -141,9 +122,7 @@ fn files_byte_for_byte(rt: HostRuntime) -> Result<(), Fail> {
         ),
     ];
     for (script, name, fields) in cases {
-        let done = run_script(&rt, alloc, script, MemoryStore::new(alloc))
-            .ok()
-            .ok_or("memory")?;
+        let done = run_script(&rt, alloc, &[script], MemoryStore::new(alloc))?;
         let mut store = done.store;
         let bytes = store.read(alloc, name).ok().ok_or("a read that fails")?;
         let bytes = bytes.ok_or("an absent file")?;
@@ -163,13 +142,9 @@ fn examples_twice(rt: HostRuntime) -> Result<(), Fail> {
         (MAILS, MAILS_REPORT, MAILS_AGAIN),
     ];
     for (script, report, again) in cases {
-        let first = run_script(&rt, alloc, script, MemoryStore::new(alloc))
-            .ok()
-            .ok_or("memory")?;
+        let first = run_script(&rt, alloc, &[script], MemoryStore::new(alloc))?;
         assert_eq!(rt; first.written.as_slice(), report.as_bytes(), "{report}");
-        let second = run_script(&rt, alloc, script, first.store)
-            .ok()
-            .ok_or("memory")?;
+        let second = run_script(&rt, alloc, &[script], first.store)?;
         assert_eq!(rt; second.written.as_slice(), again.as_bytes(), "{again}");
     }
     Ok(())
