@@ -1,8 +1,8 @@
 //! Search lines, answered from what the store holds of their commits.
 ghost use Rattle.std.specs.Prelude.{◌≡◌, ◌≢◌, ◌⊎◌, ◌<◌, ◌≤◌, ◌^◌, ℕ, List, [], length, false, OnOk, IfOk, IfErr, Err, Some};
+ghost use Rattle.ix_outside.specs.Disk.{told_files};
 ghost use Rattle.ix_base.specs.declared.document.Row.{Row};
 ghost use Rattle.ix_outside.specs.Causes.{Rose};
-ghost use Rattle.ix_outside.specs.Calls.{OnlyReads};
 ghost use Rattle.ix_outside.specs.Files.{Files, Was};
 ghost use Rattle.commit_point.specs.Holds.{Holds};
 ghost use Rattle.commit_point.specs.Reading.{reading};
@@ -59,11 +59,11 @@ impl SearchedCommit {
     fn open<S: Store>(alloc: Global, store: &mut S, number: u64) -> Result<SearchedCommit, Stop>
         ensures indexed { IfOk result IsIndexed }
         ensures number { IfOk result (λ commit. commit.number ≡ number) }
-        ensures rows { (files : Files) (rows : List Row) → S.files store.old ≡ Some files → HoldsCommit files number rows → IfOk result (λ commit. commit.rows ≡ rows) }
-        ensures whole { (files : Files) (rows : List Row) → S.files store.old ≡ Some files → HoldsCommit files number rows
+        ensures rows { (files : Files) (rows : List Row) → told_files (S.disk store.old) ≡ Some files → HoldsCommit files number rows → IfOk result (λ commit. commit.rows ≡ rows) }
+        ensures whole { (files : Files) (rows : List Row) → told_files (S.disk store.old) ≡ Some files → HoldsCommit files number rows
             → IfErr result (λ stop. (stop ≡ Stop.Fault Fault.Store) ⊎ (stop ≡ Stop.NoMemory)) }
-        ensures damaged { (damaged : Damaged) → result ≡ Err (Stop.Fault (Fault.Damaged damaged)) → IsDamagedIn (S.files store.old) number damaged }
-        ensures reads { OnlyReads S.files S.unsynced S.images S.moment S.left_since store.old store.new }
+        ensures damaged { (damaged : Damaged) → result ≡ Err (Stop.Fault (Fault.Damaged damaged)) → IsDamagedIn (told_files (S.disk store.old)) number damaged }
+        ensures reads { S.disk store.new ≡ S.disk store.old }
         ensures later { S.fault_count store.old ≤ S.fault_count store.new }
         ensures failed { result ≡ Err (Stop.Fault Fault.Store) → Rose (S.fault_count store.old) (S.fault_count store.new) }
         ensures others { IfErr result (λ stop. (stop ≡ Stop.Fault Fault.Store) ⊎ ((stop ≡ Stop.NoMemory) ⊎ ((damaged : Damaged) × (stop ≡ Stop.Fault (Fault.Damaged damaged))))) }
@@ -91,12 +91,12 @@ fn reopen<S: Store>(
     requires { IsIndexed commit.old }
     ensures indexed { OnOk result (IsIndexed commit.new) }
     ensures number { OnOk result (commit.new.number ≡ number) }
-    ensures rows { (files : Files) (rows_of : ℕ → List Row) → S.files store.old ≡ Some files → commit.old.rows ≡ rows_of commit.old.number → rows_of 0 ≡ []
+    ensures rows { (files : Files) (rows_of : ℕ → List Row) → told_files (S.disk store.old) ≡ Some files → commit.old.rows ≡ rows_of commit.old.number → rows_of 0 ≡ []
         → (number ≡ 0) ⊎ ((1 ≤ number) × HoldsCommit files number (rows_of number)) → OnOk result (commit.new.rows ≡ rows_of number) }
-    ensures whole { (files : Files) (rows : List Row) → S.files store.old ≡ Some files → (number ≡ 0) ⊎ ((1 ≤ number) × HoldsCommit files number rows)
+    ensures whole { (files : Files) (rows : List Row) → told_files (S.disk store.old) ≡ Some files → (number ≡ 0) ⊎ ((1 ≤ number) × HoldsCommit files number rows)
         → IfErr result (λ stop. (stop ≡ Stop.Fault Fault.Store) ⊎ (stop ≡ Stop.NoMemory)) }
-    ensures damaged { (damaged : Damaged) → result ≡ Err (Stop.Fault (Fault.Damaged damaged)) → (1 ≤ number) × IsDamagedIn (S.files store.old) number damaged }
-    ensures reads { OnlyReads S.files S.unsynced S.images S.moment S.left_since store.old store.new }
+    ensures damaged { (damaged : Damaged) → result ≡ Err (Stop.Fault (Fault.Damaged damaged)) → (1 ≤ number) × IsDamagedIn (told_files (S.disk store.old)) number damaged }
+    ensures reads { S.disk store.new ≡ S.disk store.old }
     ensures later { S.fault_count store.old ≤ S.fault_count store.new }
     ensures failed { result ≡ Err (Stop.Fault Fault.Store) → Rose (S.fault_count store.old) (S.fault_count store.new) }
     ensures others { IfErr result (λ stop. (stop ≡ Stop.Fault Fault.Store) ⊎ ((stop ≡ Stop.NoMemory) ⊎ ((damaged : Damaged) × (stop ≡ Stop.Fault (Fault.Damaged damaged))))) }
@@ -146,12 +146,12 @@ pub fn line_text<S: Store>(
 ) -> Result<Vec<u8>, Stop>
     requires { IsIndexed commit.old }
     ensures indexed { OnOk result (IsIndexed commit.new) }
-    ensures text { (files : Files) (rows_of : ℕ → List Row) → S.files store.old ≡ Some files → commit.old.rows ≡ rows_of commit.old.number → rows_of 0 ≡ []
+    ensures text { (files : Files) (rows_of : ℕ → List Row) → told_files (S.disk store.old) ≡ Some files → commit.old.rows ≡ rows_of commit.old.number → rows_of 0 ≡ []
         → AnswerHolds files rows_of outcome.now.answer → IfOk result (λ text. (text.items ≡ outcome_text rows_of outcome.now) × (commit.new.rows ≡ rows_of commit.new.number)) }
-    ensures whole { (files : Files) (rows_of : ℕ → List Row) → S.files store.old ≡ Some files → AnswerHolds files rows_of outcome.now.answer
+    ensures whole { (files : Files) (rows_of : ℕ → List Row) → told_files (S.disk store.old) ≡ Some files → AnswerHolds files rows_of outcome.now.answer
         → IfErr result (λ stop. (stop ≡ Stop.Fault Fault.Store) ⊎ (stop ≡ Stop.NoMemory)) }
-    ensures damaged { (damaged : Damaged) → result ≡ Err (Stop.Fault (Fault.Damaged damaged)) → SearchesDamaged (S.files store.old) outcome.now.answer damaged }
-    ensures reads { OnlyReads S.files S.unsynced S.images S.moment S.left_since store.old store.new }
+    ensures damaged { (damaged : Damaged) → result ≡ Err (Stop.Fault (Fault.Damaged damaged)) → SearchesDamaged (told_files (S.disk store.old)) outcome.now.answer damaged }
+    ensures reads { S.disk store.new ≡ S.disk store.old }
     ensures later { S.fault_count store.old ≤ S.fault_count store.new }
     ensures failed { result ≡ Err (Stop.Fault Fault.Store) → Rose (S.fault_count store.old) (S.fault_count store.new) }
     ensures others { IfErr result (λ stop. (stop ≡ Stop.Fault Fault.Store) ⊎ ((stop ≡ Stop.NoMemory) ⊎ ((damaged : Damaged) × (stop ≡ Stop.Fault (Fault.Damaged damaged))))) }

@@ -1,4 +1,5 @@
 use Rattle.std.proofs.Common.{◌≡◌, ◌∙◌, ◌<◌, ℕ, List, [], ◌∷◌, suc, ◌+◌, refl, length, get_or, map, Option, Some, sym, ap, subst, arith, Vec}
+use Rattle.ix_outside.specs.Disk.{told_files}
 use Rattle.std.specs.declared.alloc.Global.{Global}
 use Rattle.std.proofs.lemmas.List.{map-set, length-set}
 use Rattle.std.proofs.lemmas.List.Elements.{All-get_or}
@@ -8,7 +9,6 @@ use Rattle.run_report.specs.declared.outcome.Outcome.{Outcome}
 use Rattle.run_report.specs.declared.assembly.Turn.{Turn}
 use Rattle.run_report.specs.Searching.{AnswerHolds, CanSearch, SearchesDamaged}
 use Rattle.run_report.proofs.Filled.{FilledAt, filled_more, all_filled, turn_in_range, get_or_any}
-use Rattle.ix_outside.specs.CallLaws.{reads_then}
 use Rattle.run_report.proofs.assembly.texts_in_turn.Goals as goal
 
 holds_at : (files : Files) (rows_of : ℕ → List Row) (outcomes : List Outcome) (at : ℕ) (o : Outcome) → at < length outcomes → o ≡ get_or outcomes at o → CanSearch files rows_of outcomes → AnswerHolds files rows_of o.answer
@@ -36,8 +36,8 @@ loop-turn-preserved g c =
     let made = c.loop-turn.made.items in
     let text = c.in-Ok-line_text.text in
     let lt = turn_in_range (length outcomes) turns i some c.requires c.loop-turn-test.true in
-    let done = λ (files : Files) (rows_of : ℕ → List Row) (told : g.S.Store.files c.args.store.now ≡ Some files) (can : CanSearch files rows_of outcomes).
-    c.in-Ok-line_text.ensures.text files rows_of (inv.reads.same ∙ told) (inv.rows_are files rows_of told can) can.none (holds_at files rows_of outcomes at c.index-outcomes-turn.result lt c.index-outcomes-turn.is can) in
+    let done = λ (files : Files) (rows_of : ℕ → List Row) (told : told_files (g.S.Store.disk c.args.store.now) ≡ Some files) (can : CanSearch files rows_of outcomes).
+    c.in-Ok-line_text.ensures.text files rows_of ((ap told_files inv.reads) ∙ told) (inv.rows_are files rows_of told can) can.none (holds_at files rows_of outcomes at c.index-outcomes-turn.result lt c.index-outcomes-turn.is can) in
     record {
       count = length-set made at text ∙ inv.count;
       indexed = c.in-Ok-line_text.ensures.indexed;
@@ -46,7 +46,7 @@ loop-turn-preserved g c =
           subst (λ (texts : List (List ℕ)). (k : ℕ) (d : Turn) → k < i + 1 → FilledAt rows_of outcomes texts (get_or turns k d).at) (sym (map-set (λ (v : Vec ℕ Global). v.items) made at text))
           (filled_more rows_of outcomes (map (λ (v : Vec ℕ Global). v.items) made) turns i at text.items c.index-outcomes-turn.result (length_items made ∙ inv.count) lt
           (λ d. ap (λ (turn : Turn). turn.at) (get_or_any turns i d some c.loop-turn-test.true)) c.index-outcomes-turn.is (done files rows_of told can).0 (inv.filled files rows_of told can));
-      reads = reads_then _ _ _ _ _ c.args.store.now c.loop-turn.store c.line_text.new.store inv.reads c.line_text.ensures.reads;
+      reads = c.line_text.ensures.reads ∙ inv.reads;
       later = omega (arith, inv.later, c.line_text.ensures.later);
     }
 
@@ -54,7 +54,7 @@ pub returns-in-Err-line_text-clause-whole : goal.returns-in-Err-line_text-clause
 returns-in-Err-line_text-clause-whole g c = λ files rows_of told can.
     let some : Turn = record { commit = 0; at = 0 } in
     let lt = turn_in_range (length c.args.outcomes.now) c.args.turns.now c.loop-turn.turn-index some c.requires c.loop-turn-test.true in
-    c.in-Err-line_text.ensures.whole files rows_of (c.loop-turn.invariant.reads.same ∙ told) (holds_at files rows_of c.args.outcomes.now _ c.index-outcomes-turn.result lt c.index-outcomes-turn.is can)
+    c.in-Err-line_text.ensures.whole files rows_of ((ap told_files c.loop-turn.invariant.reads) ∙ told) (holds_at files rows_of c.args.outcomes.now _ c.index-outcomes-turn.result lt c.index-outcomes-turn.is can)
 
 pub returns-clause-texts : goal.returns-clause-texts
 returns-clause-texts g c = λ files rows_of told can.
@@ -69,5 +69,5 @@ returns-in-Err-line_text-clause-damaged g c = λ damaged is.
     (
       outcome,
       (_, lt, sym c.index-outcomes-turn.is),
-      subst (λ (told : Option Files). SearchesDamaged told outcome.answer damaged) c.loop-turn.invariant.reads.same (c.in-Err-line_text.ensures.damaged damaged cc),
+      subst (λ (told : Option Files). SearchesDamaged told outcome.answer damaged) (ap told_files c.loop-turn.invariant.reads) (c.in-Err-line_text.ensures.damaged damaged cc),
     )
