@@ -1,5 +1,7 @@
 -- What the images of a store have while the lines of a script are done.
 use Rattle.std.proofs.Common.{◌≡◌, ◌⊎◌, inl, inr, ℕ, ◌+◌, ◌<◌, ◌≤◌, ◌^◌, true, List, [], ◌∷◌, ◌++◌, length, take, Some, None, refl, sym, ap, subst, ◌∙◌, append_assoc, arith}
+use Rattle.ix_outside.specs.Crash.{MayHold}
+use Rattle.ix_outside.specs.Disk.{Disk}
 use Rattle.std.specs.Prelude.{IsSome, Option}
 use Rattle.std.specs.List.{AllByRecursion}
 use Rattle.std.proofs.lemmas.List.{length-append}
@@ -16,7 +18,7 @@ use Rattle.ix_outside.specs.Files.{Files, Changes}
 use Rattle.ix_outside.specs.Images.{Follows}
 use Rattle.commit_point.specs.Holds.{Holds, KeepsCommits}
 use Rattle.commit_point.specs.Laws.{holds_kept, other_commit}
-use Rattle.commit_point.specs.Putting.{Reaches}
+use Rattle.ix_outside.specs.Images.{Reaches}
 use Rattle.commit_point.specs.Writing.{Commits, SameElsewhere, MayCommit, next_after}
 use Rattle.op_script.specs.Shape.{is_read_act}
 use Rattle.op_script.specs.declared.script.Line.{Line}
@@ -170,10 +172,9 @@ front_line base next rows lines done rest l a w lasts outcomes d e c is act room
 pub stands_start : (base next : ℕ) (rows : List Row) (lines : List Line) (images : Files → Type 0) → Follows (Stands base next rows lines [] next) images images
 stands_start base next rows lines images c image = (c, image, record { commits = commits_none base next rows (numbered lines) c; kept = keeps_itself c })
 
-pub crash_start : {S : Type 0} (moment : S → ℕ) (left_since : S → ℕ → Files → Type 0) (images : S → Files → Type 0) (store : S) (base next : ℕ) (rows : List Row) (lines : List Line)
-    → ((store : S) (c : Files) → left_since store (moment store) c → images store c) → LeavesOnly moment left_since store store (Reaches (Front base next rows lines) (images store))
-crash_start moment left_since images store base next rows lines only_now =
-    leaves_none moment left_since images store (Reaches (Front base next rows lines) (images store)) only_now
+pub crash_start : (store : Option Disk) (base next : ℕ) (rows : List Row) (lines : List Line) → LeavesOnly store store (Reaches (Front base next rows lines) (MayHold store))
+crash_start store base next rows lines =
+    leaves_none store (Reaches (Front base next rows lines) (MayHold store))
     (λ c image. (c, image, front_of base next rows lines [] lines next c c refl (omega arith) (record { commits = commits_none base next rows (numbered lines) c; kept = keeps_itself c })))
 
 pub stands_more : (base next : ℕ) (rows : List Row) (lines done rest : List Line) (l : Line) (a : Act) (w : Writer) (lasts : List ℕ) (outcomes : List Outcome) (start mid now : Files → Type 0)
@@ -185,14 +186,13 @@ stands_more base next rows lines done rest l a w lasts outcomes start mid now is
     let d = stands e.0 e.1 in
     (d.0, d.1, stands_line base next rows lines done rest l a w lasts outcomes d.0 e.0 c is act known room far (starts d.0 d.1) d.2 e.2)
 
-pub crash_more : {S : Type 0} (moment : S → ℕ) (left_since : S → ℕ → Files → Type 0) (images : S → Files → Type 0) (start mid now : S)
-    (base next : ℕ) (rows : List Row) (lines done rest : List Line) (l : Line) (a : Act) (w : Writer) (lasts : List ℕ) (outcomes : List Outcome)
-    → lines ≡ done ++ l ∷ rest → l.act ≡ a → w.next_id < 2 ^ 62 → Far base next rows done w lasts outcomes → ((d : Files) → images start d → Starts d base next)
-    → Follows (Stands base next rows lines done w.next_id) (images start) (images mid)
-    → LeavesOnly moment left_since start mid (Reaches (Front base next rows lines) (images start)) → LeavesOnly moment left_since mid now (Reaches (MayLeave w a) (images mid))
-    → LeavesOnly moment left_since start now (Reaches (Front base next rows lines) (images start))
-crash_more moment left_since images start mid now base next rows lines done rest l a w lasts outcomes is act room far starts stands first second =
-    leaves_then moment left_since start mid now (Reaches (Front base next rows lines) (images start)) (Reaches (MayLeave w a) (images mid)) (Reaches (Front base next rows lines) (images start)) first second (λ c front. front)
+pub crash_more : (start mid now : Option Disk) (base next : ℕ) (rows : List Row) (lines done rest : List Line) (l : Line) (a : Act) (w : Writer) (lasts : List ℕ) (outcomes : List Outcome)
+    → lines ≡ done ++ l ∷ rest → l.act ≡ a → w.next_id < 2 ^ 62 → Far base next rows done w lasts outcomes → ((d : Files) → MayHold start d → Starts d base next)
+    → Follows (Stands base next rows lines done w.next_id) (MayHold start) (MayHold mid)
+    → LeavesOnly start mid (Reaches (Front base next rows lines) (MayHold start)) → LeavesOnly mid now (Reaches (MayLeave w a) (MayHold mid))
+    → LeavesOnly start now (Reaches (Front base next rows lines) (MayHold start))
+crash_more start mid now base next rows lines done rest l a w lasts outcomes is act room far starts stands first second =
+    leaves_then start mid now (Reaches (Front base next rows lines) (MayHold start)) (Reaches (MayLeave w a) (MayHold mid)) (Reaches (Front base next rows lines) (MayHold start)) first second (λ c front. front)
     (λ c left. let d = stands left.0 left.1 in (d.0, d.1, front_line base next rows lines done rest l a w lasts outcomes d.0 left.0 c is act room far (starts d.0 d.1) d.2 left.2))
 
 -- all lines are done

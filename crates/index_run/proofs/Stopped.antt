@@ -1,17 +1,19 @@
 -- What a crash leaves of a run, over commits that are kept.
 use Rattle.std.proofs.Common.{◌≡◌, inl, inr, ℕ, suc, ◌+◌, ◌*◌, ◌≤◌, List, [], ◌∷◌, length, take, Some, None, Ok, Err, Result, refl, sym, subst, ◌∙◌, arith, Vec}
+use Rattle.ix_outside.specs.Crash.{MayHold}
+use Rattle.ix_outside.specs.Disk.{Disk}
 use Rattle.std.specs.Prelude.{IsSome, Option, Contains, IfOk}
 use Rattle.std.specs.declared.alloc.Global.{Global}
 use Rattle.ix_base.specs.declared.document.Row.{Row}
 use Rattle.ix_base.specs.declared.file_name.FileName.{FileName}
 use Rattle.ix_base.specs.declared.file_name.FileName.TheVariants.{Commit, Rows}
-use Rattle.ix_outside.specs.Calls.{OnlyReads, LeavesOnly}
-use Rattle.ix_outside.specs.CallLaws.{leaves_reading, leaves_then, leaves_now}
+use Rattle.ix_outside.specs.Calls.{LeavesOnly}
+use Rattle.ix_outside.specs.CallLaws.{leaves_reading, leaves_then, leaves_now, may_hold_still}
 use Rattle.ix_outside.specs.Files.{Files, Changes}
-use Rattle.ix_outside.specs.Images.{Follows, NoMore}
+use Rattle.ix_outside.specs.Images.{Follows}
 use Rattle.commit_point.specs.declared.heads.HeadSegment.{HeadSegment}
 use Rattle.commit_point.specs.Holds.{Holds, HaveRows, IsFileOf, KeepsCommits}
-use Rattle.commit_point.specs.Putting.{Reaches}
+use Rattle.ix_outside.specs.Images.{Reaches}
 use Rattle.op_script.specs.declared.script.Line.{Line}
 use Rattle.run_report.specs.declared.stop.Stop.{Stop}
 use Rattle.index_run.specs.Numbering.{numbered, commit_numbers}
@@ -112,21 +114,18 @@ no_front base next rows log limit files images are d image = record {
 
 -- ---- a script that was begun, done and reported
 
-pub starts_all : (files : Files) (base next : ℕ) (start began : Files → Type 0) → Starts files base next → AreKept files start → NoMore start began → (d : Files) → began d → Starts d base next
+pub starts_all : (files : Files) (base next : ℕ) (start began : Files → Type 0) → Starts files base next → AreKept files start → ((d : Files) → began d → start d) → (d : Files) → began d → Starts d base next
 starts_all files base next start began starts are reads d image = starts_in files d base next starts (are.kept d (reads d image)) (are.only d (reads d image))
 
-pub script_crash : {S : Type 0} (told : S → Option Files) (to_sync : S → FileName → Type 0) (images : S → Files → Type 0) (moment : S → ℕ) (left_since : S → ℕ → Files → Type 0) (start began did now : S)
-    (base next : ℕ) (rows : List Row) (lines : List Line) (files : Files)
-    → ((store : S) (t : ℕ) (c : Files) → t ≤ moment store → images store c → left_since store t c) → ((store : S) (c : Files) → left_since store (moment store) c → images store c)
-    → AreKept files (images start) → OnlyReads told to_sync images moment left_since start began
-    → LeavesOnly moment left_since began did (Reaches (HasFront base next rows (numbered lines) (next + length (numbered lines))) (images began)) → OnlyReads told to_sync images moment left_since did now
-    → LeavesOnly moment left_since start now (HasFront base next rows (numbered lines) (next + 2 * length (numbered lines)) files)
-script_crash told to_sync images moment left_since start began did now base next rows lines files counts_now only_now are before during after =
+pub script_crash : (start began did now : Option Disk) (base next : ℕ) (rows : List Row) (lines : List Line) (files : Files) → AreKept files (MayHold start) → began ≡ start
+    → LeavesOnly began did (Reaches (HasFront base next rows (numbered lines) (next + length (numbered lines))) (MayHold began)) → now ≡ did
+    → LeavesOnly start now (HasFront base next rows (numbered lines) (next + 2 * length (numbered lines)) files)
+script_crash start began did now base next rows lines files are before during after =
     let Front : Files → Type 0 = HasFront base next rows (numbered lines) (next + 2 * length (numbered lines)) files in
-    let first = leaves_reading told to_sync images moment left_since start began Front only_now before (no_front base next rows (numbered lines) (next + 2 * length (numbered lines)) files (images start) are) in
-    let second = leaves_then moment left_since start began did Front (Reaches (HasFront base next rows (numbered lines) (next + length (numbered lines))) (images began)) Front first during (λ c front. front)
+    let first = leaves_reading start began Front before (no_front base next rows (numbered lines) (next + 2 * length (numbered lines)) files (MayHold start) are) in
+    let second = leaves_then start began did Front (Reaches (HasFront base next rows (numbered lines) (next + length (numbered lines))) (MayHold began)) Front first during (λ c front. front)
     (λ c left.
-    let image = before.crash left.0 left.1 in
+    let image = may_hold_still start began before left.0 left.1 in
     let front = left.2 in
     record {
       count = front.count;
@@ -134,15 +133,13 @@ script_crash told to_sync images moment left_since start began did now base next
           (commits_through base next rows (numbered lines) (commit_numbers base (take front.count (numbered lines))) (next + length (numbered lines)) files left.0 c (are.kept left.0 image) (are.only left.0 image) front.commits);
       kept = kept_through files left.0 c (are.kept left.0 image) front.kept;
     }) in
-    leaves_then moment left_since start did now Front Front Front second (leaves_reading told to_sync images moment left_since did now Front only_now after (leaves_now moment left_since images start did Front counts_now second))
-    (λ c front. front) (λ c front. front)
+    leaves_then start did now Front Front Front second (leaves_reading did now Front after (leaves_now start did Front second)) (λ c front. front) (λ c front. front)
 
 -- nothing was begun
-pub begun_crash : {S : Type 0} (told : S → Option Files) (to_sync : S → FileName → Type 0) (images : S → Files → Type 0) (moment : S → ℕ) (left_since : S → ℕ → Files → Type 0) (start now : S)
-    (base next : ℕ) (rows : List Row) (log : List Line) (limit : ℕ) (files : Files) → ((store : S) (c : Files) → left_since store (moment store) c → images store c)
-    → AreKept files (images start) → OnlyReads told to_sync images moment left_since start now → LeavesOnly moment left_since start now (HasFront base next rows log limit files)
-begun_crash told to_sync images moment left_since start now base next rows log limit files only_now are reads =
-    leaves_reading told to_sync images moment left_since start now (HasFront base next rows log limit files) only_now reads (no_front base next rows log limit files (images start) are)
+pub begun_crash : (start now : Option Disk) (base next : ℕ) (rows : List Row) (log : List Line) (limit : ℕ) (files : Files) → AreKept files (MayHold start) → now ≡ start
+    → LeavesOnly start now (HasFront base next rows log limit files)
+begun_crash start now base next rows log limit files are reads =
+    leaves_reading start now (HasFront base next rows log limit files) reads (no_front base next rows log limit files (MayHold start) are)
 
 text_of : (base next : ℕ) (rows : List Row) (lines : List Line) (text : List ℕ) (files : Files) (start now : Option Files) → start ≡ Some files → Changes (DoesScript base next rows lines text) start now
     → text ≡ report base rows lines (numbered lines)
@@ -151,7 +148,7 @@ text_of base next rows lines text files (Some x) None is does = absurd does
 text_of base next rows lines text files (Some x) (Some y) is does = does.text_is
 
 pub script_stands : (base next : ℕ) (rows : List Row) (lines : List Line) (files : Files) (told now : Option Files) (start began did after : Files → Type 0) (result : Result (Vec ℕ Global) Stop)
-    → told ≡ Some files → AreKept files start → NoMore start began → Follows (HasAll base next rows lines) began did → NoMore did after
+    → told ≡ Some files → AreKept files start → ((c : Files) → began c → start c) → Follows (HasAll base next rows lines) began did → ((c : Files) → after c → did c)
     → IfOk result (λ bytes. Changes (DoesScript base next rows lines bytes.items) told now) → IfOk result (λ bytes. (c : Files) → after c → DoesScript base next rows lines bytes.items files c)
 script_stands base next rows lines files told now start began did after (Err stop) is are before stands reads does = tt
 script_stands base next rows lines files told now start began did after (Ok bytes) is are before stands reads does = λ c image.

@@ -8,7 +8,7 @@ use Rattle.index_run.specs.declared.writer.Writer.{Writer}
 pub record CanGoOn (w : Writer) : Type 0 where
   pub number : w.number < 2 ^ 62
   pub some_id : 1 ≤ w.next_id
-  pub room : w.next_id < 2 ^ 62 + 2 ^ 62
+  pub room : w.next_id < 2 ^ 63
   pub births : BirthsRise 1 w.number w.rows
   pub apart : All (λ row. is_apart row.doc ≡ true) w.rows
 
@@ -16,7 +16,7 @@ pub record CanGoOn (w : Writer) : Type 0 where
 pub record CanCommit (w : Writer) : Type 0 where
   pub some : 1 ≤ w.number
   pub some_id : 1 ≤ w.next_id
-  pub room : w.next_id < 2 ^ 62 + 2 ^ 62
+  pub room : w.next_id < 2 ^ 63
   pub births : BirthsRise 1 w.number w.rows
   pub apart : All (λ row. is_apart row.doc ≡ true) w.rows
 

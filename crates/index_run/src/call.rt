@@ -1,5 +1,7 @@
 //! The top call.
 ghost use Rattle.std.specs.Prelude.{◌≡◌, ◌<◌, ◌≤◌, ◌+◌, ◌^◌, ℕ, List, [], ◌∷◌, take, Ok, Err, Some};
+ghost use Rattle.ix_outside.specs.Crash.{MayHold};
+ghost use Rattle.ix_outside.specs.Disk.{told_files};
 ghost use Rattle.std.specs.Io.KnownBytes.{Appends, IsAtEnd};
 ghost use Rattle.ix_base.specs.declared.document.Row.{Row};
 ghost use Rattle.ix_outside.specs.Causes.{Rose};
@@ -79,52 +81,52 @@ pub fn top<R: Threads + Wait, I: Source, O: Sink, S: Store, G: Gate>(
     ensures sink { result.status ≡ 6 → Rose (O.fault_count out.old) (O.fault_count out.new) }
     ensures store { result.status ≡ 7 → Rose (S.fault_count store) (S.fault_count result.store)
         × WritesFront (O.written out.old) (O.written out.new) (O.fault_count out.old) (O.fault_count out.new) (fault_text Fault.Store) }
-    ensures damaged { result.status ≡ 8 → (damaged : Damaged) × FindsDamage (I.left input.old) (S.files store) (S.files result.store) damaged
+    ensures damaged { result.status ≡ 8 → (damaged : Damaged) × FindsDamage (I.left input.old) (told_files (S.disk store)) (told_files (S.disk result.store)) damaged
         × WritesFront (O.written out.old) (O.written out.new) (O.fault_count out.old) (O.fault_count out.new) (fault_text (Fault.Damaged damaged)) }
-    ensures base { result.status ≡ 10 → (base : ℕ) × IsHighBase (S.files store) base
+    ensures base { result.status ≡ 10 → (base : ℕ) × IsHighBase (told_files (S.disk store)) base
         × WritesFront (O.written out.old) (O.written out.new) (O.fault_count out.old) (O.fault_count out.new) (fault_text (Fault.Base base)) }
     ensures high { (bytes : List ℕ) (lines : List Line) (files : Files) (base : ℕ) → IsAccepted words.now → I.left input.old ≡ Some bytes → script bytes ≡ Ok lines
-        → S.files store ≡ Some files → IsLast files base → 2 ^ 61 < base → IsOneOf result.status (4 ∷ 5 ∷ 7 ∷ 10 ∷ []) }
+        → told_files (S.disk store) ≡ Some files → IsLast files base → 2 ^ 61 < base → IsOneOf result.status (4 ∷ 5 ∷ 7 ∷ 10 ∷ []) }
     ensures nothing { result.status ≡ 4 → O.written out.new ≡ O.written out.old }
 
     // Where nothing fails, the run comes to its end.
     ensures complete { (bytes : List ℕ) (lines : List Line) (files : Files) (base next : ℕ) (rows : List Row) → IsAccepted words.now → I.left input.old ≡ Some bytes → script bytes ≡ Ok lines
-        → S.files store ≡ Some files → IsLast files base → IsOn files base next rows → base ≤ 2 ^ 61 → next ≤ 2 ^ 61
+        → told_files (S.disk store) ≡ Some files → IsLast files base → IsOn files base next rows → base ≤ 2 ^ 61 → next ≤ 2 ^ 61
         → (Rose (I.fault_count input.old) (I.fault_count input.new) → ⊥) → (Rose (O.fault_count out.old) (O.fault_count out.new) → ⊥) → (Rose (S.fault_count store) (S.fault_count result.store) → ⊥)
         → IsOneOf result.status (0 ∷ 4 ∷ []) }
 
     // The headline: the numbers run on from the last commit's, the new commits hold exactly the rows by the lines
     // numbered up to theirs, and the report is written and nothing else.
     ensures headline { (bytes : List ℕ) (lines : List Line) (files : Files) (base next : ℕ) (rows : List Row) → I.left input.old ≡ Some bytes → script bytes ≡ Ok lines
-        → S.files store ≡ Some files → Begins files base next rows → result.status ≡ 0
-        → Changes (RunsRight base next rows lines (λ text. Appends (O.written out.old) (O.written out.new) text)) (S.files store) (S.files result.store) }
+        → told_files (S.disk store) ≡ Some files → Begins files base next rows → result.status ≡ 0
+        → Changes (RunsRight base next rows lines (λ text. Appends (O.written out.old) (O.written out.new) text)) (told_files (S.disk store)) (told_files (S.disk result.store)) }
     // Where the sink fails, the commits are the same, and a front of the report was written.
     ensures front { (bytes : List ℕ) (lines : List Line) (files : Files) (base next : ℕ) (rows : List Row) → I.left input.old ≡ Some bytes → script bytes ≡ Ok lines
-        → S.files store ≡ Some files → Begins files base next rows → result.status ≡ 6
-        → Changes (RunsRight base next rows lines (λ text. (n : ℕ) × Appends (O.written out.old) (O.written out.new) (take n text))) (S.files store) (S.files result.store) }
+        → told_files (S.disk store) ≡ Some files → Begins files base next rows → result.status ≡ 6
+        → Changes (RunsRight base next rows lines (λ text. (n : ℕ) × Appends (O.written out.old) (O.written out.new) (take n text))) (told_files (S.disk store)) (told_files (S.disk result.store)) }
     ensures end { result.status ≡ 0 → IsAtEnd (I.left input.new) }
     // No more of the input is read than what shows that it is too long.
     ensures bound { TakesUpTo (most_bytes + 1) (I.left input.old) (I.left input.new) }
 
     // At every status the commits that were there have their files and bytes.
-    ensures kept { (files : Files) (base next : ℕ) (rows : List Row) → S.files store ≡ Some files → Begins files base next rows → Changes KeepsCommits (S.files store) (S.files result.store) }
+    ensures kept { (files : Files) (base next : ℕ) (rows : List Row) → told_files (S.disk store) ≡ Some files → Begins files base next rows → Changes KeepsCommits (told_files (S.disk store)) (told_files (S.disk result.store)) }
 
     // Every image has the commits of a run that came to its end; a crash at any moment leaves a front of them, each
     // whole. The commits that were there have their files and bytes in each.
     ensures acknowledged { (bytes : List ℕ) (lines : List Line) (files : Files) (base next : ℕ) (rows : List Row) → I.left input.old ≡ Some bytes → script bytes ≡ Ok lines
-        → S.files store ≡ Some files → Begins files base next rows → AreKept files (S.images store)
-        → result.status ≡ 0 → (c : Files) → S.images result.store c → RunsRight base next rows lines (λ text. Appends (O.written out.old) (O.written out.new) text) files c }
+        → told_files (S.disk store) ≡ Some files → Begins files base next rows → AreKept files (MayHold (S.disk store))
+        → result.status ≡ 0 → (c : Files) → MayHold (S.disk result.store) c → RunsRight base next rows lines (λ text. Appends (O.written out.old) (O.written out.new) text) files c }
     ensures acknowledged_front { (bytes : List ℕ) (lines : List Line) (files : Files) (base next : ℕ) (rows : List Row) → I.left input.old ≡ Some bytes → script bytes ≡ Ok lines
-        → S.files store ≡ Some files → Begins files base next rows → AreKept files (S.images store) → result.status ≡ 6
-        → (c : Files) → S.images result.store c → RunsRight base next rows lines (λ text. (n : ℕ) × Appends (O.written out.old) (O.written out.new) (take n text)) files c }
+        → told_files (S.disk store) ≡ Some files → Begins files base next rows → AreKept files (MayHold (S.disk store)) → result.status ≡ 6
+        → (c : Files) → MayHold (S.disk result.store) c → RunsRight base next rows lines (λ text. (n : ℕ) × Appends (O.written out.old) (O.written out.new) (take n text)) files c }
     ensures crash { (bytes : List ℕ) (lines : List Line) (files : Files) (base next : ℕ) (rows : List Row) → I.left input.old ≡ Some bytes → script bytes ≡ Ok lines
-        → S.files store ≡ Some files → Begins files base next rows → AreKept files (S.images store)
-        → LeavesOnly S.moment S.left_since store result.store (StopsRight base next rows lines files) }
-    ensures crash_kept { (files : Files) (base next : ℕ) (rows : List Row) → S.files store ≡ Some files → Begins files base next rows → AreKept files (S.images store)
-        → LeavesOnly S.moment S.left_since store result.store (KeepsCommits files) }
+        → told_files (S.disk store) ≡ Some files → Begins files base next rows → AreKept files (MayHold (S.disk store))
+        → LeavesOnly (S.disk store) (S.disk result.store) (StopsRight base next rows lines files) }
+    ensures crash_kept { (files : Files) (base next : ℕ) (rows : List Row) → told_files (S.disk store) ≡ Some files → Begins files base next rows → AreKept files (MayHold (S.disk store))
+        → LeavesOnly (S.disk store) (S.disk result.store) (KeepsCommits files) }
     // The store is left alone until the words and the script were read and found good.
     ensures unopened { IsOneOf result.status (2 ∷ 3 ∷ 5 ∷ []) → result.store ≡ store }
-    ensures untouched { IsOneOf result.status (2 ∷ 3 ∷ 5 ∷ 10 ∷ []) → S.files result.store ≡ S.files store }
+    ensures untouched { IsOneOf result.status (2 ∷ 3 ∷ 5 ∷ 10 ∷ []) → told_files (S.disk result.store) ≡ told_files (S.disk store) }
 {
     let mut store = store;
     let status = run_and_tell(alloc, words, input, out, &mut store, gate);

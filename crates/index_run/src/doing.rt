@@ -1,5 +1,7 @@
 //! A script's lines done over a store, and their report made.
 ghost use Rattle.std.specs.Prelude.{◌≡◌, ◌⊎◌, ◌<◌, ◌≤◌, ◌+◌, ◌*◌, ◌^◌, ◌∷◌, [], ℕ, List, length, IfOk, IfErr, IsErrAnd, Err, Some};
+ghost use Rattle.ix_outside.specs.Crash.{MayHold};
+ghost use Rattle.ix_outside.specs.Disk.{told_files};
 ghost use Rattle.ix_base.specs.declared.document.Row.{Row};
 ghost use Rattle.ix_outside.specs.Causes.{Rose};
 ghost use Rattle.ix_outside.specs.Calls.{LeavesOnly};
@@ -33,22 +35,22 @@ pub fn do_script<S: Store, G: Gate>(
     lines: List<Line>,
 ) -> Result<Vec<u8>, Stop>
     requires { AreScriptLines lines }
-    ensures done { (files : Files) (base next : ℕ) (rows : List Row) → S.files store.old ≡ Some files → Begins files base next rows
-        → IfOk result (λ text. Changes (DoesScript base next rows lines text.items) (S.files store.old) (S.files store.new)) }
-    ensures kept { (files : Files) (base next : ℕ) (rows : List Row) → S.files store.old ≡ Some files → Begins files base next rows
-        → Changes KeepsCommits (S.files store.old) (S.files store.new) }
+    ensures done { (files : Files) (base next : ℕ) (rows : List Row) → told_files (S.disk store.old) ≡ Some files → Begins files base next rows
+        → IfOk result (λ text. Changes (DoesScript base next rows lines text.items) (told_files (S.disk store.old)) (told_files (S.disk store.new))) }
+    ensures kept { (files : Files) (base next : ℕ) (rows : List Row) → told_files (S.disk store.old) ≡ Some files → Begins files base next rows
+        → Changes KeepsCommits (told_files (S.disk store.old)) (told_files (S.disk store.new)) }
     // Once the script is done every image has its commits; a crash meanwhile leaves a front of them, each whole.
-    ensures acknowledged { (files : Files) (base next : ℕ) (rows : List Row) → S.files store.old ≡ Some files → Begins files base next rows → AreKept files (S.images store.old)
-        → IfOk result (λ text. (c : Files) → S.images store.new c → DoesScript base next rows lines text.items files c) }
-    ensures crash { (files : Files) (base next : ℕ) (rows : List Row) → S.files store.old ≡ Some files → Begins files base next rows → AreKept files (S.images store.old)
-        → LeavesOnly S.moment S.left_since store.old store.new (HasFront base next rows (numbered lines) (next + 2 * length (numbered lines)) files) }
-    ensures base { (base : ℕ) → result ≡ Err (Stop.Fault (Fault.Base base)) → IsHighBase (S.files store.old) base }
-    ensures same { (base : ℕ) → result ≡ Err (Stop.Fault (Fault.Base base)) → S.files store.new ≡ S.files store.old }
-    ensures high { (files : Files) (base : ℕ) → S.files store.old ≡ Some files → IsLast files base → 2 ^ 61 < base
+    ensures acknowledged { (files : Files) (base next : ℕ) (rows : List Row) → told_files (S.disk store.old) ≡ Some files → Begins files base next rows → AreKept files (MayHold (S.disk store.old))
+        → IfOk result (λ text. (c : Files) → MayHold (S.disk store.new) c → DoesScript base next rows lines text.items files c) }
+    ensures crash { (files : Files) (base next : ℕ) (rows : List Row) → told_files (S.disk store.old) ≡ Some files → Begins files base next rows → AreKept files (MayHold (S.disk store.old))
+        → LeavesOnly (S.disk store.old) (S.disk store.new) (HasFront base next rows (numbered lines) (next + 2 * length (numbered lines)) files) }
+    ensures base { (base : ℕ) → result ≡ Err (Stop.Fault (Fault.Base base)) → IsHighBase (told_files (S.disk store.old)) base }
+    ensures same { (base : ℕ) → result ≡ Err (Stop.Fault (Fault.Base base)) → told_files (S.disk store.new) ≡ told_files (S.disk store.old) }
+    ensures high { (files : Files) (base : ℕ) → told_files (S.disk store.old) ≡ Some files → IsLast files base → 2 ^ 61 < base
         → IsErrAnd result (λ stop. IsOneOf (stop_status stop) (4 ∷ 7 ∷ 10 ∷ [])) }
-    ensures whole { (files : Files) (base next : ℕ) (rows : List Row) → S.files store.old ≡ Some files → IsLast files base → IsOn files base next rows → base ≤ 2 ^ 61 → next ≤ 2 ^ 61
+    ensures whole { (files : Files) (base next : ℕ) (rows : List Row) → told_files (S.disk store.old) ≡ Some files → IsLast files base → IsOn files base next rows → base ≤ 2 ^ 61 → next ≤ 2 ^ 61
         → IfErr result (λ stop. IsOneOf (stop_status stop) (4 ∷ 7 ∷ [])) }
-    ensures damaged { (damaged : Damaged) → result ≡ Err (Stop.Fault (Fault.Damaged damaged)) → ReadsDamaged lines (S.files store.old) (S.files store.new) damaged }
+    ensures damaged { (damaged : Damaged) → result ≡ Err (Stop.Fault (Fault.Damaged damaged)) → ReadsDamaged lines (told_files (S.disk store.old)) (told_files (S.disk store.new)) damaged }
     ensures later { S.fault_count store.old ≤ S.fault_count store.new }
     ensures failed { result ≡ Err (Stop.Fault Fault.Store) → Rose (S.fault_count store.old) (S.fault_count store.new) }
     ensures others { IfErr result (λ stop. IsOneOf (stop_status stop) (4 ∷ 7 ∷ 8 ∷ 10 ∷ [])) }

@@ -1,11 +1,13 @@
 //! The lines of a script, done in its order.
 ghost use Rattle.std.specs.Prelude.{◌≡◌, ◌<◌, ◌≤◌, ◌+◌, ◌^◌, ℕ, List, [], length, true, OnOk, OnErr, IfOk, Err, Some, slice_index, replicate};
+ghost use Rattle.ix_outside.specs.Crash.{MayHold};
+ghost use Rattle.ix_outside.specs.Disk.{told_files};
 ghost use Rattle.ix_base.specs.declared.document.Row.{Row};
 ghost use Rattle.ix_outside.specs.Causes.{Rose};
 ghost use Rattle.ix_outside.specs.Calls.{LeavesOnly};
 ghost use Rattle.ix_outside.specs.Files.{Files, Changes};
 ghost use Rattle.ix_outside.specs.Images.{Follows};
-ghost use Rattle.commit_point.specs.Putting.{Reaches};
+ghost use Rattle.ix_outside.specs.Images.{Reaches};
 ghost use Rattle.commit_point.specs.Writing.{SameElsewhere};
 ghost use Rattle.commit_point.specs.Holds.{KeepsCommits};
 ghost use Rattle.op_script.specs.Shape.{is_read_act, is_read_operation, AreScriptLines};
@@ -49,12 +51,12 @@ fn do_operation<S: Store, G: Gate>(
     requires known { is_read_operation operation ≡ true }
     ensures writer { OnOk result (writer.new ≡ writer_after writer.old (Act.Do operation)) }
     ensures answer { IfOk result (λ answer. answer ≡ answer_by writer.old 0 (Act.Do operation)) }
-    ensures files { OnOk result (FilesAfter writer.old (Act.Do operation) (S.files store.old) (S.files store.new)) }
-    ensures err { OnErr result (Changes (SameElsewhere (writer.old.number + 1) writer.old.next_id) (S.files store.old) (S.files store.new)) }
-    ensures acknowledged { (files : Files) → S.files store.old ≡ Some files → writer.old.next_id < 2 ^ 62
-        → OnOk result (Follows (ImageAfter writer.old (Act.Do operation)) (S.images store.old) (S.images store.new)) }
-    ensures crash { (files : Files) → S.files store.old ≡ Some files → writer.old.next_id < 2 ^ 62
-        → LeavesOnly S.moment S.left_since store.old store.new (Reaches (MayLeave writer.old (Act.Do operation)) (S.images store.old)) }
+    ensures files { OnOk result (FilesAfter writer.old (Act.Do operation) (told_files (S.disk store.old)) (told_files (S.disk store.new))) }
+    ensures err { OnErr result (Changes (SameElsewhere (writer.old.number + 1) writer.old.next_id) (told_files (S.disk store.old)) (told_files (S.disk store.new))) }
+    ensures acknowledged { (files : Files) → told_files (S.disk store.old) ≡ Some files → writer.old.next_id < 2 ^ 62
+        → OnOk result (Follows (ImageAfter writer.old (Act.Do operation)) (MayHold (S.disk store.old)) (MayHold (S.disk store.new))) }
+    ensures crash { (files : Files) → told_files (S.disk store.old) ≡ Some files → writer.old.next_id < 2 ^ 62
+        → LeavesOnly (S.disk store.old) (S.disk store.new) (Reaches (MayLeave writer.old (Act.Do operation)) (MayHold (S.disk store.old))) }
     ensures later { S.fault_count store.old ≤ S.fault_count store.new }
     ensures failed { result ≡ Err StoreFault.Failed → Rose (S.fault_count store.old) (S.fault_count store.new) }
 {
@@ -89,12 +91,12 @@ fn do_line<S: Store, G: Gate>(
     ensures writer { OnOk result (writer.new ≡ writer_after writer.old line.act) }
     ensures lasts { OnOk result (lasts.new ≡ lasts_after writer.old line.caller line.act lasts.old) }
     ensures outcome { IfOk result (λ outcome. outcome ≡ record { line = line.line; answer = answer_by writer.old (slice_index lasts.old line.caller) line.act }) }
-    ensures files { OnOk result (FilesAfter writer.old line.act (S.files store.old) (S.files store.new)) }
-    ensures err { OnErr result (Changes (SameElsewhere (writer.old.number + 1) writer.old.next_id) (S.files store.old) (S.files store.new)) }
-    ensures acknowledged { (files : Files) → S.files store.old ≡ Some files → writer.old.next_id < 2 ^ 62
-        → OnOk result (Follows (ImageAfter writer.old line.act) (S.images store.old) (S.images store.new)) }
-    ensures crash { (files : Files) → S.files store.old ≡ Some files → writer.old.next_id < 2 ^ 62
-        → LeavesOnly S.moment S.left_since store.old store.new (Reaches (MayLeave writer.old line.act) (S.images store.old)) }
+    ensures files { OnOk result (FilesAfter writer.old line.act (told_files (S.disk store.old)) (told_files (S.disk store.new))) }
+    ensures err { OnErr result (Changes (SameElsewhere (writer.old.number + 1) writer.old.next_id) (told_files (S.disk store.old)) (told_files (S.disk store.new))) }
+    ensures acknowledged { (files : Files) → told_files (S.disk store.old) ≡ Some files → writer.old.next_id < 2 ^ 62
+        → OnOk result (Follows (ImageAfter writer.old line.act) (MayHold (S.disk store.old)) (MayHold (S.disk store.new))) }
+    ensures crash { (files : Files) → told_files (S.disk store.old) ≡ Some files → writer.old.next_id < 2 ^ 62
+        → LeavesOnly (S.disk store.old) (S.disk store.new) (Reaches (MayLeave writer.old line.act) (MayHold (S.disk store.old))) }
     ensures later { S.fault_count store.old ≤ S.fault_count store.new }
     ensures failed { result ≡ Err StoreFault.Failed → Rose (S.fault_count store.old) (S.fault_count store.new) }
 {
@@ -127,14 +129,14 @@ pub fn do_lines<S: Store, G: Gate>(
     requires script { AreScriptLines lines }
     ensures outcomes { IfOk result (λ outcomes. outcomes.items ≡ outcomes_from writer.number writer.rows [] lines) }
     ensures commits { writer.next_id ≤ 2 ^ 61
-        → OnOk result (Changes (HasCommits writer.number writer.next_id writer.rows (numbered lines) (commit_numbers writer.number (numbered lines)) (writer.next_id + length (numbered lines))) (S.files store.old) (S.files store.new)) }
-    ensures kept { (files : Files) → S.files store.old ≡ Some files → Starts files writer.number writer.next_id → writer.next_id ≤ 2 ^ 61
-        → Changes KeepsCommits (S.files store.old) (S.files store.new) }
+        → OnOk result (Changes (HasCommits writer.number writer.next_id writer.rows (numbered lines) (commit_numbers writer.number (numbered lines)) (writer.next_id + length (numbered lines))) (told_files (S.disk store.old)) (told_files (S.disk store.new))) }
+    ensures kept { (files : Files) → told_files (S.disk store.old) ≡ Some files → Starts files writer.number writer.next_id → writer.next_id ≤ 2 ^ 61
+        → Changes KeepsCommits (told_files (S.disk store.old)) (told_files (S.disk store.new)) }
     // Once the lines are done every image has their commits; a crash meanwhile leaves a front of them, each whole.
-    ensures acknowledged { (files : Files) → S.files store.old ≡ Some files → ((d : Files) → S.images store.old d → Starts d writer.number writer.next_id) → writer.next_id ≤ 2 ^ 61
-        → OnOk result (Follows (HasAll writer.number writer.next_id writer.rows lines) (S.images store.old) (S.images store.new)) }
-    ensures crash { (files : Files) → S.files store.old ≡ Some files → ((d : Files) → S.images store.old d → Starts d writer.number writer.next_id) → writer.next_id ≤ 2 ^ 61
-        → LeavesOnly S.moment S.left_since store.old store.new (Reaches (HasFront writer.number writer.next_id writer.rows (numbered lines) (writer.next_id + length (numbered lines))) (S.images store.old)) }
+    ensures acknowledged { (files : Files) → told_files (S.disk store.old) ≡ Some files → ((d : Files) → MayHold (S.disk store.old) d → Starts d writer.number writer.next_id) → writer.next_id ≤ 2 ^ 61
+        → OnOk result (Follows (HasAll writer.number writer.next_id writer.rows lines) (MayHold (S.disk store.old)) (MayHold (S.disk store.new))) }
+    ensures crash { (files : Files) → told_files (S.disk store.old) ≡ Some files → ((d : Files) → MayHold (S.disk store.old) d → Starts d writer.number writer.next_id) → writer.next_id ≤ 2 ^ 61
+        → LeavesOnly (S.disk store.old) (S.disk store.new) (Reaches (HasFront writer.number writer.next_id writer.rows (numbered lines) (writer.next_id + length (numbered lines))) (MayHold (S.disk store.old))) }
     ensures later { S.fault_count store.old ≤ S.fault_count store.new }
     ensures failed { result ≡ Err StoreFault.Failed → Rose (S.fault_count store.old) (S.fault_count store.new) }
 {

@@ -1,5 +1,7 @@
 //! A run: the words and the script read, the script done, and its report written.
 ghost use Rattle.std.specs.Prelude.{◌≡◌, ◌<◌, ◌≤◌, ◌+◌, ◌^◌, ℕ, List, [], ◌∷◌, take, OnOk, IfOk, IfErr, Ok, Err, Some};
+ghost use Rattle.ix_outside.specs.Crash.{MayHold};
+ghost use Rattle.ix_outside.specs.Disk.{told_files};
 ghost use Rattle.std.specs.Io.KnownBytes.{Appends, IsAtEnd};
 ghost use Rattle.ix_base.specs.declared.document.Row.{Row};
 ghost use Rattle.ix_outside.specs.Causes.{Rose};
@@ -44,37 +46,37 @@ pub fn run<I: Source, O: Sink, S: Store, G: Gate>(
     ensures sink { result ≡ Err Stop.Sink → Rose (O.fault_count out.old) (O.fault_count out.new) }
     ensures store { result ≡ Err (Stop.Fault Fault.Store) → Rose (S.fault_count store.old) (S.fault_count store.new) }
     ensures damaged { (damaged : Damaged) → result ≡ Err (Stop.Fault (Fault.Damaged damaged)) 
-        → FindsDamage (I.left input.old) (S.files store.old) (S.files store.new) damaged }
-    ensures base { (base : ℕ) → result ≡ Err (Stop.Fault (Fault.Base base)) → IsHighBase (S.files store.old) base }
+        → FindsDamage (I.left input.old) (told_files (S.disk store.old)) (told_files (S.disk store.new)) damaged }
+    ensures base { (base : ℕ) → result ≡ Err (Stop.Fault (Fault.Base base)) → IsHighBase (told_files (S.disk store.old)) base }
     ensures high { (bytes : List ℕ) (lines : List Line) (files : Files) (base : ℕ) → IsAccepted words.now → I.left input.old ≡ Some bytes → script bytes ≡ Ok lines
-        → S.files store.old ≡ Some files → IsLast files base → 2 ^ 61 < base → IsOneOf (run_status result) (4 ∷ 5 ∷ 7 ∷ 10 ∷ []) }
+        → told_files (S.disk store.old) ≡ Some files → IsLast files base → 2 ^ 61 < base → IsOneOf (run_status result) (4 ∷ 5 ∷ 7 ∷ 10 ∷ []) }
     ensures whole { (bytes : List ℕ) (lines : List Line) (files : Files) (base next : ℕ) (rows : List Row) → IsAccepted words.now → I.left input.old ≡ Some bytes → script bytes ≡ Ok lines
-        → S.files store.old ≡ Some files → IsLast files base → IsOn files base next rows → base ≤ 2 ^ 61 → next ≤ 2 ^ 61 → IsOneOf (run_status result) (0 ∷ 4 ∷ 5 ∷ 6 ∷ 7 ∷ []) }
+        → told_files (S.disk store.old) ≡ Some files → IsLast files base → IsOn files base next rows → base ≤ 2 ^ 61 → next ≤ 2 ^ 61 → IsOneOf (run_status result) (0 ∷ 4 ∷ 5 ∷ 6 ∷ 7 ∷ []) }
 
     ensures headline { (bytes : List ℕ) (lines : List Line) (files : Files) (base next : ℕ) (rows : List Row) → I.left input.old ≡ Some bytes → script bytes ≡ Ok lines
-        → S.files store.old ≡ Some files → Begins files base next rows
-        → OnOk result (Changes (RunsRight base next rows lines (λ text. Appends (O.written out.old) (O.written out.new) text)) (S.files store.old) (S.files store.new)) }
+        → told_files (S.disk store.old) ≡ Some files → Begins files base next rows
+        → OnOk result (Changes (RunsRight base next rows lines (λ text. Appends (O.written out.old) (O.written out.new) text)) (told_files (S.disk store.old)) (told_files (S.disk store.new))) }
     ensures front { (bytes : List ℕ) (lines : List Line) (files : Files) (base next : ℕ) (rows : List Row) → I.left input.old ≡ Some bytes → script bytes ≡ Ok lines
-        → S.files store.old ≡ Some files → Begins files base next rows → result ≡ Err Stop.Sink
-        → Changes (RunsRight base next rows lines (λ text. (n : ℕ) × Appends (O.written out.old) (O.written out.new) (take n text))) (S.files store.old) (S.files store.new) }
+        → told_files (S.disk store.old) ≡ Some files → Begins files base next rows → result ≡ Err Stop.Sink
+        → Changes (RunsRight base next rows lines (λ text. (n : ℕ) × Appends (O.written out.old) (O.written out.new) (take n text))) (told_files (S.disk store.old)) (told_files (S.disk store.new)) }
     ensures end { OnOk result (IsAtEnd (I.left input.new)) }
     ensures bound { TakesUpTo (most_bytes + 1) (I.left input.old) (I.left input.new) }
-    ensures kept { (files : Files) (base next : ℕ) (rows : List Row) → S.files store.old ≡ Some files → Begins files base next rows → Changes KeepsCommits (S.files store.old) (S.files store.new) }
+    ensures kept { (files : Files) (base next : ℕ) (rows : List Row) → told_files (S.disk store.old) ≡ Some files → Begins files base next rows → Changes KeepsCommits (told_files (S.disk store.old)) (told_files (S.disk store.new)) }
     // Every image has the commits of a run that came to its end; a crash at any moment leaves a front of them, each
     // whole. The commits that were there have their files and bytes in each.
     ensures acknowledged { (bytes : List ℕ) (lines : List Line) (files : Files) (base next : ℕ) (rows : List Row) → I.left input.old ≡ Some bytes → script bytes ≡ Ok lines
-        → S.files store.old ≡ Some files → Begins files base next rows → AreKept files (S.images store.old)
-        → OnOk result ((c : Files) → S.images store.new c → RunsRight base next rows lines (λ text. Appends (O.written out.old) (O.written out.new) text) files c) }
+        → told_files (S.disk store.old) ≡ Some files → Begins files base next rows → AreKept files (MayHold (S.disk store.old))
+        → OnOk result ((c : Files) → MayHold (S.disk store.new) c → RunsRight base next rows lines (λ text. Appends (O.written out.old) (O.written out.new) text) files c) }
     ensures acknowledged_front { (bytes : List ℕ) (lines : List Line) (files : Files) (base next : ℕ) (rows : List Row) → I.left input.old ≡ Some bytes → script bytes ≡ Ok lines
-        → S.files store.old ≡ Some files → Begins files base next rows → AreKept files (S.images store.old) → result ≡ Err Stop.Sink
-        → (c : Files) → S.images store.new c → RunsRight base next rows lines (λ text. (n : ℕ) × Appends (O.written out.old) (O.written out.new) (take n text)) files c }
+        → told_files (S.disk store.old) ≡ Some files → Begins files base next rows → AreKept files (MayHold (S.disk store.old)) → result ≡ Err Stop.Sink
+        → (c : Files) → MayHold (S.disk store.new) c → RunsRight base next rows lines (λ text. (n : ℕ) × Appends (O.written out.old) (O.written out.new) (take n text)) files c }
     ensures crash { (bytes : List ℕ) (lines : List Line) (files : Files) (base next : ℕ) (rows : List Row) → I.left input.old ≡ Some bytes → script bytes ≡ Ok lines
-        → S.files store.old ≡ Some files → Begins files base next rows → AreKept files (S.images store.old)
-        → LeavesOnly S.moment S.left_since store.old store.new (StopsRight base next rows lines files) }
-    ensures crash_kept { (files : Files) (base next : ℕ) (rows : List Row) → S.files store.old ≡ Some files → Begins files base next rows → AreKept files (S.images store.old)
-        → LeavesOnly S.moment S.left_since store.old store.new (KeepsCommits files) }
+        → told_files (S.disk store.old) ≡ Some files → Begins files base next rows → AreKept files (MayHold (S.disk store.old))
+        → LeavesOnly (S.disk store.old) (S.disk store.new) (StopsRight base next rows lines files) }
+    ensures crash_kept { (files : Files) (base next : ℕ) (rows : List Row) → told_files (S.disk store.old) ≡ Some files → Begins files base next rows → AreKept files (MayHold (S.disk store.old))
+        → LeavesOnly (S.disk store.old) (S.disk store.new) (KeepsCommits files) }
     ensures unopened { IfErr result (λ stop. IsOneOf (stop_status stop) (2 ∷ 3 ∷ 5 ∷ []) → store.new ≡ store.old) }
-    ensures untouched { IfErr result (λ stop. IsOneOf (stop_status stop) (2 ∷ 3 ∷ 5 ∷ 10 ∷ []) → S.files store.new ≡ S.files store.old) }
+    ensures untouched { IfErr result (λ stop. IsOneOf (stop_status stop) (2 ∷ 3 ∷ 5 ∷ 10 ∷ []) → told_files (S.disk store.new) ≡ told_files (S.disk store.old)) }
     ensures unwritten { IfErr result (λ stop. (stop ≡ Stop.Sink → ⊥) → out.new ≡ out.old) }
     ensures input_later { I.fault_count input.old ≤ I.fault_count input.new }
     ensures out_later { O.fault_count out.old ≤ O.fault_count out.new }

@@ -1,5 +1,7 @@
 //! A run, and the line that tells its fault.
 ghost use Rattle.std.specs.Prelude.{◌≡◌, ◌<◌, ◌≤◌, ◌+◌, ◌^◌, ℕ, List, [], ◌∷◌, take, Ok, Err, Some};
+ghost use Rattle.ix_outside.specs.Crash.{MayHold};
+ghost use Rattle.ix_outside.specs.Disk.{told_files};
 ghost use Rattle.std.specs.Io.KnownBytes.{Appends, IsAtEnd};
 ghost use Rattle.ix_base.specs.declared.document.Row.{Row};
 ghost use Rattle.ix_outside.specs.Causes.{Rose};
@@ -59,50 +61,50 @@ pub fn run_and_tell<I: Source, O: Sink, S: Store, G: Gate>(
     ensures sink { result ≡ 6 → Rose (O.fault_count out.old) (O.fault_count out.new) }
     ensures store { result ≡ 7 → Rose (S.fault_count store.old) (S.fault_count store.new)
         × WritesFront (O.written out.old) (O.written out.new) (O.fault_count out.old) (O.fault_count out.new) (fault_text Fault.Store) }
-    ensures damaged { result ≡ 8 → (damaged : Damaged) × FindsDamage (I.left input.old) (S.files store.old) (S.files store.new) damaged
+    ensures damaged { result ≡ 8 → (damaged : Damaged) × FindsDamage (I.left input.old) (told_files (S.disk store.old)) (told_files (S.disk store.new)) damaged
         × WritesFront (O.written out.old) (O.written out.new) (O.fault_count out.old) (O.fault_count out.new) (fault_text (Fault.Damaged damaged)) }
-    ensures base { result ≡ 10 → (base : ℕ) × IsHighBase (S.files store.old) base
+    ensures base { result ≡ 10 → (base : ℕ) × IsHighBase (told_files (S.disk store.old)) base
         × WritesFront (O.written out.old) (O.written out.new) (O.fault_count out.old) (O.fault_count out.new) (fault_text (Fault.Base base)) }
     ensures high { (bytes : List ℕ) (lines : List Line) (files : Files) (base : ℕ) → IsAccepted words.now → I.left input.old ≡ Some bytes → script bytes ≡ Ok lines
-        → S.files store.old ≡ Some files → IsLast files base → 2 ^ 61 < base → IsOneOf result (4 ∷ 5 ∷ 7 ∷ 10 ∷ []) }
+        → told_files (S.disk store.old) ≡ Some files → IsLast files base → 2 ^ 61 < base → IsOneOf result (4 ∷ 5 ∷ 7 ∷ 10 ∷ []) }
     ensures nothing { result ≡ 4 → O.written out.new ≡ O.written out.old }
 
     // Where nothing fails, the run comes to its end.
     ensures complete { (bytes : List ℕ) (lines : List Line) (files : Files) (base next : ℕ) (rows : List Row) → IsAccepted words.now → I.left input.old ≡ Some bytes → script bytes ≡ Ok lines
-        → S.files store.old ≡ Some files → IsLast files base → IsOn files base next rows → base ≤ 2 ^ 61 → next ≤ 2 ^ 61
+        → told_files (S.disk store.old) ≡ Some files → IsLast files base → IsOn files base next rows → base ≤ 2 ^ 61 → next ≤ 2 ^ 61
         → (Rose (I.fault_count input.old) (I.fault_count input.new) → ⊥) → (Rose (O.fault_count out.old) (O.fault_count out.new) → ⊥) → (Rose (S.fault_count store.old) (S.fault_count store.new) → ⊥)
         → IsOneOf result (0 ∷ 4 ∷ []) }
 
     // The headline: the numbers run on from the last commit's, the new commits hold exactly the rows by the lines
     // numbered up to theirs, and the report is written and nothing else.
     ensures headline { (bytes : List ℕ) (lines : List Line) (files : Files) (base next : ℕ) (rows : List Row) → I.left input.old ≡ Some bytes → script bytes ≡ Ok lines
-        → S.files store.old ≡ Some files → Begins files base next rows → result ≡ 0
-        → Changes (RunsRight base next rows lines (λ text. Appends (O.written out.old) (O.written out.new) text)) (S.files store.old) (S.files store.new) }
+        → told_files (S.disk store.old) ≡ Some files → Begins files base next rows → result ≡ 0
+        → Changes (RunsRight base next rows lines (λ text. Appends (O.written out.old) (O.written out.new) text)) (told_files (S.disk store.old)) (told_files (S.disk store.new)) }
     // Where the sink fails, the commits are the same, and a front of the report was written.
     ensures front { (bytes : List ℕ) (lines : List Line) (files : Files) (base next : ℕ) (rows : List Row) → I.left input.old ≡ Some bytes → script bytes ≡ Ok lines
-        → S.files store.old ≡ Some files → Begins files base next rows → result ≡ 6
-        → Changes (RunsRight base next rows lines (λ text. (n : ℕ) × Appends (O.written out.old) (O.written out.new) (take n text))) (S.files store.old) (S.files store.new) }
+        → told_files (S.disk store.old) ≡ Some files → Begins files base next rows → result ≡ 6
+        → Changes (RunsRight base next rows lines (λ text. (n : ℕ) × Appends (O.written out.old) (O.written out.new) (take n text))) (told_files (S.disk store.old)) (told_files (S.disk store.new)) }
     ensures end { result ≡ 0 → IsAtEnd (I.left input.new) }
     ensures bound { TakesUpTo (most_bytes + 1) (I.left input.old) (I.left input.new) }
 
     // At every status the commits that were there have their files and bytes.
-    ensures kept { (files : Files) (base next : ℕ) (rows : List Row) → S.files store.old ≡ Some files → Begins files base next rows → Changes KeepsCommits (S.files store.old) (S.files store.new) }
+    ensures kept { (files : Files) (base next : ℕ) (rows : List Row) → told_files (S.disk store.old) ≡ Some files → Begins files base next rows → Changes KeepsCommits (told_files (S.disk store.old)) (told_files (S.disk store.new)) }
 
     // Every image has the commits of a run that came to its end; a crash at any moment leaves a front of them, each
     // whole. The commits that were there have their files and bytes in each.
     ensures acknowledged { (bytes : List ℕ) (lines : List Line) (files : Files) (base next : ℕ) (rows : List Row) → I.left input.old ≡ Some bytes → script bytes ≡ Ok lines
-        → S.files store.old ≡ Some files → Begins files base next rows → AreKept files (S.images store.old)
-        → result ≡ 0 → (c : Files) → S.images store.new c → RunsRight base next rows lines (λ text. Appends (O.written out.old) (O.written out.new) text) files c }
+        → told_files (S.disk store.old) ≡ Some files → Begins files base next rows → AreKept files (MayHold (S.disk store.old))
+        → result ≡ 0 → (c : Files) → MayHold (S.disk store.new) c → RunsRight base next rows lines (λ text. Appends (O.written out.old) (O.written out.new) text) files c }
     ensures acknowledged_front { (bytes : List ℕ) (lines : List Line) (files : Files) (base next : ℕ) (rows : List Row) → I.left input.old ≡ Some bytes → script bytes ≡ Ok lines
-        → S.files store.old ≡ Some files → Begins files base next rows → AreKept files (S.images store.old) → result ≡ 6
-        → (c : Files) → S.images store.new c → RunsRight base next rows lines (λ text. (n : ℕ) × Appends (O.written out.old) (O.written out.new) (take n text)) files c }
+        → told_files (S.disk store.old) ≡ Some files → Begins files base next rows → AreKept files (MayHold (S.disk store.old)) → result ≡ 6
+        → (c : Files) → MayHold (S.disk store.new) c → RunsRight base next rows lines (λ text. (n : ℕ) × Appends (O.written out.old) (O.written out.new) (take n text)) files c }
     ensures crash { (bytes : List ℕ) (lines : List Line) (files : Files) (base next : ℕ) (rows : List Row) → I.left input.old ≡ Some bytes → script bytes ≡ Ok lines
-        → S.files store.old ≡ Some files → Begins files base next rows → AreKept files (S.images store.old)
-        → LeavesOnly S.moment S.left_since store.old store.new (StopsRight base next rows lines files) }
-    ensures crash_kept { (files : Files) (base next : ℕ) (rows : List Row) → S.files store.old ≡ Some files → Begins files base next rows → AreKept files (S.images store.old)
-        → LeavesOnly S.moment S.left_since store.old store.new (KeepsCommits files) }
+        → told_files (S.disk store.old) ≡ Some files → Begins files base next rows → AreKept files (MayHold (S.disk store.old))
+        → LeavesOnly (S.disk store.old) (S.disk store.new) (StopsRight base next rows lines files) }
+    ensures crash_kept { (files : Files) (base next : ℕ) (rows : List Row) → told_files (S.disk store.old) ≡ Some files → Begins files base next rows → AreKept files (MayHold (S.disk store.old))
+        → LeavesOnly (S.disk store.old) (S.disk store.new) (KeepsCommits files) }
     ensures unopened { IsOneOf result (2 ∷ 3 ∷ 5 ∷ []) → store.new ≡ store.old }
-    ensures untouched { IsOneOf result (2 ∷ 3 ∷ 5 ∷ 10 ∷ []) → S.files store.new ≡ S.files store.old }
+    ensures untouched { IsOneOf result (2 ∷ 3 ∷ 5 ∷ 10 ∷ []) → told_files (S.disk store.new) ≡ told_files (S.disk store.old) }
 {
     match run(alloc, words, input, out, store, gate) {
         Ok(()) => 0,

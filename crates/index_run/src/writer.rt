@@ -1,12 +1,14 @@
 //! The private writer: the rows as they stand, the last number and the next segment id.
 ghost use Rattle.std.specs.Prelude.{◌≡◌, ◌<◌, ◌≤◌, ◌+◌, ◌^◌, length, OnOk, OnErr, IfOk, Err, Some};
+ghost use Rattle.ix_outside.specs.Crash.{MayHold};
+ghost use Rattle.ix_outside.specs.Disk.{told_files};
 ghost use Rattle.ix_base.specs.Steps.{step};
 ghost use Rattle.ix_base.specs.declared.file_name.FileName.TheVariants.{Commit, Rows};
 ghost use Rattle.ix_outside.specs.Causes.{Rose};
 ghost use Rattle.ix_outside.specs.Calls.{LeavesOnly};
 ghost use Rattle.ix_outside.specs.Files.{Files, Changes};
 ghost use Rattle.ix_outside.specs.Images.{Follows};
-ghost use Rattle.commit_point.specs.Putting.{Reaches};
+ghost use Rattle.ix_outside.specs.Images.{Reaches};
 ghost use Rattle.commit_point.specs.Writing.{Commits, MayCommit, SameElsewhere, next_after};
 ghost use Rattle.index_run.specs.Writer.{CanCommit};
 
@@ -44,13 +46,13 @@ impl Writer {
         requires { CanCommit self.old }
         ensures docs { IfOk result (λ docs. docs ≡ length self.old.rows) }
         ensures ok { OnOk result (self.new ≡ record self.old { next_id = next_after self.old.next_id self.old.rows }) }
-        ensures made { OnOk result (self.old.next_id < 2 ^ 62 → Changes (Commits self.old.number self.old.next_id self.old.rows) (S.files store.old) (S.files store.new)) }
-        ensures err { OnErr result (Changes (SameElsewhere self.old.number self.old.next_id) (S.files store.old) (S.files store.new)) }
+        ensures made { OnOk result (self.old.next_id < 2 ^ 62 → Changes (Commits self.old.number self.old.next_id self.old.rows) (told_files (S.disk store.old)) (told_files (S.disk store.new))) }
+        ensures err { OnErr result (Changes (SameElsewhere self.old.number self.old.next_id) (told_files (S.disk store.old)) (told_files (S.disk store.new))) }
         // Once it is acknowledged every image has the commit whole; a crash meanwhile leaves it whole or not at all.
-        ensures acknowledged { (files : Files) → S.files store.old ≡ Some files → self.old.next_id < 2 ^ 62
-            → OnOk result (Follows (Commits self.old.number self.old.next_id self.old.rows) (S.images store.old) (S.images store.new)) }
-        ensures crash { (files : Files) → S.files store.old ≡ Some files → self.old.next_id < 2 ^ 62
-            → LeavesOnly S.moment S.left_since store.old store.new (Reaches (MayCommit self.old.number self.old.next_id self.old.rows) (S.images store.old)) }
+        ensures acknowledged { (files : Files) → told_files (S.disk store.old) ≡ Some files → self.old.next_id < 2 ^ 62
+            → OnOk result (Follows (Commits self.old.number self.old.next_id self.old.rows) (MayHold (S.disk store.old)) (MayHold (S.disk store.new))) }
+        ensures crash { (files : Files) → told_files (S.disk store.old) ≡ Some files → self.old.next_id < 2 ^ 62
+            → LeavesOnly (S.disk store.old) (S.disk store.new) (Reaches (MayCommit self.old.number self.old.next_id self.old.rows) (MayHold (S.disk store.old))) }
         ensures later { S.fault_count store.old ≤ S.fault_count store.new }
         ensures failed { result ≡ Err StoreFault.Failed → Rose (S.fault_count store.old) (S.fault_count store.new) }
     {

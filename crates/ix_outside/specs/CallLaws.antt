@@ -52,6 +52,10 @@ leaves_now a None P leaves c image = absurd image
 leaves_now None (Some y) P leaves c image = absurd leaves
 leaves_now (Some x) (Some y) P leaves c image = leaves.1 c (now_is_left (length x) y c image)
 
+-- calls that only read leave no image more
+pub may_hold_still : (a b : Option Disk) → b ≡ a → (c : Files) → MayHold b c → MayHold a c
+may_hold_still a b same c image = subst (λ (d : Option Disk). MayHold d c) same image
+
 -- what reads give is one of the images
 pub reads_may_hold : (a : Option Disk) (here : Files) → told_files a ≡ Some here → MayHold a here
 reads_may_hold None here told = absurd cc

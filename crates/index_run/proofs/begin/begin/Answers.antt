@@ -1,4 +1,6 @@
 use Rattle.std.proofs.Common.{◌≡◌, ◌∙◌, ℕ, inl, inr, sym, subst, arith}
+use Rattle.std.proofs.Common.{ap}
+use Rattle.ix_outside.specs.Disk.{told_files}
 use Rattle.std.proofs.lemmas.Result.{IfOk-weaker}
 use Rattle.ix_outside.specs.Files.{Files}
 use Rattle.commit_point.specs.Holds.{Holds}
@@ -11,7 +13,7 @@ use Rattle.index_run.proofs.begin.begin.Goals as goal
 pub returns-clause-on : goal.returns-clause-on
 returns-clause-on g c = λ files base next rows told last on.
     let same : c.in-Ok.base ≡ base = c.in-Ok.ensures.only files base told last in
-    let still = c.last_commit.ensures.reads.same ∙ told in
+    let still = (ap told_files c.last_commit.ensures.reads) ∙ told in
     elim on [
       | inl none ↦ absurd (c.if-base-eq0.false (same ∙ none.0))
       | inr held ↦
@@ -22,7 +24,7 @@ returns-clause-on g c = λ files base next rows told last on.
 pub returns-clause-whole : goal.returns-clause-whole
 returns-clause-whole g c = λ files base next rows told last on low.
     let same : c.in-Ok.base ≡ base = c.in-Ok.ensures.only files base told last in
-    let still = c.last_commit.ensures.reads.same ∙ told in
+    let still = (ap told_files c.last_commit.ensures.reads) ∙ told in
     elim on [
       | inl none ↦ absurd (c.if-base-eq0.false (same ∙ none.0))
       | inr held ↦ c.begin_on.ensures.whole files next rows still (subst (λ (n : ℕ). Holds files n next rows) (sym same) held.1)
@@ -30,7 +32,7 @@ returns-clause-whole g c = λ files base next rows told last on low.
 
 pub returns-clause-last : goal.returns-clause-last
 returns-clause-last g c =
-    IfOk-weaker c.begin_on.result _ _ (λ writer is. subst (λ (n : ℕ). IsBase (g.S.Store.files c.args.store.now) n) (sym is) c.in-Ok.ensures.last) c.begin_on.ensures.number
+    IfOk-weaker c.begin_on.result _ _ (λ writer is. subst (λ (n : ℕ). IsBase (told_files (g.S.Store.disk c.args.store.now)) n) (sym is) c.in-Ok.ensures.last) c.begin_on.ensures.number
 
 pub returns-clause-damaged : goal.returns-clause-damaged
 returns-clause-damaged g c = λ damaged is.
@@ -41,6 +43,6 @@ returns-clause-damaged g c = λ damaged is.
       record {
         last = c.in-Ok.ensures.last;
         some = omega (arith, not_none);
-        broken = subst (λ (told : Option Files). IsDamagedIn told base damaged) c.last_commit.ensures.reads.same (c.begin_on.ensures.damaged damaged is);
+        broken = subst (λ (told : Option Files). IsDamagedIn told base damaged) (ap told_files c.last_commit.ensures.reads) (c.begin_on.ensures.damaged damaged is);
       },
     )

@@ -1,7 +1,8 @@
 use Rattle.std.proofs.Common.{◌≡◌, Some, sym, subst}
+use Rattle.ix_outside.specs.Crash.{MayHold}
 use Rattle.ix_base.specs.Refusals.{refusal}
 use Rattle.ix_outside.specs.CallLaws.{leaves_none}
-use Rattle.commit_point.specs.Putting.{Reaches}
+use Rattle.ix_outside.specs.Images.{Reaches}
 use Rattle.op_script.specs.declared.script.Act.TheVariants.{Do}
 use Rattle.row_changes.specs.Refusing.{refusal_as}
 use Rattle.index_run.specs.Doing.{MayLeave}
@@ -16,12 +17,12 @@ commit-requires g c = subst (λ (w : Writer). CanCommit w) (sym c.in_ok-apply.en
 
 pub returns-in_err-refusal-clause-crash : goal.returns-in_err-refusal-clause-crash
 returns-in_err-refusal-clause-crash g c = λ files told room.
-    leaves_none {S = g.row.S.Denot} g.S.Store.moment g.S.Store.left_since g.S.Store.images c.args.store.now (Reaches (MayLeave c.args.writer.now (Do c.args.operation)) (g.S.Store.images c.args.store.now)) g.S.Store.only_now
+    leaves_none (g.S.Store.disk c.args.store.now) (Reaches (MayLeave c.args.writer.now (Do c.args.operation)) (MayHold (g.S.Store.disk c.args.store.now)))
     (λ x image. (x, image, may_stay c.args.writer.now (Do c.args.operation) x))
 
 pub returns-in-Some-clause-crash : goal.returns-in-Some-clause-crash
 returns-in-Some-clause-crash g c = λ files told room.
-    leaves_none {S = g.row.S.Denot} g.S.Store.moment g.S.Store.left_since g.S.Store.images c.args.store.now (Reaches (MayLeave c.args.writer.now (Do c.args.operation)) (g.S.Store.images c.args.store.now)) g.S.Store.only_now
+    leaves_none (g.S.Store.disk c.args.store.now) (Reaches (MayLeave c.args.writer.now (Do c.args.operation)) (MayHold (g.S.Store.disk c.args.store.now)))
     (λ x image. (x, image, may_stay c.args.writer.now (Do c.args.operation) x))
 
 pub returns-in-Some-clause-acknowledged : goal.returns-in-Some-clause-acknowledged

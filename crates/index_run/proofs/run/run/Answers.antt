@@ -1,4 +1,5 @@
 use Rattle.std.proofs.Common.{◌≡◌, ℕ, ◌+◌, ◌*◌, List, length, take, Some, subst}
+use Rattle.ix_outside.specs.Crash.{MayHold}
 use Rattle.std.specs.Io.KnownBytes.{Appends}
 use Rattle.ix_outside.specs.CallLaws.{leaves_none, leaves_less}
 use Rattle.commit_point.specs.Holds.{KeepsCommits}
@@ -34,46 +35,46 @@ returns-clause-front g c = λ bytes lines files base next rows told is store beg
 
 pub returns-in-Err-clause-crash : goal.returns-in-Err-clause-crash
 returns-in-Err-clause-crash g c = λ bytes lines files base next rows told is store begins are.
-    leaves_none {S = g.row.S.Denot} g.S.Store.moment g.S.Store.left_since g.S.Store.images c.args.store.now (StopsRight base next rows lines files) g.S.Store.only_now (stops_none base next rows lines files (g.S.Store.images c.args.store.now) are)
+    leaves_none (g.S.Store.disk c.args.store.now) (StopsRight base next rows lines files) (stops_none base next rows lines files (MayHold (g.S.Store.disk c.args.store.now)) are)
 
 pub returns-in-Err-clause-crash_kept : goal.returns-in-Err-clause-crash_kept
 returns-in-Err-clause-crash_kept g c = λ files base next rows store begins are.
-    leaves_none {S = g.row.S.Denot} g.S.Store.moment g.S.Store.left_since g.S.Store.images c.args.store.now (KeepsCommits files) g.S.Store.only_now are.kept
+    leaves_none (g.S.Store.disk c.args.store.now) (KeepsCommits files) are.kept
 
 pub returns-in-Err-do_script-clause-crash : goal.returns-in-Err-do_script-clause-crash
 returns-in-Err-do_script-clause-crash g c = λ bytes lines files base next rows told is store begins are.
     let read = c.in-Ok.ensures.lines bytes told in
     let same : c.in-Ok.lines ≡ lines = cc in
-    leaves_less {S = g.row.S.Denot} g.S.Store.moment g.S.Store.left_since c.args.store.now c.do_script.new.store (HasFront base next rows (numbered c.in-Ok.lines) (next + 2 * length (numbered c.in-Ok.lines)) files) (StopsRight base next rows lines files)
+    leaves_less (g.S.Store.disk c.args.store.now) (g.S.Store.disk c.do_script.new.store) (HasFront base next rows (numbered c.in-Ok.lines) (next + 2 * length (numbered c.in-Ok.lines)) files) (StopsRight base next rows lines files)
     (c.do_script.ensures.crash files base next rows store begins are) (λ x front. stops_of base next rows lines c.in-Ok.lines files x same front)
 
 pub returns-in-Err-do_script-clause-crash_kept : goal.returns-in-Err-do_script-clause-crash_kept
 returns-in-Err-do_script-clause-crash_kept g c = λ files base next rows store begins are.
-    leaves_less {S = g.row.S.Denot} g.S.Store.moment g.S.Store.left_since c.args.store.now c.do_script.new.store (HasFront base next rows (numbered c.in-Ok.lines) (next + 2 * length (numbered c.in-Ok.lines)) files) (KeepsCommits files)
+    leaves_less (g.S.Store.disk c.args.store.now) (g.S.Store.disk c.do_script.new.store) (HasFront base next rows (numbered c.in-Ok.lines) (next + 2 * length (numbered c.in-Ok.lines)) files) (KeepsCommits files)
     (c.do_script.ensures.crash files base next rows store begins are) (λ x front. front.kept)
 
 pub returns-in-Ok-write_all-clause-crash : goal.returns-in-Ok-write_all-clause-crash
 returns-in-Ok-write_all-clause-crash g c = λ bytes lines files base next rows told is store begins are.
     let read = c.in-Ok.ensures.lines bytes told in
     let same : c.in-Ok.lines ≡ lines = cc in
-    leaves_less {S = g.row.S.Denot} g.S.Store.moment g.S.Store.left_since c.args.store.now c.do_script.new.store (HasFront base next rows (numbered c.in-Ok.lines) (next + 2 * length (numbered c.in-Ok.lines)) files) (StopsRight base next rows lines files)
+    leaves_less (g.S.Store.disk c.args.store.now) (g.S.Store.disk c.do_script.new.store) (HasFront base next rows (numbered c.in-Ok.lines) (next + 2 * length (numbered c.in-Ok.lines)) files) (StopsRight base next rows lines files)
     (c.do_script.ensures.crash files base next rows store begins are) (λ x front. stops_of base next rows lines c.in-Ok.lines files x same front)
 
 pub returns-in-Ok-write_all-clause-crash_kept : goal.returns-in-Ok-write_all-clause-crash_kept
 returns-in-Ok-write_all-clause-crash_kept g c = λ files base next rows store begins are.
-    leaves_less {S = g.row.S.Denot} g.S.Store.moment g.S.Store.left_since c.args.store.now c.do_script.new.store (HasFront base next rows (numbered c.in-Ok.lines) (next + 2 * length (numbered c.in-Ok.lines)) files) (KeepsCommits files)
+    leaves_less (g.S.Store.disk c.args.store.now) (g.S.Store.disk c.do_script.new.store) (HasFront base next rows (numbered c.in-Ok.lines) (next + 2 * length (numbered c.in-Ok.lines)) files) (KeepsCommits files)
     (c.do_script.ensures.crash files base next rows store begins are) (λ x front. front.kept)
 
 pub returns-clause-crash : goal.returns-clause-crash
 returns-clause-crash g c = λ bytes lines files base next rows told is store begins are.
     let read = c.in-Ok.ensures.lines bytes told in
     let same : c.in-Ok.lines ≡ lines = cc in
-    leaves_less {S = g.row.S.Denot} g.S.Store.moment g.S.Store.left_since c.args.store.now c.do_script.new.store (HasFront base next rows (numbered c.in-Ok.lines) (next + 2 * length (numbered c.in-Ok.lines)) files) (StopsRight base next rows lines files)
+    leaves_less (g.S.Store.disk c.args.store.now) (g.S.Store.disk c.do_script.new.store) (HasFront base next rows (numbered c.in-Ok.lines) (next + 2 * length (numbered c.in-Ok.lines)) files) (StopsRight base next rows lines files)
     (c.do_script.ensures.crash files base next rows store begins are) (λ x front. stops_of base next rows lines c.in-Ok.lines files x same front)
 
 pub returns-clause-crash_kept : goal.returns-clause-crash_kept
 returns-clause-crash_kept g c = λ files base next rows store begins are.
-    leaves_less {S = g.row.S.Denot} g.S.Store.moment g.S.Store.left_since c.args.store.now c.do_script.new.store (HasFront base next rows (numbered c.in-Ok.lines) (next + 2 * length (numbered c.in-Ok.lines)) files) (KeepsCommits files)
+    leaves_less (g.S.Store.disk c.args.store.now) (g.S.Store.disk c.do_script.new.store) (HasFront base next rows (numbered c.in-Ok.lines) (next + 2 * length (numbered c.in-Ok.lines)) files) (KeepsCommits files)
     (c.do_script.ensures.crash files base next rows store begins are) (λ x front. front.kept)
 
 pub returns-in-Ok-write_all-clause-acknowledged : goal.returns-in-Ok-write_all-clause-acknowledged
