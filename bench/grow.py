@@ -1,6 +1,6 @@
 #!/usr/bin/env python3
-"""Runs the program on generated scripts and prints a table: what the script does, to how many documents, the seconds,
-and the most memory in MB.
+"""Runs the program on generated scripts and prints a table: the kind of script, its documents, the seconds, the seconds
+of a processor, and the most memory in MB.
 
 usage: grow.py PROGRAM [KIND:COUNT ..]
 
@@ -23,7 +23,7 @@ RUNS = [(kind, count) for kind, counts in [
 
 
 def run(program, kind, count):
-    """The seconds and the most memory in MB of one run over a new directory."""
+    """The seconds, the seconds of a processor, and the most memory in MB of one run over a new directory."""
     with tempfile.TemporaryDirectory() as room:
         index = os.path.join(room, "index")
         os.mkdir(index)
@@ -38,16 +38,16 @@ def run(program, kind, count):
             seconds = time.monotonic() - begun
     if status != 0:
         sys.exit(f"{program} ended with wait status {status} on {kind}:{count}")
-    return seconds, usage.ru_maxrss / 1024
+    return seconds, usage.ru_utime + usage.ru_stime, usage.ru_maxrss / 1024
 
 
 def main():
     program = os.path.realpath(sys.argv[1])
     wanted = [argument.split(":") for argument in sys.argv[2:]]
-    print("| Script | Documents | Seconds | MB |\n|---|---|---|---|")
+    print("| Script | Documents | Seconds | Processor | MB |\n|---|---|---|---|---|")
     for kind, count in [(kind, int(count)) for kind, count in wanted] or RUNS:
-        seconds, megabytes = run(program, kind, count)
-        print(f"| `{kind}` | {count:,} | {seconds:.2f} | {megabytes:.0f} |", flush=True)
+        seconds, processor, megabytes = run(program, kind, count)
+        print(f"| `{kind}` | {count:,} | {seconds:.2f} | {processor:.2f} | {megabytes:.0f} |", flush=True)
 
 
 main()
