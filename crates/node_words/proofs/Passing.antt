@@ -38,9 +38,13 @@ one_passed n mid rest after p q = (
 pub list_passed : (n counter : ℕ) (bytes mid rest : List ℕ) → Begins (λ n. n < 2 ^ 32) be32 n bytes mid → n ≡ counter → (qs : Trees) × AreQueries qs × (count_of qs ≡ counter) × (mid ≡ queries_bytes qs ++ rest)
     → (qs : Trees) × Begins IsQueryList list_bytes qs bytes rest
 list_passed n counter bytes mid rest b k p =
-    let count : n ≡ count_of p.0 = k ∙ sym p.2 in
-    (p.0, ((subst (λ (m : ℕ). m < 2 ^ 32) count b.0, p.1),
-    b.1 ∙ ap (λ (m : ℕ). be32 m ++ mid) count ∙ ap (λ (t : List ℕ). be32 (count_of p.0) ++ t) p.3 ∙ sym (append_assoc (be32 (count_of p.0)) (queries_bytes p.0) rest)))
+    let count : n ≡ count_of p.0 = k ∙ sym p.2 in (
+      p.0,
+      (
+        (subst (λ (m : ℕ). m < 2 ^ 32) count b.0, p.1),
+        b.1 ∙ ap (λ (m : ℕ). be32 m ++ mid) count ∙ ap (λ (t : List ℕ). be32 (count_of p.0) ++ t) p.3 ∙ sym (append_assoc (be32 (count_of p.0)) (queries_bytes p.0) rest),
+      ),
+    )
 
 after_byte : (byte tag : ℕ) (bytes mid rest front : List ℕ) → byte ≡ tag → bytes ≡ byte_alone byte ++ mid → mid ≡ front ++ rest → bytes ≡ (byte_alone tag ++ front) ++ rest
 after_byte byte tag bytes mid rest front t b m =

@@ -44,10 +44,7 @@ pub(crate) fn term_from(alloc: Global, pair: TextPair<'_>) -> Result<Term, NoMem
 }
 
 /// The phrase in a field of this name.
-pub(crate) fn phrase_from(
-    alloc: Global,
-    pair: TextPair<'_>,
-) -> Result<(Name, PhraseText), NoMemory>
+pub(crate) fn phrase_from(alloc: Global, pair: TextPair<'_>) -> Result<(Name, PhraseText), NoMemory>
     requires name { is_name pair.name.now ≡ true }
     requires text { length pair.text.now < 2 ^ 28 }
     ensures { IfOk result (λ phrase. phrase ≡ pair_in pair.entry) }

@@ -1,7 +1,19 @@
 use super::*;
-use ix_base::{Name, Operation, PhraseText, Queries, Query, Term, Text};
+use crate::pack::pack;
+use ix_base::{Name, NoMemory, Operation, PhraseText, Queries, Query, Term, Text};
 use std::alloc::Global;
+use std::fmt::Write;
 use std::test::*;
+
+/// A delete by the bool of a term that must match, and of a phrase that must not.
+const MIXED_QUERY: [u64; 6] = [
+    0x0000_0004_0000_0025,
+    0x0300_0000_0101_0000,
+    0x0001_6600_0000_0161,
+    0x0000_0000_0000_0001,
+    0x0200_0000_0166_0000,
+    0x0003_6220_6300_0000,
+];
 
 fn text_of(string: String) -> Result<Text, Fail> {
     Ok(Text::new(string).ok_or("a text")?)
@@ -61,20 +73,83 @@ fn one_delete(rt: HostRuntime) -> Result<(), Fail> {
     Ok(())
 }
 
-#[test]
-fn one_delete_read(rt: HostRuntime) {
-    let words = [
-        0x0000_0003_0000_000d,
-        0x0000_0003_6b65_7900,
-        0x0000_0261_3100_0000,
-    ];
-    match decode(rt.alloc(), &words) {
-        Ok(Some(Entry::DeleteTerm(term))) => {
-            assert_eq!(rt; term.field.as_str(), "key");
-            assert_eq!(rt; term.bytes.as_str(), "a1");
+/// What an entry asks for, a query left out.
+fn shown(alloc: Global, entry: &Entry) -> Result<String, Fail> {
+    let mut text = String::new(alloc);
+    match entry {
+        Entry::Add => text.push_str("add")?,
+        Entry::Update(term) => {
+            let (field, bytes) = (term.field.as_str(), term.bytes.as_str());
+            write!(text, "update {field} {bytes}")?;
         }
-        _ => assert!(rt; false),
+        Entry::DeleteTerm(term) => {
+            let (field, bytes) = (term.field.as_str(), term.bytes.as_str());
+            write!(text, "delete {field} {bytes}")?;
+        }
+        Entry::DeleteQuery(_) => text.push_str("query")?,
+        Entry::SetNumber { term, num, value } => {
+            let (field, bytes) = (term.field.as_str(), term.bytes.as_str());
+            let num = num.as_str();
+            write!(text, "set {field} {bytes} {num} {value}")?;
+        }
+        Entry::Commit => text.push_str("commit")?,
+        Entry::Turn => text.push_str("turn")?,
     }
+    Ok(text)
+}
+
+/// What the words spell, or what was answered.
+fn answer(alloc: Global, words: &[u64]) -> Result<String, Fail> {
+    match decode(alloc, words) {
+        Ok(Some(entry)) => shown(alloc, &entry),
+        Ok(None) => Ok(String::from_str(alloc, "none")?),
+        Err(NoMemory) => Ok(String::from_str(alloc, "no memory")?),
+    }
+}
+
+/// One entry of each kind, its words written by hand.
+#[test]
+fn each_kind_read(rt: HostRuntime) -> Result<(), Fail> {
+    let alloc = rt.alloc();
+    let cases: [(&[u64], &str); 7] = [
+        (&[0x0000_0001_0000_0000], "add"),
+        (
+            &[
+                0x0000_0002_0000_000d,
+                0x0000_0003_6b65_7900,
+                0x0000_0261_3100_0000,
+            ],
+            "update key a1",
+        ),
+        (
+            &[
+                0x0000_0003_0000_000d,
+                0x0000_0003_6b65_7900,
+                0x0000_0261_3100_0000,
+            ],
+            "delete key a1",
+        ),
+        (&MIXED_QUERY, "query"),
+        (
+            &[
+                0x0000_0005_0000_001a,
+                0x0000_0003_6b65_7900,
+                0x0000_0261_3100_0000,
+                0x016e_ffff_ffff_ffff,
+                0xfffe_0000_0000_0000,
+            ],
+            "set key a1 n -2",
+        ),
+        (&[0x0000_0006_0000_0000], "commit"),
+        (&[0x0000_0007_0000_0000], "turn"),
+    ];
+    for (words, want) in cases {
+        let found = answer(alloc, words)?;
+        assert_eq!(rt; found.as_str(), want);
+    }
+    let same = again(alloc, &MIXED_QUERY)?;
+    assert!(rt; same.as_slice() == MIXED_QUERY.as_slice());
+    Ok(())
 }
 
 #[test]
@@ -106,11 +181,13 @@ fn is_foreign(alloc: Global, words: &[u64]) -> bool {
 /// Words that are one step from a spelling.
 #[test]
 fn foreign_words(rt: HostRuntime) {
-    let foreign: [&[u64]; 8] = [
+    let foreign: [&[u64]; 10] = [
         &[],
         &[0],
         &[0x0000_0008_0000_0000],
         &[0x0000_0001_0000_0000, 0],
+        &[0x0000_0007_0000_0001, 0],
+        &[0x0000_0004_0000_0001, 0x0400_0000_0000_0000],
         &[0x0000_0003_0000_000d, 0x0000_0003_6b65_7900],
         &[
             0x0000_0003_0000_000d,
@@ -131,6 +208,83 @@ fn foreign_words(rt: HostRuntime) {
     for words in foreign {
         assert!(rt; is_foreign(rt.alloc(), words));
     }
+}
+
+/// Whether these bytes are those of an entry of this kind.
+fn is_entry(alloc: Global, kind: u64, bytes: &[u8]) -> Result<bool, Fail> {
+    let words = pack(alloc, kind * (1 << 32) + bytes.len() as u64, bytes)?;
+    match decode(alloc, &words) {
+        Ok(entry) => Ok(entry.is_some()),
+        Err(NoMemory) => Err("memory".into()),
+    }
+}
+
+/// The bytes of an entry of each kind that has some: each cut of them is foreign, and so is a byte
+/// more.
+#[test]
+fn foreign_cuts(rt: HostRuntime) -> Result<(), Fail> {
+    let alloc = rt.alloc();
+    let cases: [(u64, &[u8]); 7] = [
+        (2, b"\x00\x00\x00\x03key\x00\x00\x00\x02a1"),
+        (3, b"\x00\x00\x00\x03key\x00\x00\x00\x00"),
+        (4, b"\x00"),
+        (4, b"\x01\x00\x00\x00\x01f\x00\x00\x00\x01a"),
+        (4, b"\x02\x00\x00\x00\x01f\x00\x00\x00\x03b c"),
+        (
+            4,
+            b"\x03\x00\x00\x00\x00\x00\x00\x00\x01\x00\x00\x00\x00\x01\x00",
+        ),
+        (
+            5,
+            b"\x00\x00\x00\x03key\x00\x00\x00\x02a1\x00\x00\x00\x01n\xff\xff\xff\xff\xff\xff\xff\xfe",
+        ),
+    ];
+    for (kind, bytes) in cases {
+        for end in 0..bytes.len() {
+            assert!(rt; !is_entry(alloc, kind, &bytes[..end])?);
+        }
+        let mut more = Vec::new(alloc);
+        more.extend_from_slice(bytes)?;
+        assert!(rt; is_entry(alloc, kind, &more)?);
+        more.push(0)?;
+        assert!(rt; !is_entry(alloc, kind, &more)?);
+    }
+    Ok(())
+}
+
+fn put_letters(out: &mut Vec<u8>, count: u32) -> Result<(), Fail> {
+    out.extend_from_slice(&count.to_be_bytes())?;
+    for _ in 0..count {
+        out.push(b'a')?;
+    }
+    Ok(())
+}
+
+/// Terms and queries by the bytes of the name and of the text, at their limits.
+#[test]
+fn read_limits(rt: HostRuntime) -> Result<(), Fail> {
+    let alloc = rt.alloc();
+    for (kind, name, text, want) in [
+        (3, 1, 0, true),
+        (3, 0, 1, false),
+        (3, 255, 32766, true),
+        (3, 256, 1, false),
+        (3, 1, 32767, false),
+        (4, 255, 32767, true),
+        (4, 0, 1, false),
+        (4, 256, 1, false),
+        (4, 4, 131_059, true),
+        (4, 4, 131_060, false),
+    ] {
+        let mut bytes = Vec::new(alloc);
+        if kind == 4 {
+            bytes.push(2)?;
+        }
+        put_letters(&mut bytes, name)?;
+        put_letters(&mut bytes, text)?;
+        assert!(rt; is_entry(alloc, kind, &bytes)? == want);
+    }
+    Ok(())
 }
 
 fn wrapped(alloc: Global, query: Query) -> Result<Query, Fail> {
@@ -166,22 +320,41 @@ fn again(alloc: Global, words: &[u64]) -> Result<Vec<u64>, Fail> {
     }
 }
 
-/// The deepest query that has words: one of 131,072 bytes nests no deeper.
+/// A query of 5,000 bools, each in the next.
 #[test]
-fn deepest_query(rt: HostRuntime) -> Result<(), Fail> {
+fn deep_query(rt: HostRuntime) -> Result<(), Fail> {
     let alloc = rt.alloc();
-    let delete = nested(alloc, 10082)?;
+    let delete = nested(alloc, 5000)?;
     let words = encode(alloc, &delete).ok().ok_or("words")?;
-    assert_eq!(rt; words.len(), 16385);
+    assert_eq!(rt; words.len(), 8127);
     let same = again(alloc, &words)?;
     assert!(rt; words.as_slice() == same.as_slice());
     Ok(())
 }
 
+/// A delete by a bool of so many queries.
+fn wide(alloc: Global, count: usize) -> Result<Operation, Fail> {
+    let mut should = Vec::new(alloc);
+    for _ in 0..count {
+        should.push(Query::All)?;
+    }
+    Ok(Operation::DeleteQuery(Query::Bool {
+        must: Queries::from_vec(Vec::new(alloc)),
+        should: Queries::from_vec(should),
+        must_not: Queries::from_vec(Vec::new(alloc)),
+    }))
+}
+
+/// The largest query that has words, and one of a byte more.
 #[test]
-fn deeper_query(rt: HostRuntime) -> Result<(), Fail> {
+fn wide_query(rt: HostRuntime) -> Result<(), Fail> {
     let alloc = rt.alloc();
-    let deeper = nested(alloc, 10083)?;
-    assert!(rt; outcome(alloc, &deeper) == (2, 131_080));
+    let delete = wide(alloc, 131_059)?;
+    let words = encode(alloc, &delete).ok().ok_or("words")?;
+    assert_eq!(rt; words.len(), 16385);
+    let same = again(alloc, &words)?;
+    assert!(rt; words.as_slice() == same.as_slice());
+    let wider = wide(alloc, 131_060)?;
+    assert!(rt; outcome(alloc, &wider) == (2, 131_073));
     Ok(())
 }

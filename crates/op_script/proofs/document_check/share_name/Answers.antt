@@ -10,7 +10,7 @@ use Rattle.ix_base.specs.Limits.{is_among}
 use Rattle.op_script.specs.Documents.{names_at}
 use Rattle.op_script.proofs.Names.{list_any-map, names_of-members_view}
 use Rattle.op_script.proofs.Pairs.{names_at-object}
-use Rattle.op_script.proofs.documents.share_name.Goals as goal
+use Rattle.op_script.proofs.document_check.share_name.Goals as goal
 
 pub returns-in-Some : goal.returns-in-Some
 returns-in-Some c =
