@@ -15,7 +15,9 @@ use crate::unpack::unpack;
 use ix_base::{NoMemory, Term};
 use std::alloc::Global;
 
-/// The entry that the words spell: `None` exactly where they spell none.
+/// The entry that the words spell: `None` exactly where they spell none. `NoMemory` comes only
+/// where the head counts the words. Each level of a query takes a call within a call, and the
+/// longest query has 10,082 levels, so a thread that decodes any words needs some MB of stack.
 pub fn decode(alloc: Global, words: &[u64]) -> Result<Option<Entry>, NoMemory>
     // What is read is spelled so.
     ensures found { IfOk result (λ found. IfSome found (λ entry. Spells words.now (value_of entry))) }
