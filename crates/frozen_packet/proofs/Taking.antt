@@ -1,5 +1,5 @@
 -- Updates with one more entry taken.
-use Rattle.std.proofs.Common.{◌≡◌, ◌∙◌, ℕ, ℤ, ◌<◌, ◌≤◌, List, [], ◌∷◌, ◌++◌, Bool, true, false, cond, map, Option, Some, None, IfSome, nat_lt, refl, sym, ap, subst, arith, append_assoc}
+use Rattle.std.proofs.Common.{◌≡◌, ◌∙◌, ℕ, ℤ, ◌≤◌, List, [], ◌∷◌, ◌++◌, Bool, true, false, cond, map, Option, Some, None, IfSome, nat_lt, refl, sym, ap, subst, arith, append_assoc}
 use Rattle.std.specs.BTreeMap.{insert_entry}
 use Rattle.std.specs.List.{AllByRecursion}
 use Rattle.std.specs.Option.{option_and_then}
@@ -20,7 +20,7 @@ use Rattle.ix_base.proofs.TermOrder.{term_same}
 use Rattle.frozen_packet.specs.declared.updates.QueryDelete.{QueryDelete}
 use Rattle.frozen_packet.specs.declared.updates.Setting.{Setting}
 use Rattle.std.proofs.lemmas.List.{map-append}
-use Rattle.frozen_packet.specs.Updates.{term_delete, query_delete, setting, NumberedUpTo}
+use Rattle.frozen_packet.specs.Updates.{term_delete, query_delete, setting, NumberedUpTo, NumberedWithin}
 use Rattle.row_fates.proofs.Fates.{fate-append}
 use Rattle.row_fates.proofs.Same.{same-append, same-same, same-trans, same-sym}
 use Rattle.row_fates.proofs.Renumbered.{Renumbers, fate_renumbers, matches_renumbered}
@@ -243,3 +243,13 @@ no_operations [] [] [] e = (refl, (refl, refl))
 no_operations [] [] (s ∷ S) e = cc
 no_operations [] (q ∷ Q) S e = cc
 no_operations (d ∷ D) Q S e = cc
+
+-- ---- bounds
+
+pub within_upto : (after upto : ℕ) (ops : List Numbered) → NumberedWithin after upto ops → NumberedUpTo upto ops
+within_upto after upto [] h = tt
+within_upto after upto (x ∷ ops) h = (h.0.1, within_upto after upto ops h.1)
+
+pub within_later : (after upto later : ℕ) → upto ≤ later → (ops : List Numbered) → NumberedWithin after upto ops → NumberedWithin after later ops
+within_later after upto later le [] h = tt
+within_later after upto later le (x ∷ ops) h = ((h.0.0, omega (arith, h.0.1)), within_later after upto later le ops h.1)

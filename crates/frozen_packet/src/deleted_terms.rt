@@ -106,9 +106,7 @@ impl DeletedTerms {
 
     /// Notes a delete by the term, in place of an earlier one. After an error all is as before.
     pub fn put(&mut self, alloc: Global, term: &Term, number: u64) -> Result<(), NoMemory>
-        ensures ok {
-            OnOk result (self.new ≡ insert_entry term_cmp self.old term.now number)
-        }
+        ensures ok { OnOk result (self.new ≡ insert_entry term_cmp self.old term.now number) }
         ensures err { OnErr result (self.new ≡ self.old) }
     {
         let key = TermKey {

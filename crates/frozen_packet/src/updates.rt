@@ -108,11 +108,12 @@ fn setting_of(
     num: &Name,
     value: &i64,
 ) -> Result<Setting, NoMemory>
-    ensures {
-        IfOk result (λ made. made ≡ record {
-            number = number; term = term.now; num = num.now; value = value.now
-        })
-    }
+    ensures { IfOk result (λ made. made ≡ record {
+      number = number;
+      term = term.now;
+      num = num.now;
+      value = value.now;
+    }) }
 {
     Ok(Setting {
         number,

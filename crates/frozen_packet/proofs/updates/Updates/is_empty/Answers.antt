@@ -7,9 +7,10 @@ use Rattle.frozen_packet.proofs.updates.Updates.is_empty.Goals.{then-is_empty, e
 
 pub returns-else-len-eq0 : goal.returns-else-len-eq0
 returns-else-len-eq0 c =
-    let u = c.args.self.now in
-    (λ t. cc (c.if-len-eq0.false, t),
-    λ (e : as_operations u ≡ []). elim c.if-is_empty.branch [
-      then-is_empty w ↦ w.value-is ∙ ap (λ n. nat_eq n 0) (w.len.ensures ∙ ap (λ (q : List QueryDelete). length q) (no_operations u.deletes u.queries u.settings e).1.0)
-    | else-is_empty w ↦ cc (w.if-is_empty.false, c.is_empty.ensures.1 (no_operations u.deletes u.queries u.settings e).0)
-    ])
+    let u = c.args.self.now in (
+      λ t. cc (c.if-len-eq0.false, t),
+      λ (e : as_operations u ≡ []). elim c.if-is_empty.branch [
+        | then-is_empty w ↦ w.value-is ∙ ap (λ n. nat_eq n 0) (w.len.ensures ∙ ap (λ (q : List QueryDelete). length q) (no_operations u.deletes u.queries u.settings e).1.0)
+        | else-is_empty w ↦ cc (c.is_empty.ensures.1 (no_operations u.deletes u.queries u.settings e).0)
+      ],
+    )
