@@ -1,6 +1,7 @@
 pub mod Loops
 pub mod Crashes
 pub mod Making
+pub mod Putting
 pub mod Readers
 pub mod NameSearch
 pub mod Loop

@@ -1,10 +1,11 @@
 -- What the steps of making a commit come to.
-use Rattle.std.proofs.Common.{◌≡◌, ◌≢◌, ℕ, ◌<◌, ◌≤◌, ◌^◌, List, [], ◌∷◌, length, Option, Some, None, refl, sym, subst, ◌∙◌, inl, inr, arith}
+use Rattle.std.proofs.Common.{◌≡◌, ◌≢◌, ℕ, ◌<◌, ◌≤◌, ◌^◌, List, [], ◌∷◌, length, Option, Some, None, refl, sym, ap, subst, ◌∙◌, inl, inr, arith}
 use Rattle.std.specs.Prelude.{◌⊎◌, ◌↔◌, IsSome, IsTrue, IfErr, Result, Ok, Err}
 use Rattle.std.specs.Result.{IsErrAnd}
 use Rattle.std.specs.List.{AllByRecursion}
 use Rattle.std.proofs.lemmas.List.{append-nil}
 use Rattle.std.proofs.lemmas.List.Sorted.{IsPermutation-refl}
+use Rattle.ix_base.specs.declared.file_name.FileName.{FileName}
 use Rattle.ix_base.specs.declared.file_name.FileName.TheVariants.{Commit, Pending, Rows}
 use Rattle.ix_base.specs.declared.document.Row.{Row}
 use Rattle.ix_outside.specs.Files.{Files, Changes, SameBut, then}
@@ -16,9 +17,9 @@ use Rattle.commit_point.specs.declared.fault.CommitRefused.{CommitRefused}
 use Rattle.commit_point.specs.declared.heads.Head.{Head}
 use Rattle.commit_point.specs.Fits.{BirthsRise, DocumentFits}
 use Rattle.commit_point.specs.Holds.{Holds}
-use Rattle.commit_point.specs.Putting.{Reaches, PutsRows, PutsCommit, MayPutCommit, SameButCommit, head_of}
+use Rattle.commit_point.specs.Putting.{Reaches, PutsRows, PutsCommit, MayPutCommit, SameButCommit}
 use Rattle.commit_point.specs.Spelling.{rows_file, commit_file}
-use Rattle.commit_point.specs.Writing.{Commits, MayCommit, next_after}
+use Rattle.commit_point.specs.Writing.{Commits, MayCommit, next_after, head_of, segment_file}
 
 -- rows that may be written as a commit
 pub record AreNew (s id : ℕ) (rows : List Row) : Type 0 where
@@ -75,32 +76,54 @@ other_than_rows s id e = cc
 other_than_pending : (s id : ℕ) → Rows id ≢ Pending s
 other_than_pending s id e = cc
 
-pub commits_new : (s id : ℕ) (rows : List Row) (a b c : Files) → AreNew s id rows → PutsRows id rows a b → PutsCommit s (commit_file (head_of s id rows)) b c → Commits s id rows a c
-commits_new s id rows a b c new first second = record {
-  holds = holds_new s id rows c new second.there (λ some. second.others (Rows id) (other_than_pending s id) (other_than_rows s id) ∙ first.there some);
-  elsewhere = λ name x y z. second.others name y z ∙ first.others name x;
+-- rows that stand in their file are all that the file has
+segment_there : (id : ℕ) (rows : List Row) (before now : Option (List ℕ)) → now ≡ segment_file id rows before → 1 ≤ length rows → now ≡ Some (rows_file id rows)
+segment_there id [] before now is some = absurd (omega (arith, some))
+segment_there id (r ∷ rs) before now is some = is
+
+-- files with the commit file of new rows and their segment, and without its pending name, are those of the commit
+made_of : (s id : ℕ) (rows : List Row) (a c : Files) → AreNew s id rows → c (Rows id) ≡ segment_file id rows (a (Rows id)) → c (Commit s) ≡ Some (commit_file (head_of s id rows)) → c (Pending s) ≡ None
+    → ((name : FileName) → name ≢ Rows id → name ≢ Pending s → name ≢ Commit s → c name ≡ a name) → Commits s id rows a c
+made_of s id rows a c new segment commit pending elsewhere = record {
+  holds = holds_new s id rows c new commit (segment_there id rows (a (Rows id)) (c (Rows id)) segment);
+  commit = commit;
+  segment = segment;
+  pending = pending;
+  elsewhere = elsewhere;
 }
 
+-- the commit file was put after the rows
+put_after : (s id : ℕ) (rows : List Row) (a b c : Files) → AreNew s id rows → b (Rows id) ≡ segment_file id rows (a (Rows id)) → SameBut (Rows id) a b
+    → PutsCommit s (commit_file (head_of s id rows)) b c → Commits s id rows a c
+put_after s id rows a b c new there first second =
+    made_of s id rows a c new (second.others (Rows id) (other_than_pending s id) (other_than_rows s id) ∙ there) second.there second.pending (λ name x y z. second.others name y z ∙ first name x)
+
+pub commits_new : (s id : ℕ) (rows : List Row) (a b c : Files) → AreNew s id rows → PutsRows id rows a b → PutsCommit s (commit_file (head_of s id rows)) b c → Commits s id rows a c
+commits_new s id rows a b c new first second = put_after s id rows a b c new first.there first.others second
+
 -- a crash while the commit file is written, when the rows stand on the disk
-pub may_commit : (s id : ℕ) (rows : List Row) (a b c : Files) → AreNew s id rows → SameBut (Rows id) a b → (1 ≤ length rows → b (Rows id) ≡ Some (rows_file id rows))
+pub may_commit : (s id : ℕ) (rows : List Row) (a b c : Files) → AreNew s id rows → SameBut (Rows id) a b → b (Rows id) ≡ segment_file id rows (a (Rows id))
     → MayPutCommit s (commit_file (head_of s id rows)) b c → MayCommit s id rows a c
 may_commit s id rows a b c new first there second = record {
   elsewhere = λ name x y z. second.others name y z ∙ first name x;
   whole = cases second.whole;
 }
   where
-    cases : (c (Commit s) ≡ b (Commit s)) ⊎ (c (Commit s) ≡ Some (commit_file (head_of s id rows))) → (c (Commit s) ≡ a (Commit s)) ⊎ Holds c s (next_after id rows) rows
+    cases : (c (Commit s) ≡ b (Commit s)) ⊎ PutsCommit s (commit_file (head_of s id rows)) b c → (c (Commit s) ≡ a (Commit s)) ⊎ Commits s id rows a c
     cases (inl same) = inl (same ∙ first (Commit s) (λ e. cc))
-    cases (inr made) = inr (holds_new s id rows c new made (λ some. second.others (Rows id) (other_than_pending s id) (other_than_rows s id) ∙ there some))
+    cases (inr made) = inr (put_after s id rows a b c new there first made)
 
--- the file of rows stands in each image
-abbrev Stands : ℕ → List Row → (Files → Type 0) → Type 0
-Stands id rows images = 1 ≤ length rows → (x : Files) → images x → x (Rows id) ≡ Some (rows_file id rows)
+-- The rows were put: each image is one from before, with the file of the rows as it is then.
+abbrev Stands : ℕ → List Row → (before mid : Files → Type 0) → Type 0
+Stands id rows before mid = (x : Files) → mid x → (d : Files) × before d × SameBut (Rows id) d x × (x (Rows id) ≡ segment_file id rows (d (Rows id)))
 
-told_stands : (id : ℕ) (rows : List Row) (old : Files) (new : Option Files) (images : Files → Type 0) → Changes (PutsRows id rows) (Some old) new
-    → (1 ≤ length rows → IsDurable (Rows id) images new) → Stands id rows images
-told_stands id rows old None images puts durable some x image = absurd puts
-told_stands id rows old (Some new) images puts durable some x image = durable some x image ∙ puts.there some
+told_stands : (id : ℕ) (rows : List Row) (old : Files) (new : Option Files) (before mid : Files → Type 0) → Changes (PutsRows id rows) (Some old) new
+    → (1 ≤ length rows → IsDurable (Rows id) mid new) → (length rows ≡ 0 → mid ≡ before) → Follows (SameBut (Rows id)) before mid → Stands id rows before mid
+told_stands id [] old new before mid puts durable none follows x image = (x, subst (λ (images : Files → Type 0). images x) (none refl) image, (λ other ne. refl), refl)
+told_stands id (r ∷ rs) old None before mid puts durable none follows x image = absurd puts
+told_stands id (r ∷ rs) old (Some new) before mid puts durable none follows x image =
+    let p = follows x image in
+    (p.0, p.1, p.2, durable (omega arith) x image ∙ puts.there)
 
 goes_on_telling : (P : Files → Files → Type 0) (old : Files) (new : Option Files) → Changes P (Some old) new → IsSome new
 goes_on_telling P old None change = absurd change
@@ -115,46 +138,41 @@ commits_both s id rows head a b c is new first second =
 
 -- the rows were written, and then the commit file, which may have failed
 pub crash_of : {S : Type 0} (moment : S → ℕ) (left_since : S → ℕ → Files → Type 0) (images : S → Files → Type 0) (told : S → Option Files) (a b c : S) (s id : ℕ) (rows : List Row) (head : Head) (files : Files)
-    → head ≡ head_of s id rows → told a ≡ Some files → AreNew s id rows → Changes (PutsRows id rows) (told a) (told b) → (1 ≤ length rows → IsDurable (Rows id) (images b) (told b)) → Follows (SameBut (Rows id)) (images a) (images b)
+    → head ≡ head_of s id rows → told a ≡ Some files → AreNew s id rows → Changes (PutsRows id rows) (told a) (told b) → (1 ≤ length rows → IsDurable (Rows id) (images b) (told b)) → (length rows ≡ 0 → b ≡ a) → Follows (SameBut (Rows id)) (images a) (images b)
     → LeavesOnly moment left_since a b (Reaches (SameBut (Rows id)) (images a))
     → (IsSome (told b) → LeavesOnly moment left_since b c (Reaches (MayPutCommit head.number (commit_file head)) (images b)))
     → LeavesOnly moment left_since a c (Reaches (MayCommit s id rows) (images a))
-crash_of moment left_since images told a b c s id rows head files head-is is new puts durable follows first second =
+crash_of moment left_since images told a b c s id rows head files head-is is new puts durable none follows first second =
     let from_told : Changes (PutsRows id rows) (Some files) (told b) = subst (λ (o : Option Files). Changes (PutsRows id rows) o (told b)) is puts in
-    let stands : Stands id rows (images b) = told_stands id rows files (told b) (images b) from_told durable in
+    let stands : Stands id rows (images a) (images b) = told_stands id rows files (told b) (images a) (images b) from_told durable (λ empty. ap images (none empty)) follows in
     let after = subst (λ (h : Head). LeavesOnly moment left_since b c (Reaches (MayPutCommit h.number (commit_file h)) (images b))) head-is (second (goes_on_telling (PutsRows id rows) files (told b) from_told)) in
     leaves_then moment left_since a b c (Reaches (SameBut (Rows id)) (images a)) (Reaches (MayPutCommit s (commit_file (head_of s id rows))) (images b)) (Reaches (MayCommit s id rows) (images a))
     first after
     (λ x p. (p.0, p.1, record { elsewhere = λ name other pending commit. p.2 name other; whole = inl (p.2 (Commit s) (λ e. cc)) }))
-    (λ x q. let p = follows q.0 q.1 in (p.0, p.1, may_commit s id rows p.0 q.0 x new p.2 (λ some. stands some q.0 q.1) q.2))
+    (λ x q. let p = stands q.0 q.1 in (p.0, p.1, may_commit s id rows p.0 q.0 x new p.2 p.3 q.2))
 
--- the commit file that was written stands in each image
-commit_stands : (s : ℕ) (bytes : List ℕ) (b c : Option Files) (images : Files → Type 0) → IsSome b → Changes (PutsCommit s bytes) b c → IsDurable (Commit s) images c
-    → (x : Files) → images x → x (Commit s) ≡ Some bytes
-commit_stands s bytes None c images some puts durable x image = absurd cc
-commit_stands s bytes (Some mid) None images some puts durable x image = absurd puts
-commit_stands s bytes (Some mid) (Some new) images some puts durable x image = durable x image ∙ puts.there
+-- the commit file that was written stands in each image, and its pending name in none
+commit_stands : (s : ℕ) (bytes : List ℕ) (b c : Option Files) (images : Files → Type 0) → IsSome b → Changes (PutsCommit s bytes) b c → IsDurable (Commit s) images c → IsDurable (Pending s) images c
+    → (x : Files) → images x → (x (Commit s) ≡ Some bytes) × (x (Pending s) ≡ None)
+commit_stands s bytes None c images some puts durable gone x image = absurd cc
+commit_stands s bytes (Some mid) None images some puts durable gone x image = absurd puts
+commit_stands s bytes (Some mid) (Some new) images some puts durable gone x image = (durable x image ∙ puts.there, gone x image ∙ puts.pending)
 
 -- the rows were written, and then the commit file, and both stand on the disk
 pub acknowledged_of : (s id : ℕ) (rows : List Row) (head : Head) (files : Files) (a b c : Option Files) (before mid after : Files → Type 0)
-    → head ≡ head_of s id rows → a ≡ Some files → AreNew s id rows → Changes (PutsRows id rows) a b → (1 ≤ length rows → IsDurable (Rows id) mid b) → Follows (SameBut (Rows id)) before mid
-    → Changes (PutsCommit head.number (commit_file head)) b c → IsDurable (Commit head.number) after c → Follows (SameButCommit head.number) mid after
+    → head ≡ head_of s id rows → a ≡ Some files → AreNew s id rows → Changes (PutsRows id rows) a b → (1 ≤ length rows → IsDurable (Rows id) mid b) → (length rows ≡ 0 → mid ≡ before) → Follows (SameBut (Rows id)) before mid
+    → Changes (PutsCommit head.number (commit_file head)) b c → IsDurable (Commit head.number) after c → IsDurable (Pending head.number) after c → Follows (SameButCommit head.number) mid after
     → Follows (Commits s id rows) before after
-acknowledged_of s id rows head files a b c before mid after head-is is new puts durable first commits stays second x image =
+acknowledged_of s id rows head files a b c before mid after head-is is new puts durable none first commits stays gone second x image =
     let from_told : Changes (PutsRows id rows) (Some files) b = subst (λ (o : Option Files). Changes (PutsRows id rows) o b) is puts in
-    let stands : Stands id rows mid = told_stands id rows files b mid from_told durable in
-    let commit : x (Commit s) ≡ Some (commit_file (head_of s id rows)) =
-    subst (λ (h : Head). x (Commit h.number) ≡ Some (commit_file h)) head-is (commit_stands head.number (commit_file head) b c after (goes_on_telling (PutsRows id rows) files b from_told) commits stays x image) in
+    let stands : Stands id rows before mid = told_stands id rows files b before mid from_told durable none first in
+    let there : (x (Commit s) ≡ Some (commit_file (head_of s id rows))) × (x (Pending s) ≡ None) =
+    subst (λ (h : Head). (x (Commit h.number) ≡ Some (commit_file h)) × (x (Pending h.number) ≡ None)) head-is
+    (commit_stands head.number (commit_file head) b c after (goes_on_telling (PutsRows id rows) files b from_told) commits stays gone x image) in
     let step = subst (λ (h : Head). Follows (SameButCommit h.number) mid after) head-is second in
     let q = step x image in
-    let p = first q.0 q.1 in (
-      p.0,
-      p.1,
-      record {
-        holds = holds_new s id rows x new commit (λ some. q.2 (Rows id) (other_than_pending s id) (other_than_rows s id) ∙ stands some q.0 q.1);
-        elsewhere = λ name y z w. q.2 name z w ∙ p.2 name y;
-      },
-    )
+    let p = stands q.0 q.1 in
+    (p.0, p.1, put_after s id rows p.0 q.0 x new p.3 p.2 (record { there = there.0; pending = there.1; others = q.2 }))
 
 -- what want of memory says of the commit file
 abbrev TellsRenamed : ℕ → Option Files → Option Files → CommitRefused → Type 0

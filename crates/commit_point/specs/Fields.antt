@@ -5,6 +5,7 @@ use Rattle.std.specs.Int.{Width, w32, w64, byte_len, from_be_bytes, cast_signed}
 use Rattle.std.specs.Str.{bytes_eq, is_utf8}
 use Rattle.ix_base.specs.Limits.{is_name, text_lt, is_among}
 use Rattle.ix_base.specs.declared.document.Document.{Document}
+use Rattle.commit_point.specs.declared.broken.BrokenField.{BrokenField}
 use Rattle.commit_point.specs.declared.broken.Broken.{Broken}
 use Rattle.commit_point.specs.declared.broken.Broken.TheVariants.{At, NoMemory}
 
@@ -12,6 +13,11 @@ infixl 10 ◌>>=◌
 abbrev pub ◌>>=◌ : {A B : Type 0} → Result A ℕ → (A → Result B ℕ) → Result B ℕ
 (Ok x) >>= f = f x
 (Err left) >>= f = Err left
+
+-- What a function that takes no memory returned, seen by view, is what reading gives.
+abbrev pub GivesExactly : {X Y : Type 0} → (X → Y) → Result X BrokenField → Result Y ℕ → Type 0
+GivesExactly view (Ok x) read = read ≡ Ok (view x)
+GivesExactly view (Err field) read = read ≡ Err field.left
 
 -- What a function returned, seen by view, is what reading gives, unless memory ran out.
 abbrev pub Fails : {Y : Type 0} → Broken → Result Y ℕ → Type 0

@@ -1,16 +1,30 @@
 //! Why a field was not read.
 ghost use Rattle.std.specs.Prelude.{◌≡◌};
-ghost use Rattle.commit_point.specs.declared.broken.Broken.TheVariants.{NoMemory};
+ghost use Rattle.commit_point.specs.declared.broken.Broken.TheVariants.{NoMemory, At};
 
 use std::alloc::{AllocError, AllocFailed};
 
-/// Why a field was not read.
+/// A field that is cut short or breaks a rule: how many bytes are left from its first byte on.
+#[derive(Clone, Copy, Debug, PartialEq, Eq)]
+pub(crate) struct BrokenField {
+    pub(crate) left: usize,
+}
+
+/// Why a field was not read, where reading it takes memory.
 #[derive(Clone, Copy, Debug, PartialEq, Eq)]
 pub(crate) enum Broken {
     /// Memory ran out.
     NoMemory,
     /// A field is cut short or breaks a rule: how many bytes are left from its first byte on.
     At(usize),
+}
+
+impl From<BrokenField> for Broken {
+    ghost from_gives = { λ field e. e ≡ At field.left };
+
+    fn from(field: BrokenField) -> Broken {
+        Broken::At(field.left)
+    }
 }
 
 impl From<ix_base::NoMemory> for Broken {

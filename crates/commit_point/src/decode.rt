@@ -5,12 +5,12 @@ ghost use Rattle.std.specs.Ordering.{nat_cmp};
 ghost use Rattle.ix_base.specs.declared.document.Row.{Row};
 ghost use Rattle.ix_base.specs.declared.file_name.FileName.TheVariants.{Commit, Rows};
 ghost use Rattle.commit_point.specs.declared.heads.Head.{Head};
-ghost use Rattle.commit_point.specs.Fields.{Gives, Fails, items_at};
+ghost use Rattle.commit_point.specs.Fields.{Gives, GivesExactly, Fails, items_at};
 ghost use Rattle.commit_point.specs.Fits.{HeadFits, IsSegment};
 ghost use Rattle.commit_point.specs.Reading.{GivesFile, FailsFile, row_at, rows_in, entry_at, head_in, placed};
 ghost use Rattle.commit_point.specs.Spelling.{rows_file, commit_file};
 
-use crate::broken::Broken;
+use crate::broken::{Broken, BrokenField};
 use crate::fault::FileFault;
 use crate::heads::{Head, HeadSegment};
 use crate::read_documents::row_of;
@@ -127,20 +127,24 @@ fn entry_of(
     number: u64,
     next_id: u64,
     last: u64,
-) -> Result<(HeadSegment, &[u8]), Broken>
-    ensures { Gives (λ x. (x.0, x.1.now)) result (entry_at number next_id (last + 1) bytes.now) }
+) -> Result<(HeadSegment, &[u8]), BrokenField>
+    ensures { GivesExactly (λ x. (x.0, x.1.now)) result (entry_at number next_id (last + 1) bytes.now) }
 {
     let (id, counted) = u64_at(bytes)?;
     if id <= last || next_id <= id {
-        return Err(Broken::At(bytes.len()));
+        return Err(BrokenField { left: bytes.len() });
     }
     let (n, written) = u32_at(counted)?;
     if n == 0 {
-        return Err(Broken::At(counted.len()));
+        return Err(BrokenField {
+            left: counted.len(),
+        });
     }
     let (v, rest) = u64_at(written)?;
     if v == 0 || number < v {
-        return Err(Broken::At(written.len()));
+        return Err(BrokenField {
+            left: written.len(),
+        });
     }
     Ok((HeadSegment { id, n, v }, rest))
 }

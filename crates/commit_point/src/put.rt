@@ -66,6 +66,7 @@ fn put_segment<S: Store>(
 }
 
 /// Writes the rows as the segment of this id, where there are any.
+#[tactic(auto, using(crate::proofs::Putting::puts_none, crate::proofs::Putting::puts_some))]
 pub(crate) fn put_rows_file<S: Store>(
     alloc: Global,
     store: &mut S,
@@ -81,6 +82,7 @@ pub(crate) fn put_rows_file<S: Store>(
     ensures images { Follows (SameBut (Rows id)) (S.images store.old) (S.images store.new) }
     ensures durable { OnOk result (1 ≤ length rows.now → IsDurable (Rows id) (S.images store.new) (S.files store.new)) }
     ensures synced { OnOk result (1 ≤ length rows.now → ¬ S.unsynced store.new (Rows id)) }
+    ensures no_rows { length rows.now ≡ 0 → store.new ≡ store.old }
     ensures crash { LeavesOnly S.moment S.left_since store.old store.new (Reaches (SameBut (Rows id)) (S.images store.old)) }
     ensures later { S.fault_count store.old ≤ S.fault_count store.new }
     ensures failed { result ≡ Err StoreFault.Failed → Rose (S.fault_count store.old) (S.fault_count store.new) }

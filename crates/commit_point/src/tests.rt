@@ -100,6 +100,29 @@ fn reads_one_document(rt: HostRuntime) -> Result<(), Fail> {
     Ok(())
 }
 
+/// A commit file of 300 segments, read back.
+#[test]
+fn reads_many_segments(rt: HostRuntime) -> Result<(), Fail> {
+    let alloc = rt.alloc();
+    let mut segments = Vec::new(alloc);
+    for id in 1..301u64 {
+        segments.push(HeadSegment { id, n: 7, v: 2 })?;
+    }
+    let head = Head {
+        number: 2,
+        docs: 2100,
+        next_id: 301,
+        segments: List::from_vec(segments),
+    };
+    let bytes = encode_commit(alloc, &head).ok().ok_or("memory")?;
+    assert_eq!(rt; bytes.len(), 40 + 300 * 20);
+    let read = decode_commit(alloc, &bytes, 2)
+        .ok()
+        .ok_or("the bytes are a commit file")?;
+    assert_eq!(rt; read.segments.as_slice(), head.segments.as_slice());
+    Ok(())
+}
+
 #[test]
 fn cut_files_name_the_field(rt: HostRuntime) {
     let alloc = rt.alloc();

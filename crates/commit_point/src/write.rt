@@ -2,15 +2,15 @@
 ghost use Rattle.std.specs.Prelude.{◌≡◌, ◌≢◌, ◌<◌, ◌≤◌, ◌+◌, ◌^◌, ◌↔◌, ℕ, length, map, true, false, All, IsTrue, IsSome, OnOk, OnErr, IfOk, IfErr, Some, None, Err};
 ghost use Rattle.ix_base.specs.Documents.{is_apart};
 ghost use Rattle.ix_base.specs.declared.file_name.FileName.{FileName};
-ghost use Rattle.ix_base.specs.declared.file_name.FileName.TheVariants.{Commit, Rows};
+ghost use Rattle.ix_base.specs.declared.file_name.FileName.TheVariants.{Commit, Pending, Rows};
 ghost use Rattle.ix_outside.specs.Causes.{Rose};
 ghost use Rattle.ix_outside.specs.Files.{Files, Changes};
 ghost use Rattle.ix_outside.specs.Images.{Follows, IsDurable};
 ghost use Rattle.ix_outside.specs.Calls.{LeavesOnly};
 ghost use Rattle.commit_point.specs.Fits.{BirthsRise};
-ghost use Rattle.commit_point.specs.Putting.{Reaches, PutsCommit, MayPutCommit, SameButCommit, head_of};
+ghost use Rattle.commit_point.specs.Putting.{Reaches, PutsCommit, MayPutCommit, SameButCommit};
 ghost use Rattle.commit_point.specs.Spelling.{commit_file};
-ghost use Rattle.commit_point.specs.Writing.{Commits, MayCommit, SameElsewhere, next_after};
+ghost use Rattle.commit_point.specs.Writing.{Commits, MayCommit, SameElsewhere, head_of};
 
 use crate::encode::encode_commit;
 use crate::fault::CommitRefused;
@@ -68,6 +68,7 @@ fn write_head<S: Store>(alloc: Global, store: &mut S, head: &Head) -> Result<(),
     ensures err { OnErr result (Changes (SameButCommit head.now.number) (S.files store.old) (S.files store.new)) }
     ensures images { Follows (SameButCommit head.now.number) (S.images store.old) (S.images store.new) }
     ensures durable { OnOk result (IsDurable (Commit head.now.number) (S.images store.new) (S.files store.new)) }
+    ensures pending { OnOk result (IsDurable (Pending head.now.number) (S.images store.new) (S.files store.new)) }
     ensures settled { OnOk result ((name : FileName) → name ≢ Commit head.now.number → ¬ S.unsynced store.old name → IsDurable name (S.images store.new) (S.files store.new)) }
     ensures crash { IsSome (S.files store.old) → LeavesOnly S.moment S.left_since store.old store.new (Reaches (MayPutCommit head.now.number (commit_file head.now)) (S.images store.old)) }
     ensures renamed { (files : Files) (now : Files) → S.files store.old ≡ Some files → files (Commit head.now.number) ≡ None → S.files store.new ≡ Some now
@@ -86,12 +87,13 @@ fn write_head<S: Store>(alloc: Global, store: &mut S, head: &Head) -> Result<(),
     }
 }
 
-/// Writes the rows as the commit of this number, as one new segment with the id `next_id`; without
-/// a row it has no segment. It answers the number of rows. The files are written and synced one by
-/// one, the commit file under its pending name, which is then renamed; last the directory is synced.
+/// Writes the rows as the commit of this number, as one new segment with the id `next_id` that is
+/// written with this commit; without a row there is no segment. It returns the number of rows. The
+/// files are written and synced one by one, the commit file under its pending name, which is then
+/// renamed; last the directory is synced. Each byte of them is fixed by `Commits`.
 ///
 /// After an error every file but this commit's own is as before. More than 2,147,483,647 rows are
-/// answered as want of memory.
+/// refused as out of memory.
 pub fn write_commit<S: Store>(
     alloc: Global,
     store: &mut S,

@@ -17,7 +17,7 @@ use Rattle.ix_outside.specs.Images.{Follows}
 use Rattle.commit_point.specs.Holds.{Holds, KeepsCommits}
 use Rattle.commit_point.specs.Laws.{holds_kept, other_commit}
 use Rattle.commit_point.specs.Putting.{Reaches}
-use Rattle.commit_point.specs.Writing.{SameElsewhere, MayCommit, next_after}
+use Rattle.commit_point.specs.Writing.{Commits, SameElsewhere, MayCommit, next_after}
 use Rattle.op_script.specs.Shape.{is_read_act}
 use Rattle.op_script.specs.declared.script.Line.{Line}
 use Rattle.op_script.specs.declared.script.Act.{Act}
@@ -133,17 +133,17 @@ commit_line : (base next : ℕ) (rows : List Row) (lines done rest : List Line) 
     → Stands base next rows lines done w.next_id d e → MayCommit (w.number + 1) w.next_id w.rows e c → Front base next rows lines d c
 commit_line base next rows lines done rest l w lasts outcomes d e c is act room far starts stands image = by_case image.whole
   where
-    by_case : (c (Commit (w.number + 1)) ≡ e (Commit (w.number + 1))) ⊎ Holds c (w.number + 1) (next_after w.next_id w.rows) w.rows → Front base next rows lines d c
+    by_case : (c (Commit (w.number + 1)) ≡ e (Commit (w.number + 1))) ⊎ Commits (w.number + 1) w.next_id w.rows e c → Front base next rows lines d c
     by_case (inl same) =
         front_of base next rows lines done (l ∷ rest) w.next_id d c is (omega (arith, far.high, ids_left lines done (l ∷ rest) is)) (record {
           commits = commits_still base next rows (numbered lines) (commit_numbers base (numbered done)) (w.number + 1) w.next_id w.next_id d e c (omega (arith, far.number)) far.low (omega arith) far.below image.elsewhere same stands.commits;
           kept = kept_more base next (w.number + 1) w.next_id d e c starts (omega (arith, far.number)) far.low image.elsewhere stands.kept;
         })
-    by_case (inr holds) =
+    by_case (inr made) =
         let whole : lines ≡ (done ++ l ∷ []) ++ rest = is ∙ sym (append_assoc done (l ∷ []) rest) in
         let one = one_more l rest (ap is_numbered act) in
         front_of base next rows lines (done ++ l ∷ []) rest (next_after w.next_id w.rows) d c whole (omega (arith, far.high, next-le w.next_id w.rows, ids_left lines done (l ∷ rest) is, one))
-        (stands_line base next rows lines done rest l (Do CommitOperation) w lasts outcomes d e c is act refl room far starts stands (record { holds = holds; elsewhere = image.elsewhere }))
+        (stands_line base next rows lines done rest l (Do CommitOperation) w lasts outcomes d e c is act refl room far starts stands made)
 
 -- a crash while a line is done leaves a front
 front_line : (base next : ℕ) (rows : List Row) (lines done rest : List Line) (l : Line) (a : Act) (w : Writer) (lasts : List ℕ) (outcomes : List Outcome) (d e c : Files)

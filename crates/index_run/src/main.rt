@@ -22,7 +22,11 @@ mod tests;
 #[cfg(test)]
 mod tests_gate;
 #[cfg(test)]
+mod tests_large;
+#[cfg(test)]
 mod tests_operations;
+#[cfg(test)]
+mod tests_stores;
 mod words;
 mod writer;
 

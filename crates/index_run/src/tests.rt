@@ -5,6 +5,7 @@ use ix_memory::{FuseStore, MemorySink, MemorySource, MemoryStore};
 use ix_outside::{EmptyGate, Store};
 use std::alloc::Global;
 use std::sync::Wait;
+use std::test::*;
 use std::thread::Threads;
 
 const ADD_A1: &str = "{\"c\":0,\"op\":\"add\",\"doc\":{\"key\":\"a1\"}}\n";
@@ -47,7 +48,7 @@ pub(crate) fn run_over<R: Threads + Wait, S: Store + Drop>(
     let mut words = Vec::new(alloc);
     words.push(String::from_str(alloc, "run")?)?;
     let mut input = MemorySource::failing(bytes, failing_reads);
-    let mut out = MemorySink::failing(alloc, 65536, failing_writes)?;
+    let mut out = MemorySink::failing(alloc, 1_048_576, failing_writes)?;
     let ended = top(
         rt,
         alloc,
@@ -64,11 +65,28 @@ pub(crate) fn run_over<R: Threads + Wait, S: Store + Drop>(
     })
 }
 
+/// A run of the script over the store, in which no read and no write fails.
+pub(crate) fn run_script<R: Threads + Wait, S: Store + Drop>(
+    rt: &R,
+    alloc: Global,
+    script: &[&str],
+    store: S,
+) -> Result<Done<S>, Fail> {
+    let none = Vec::new(alloc);
+    let done = run_over(rt, alloc, script, store, none, Vec::new(alloc));
+    Ok(done.ok().ok_or("memory")?)
+}
+
 #[test]
-fn reports(rt: HostRuntime) {
+fn reports(rt: HostRuntime) -> Result<(), Fail> {
     let alloc = rt.alloc();
-    let cases: [(&[&str], u8, &str); 10] = [
+    let cases: [(&[&str], u8, &str); 11] = [
         (&[], 0, ""),
+        (
+            &["{\"c\":0"],
+            3,
+            "{\"line\":1,\"status\":3,\"why\":\"json\"}\n",
+        ),
         (&[ADD_A1, COMMIT, ALL], 0, FIRST_REPORT),
         (
             &[COMMIT, ALL],
@@ -136,13 +154,11 @@ fn reports(rt: HostRuntime) {
         ),
     ];
     for (script, status, report) in cases {
-        let store = MemoryStore::new(alloc);
-        let Ok(done) = run_over(&rt, alloc, script, store, Vec::new(alloc), Vec::new(alloc)) else {
-            panic!(rt; "memory");
-        };
-        assert_eq!(rt; done.status, status);
-        assert_eq!(rt; done.written.as_slice(), report.as_bytes());
+        let done = run_script(&rt, alloc, script, MemoryStore::new(alloc))?;
+        assert_eq!(rt; done.status, status, "{report}");
+        assert_eq!(rt; done.written.as_slice(), report.as_bytes(), "{report}");
     }
+    Ok(())
 }
 
 /// A run that adds a document of one term of 32,766 bytes and more.
@@ -150,16 +166,15 @@ fn run_with_long_term<R: Threads + Wait>(
     rt: &R,
     alloc: Global,
     more: &str,
-) -> Result<Done<MemoryStore>, NoMemory> {
+) -> Result<Done<MemoryStore>, Fail> {
     let letters = "a".repeat(alloc, 32766)?;
     let front = "{\"c\":0,\"op\":\"add\",\"doc\":{\"key\":\"a1\",\"text\":{\"body\":\"";
     let script = [ADD_A1, front, letters.as_str(), more, "\"}}}\n", COMMIT];
-    let store = MemoryStore::new(alloc);
-    run_over(rt, alloc, &script, store, Vec::new(alloc), Vec::new(alloc))
+    run_script(rt, alloc, &script, MemoryStore::new(alloc))
 }
 
 #[test]
-fn long_terms_are_refused(rt: HostRuntime) {
+fn long_terms_are_refused(rt: HostRuntime) -> Result<(), Fail> {
     let alloc = rt.alloc();
     let cases = [
         (
@@ -172,38 +187,18 @@ fn long_terms_are_refused(rt: HostRuntime) {
         ),
     ];
     for (more, report) in cases {
-        let Ok(done) = run_with_long_term(&rt, alloc, more) else {
-            panic!(rt; "memory");
-        };
+        let done = run_with_long_term(&rt, alloc, more)?;
         assert_eq!(rt; done.status, 0);
         assert_eq!(rt; done.written.as_slice(), report.as_bytes());
     }
+    Ok(())
 }
 
 #[test]
-fn sessions_and_faults(rt: HostRuntime) {
+fn sessions_and_faults(rt: HostRuntime) -> Result<(), Fail> {
     let alloc = rt.alloc();
-    let store = MemoryStore::new(alloc);
-    let Ok(first) = run_over(
-        &rt,
-        alloc,
-        &[ADD_A1, COMMIT],
-        store,
-        Vec::new(alloc),
-        Vec::new(alloc),
-    ) else {
-        panic!(rt; "memory");
-    };
-    let Ok(second) = run_over(
-        &rt,
-        alloc,
-        &[ADD_A2, COMMIT, ALL],
-        first.store,
-        Vec::new(alloc),
-        Vec::new(alloc),
-    ) else {
-        panic!(rt; "memory");
-    };
+    let first = run_script(&rt, alloc, &[ADD_A1, COMMIT], MemoryStore::new(alloc))?;
+    let second = run_script(&rt, alloc, &[ADD_A2, COMMIT, ALL], first.store)?;
     assert_eq!(rt; second.status, 0);
     assert_eq!(rt;
         second.written.as_slice(),
@@ -211,106 +206,62 @@ fn sessions_and_faults(rt: HostRuntime) {
     );
     let mut store = second.store;
     assert_eq!(rt; store.write(FileName::Commit(4), b"IXCOM001"), Ok(()));
-    let Ok(third) = run_over(&rt, alloc, &[ALL], store, Vec::new(alloc), Vec::new(alloc)) else {
-        panic!(rt; "memory");
-    };
+    let third = run_script(&rt, alloc, &[ALL], store)?;
     assert_eq!(rt; third.status, 8);
     assert_eq!(rt;
         third.written.as_slice(),
         b"{\"at\":8,\"file\":\"segments_4\",\"status\":8}\n".as_slice()
     );
     let mut store = third.store;
-    assert_eq!(rt;
-        store.write(FileName::Commit(2_305_843_009_213_693_953), b""),
-        Ok(())
-    );
-    let Ok(fourth) = run_over(&rt, alloc, &[], store, Vec::new(alloc), Vec::new(alloc)) else {
-        panic!(rt; "memory");
-    };
+    let high = FileName::Commit(2_305_843_009_213_693_953);
+    assert_eq!(rt; store.write(high, b""), Ok(()));
+    let fourth = run_script(&rt, alloc, &[], store)?;
     assert_eq!(rt; fourth.status, 10);
     assert_eq!(rt;
         fourth.written.as_slice(),
         b"{\"base\":2305843009213693953,\"status\":10}\n".as_slice()
     );
+    Ok(())
 }
 
 #[test]
-fn failing_streams(rt: HostRuntime) {
+fn failing_streams(rt: HostRuntime) -> Result<(), Fail> {
     let alloc = rt.alloc();
-    let reads = vec![in alloc; 1u64].expect(&rt, "memory");
+    let script = [ADD_A1, COMMIT];
     let store = MemoryStore::new(alloc);
-    let Ok(first) = run_over(&rt, alloc, &[ADD_A1, COMMIT], store, reads, Vec::new(alloc)) else {
-        panic!(rt; "memory");
-    };
+    let reads = vec![in alloc; 1u64]?;
+    let first = run_over(&rt, alloc, &script, store, reads, Vec::new(alloc));
+    let first = first.ok().ok_or("memory")?;
     assert_eq!(rt; first.status, 5);
     assert_eq!(rt;
         first.written.as_slice(),
         b"{\"status\":5,\"why\":\"source\"}\n".as_slice()
     );
-    let writes = vec![in alloc; 1u64].expect(&rt, "memory");
-    let Ok(second) = run_over(
-        &rt,
-        alloc,
-        &[ADD_A1, COMMIT],
-        first.store,
-        Vec::new(alloc),
-        writes,
-    ) else {
-        panic!(rt; "memory");
-    };
+    let none = Vec::new(alloc);
+    let writes = vec![in alloc; 1u64]?;
+    let second = run_over(&rt, alloc, &script, first.store, none, writes);
+    let second = second.ok().ok_or("memory")?;
     assert_eq!(rt; second.status, 6);
     assert_eq!(rt; second.written.as_slice(), b"".as_slice());
-    let Ok(third) = run_over(
-        &rt,
-        alloc,
-        &[ALL],
-        second.store,
-        Vec::new(alloc),
-        Vec::new(alloc),
-    ) else {
-        panic!(rt; "memory");
-    };
+    let third = run_script(&rt, alloc, &[ALL], second.store)?;
     assert_eq!(rt; third.written.as_slice(), ONE_HIT.as_bytes());
+    Ok(())
 }
 
 /// The second session's commit makes its calls in this order: list, two reads, write and sync of the
 /// rows, write and sync of the pending file, rename, sync of the directory.
 #[test]
-fn stops_at_each_store_call(rt: HostRuntime) {
+fn stops_at_each_store_call(rt: HostRuntime) -> Result<(), Fail> {
     let alloc = rt.alloc();
     for passes in 0..10u64 {
-        let store = MemoryStore::new(alloc);
-        let Ok(first) = run_over(
-            &rt,
-            alloc,
-            &[ADD_A1, COMMIT],
-            store,
-            Vec::new(alloc),
-            Vec::new(alloc),
-        ) else {
-            panic!(rt; "memory");
-        };
+        let first = run_script(&rt, alloc, &[ADD_A1, COMMIT], MemoryStore::new(alloc))?;
         let fuse = FuseStore::new(first.store, passes);
-        let Ok(second) = run_over(
-            &rt,
-            alloc,
-            &[ADD_A2, COMMIT],
-            fuse,
-            Vec::new(alloc),
-            Vec::new(alloc),
-        ) else {
-            panic!(rt; "memory");
-        };
+        let second = run_script(&rt, alloc, &[ADD_A2, COMMIT], fuse)?;
         assert_eq!(rt; second.status, if passes < 9 { 7 } else { 0 });
         let stopped = second.store.into_inner();
         for choice in 0..16u32 {
-            let Ok(image) = stopped.crash(alloc, choice) else {
-                panic!(rt; "memory");
-            };
-            let Ok(after) = run_over(&rt, alloc, &[ALL], image, Vec::new(alloc), Vec::new(alloc))
-            else {
-                panic!(rt; "memory");
-            };
+            let image = stopped.crash(alloc, choice).ok().ok_or("memory")?;
+            let after = run_script(&rt, alloc, &[ALL], image)?;
             assert_eq!(rt; after.status, 0);
             let one = after.written.as_slice() == ONE_HIT.as_bytes();
             let two = after.written.as_slice() == TWO_HITS.as_bytes();
@@ -320,4 +271,5 @@ fn stops_at_each_store_call(rt: HostRuntime) {
             );
         }
     }
+    Ok(())
 }

@@ -1,12 +1,13 @@
 //! Whole runs that are watched, and what they leave in the store.
 use crate::call::top;
-use crate::tests::run_over;
+use crate::tests::run_script;
 use ix_base::NoMemory;
 use ix_memory::{MemorySink, MemorySource, MemoryStore};
 use ix_outside::{Gate, Store};
 use std::alloc::Global;
 use std::sync::Wait;
 use std::sync::atomic::{AtomicU64, Ordering};
+use std::test::*;
 use std::thread::Threads;
 
 /// A gate that keeps what it hears, in order: a line before it is tried as its number, and a line
@@ -99,24 +100,9 @@ fn the_gate_hears_of_each_line(rt: HostRuntime) {
     }
 }
 
-/// How many files a run of this script leaves in an empty store.
-fn files_left<R: Threads + Wait>(
-    rt: &R,
-    alloc: Global,
-    script: &[&str],
-) -> Result<Option<usize>, NoMemory> {
-    let store = MemoryStore::new(alloc);
-    let done = run_over(rt, alloc, script, store, Vec::new(alloc), Vec::new(alloc))?;
-    let mut store = done.store;
-    match store.list(alloc) {
-        Ok(names) => Ok(Some(names.len())),
-        Err(_) => Ok(None),
-    }
-}
-
 /// A run without a commit leaves no file, an empty commit one, and a commit with rows two.
 #[test]
-fn files_of_a_run(rt: HostRuntime) {
+fn files_of_a_run(rt: HostRuntime) -> Result<(), Fail> {
     let alloc = rt.alloc();
     let cases: [(&[&str], usize); 5] = [
         (&[], 0),
@@ -132,9 +118,9 @@ fn files_of_a_run(rt: HostRuntime) {
         ),
     ];
     for (script, files) in cases {
-        let Ok(left) = files_left(&rt, alloc, script) else {
-            panic!(rt; "memory");
-        };
-        assert_eq!(rt; left, Some(files));
+        let mut done = run_script(&rt, alloc, script, MemoryStore::new(alloc))?;
+        let names = done.store.list(alloc).ok().ok_or("a list that fails")?;
+        assert_eq!(rt; names.len(), files);
     }
+    Ok(())
 }

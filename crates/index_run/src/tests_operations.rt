@@ -1,10 +1,10 @@
 //! Whole runs of each operation over an empty store, against reports that were worked out by hand.
-use crate::tests::{Done, run_over};
+use crate::tests::{Done, run_script};
 use commit_point::read_commit;
-use ix_base::NoMemory;
 use ix_memory::MemoryStore;
 use std::alloc::Global;
 use std::sync::Wait;
+use std::test::*;
 use std::thread::Threads;
 
 const ADD_A1: &str = "{\"c\":0,\"op\":\"add\",\"doc\":{\"key\":\"a1\"}}\n";
@@ -31,9 +31,8 @@ fn run_lines<R: Threads + Wait>(
     rt: &R,
     alloc: Global,
     lines: &[&str],
-) -> Result<Done<MemoryStore>, NoMemory> {
-    let store = MemoryStore::new(alloc);
-    run_over(rt, alloc, lines, store, Vec::new(alloc), Vec::new(alloc))
+) -> Result<Done<MemoryStore>, Fail> {
+    run_script(rt, alloc, lines, MemoryStore::new(alloc))
 }
 
 /// The birth of the first row of a commit, or 0.
@@ -48,7 +47,7 @@ fn first_birth(alloc: Global, store: &mut MemoryStore, number: u64) -> u64 {
 }
 
 #[test]
-fn reports_of_operations(rt: HostRuntime) {
+fn reports_of_operations(rt: HostRuntime) -> Result<(), Fail> {
     let alloc = rt.alloc();
     let cases: [(&str, &[&str], &str); 8] = [
         (
@@ -115,28 +114,26 @@ fn reports_of_operations(rt: HostRuntime) {
         ),
     ];
     for (what, script, report) in cases {
-        let Ok(done) = run_lines(&rt, alloc, script) else {
-            panic!(rt; "memory");
-        };
+        let done = run_lines(&rt, alloc, script)?;
         assert_eq!(rt; done.status, 0, "{what}");
         assert_eq!(rt; done.written.as_slice(), report.as_bytes(), "{what}");
     }
+    Ok(())
 }
 
 #[test]
-fn an_update_replaces(rt: HostRuntime) {
+fn an_update_replaces(rt: HostRuntime) -> Result<(), Fail> {
     let alloc = rt.alloc();
     let update =
         "{\"c\":0,\"op\":\"update\",\"field\":\"key\",\"term\":\"a1\",\"doc\":{\"key\":\"a1\",\"num\":{\"price\":7}}}\n";
-    let Ok(mut done) = run_lines(&rt, alloc, &[ADD_A1, update, COMMIT, ALL]) else {
-        panic!(rt; "memory");
-    };
+    let mut done = run_lines(&rt, alloc, &[ADD_A1, update, COMMIT, ALL])?;
     assert_eq!(rt; done.status, 0);
     assert_eq!(rt;
         done.written.as_slice(),
         "{\"line\":1,\"seq\":1}\n{\"line\":2,\"seq\":2}\n{\"docs\":1,\"line\":3,\"seq\":3}\n{\"commit\":3,\"hits\":[{\"key\":\"a1\",\"num\":{\"price\":7}}],\"line\":4}\n".as_bytes()
     );
     assert_eq!(rt; first_birth(alloc, &mut done.store, 3), 2);
+    Ok(())
 }
 
 /// A run that updates a document by one with a term of 32,766 bytes and more.
@@ -144,7 +141,7 @@ fn run_with_long_update<R: Threads + Wait>(
     rt: &R,
     alloc: Global,
     more: &str,
-) -> Result<Done<MemoryStore>, NoMemory> {
+) -> Result<Done<MemoryStore>, Fail> {
     let letters = "a".repeat(alloc, 32766)?;
     let front =
         "{\"c\":0,\"op\":\"update\",\"field\":\"key\",\"term\":\"a1\",\"doc\":{\"key\":\"a1\",\"text\":{\"body\":\"";
@@ -165,7 +162,7 @@ fn run_with_long_update<R: Threads + Wait>(
 
 /// A refused update leaves the old document and gets no number; one letter less takes effect.
 #[test]
-fn a_long_update_is_refused(rt: HostRuntime) {
+fn a_long_update_is_refused(rt: HostRuntime) -> Result<(), Fail> {
     let alloc = rt.alloc();
     let cases = [
         (
@@ -182,13 +179,12 @@ fn a_long_update_is_refused(rt: HostRuntime) {
         ),
     ];
     for (more, report, commit, birth) in cases {
-        let Ok(mut done) = run_with_long_update(&rt, alloc, more) else {
-            panic!(rt; "memory");
-        };
+        let mut done = run_with_long_update(&rt, alloc, more)?;
         assert_eq!(rt; done.status, 0);
         assert_eq!(rt; done.written.as_slice(), report.as_bytes());
         assert_eq!(rt; first_birth(alloc, &mut done.store, commit), birth);
     }
+    Ok(())
 }
 
 /// A run of a deletion by a phrase of 131,059 letters and more.
@@ -196,7 +192,7 @@ fn run_with_long_query<R: Threads + Wait>(
     rt: &R,
     alloc: Global,
     more: &str,
-) -> Result<Done<MemoryStore>, NoMemory> {
+) -> Result<Done<MemoryStore>, Fail> {
     let letters = "a".repeat(alloc, 131059)?;
     let front = "{\"c\":0,\"op\":\"delete_query\",\"query\":{\"phrase\":[\"body\",\"";
     run_lines(rt, alloc, &[front, letters.as_str(), more, "\"]}}\n"])
@@ -204,17 +200,16 @@ fn run_with_long_query<R: Threads + Wait>(
 
 /// The query's encoded bytes decide: 131,073 are refused, and 131,072 aren't.
 #[test]
-fn a_long_query_is_refused(rt: HostRuntime) {
+fn a_long_query_is_refused(rt: HostRuntime) -> Result<(), Fail> {
     let alloc = rt.alloc();
     let cases = [
         ("a", "{\"line\":1,\"refused\":\"query\",\"size\":131073}\n"),
         ("", "{\"line\":1,\"seq\":1}\n"),
     ];
     for (more, report) in cases {
-        let Ok(done) = run_with_long_query(&rt, alloc, more) else {
-            panic!(rt; "memory");
-        };
+        let done = run_with_long_query(&rt, alloc, more)?;
         assert_eq!(rt; done.status, 0);
         assert_eq!(rt; done.written.as_slice(), report.as_bytes());
     }
+    Ok(())
 }

@@ -1,0 +1,145 @@
+//! Large runs. One has 2,000 documents and a file of two megabytes; its report is computed from the
+//! numbers of its lines. One has a document of 900 names, and 300 commits.
+//!
+//! The first has two rounds of 1,004 lines. A round adds 1,000 documents, numbered on from those of the
+//! round before, deletes the first of them, makes a commit, and searches it for all documents and
+//! for those whose number ends in 7.
+use crate::tests::run_script;
+use ix_base::{FileName, NoMemory};
+use ix_memory::MemoryStore;
+use ix_outside::Store;
+use std::alloc::Global;
+use std::test::*;
+
+/// The line at this place of the script, counted from 0.
+fn script_line(alloc: Global, index: u32, long: &str) -> Result<String, NoMemory> {
+    let number = index / 1004 * 1000 + index % 1004;
+    let line = match index % 1004 {
+        0..1000 => {
+            let word = number % 10;
+            format!(in alloc;
+                "{{\"c\":0,\"op\":\"add\",\"doc\":{{\"key\":\"k{number}\",\"text\":{{\"body\":\"Number w{word}\"}},\"exact\":{{\"long\":\"{long}\"}},\"num\":{{\"n\":{number}}}}}}}\n"
+            )?
+        }
+        1000 => {
+            let first = index / 1004 * 1000;
+            format!(in alloc;
+                "{{\"c\":0,\"op\":\"delete\",\"field\":\"key\",\"term\":\"k{first}\"}}\n"
+            )?
+        }
+        1001 => String::from_str(alloc, "{\"c\":0,\"op\":\"commit\"}\n")?,
+        1002 => String::from_str(alloc, "{\"c\":0,\"op\":\"search\",\"query\":\"all\"}\n")?,
+        _ => String::from_str(
+            alloc,
+            "{\"c\":0,\"op\":\"search\",\"query\":{\"term\":[\"body\",\"w7\"]}}\n",
+        )?,
+    };
+    Ok(line)
+}
+
+/// What a search shows of those of the first documents that are there, or of these the ones whose
+/// number ends in 7.
+fn hits(alloc: Global, documents: u32, all: bool) -> Result<String, NoMemory> {
+    let mut list = String::new(alloc);
+    for number in 0..documents {
+        if number % 1000 != 0 && (all || number % 10 == 7) {
+            if !list.is_empty() {
+                list.push_str(",")?;
+            }
+            list.push_str(&format!(in alloc;
+                "{{\"key\":\"k{number}\",\"num\":{{\"n\":{number}}}}}"
+            )?)?;
+        }
+    }
+    Ok(list)
+}
+
+/// The report's line for the line at this place of the script, counted from 0.
+fn report_line(alloc: Global, index: u32) -> Result<String, NoMemory> {
+    let round = index / 1004;
+    let line = u64::from(index) + 1;
+    let commit = round * 1002 + 1002;
+    let text = match index % 1004 {
+        0..1001 => {
+            let number = round * 1002 + index % 1004 + 1;
+            format!(in alloc; "{{\"line\":{line},\"seq\":{number}}}\n")?
+        }
+        1001 => {
+            let docs = round * 999 + 999;
+            format!(in alloc; "{{\"docs\":{docs},\"line\":{line},\"seq\":{commit}}}\n")?
+        }
+        place => {
+            let found = hits(alloc, round * 1000 + 1000, place == 1002)?;
+            format!(in alloc; "{{\"commit\":{commit},\"hits\":[{found}],\"line\":{line}}}\n")?
+        }
+    };
+    Ok(text)
+}
+
+/// The script and its report.
+fn script_and_report(alloc: Global) -> Result<(String, String), NoMemory> {
+    let long = "x".repeat(alloc, 1000)?;
+    let mut script = String::new(alloc);
+    let mut report = String::new(alloc);
+    for index in 0..2008u32 {
+        script.push_str(&script_line(alloc, index, &long)?)?;
+        report.push_str(&report_line(alloc, index)?)?;
+    }
+    Ok((script, report))
+}
+
+#[test]
+fn many_documents(rt: HostRuntime) -> Result<(), Fail> {
+    let alloc = rt.alloc();
+    let (script, report) = script_and_report(alloc).ok().ok_or("memory")?;
+    let done = run_script(&rt, alloc, &[script.as_str()], MemoryStore::new(alloc))?;
+    assert_eq!(rt; done.status, 0);
+    assert!(rt;
+        done.written.as_slice() == report.as_bytes(),
+        "another report"
+    );
+    let mut store = done.store;
+    let rows = store
+        .read(alloc, FileName::Rows(2))
+        .ok()
+        .ok_or("a read that fails")?;
+    let rows = rows.ok_or("an absent file")?;
+    assert!(rt; rows.len() > 2_000_000, "a small file");
+    Ok(())
+}
+
+/// Members of 300 names, each with this value.
+fn members(alloc: Global, letter: &str, value: &str) -> Result<String, Fail> {
+    let mut list = String::new(alloc);
+    for number in 100..400u32 {
+        if !list.is_empty() {
+            list.push_str(",")?;
+        }
+        list.push_str(&format!(in alloc; "\"{letter}{number}\":{value}")?)?;
+    }
+    Ok(list)
+}
+
+/// A document with 300 names of each kind, and 300 commits; the next run begins on the last of them.
+#[test]
+fn many_names_and_commits(rt: HostRuntime) -> Result<(), Fail> {
+    let alloc = rt.alloc();
+    let text = members(alloc, "t", "\"a b\"")?;
+    let exact = members(alloc, "e", "\"x\"")?;
+    let num = members(alloc, "n", "-5")?;
+    let add = format!(in alloc;
+        "{{\"c\":0,\"op\":\"add\",\"doc\":{{\"key\":\"m\",\"text\":{{{text}}},\"exact\":{{{exact}}},\"num\":{{{num}}}}}}}\n"
+    )?;
+    let commits = "{\"c\":0,\"op\":\"commit\"}\n".repeat(alloc, 300)?;
+    let script = [add.as_str(), commits.as_str()];
+    let first = run_script(&rt, alloc, &script, MemoryStore::new(alloc))?;
+    assert_eq!(rt; first.status, 0);
+    let search =
+        "{\"c\":0,\"op\":\"search\",\"query\":{\"bool\":{\"must\":[{\"phrase\":[\"t399\",\"a b\"]},{\"term\":[\"e399\",\"x\"]}]}}}\n";
+    let second = run_script(&rt, alloc, &[search], first.store)?;
+    let report = format!(in alloc;
+        "{{\"commit\":301,\"hits\":[{{\"key\":\"m\",\"num\":{{{num}}}}}],\"line\":1}}\n"
+    )?;
+    assert_eq!(rt; second.written.as_slice(), report.as_bytes());
+    Ok(())
+}
