@@ -11,3 +11,4 @@ pub mod Inputs
 pub mod Searchable
 pub mod Finish
 pub mod Stopped
+pub mod Asked

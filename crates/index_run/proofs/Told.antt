@@ -71,7 +71,7 @@ moved_on : (lines front rest : List Line) (x : Line) → lines ≡ front ++ x �
 moved_on lines front rest x is = is ∙ sym (append_assoc front (x ∷ []) rest)
 
 -- the caller's last commit, by the whole log and by the lines so far
-last_is : (base caller found : ℕ) (lines front ls rest : List Line) → LinesRise 1 lines → lines ≡ front ++ (ls ++ rest)
+pub last_is : (base caller found : ℕ) (lines front ls rest : List Line) → LinesRise 1 lines → lines ≡ front ++ (ls ++ rest)
     → last_commit base (numbered lines) caller found ls ≡ commit_after (number_after base front) caller found ls
 last_is base caller found lines front [] rest rise is = refl
 last_is base caller found lines front (x ∷ ls) rest rise is =

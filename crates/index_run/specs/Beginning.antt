@@ -1,17 +1,29 @@
 -- What a run begins on.
 use Rattle.std.specs.Prelude.{◌≡◌, ◌⊎◌, ℕ, ◌-◌, ◌<◌, ◌≤◌, ◌^◌, List, [], length, Option, slice_get, unwrap_or}
 use Rattle.ix_base.specs.declared.document.Row.{Row}
+use Rattle.ix_base.specs.declared.damaged.Damaged.{Damaged}
 use Rattle.ix_outside.specs.Files.{Files, Was}
 use Rattle.commit_point.specs.Holds.{Holds}
+use Rattle.run_report.specs.Searching.{IsDamagedIn}
 use Rattle.index_run.specs.Headline.{IsLast}
 
 -- the rows and the next id of the commit `base`, or those of no commit
 abbrev pub IsOn : Files → ℕ → ℕ → List Row → Type 0
 IsOn files base next rows = ((base ≡ 0) × (next ≡ 1) × (rows ≡ [])) ⊎ ((1 ≤ base) × Holds files base next rows)
 
+-- the last commit's number is this one, or there is no commit and it is 0
+abbrev pub IsBase : Option Files → ℕ → Type 0
+IsBase told base = (files : Files) × Was told files × IsLast files base
+
 -- the last commit's number is this one, and above 2^61
 abbrev pub IsHighBase : Option Files → ℕ → Type 0
-IsHighBase told base = (files : Files) × Was told files × IsLast files base × (2 ^ 61 < base)
+IsHighBase told base = IsBase told base × (2 ^ 61 < base)
+
+-- the last commit's number is this one, and the commit is first broken at this place
+pub record IsDamagedBase (told : Option Files) (base : ℕ) (damaged : Damaged) : Type 0 where
+  pub last : IsBase told base
+  pub some : 1 ≤ base
+  pub broken : IsDamagedIn told base damaged
 
 -- the last of a list, or 0
 abbrev pub last_or_zero : List ℕ → ℕ

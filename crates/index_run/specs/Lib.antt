@@ -8,4 +8,5 @@ pub mod Causes
 pub mod Writer
 pub mod Doing
 pub mod Beginning
+pub mod Damage
 pub mod Script

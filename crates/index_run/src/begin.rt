@@ -3,13 +3,13 @@ ghost use Rattle.std.specs.Prelude.{◌≡◌, ◌⊎◌, ◌<◌, ◌≤◌, �
 ghost use Rattle.ix_base.specs.declared.document.Row.{Row};
 ghost use Rattle.ix_outside.specs.Causes.{Rose};
 ghost use Rattle.ix_outside.specs.Calls.{OnlyReads};
-ghost use Rattle.ix_outside.specs.Files.{Files, Was};
+ghost use Rattle.ix_outside.specs.Files.{Files};
 ghost use Rattle.commit_point.specs.Holds.{Holds};
 ghost use Rattle.ix_base.specs.declared.damaged.Damaged.{Damaged};
 ghost use Rattle.index_run.specs.Headline.{IsLast};
 ghost use Rattle.index_run.specs.Causes.{IsOneOf, stop_status};
 ghost use Rattle.run_report.specs.Searching.{IsDamagedIn};
-ghost use Rattle.index_run.specs.Beginning.{IsOn, IsHighBase, last_or_zero};
+ghost use Rattle.index_run.specs.Beginning.{IsOn, IsBase, IsHighBase, IsDamagedBase, last_or_zero};
 ghost use Rattle.index_run.specs.Writer.{CanBegin};
 
 use crate::writer::Writer;
@@ -25,7 +25,7 @@ pub const MOST_BASE: u64 = 2_305_843_009_213_693_952;
 
 /// The number of the store's last commit, or 0 where there is none.
 fn last_commit<S: Store>(alloc: Global, store: &mut S) -> Result<u64, Stop>
-    ensures last { IfOk result (λ base. (files : Files) × Was (S.files store.old) files × IsLast files base) }
+    ensures last { IfOk result (IsBase (S.files store.old)) }
     ensures only { (files : Files) (base : ℕ) → S.files store.old ≡ Some files → IsLast files base → IfOk result (λ found. found ≡ base) }
     ensures reads { OnlyReads S.files S.unsynced S.images S.moment S.left_since store.old store.new }
     ensures later { S.fault_count store.old ≤ S.fault_count store.new }
@@ -50,6 +50,7 @@ fn last_of(numbers: &[u64]) -> u64
 /// row, 0 and 1.
 pub fn begin<S: Store>(alloc: Global, store: &mut S) -> Result<Writer, Stop>
     ensures ready { IfOk result CanBegin }
+    ensures last { IfOk result (λ writer. IsBase (S.files store.old) writer.number) }
     ensures on { (files : Files) (base next : ℕ) (rows : List Row) → S.files store.old ≡ Some files → IsLast files base → IsOn files base next rows
         → IfOk result (λ writer. writer ≡ record { rows = rows; number = base; next_id = next }) }
     ensures base { (base : ℕ) → result ≡ Err (Stop.Fault (Fault.Base base)) → IsHighBase (S.files store.old) base }
@@ -57,7 +58,7 @@ pub fn begin<S: Store>(alloc: Global, store: &mut S) -> Result<Writer, Stop>
         → IsErrAnd result (λ stop. (stop ≡ Stop.Fault (Fault.Base base)) ⊎ ((stop ≡ Stop.Fault Fault.Store) ⊎ (stop ≡ Stop.NoMemory))) }
     ensures whole { (files : Files) (base next : ℕ) (rows : List Row) → S.files store.old ≡ Some files → IsLast files base → IsOn files base next rows → base ≤ 2 ^ 61
         → IfErr result (λ stop. (stop ≡ Stop.Fault Fault.Store) ⊎ (stop ≡ Stop.NoMemory)) }
-    ensures damaged { (damaged : Damaged) → result ≡ Err (Stop.Fault (Fault.Damaged damaged)) → IsDamagedIn (S.files store.old) damaged }
+    ensures damaged { (damaged : Damaged) → result ≡ Err (Stop.Fault (Fault.Damaged damaged)) → (base : ℕ) × IsDamagedBase (S.files store.old) base damaged }
     ensures reads { OnlyReads S.files S.unsynced S.images S.moment S.left_since store.old store.new }
     ensures later { S.fault_count store.old ≤ S.fault_count store.new }
     ensures failed { result ≡ Err (Stop.Fault Fault.Store) → Rose (S.fault_count store.old) (S.fault_count store.new) }
@@ -84,11 +85,12 @@ pub fn begin<S: Store>(alloc: Global, store: &mut S) -> Result<Writer, Stop>
 fn begin_on<S: Store>(alloc: Global, store: &mut S, base: u64) -> Result<Writer, Stop>
     requires { (1 ≤ base) × (base ≤ 2 ^ 61) }
     ensures ready { IfOk result CanBegin }
+    ensures number { IfOk result (λ writer. writer.number ≡ base) }
     ensures on { (files : Files) (next : ℕ) (rows : List Row) → S.files store.old ≡ Some files → Holds files base next rows
         → IfOk result (λ writer. writer ≡ record { rows = rows; number = base; next_id = next }) }
     ensures whole { (files : Files) (next : ℕ) (rows : List Row) → S.files store.old ≡ Some files → Holds files base next rows
         → IfErr result (λ stop. (stop ≡ Stop.Fault Fault.Store) ⊎ (stop ≡ Stop.NoMemory)) }
-    ensures damaged { (damaged : Damaged) → result ≡ Err (Stop.Fault (Fault.Damaged damaged)) → IsDamagedIn (S.files store.old) damaged }
+    ensures damaged { (damaged : Damaged) → result ≡ Err (Stop.Fault (Fault.Damaged damaged)) → IsDamagedIn (S.files store.old) base damaged }
     ensures reads { OnlyReads S.files S.unsynced S.images S.moment S.left_since store.old store.new }
     ensures later { S.fault_count store.old ≤ S.fault_count store.new }
     ensures failed { result ≡ Err (Stop.Fault Fault.Store) → Rose (S.fault_count store.old) (S.fault_count store.new) }

@@ -1,5 +1,5 @@
 //! The top call.
-ghost use Rattle.std.specs.Prelude.{◌≡◌, ◌<◌, ◌≤◌, ◌^◌, ℕ, List, [], ◌∷◌, take, Ok, Err, Some};
+ghost use Rattle.std.specs.Prelude.{◌≡◌, ◌<◌, ◌≤◌, ◌+◌, ◌^◌, ℕ, List, [], ◌∷◌, take, Ok, Err, Some};
 ghost use Rattle.std.specs.Io.KnownBytes.{Appends, IsAtEnd};
 ghost use Rattle.ix_base.specs.declared.document.Row.{Row};
 ghost use Rattle.ix_outside.specs.Causes.{Rose};
@@ -7,15 +7,15 @@ ghost use Rattle.ix_outside.specs.Calls.{LeavesOnly};
 ghost use Rattle.ix_outside.specs.Files.{Files, Changes};
 ghost use Rattle.commit_point.specs.Holds.{KeepsCommits};
 ghost use Rattle.ix_base.specs.declared.damaged.Damaged.{Damaged};
-ghost use Rattle.op_script.specs.Language.{script};
+ghost use Rattle.op_script.specs.Language.{most_bytes, script};
 ghost use Rattle.op_script.specs.declared.script.BadLine.{BadLine};
 ghost use Rattle.op_script.specs.declared.script.Line.{Line};
 ghost use Rattle.index_run.specs.Beginning.{IsOn, IsHighBase};
-ghost use Rattle.index_run.specs.Causes.{IsOneOf, WritesFront, IsBadIn};
+ghost use Rattle.index_run.specs.Causes.{IsOneOf, TakesUpTo, WritesFront, IsBadIn};
 ghost use Rattle.report_text.specs.Faults.{fault_text};
 ghost use Rattle.index_run.specs.Crashes.{AreKept, StopsRight};
+ghost use Rattle.index_run.specs.Damage.{FindsDamage};
 ghost use Rattle.index_run.specs.Headline.{Begins, IsLast, RunsRight};
-ghost use Rattle.run_report.specs.Searching.{IsDamagedIn};
 ghost use Rattle.index_run.specs.Words.{IsAccepted};
 
 use crate::tell::run_and_tell;
@@ -43,12 +43,20 @@ pub struct Ended<S> {
 /// | 3 | exactly where the input has a bad line, which the line that is written names |
 /// | 4 | for want of memory, at any point; nothing is written |
 /// | 5, 6, 7 | only where the source, the sink or the store failed in this call |
-/// | 8 | only where a file of a commit is not in the grammar, or absent |
+/// | 8 | only where a file of a commit that this run reads is not in the grammar, or absent: of the last commit, or of one that a search line asks for |
 /// | 10 | exactly where the last commit's number is above 2^61 |
 ///
-/// The report is made whole before its first byte is written. Statuses 2, 3, 5, 7, 8 and 10 write
-/// one line, which takes no memory. What a run did before it stopped stays: commits that were
+/// The words come first, then the input, then the store: at 2 the input is as it was, and at 2, 3
+/// and 5 the store. At most 67,108,865 bytes of the input are read, one more than a script may
+/// have. The report is made whole before its first byte is written. Statuses 2, 3, 5, 7, 8 and 10
+/// write one line, which takes no memory. What a run did before it stopped stays: commits that were
 /// written, and input that was read.
+///
+/// A crash at any moment of the call leaves the commits that were there, with their files and
+/// bytes, and of the run's own commits the first ones in the order of their numbers, each whole:
+/// no other commit. Once the call has ended with 0 or 6 a crash leaves all of them. This is
+/// promised where the store tells its files, its last commit is lawful, and each commit is kept
+/// when the call begins: nothing of it is still on its way to the disk.
 pub fn top<R: Threads + Wait, I: Source, O: Sink, S: Store, G: Gate>(
     rt: &R,
     alloc: Global,
@@ -61,6 +69,7 @@ pub fn top<R: Threads + Wait, I: Source, O: Sink, S: Store, G: Gate>(
     // Every status, and when it comes. Want of memory, 4, is free.
     ensures statuses { IsOneOf result.status (0 ∷ 2 ∷ 3 ∷ 4 ∷ 5 ∷ 6 ∷ 7 ∷ 8 ∷ 10 ∷ []) }
     ensures words { result.status ≡ 2 → (IsAccepted words.now → ⊥) × WritesFront (O.written out.old) (O.written out.new) (O.fault_count out.old) (O.fault_count out.new) (fault_text Fault.Words) }
+    ensures unread { result.status ≡ 2 → input.new ≡ input.old }
     ensures words_wrong { (IsAccepted words.now → ⊥) → result.status ≡ 2 }
     ensures bad { result.status ≡ 3 → (bad : BadLine) × IsBadIn (I.left input.old) bad
         × WritesFront (O.written out.old) (O.written out.new) (O.fault_count out.old) (O.fault_count out.new) (fault_text (Fault.BadLine bad)) }
@@ -70,7 +79,7 @@ pub fn top<R: Threads + Wait, I: Source, O: Sink, S: Store, G: Gate>(
     ensures sink { result.status ≡ 6 → Rose (O.fault_count out.old) (O.fault_count out.new) }
     ensures store { result.status ≡ 7 → Rose (S.fault_count store) (S.fault_count result.store)
         × WritesFront (O.written out.old) (O.written out.new) (O.fault_count out.old) (O.fault_count out.new) (fault_text Fault.Store) }
-    ensures damaged { result.status ≡ 8 → (damaged : Damaged) × IsDamagedIn (S.files result.store) damaged
+    ensures damaged { result.status ≡ 8 → (damaged : Damaged) × FindsDamage (I.left input.old) (S.files store) (S.files result.store) damaged
         × WritesFront (O.written out.old) (O.written out.new) (O.fault_count out.old) (O.fault_count out.new) (fault_text (Fault.Damaged damaged)) }
     ensures base { result.status ≡ 10 → (base : ℕ) × IsHighBase (S.files store) base
         × WritesFront (O.written out.old) (O.written out.new) (O.fault_count out.old) (O.fault_count out.new) (fault_text (Fault.Base base)) }
@@ -94,6 +103,8 @@ pub fn top<R: Threads + Wait, I: Source, O: Sink, S: Store, G: Gate>(
         → S.files store ≡ Some files → Begins files base next rows → result.status ≡ 6
         → Changes (RunsRight base next rows lines (λ text. (n : ℕ) × Appends (O.written out.old) (O.written out.new) (take n text))) (S.files store) (S.files result.store) }
     ensures end { result.status ≡ 0 → IsAtEnd (I.left input.new) }
+    // No more of the input is read than what shows that it is too long.
+    ensures bound { TakesUpTo (most_bytes + 1) (I.left input.old) (I.left input.new) }
 
     // At every status the commits that were there have their files and bytes.
     ensures kept { (files : Files) (base next : ℕ) (rows : List Row) → S.files store ≡ Some files → Begins files base next rows → Changes KeepsCommits (S.files store) (S.files result.store) }
@@ -111,6 +122,8 @@ pub fn top<R: Threads + Wait, I: Source, O: Sink, S: Store, G: Gate>(
         → LeavesOnly S.moment S.left_since store result.store (StopsRight base next rows lines files) }
     ensures crash_kept { (files : Files) (base next : ℕ) (rows : List Row) → S.files store ≡ Some files → Begins files base next rows → AreKept files (S.images store)
         → LeavesOnly S.moment S.left_since store result.store (KeepsCommits files) }
+    // The store is left alone until the words and the script were read and found good.
+    ensures unopened { IsOneOf result.status (2 ∷ 3 ∷ 5 ∷ []) → result.store ≡ store }
     ensures untouched { IsOneOf result.status (2 ∷ 3 ∷ 5 ∷ 10 ∷ []) → S.files result.store ≡ S.files store }
 {
     let mut store = store;

@@ -10,10 +10,10 @@ ghost use Rattle.op_script.specs.Shape.{AreScriptLines};
 ghost use Rattle.index_run.specs.Beginning.{IsOn, IsHighBase};
 ghost use Rattle.index_run.specs.Causes.{IsOneOf, stop_status};
 ghost use Rattle.index_run.specs.Crashes.{AreKept, HasFront};
+ghost use Rattle.index_run.specs.Damage.{ReadsDamaged};
 ghost use Rattle.index_run.specs.Headline.{Begins, IsLast};
 ghost use Rattle.index_run.specs.Numbering.{numbered};
 ghost use Rattle.index_run.specs.Script.{DoesScript};
-ghost use Rattle.run_report.specs.Searching.{IsDamagedIn};
 
 use crate::begin::begin;
 use crate::lines::do_lines;
@@ -48,7 +48,7 @@ pub fn do_script<S: Store, G: Gate>(
         → IsErrAnd result (λ stop. IsOneOf (stop_status stop) (4 ∷ 7 ∷ 10 ∷ [])) }
     ensures whole { (files : Files) (base next : ℕ) (rows : List Row) → S.files store.old ≡ Some files → IsLast files base → IsOn files base next rows → base ≤ 2 ^ 61 → next ≤ 2 ^ 61
         → IfErr result (λ stop. IsOneOf (stop_status stop) (4 ∷ 7 ∷ [])) }
-    ensures damaged { (damaged : Damaged) → result ≡ Err (Stop.Fault (Fault.Damaged damaged)) → IsDamagedIn (S.files store.new) damaged }
+    ensures damaged { (damaged : Damaged) → result ≡ Err (Stop.Fault (Fault.Damaged damaged)) → ReadsDamaged lines (S.files store.old) (S.files store.new) damaged }
     ensures later { S.fault_count store.old ≤ S.fault_count store.new }
     ensures failed { result ≡ Err (Stop.Fault Fault.Store) → Rose (S.fault_count store.old) (S.fault_count store.new) }
     ensures others { IfErr result (λ stop. IsOneOf (stop_status stop) (4 ∷ 7 ∷ 8 ∷ 10 ∷ [])) }

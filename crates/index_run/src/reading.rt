@@ -1,12 +1,12 @@
 //! The words and the script of a run.
-ghost use Rattle.std.specs.Prelude.{◌≡◌, ◌≤◌, ◌∷◌, [], ℕ, List, OnOk, IfOk, IfErr, IsErrAnd, IsOk, Ok, Err, Some};
+ghost use Rattle.std.specs.Prelude.{◌≡◌, ◌≤◌, ◌+◌, ◌∷◌, [], ℕ, List, OnOk, IfOk, IfErr, IsErrAnd, IsOk, Ok, Err, Some};
 ghost use Rattle.std.specs.Io.KnownBytes.{IsAtEnd};
 ghost use Rattle.ix_outside.specs.Causes.{Rose};
-ghost use Rattle.op_script.specs.Language.{script};
+ghost use Rattle.op_script.specs.Language.{most_bytes, script};
 ghost use Rattle.op_script.specs.Shape.{AreScriptLines};
 ghost use Rattle.op_script.specs.declared.script.BadLine.{BadLine};
 ghost use Rattle.op_script.specs.declared.script.Line.{Line};
-ghost use Rattle.index_run.specs.Causes.{IsBadIn, IsOneOf, stop_status};
+ghost use Rattle.index_run.specs.Causes.{IsScript, IsBadIn, IsOneOf, TakesUpTo, stop_status};
 ghost use Rattle.index_run.specs.Words.{IsAccepted};
 
 use crate::input::read_input;
@@ -26,9 +26,12 @@ pub fn read_lines<I: Source>(
 ) -> Result<List<Line>, Stop>
     ensures shape { IfOk result (λ lines. AreScriptLines lines) }
     ensures lines { (bytes : List ℕ) → I.left input.old ≡ Some bytes → IfOk result (λ lines. script bytes ≡ Ok lines) }
+    ensures script { IfOk result (IsScript (I.left input.old)) }
     ensures end { OnOk result (IsAtEnd (I.left input.new)) }
+    ensures bound { TakesUpTo (most_bytes + 1) (I.left input.old) (I.left input.new) }
     ensures accepted { OnOk result (IsAccepted words.now) }
     ensures words { result ≡ Err (Stop.Fault Fault.Words) → IsAccepted words.now → ⊥ }
+    ensures unread { result ≡ Err (Stop.Fault Fault.Words) → input.new ≡ input.old }
     ensures words_wrong { (IsAccepted words.now → ⊥) → result ≡ Err (Stop.Fault Fault.Words) }
     ensures bad { (bad : BadLine) → result ≡ Err (Stop.Fault (Fault.BadLine bad)) → IsBadIn (I.left input.old) bad }
     ensures bad_line { (bytes : List ℕ) (bad : BadLine) → IsAccepted words.now → I.left input.old ≡ Some bytes → script bytes ≡ Err bad

@@ -1,5 +1,5 @@
 //! A run: the words and the script read, the script done, and its report written.
-ghost use Rattle.std.specs.Prelude.{◌≡◌, ◌<◌, ◌≤◌, ◌^◌, ℕ, List, [], ◌∷◌, take, OnOk, IfOk, IfErr, Ok, Err, Some};
+ghost use Rattle.std.specs.Prelude.{◌≡◌, ◌<◌, ◌≤◌, ◌+◌, ◌^◌, ℕ, List, [], ◌∷◌, take, OnOk, IfOk, IfErr, Ok, Err, Some};
 ghost use Rattle.std.specs.Io.KnownBytes.{Appends, IsAtEnd};
 ghost use Rattle.ix_base.specs.declared.document.Row.{Row};
 ghost use Rattle.ix_outside.specs.Causes.{Rose};
@@ -7,15 +7,15 @@ ghost use Rattle.ix_outside.specs.Calls.{LeavesOnly};
 ghost use Rattle.ix_outside.specs.Files.{Files, Changes};
 ghost use Rattle.commit_point.specs.Holds.{KeepsCommits};
 ghost use Rattle.ix_base.specs.declared.damaged.Damaged.{Damaged};
-ghost use Rattle.op_script.specs.Language.{script};
+ghost use Rattle.op_script.specs.Language.{most_bytes, script};
 ghost use Rattle.op_script.specs.declared.script.BadLine.{BadLine};
 ghost use Rattle.op_script.specs.declared.script.Line.{Line};
 ghost use Rattle.index_run.specs.Beginning.{IsOn, IsHighBase};
-ghost use Rattle.index_run.specs.Causes.{IsOneOf, IsBadIn, stop_status, run_status};
+ghost use Rattle.index_run.specs.Causes.{IsOneOf, TakesUpTo, IsBadIn, stop_status, run_status};
 ghost use Rattle.report_text.specs.Faults.{status_of};
 ghost use Rattle.index_run.specs.Crashes.{AreKept, StopsRight};
+ghost use Rattle.index_run.specs.Damage.{FindsDamage};
 ghost use Rattle.index_run.specs.Headline.{Begins, IsLast, RunsRight};
-ghost use Rattle.run_report.specs.Searching.{IsDamagedIn};
 ghost use Rattle.index_run.specs.Words.{IsAccepted};
 
 use crate::doing::do_script;
@@ -36,13 +36,15 @@ pub fn run<I: Source, O: Sink, S: Store, G: Gate>(
     gate: &G,
 ) -> Result<(), Stop>
     ensures words { result ≡ Err (Stop.Fault Fault.Words) → IsAccepted words.now → ⊥ }
+    ensures unread { result ≡ Err (Stop.Fault Fault.Words) → input.new ≡ input.old }
     ensures words_wrong { (IsAccepted words.now → ⊥) → result ≡ Err (Stop.Fault Fault.Words) }
     ensures bad { (bad : BadLine) → result ≡ Err (Stop.Fault (Fault.BadLine bad)) → IsBadIn (I.left input.old) bad }
     ensures bad_line { (bytes : List ℕ) (bad : BadLine) → IsAccepted words.now → I.left input.old ≡ Some bytes → script bytes ≡ Err bad → IsOneOf (run_status result) (3 ∷ 4 ∷ 5 ∷ []) }
     ensures source { result ≡ Err (Stop.Fault Fault.Source) → Rose (I.fault_count input.old) (I.fault_count input.new) }
     ensures sink { result ≡ Err Stop.Sink → Rose (O.fault_count out.old) (O.fault_count out.new) }
     ensures store { result ≡ Err (Stop.Fault Fault.Store) → Rose (S.fault_count store.old) (S.fault_count store.new) }
-    ensures damaged { (damaged : Damaged) → result ≡ Err (Stop.Fault (Fault.Damaged damaged)) → IsDamagedIn (S.files store.new) damaged }
+    ensures damaged { (damaged : Damaged) → result ≡ Err (Stop.Fault (Fault.Damaged damaged))
+        → FindsDamage (I.left input.old) (S.files store.old) (S.files store.new) damaged }
     ensures base { (base : ℕ) → result ≡ Err (Stop.Fault (Fault.Base base)) → IsHighBase (S.files store.old) base }
     ensures high { (bytes : List ℕ) (lines : List Line) (files : Files) (base : ℕ) → IsAccepted words.now → I.left input.old ≡ Some bytes → script bytes ≡ Ok lines
         → S.files store.old ≡ Some files → IsLast files base → 2 ^ 61 < base → IsOneOf (run_status result) (4 ∷ 5 ∷ 7 ∷ 10 ∷ []) }
@@ -56,6 +58,7 @@ pub fn run<I: Source, O: Sink, S: Store, G: Gate>(
         → S.files store.old ≡ Some files → Begins files base next rows → result ≡ Err Stop.Sink
         → Changes (RunsRight base next rows lines (λ text. (n : ℕ) × Appends (O.written out.old) (O.written out.new) (take n text))) (S.files store.old) (S.files store.new) }
     ensures end { OnOk result (IsAtEnd (I.left input.new)) }
+    ensures bound { TakesUpTo (most_bytes + 1) (I.left input.old) (I.left input.new) }
     ensures kept { (files : Files) (base next : ℕ) (rows : List Row) → S.files store.old ≡ Some files → Begins files base next rows → Changes KeepsCommits (S.files store.old) (S.files store.new) }
     // Every image has the commits of a run that came to its end; a crash at any moment leaves a front of them, each
     // whole. The commits that were there have their files and bytes in each.
@@ -70,6 +73,7 @@ pub fn run<I: Source, O: Sink, S: Store, G: Gate>(
         → LeavesOnly S.moment S.left_since store.old store.new (StopsRight base next rows lines files) }
     ensures crash_kept { (files : Files) (base next : ℕ) (rows : List Row) → S.files store.old ≡ Some files → Begins files base next rows → AreKept files (S.images store.old)
         → LeavesOnly S.moment S.left_since store.old store.new (KeepsCommits files) }
+    ensures unopened { IfErr result (λ stop. IsOneOf (stop_status stop) (2 ∷ 3 ∷ 5 ∷ []) → store.new ≡ store.old) }
     ensures untouched { IfErr result (λ stop. IsOneOf (stop_status stop) (2 ∷ 3 ∷ 5 ∷ 10 ∷ []) → S.files store.new ≡ S.files store.old) }
     ensures unwritten { IfErr result (λ stop. (stop ≡ Stop.Sink → ⊥) → out.new ≡ out.old) }
     ensures input_later { I.fault_count input.old ≤ I.fault_count input.new }

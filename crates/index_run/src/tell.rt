@@ -1,5 +1,5 @@
 //! A run, and the line that tells its fault.
-ghost use Rattle.std.specs.Prelude.{◌≡◌, ◌<◌, ◌≤◌, ◌^◌, ℕ, List, [], ◌∷◌, take, Ok, Err, Some};
+ghost use Rattle.std.specs.Prelude.{◌≡◌, ◌<◌, ◌≤◌, ◌+◌, ◌^◌, ℕ, List, [], ◌∷◌, take, Ok, Err, Some};
 ghost use Rattle.std.specs.Io.KnownBytes.{Appends, IsAtEnd};
 ghost use Rattle.ix_base.specs.declared.document.Row.{Row};
 ghost use Rattle.ix_outside.specs.Causes.{Rose};
@@ -7,15 +7,15 @@ ghost use Rattle.ix_outside.specs.Calls.{LeavesOnly};
 ghost use Rattle.ix_outside.specs.Files.{Files, Changes};
 ghost use Rattle.commit_point.specs.Holds.{KeepsCommits};
 ghost use Rattle.ix_base.specs.declared.damaged.Damaged.{Damaged};
-ghost use Rattle.op_script.specs.Language.{script};
+ghost use Rattle.op_script.specs.Language.{most_bytes, script};
 ghost use Rattle.op_script.specs.declared.script.BadLine.{BadLine};
 ghost use Rattle.op_script.specs.declared.script.Line.{Line};
 ghost use Rattle.index_run.specs.Beginning.{IsOn, IsHighBase};
-ghost use Rattle.index_run.specs.Causes.{IsOneOf, WritesFront, IsBadIn};
+ghost use Rattle.index_run.specs.Causes.{IsOneOf, TakesUpTo, WritesFront, IsBadIn};
 ghost use Rattle.report_text.specs.Faults.{fault_text, status_of};
 ghost use Rattle.index_run.specs.Crashes.{AreKept, StopsRight};
+ghost use Rattle.index_run.specs.Damage.{FindsDamage};
 ghost use Rattle.index_run.specs.Headline.{Begins, IsLast, RunsRight};
-ghost use Rattle.run_report.specs.Searching.{IsDamagedIn};
 ghost use Rattle.index_run.specs.Words.{IsAccepted};
 
 use crate::output::write_all;
@@ -49,6 +49,7 @@ pub fn run_and_tell<I: Source, O: Sink, S: Store, G: Gate>(
     // Every status, and when it comes. Want of memory, 4, is free.
     ensures statuses { IsOneOf result (0 ∷ 2 ∷ 3 ∷ 4 ∷ 5 ∷ 6 ∷ 7 ∷ 8 ∷ 10 ∷ []) }
     ensures words { result ≡ 2 → (IsAccepted words.now → ⊥) × WritesFront (O.written out.old) (O.written out.new) (O.fault_count out.old) (O.fault_count out.new) (fault_text Fault.Words) }
+    ensures unread { result ≡ 2 → input.new ≡ input.old }
     ensures words_wrong { (IsAccepted words.now → ⊥) → result ≡ 2 }
     ensures bad { result ≡ 3 → (bad : BadLine) × IsBadIn (I.left input.old) bad
         × WritesFront (O.written out.old) (O.written out.new) (O.fault_count out.old) (O.fault_count out.new) (fault_text (Fault.BadLine bad)) }
@@ -58,7 +59,7 @@ pub fn run_and_tell<I: Source, O: Sink, S: Store, G: Gate>(
     ensures sink { result ≡ 6 → Rose (O.fault_count out.old) (O.fault_count out.new) }
     ensures store { result ≡ 7 → Rose (S.fault_count store.old) (S.fault_count store.new)
         × WritesFront (O.written out.old) (O.written out.new) (O.fault_count out.old) (O.fault_count out.new) (fault_text Fault.Store) }
-    ensures damaged { result ≡ 8 → (damaged : Damaged) × IsDamagedIn (S.files store.new) damaged
+    ensures damaged { result ≡ 8 → (damaged : Damaged) × FindsDamage (I.left input.old) (S.files store.old) (S.files store.new) damaged
         × WritesFront (O.written out.old) (O.written out.new) (O.fault_count out.old) (O.fault_count out.new) (fault_text (Fault.Damaged damaged)) }
     ensures base { result ≡ 10 → (base : ℕ) × IsHighBase (S.files store.old) base
         × WritesFront (O.written out.old) (O.written out.new) (O.fault_count out.old) (O.fault_count out.new) (fault_text (Fault.Base base)) }
@@ -82,6 +83,7 @@ pub fn run_and_tell<I: Source, O: Sink, S: Store, G: Gate>(
         → S.files store.old ≡ Some files → Begins files base next rows → result ≡ 6
         → Changes (RunsRight base next rows lines (λ text. (n : ℕ) × Appends (O.written out.old) (O.written out.new) (take n text))) (S.files store.old) (S.files store.new) }
     ensures end { result ≡ 0 → IsAtEnd (I.left input.new) }
+    ensures bound { TakesUpTo (most_bytes + 1) (I.left input.old) (I.left input.new) }
 
     // At every status the commits that were there have their files and bytes.
     ensures kept { (files : Files) (base next : ℕ) (rows : List Row) → S.files store.old ≡ Some files → Begins files base next rows → Changes KeepsCommits (S.files store.old) (S.files store.new) }
@@ -99,6 +101,7 @@ pub fn run_and_tell<I: Source, O: Sink, S: Store, G: Gate>(
         → LeavesOnly S.moment S.left_since store.old store.new (StopsRight base next rows lines files) }
     ensures crash_kept { (files : Files) (base next : ℕ) (rows : List Row) → S.files store.old ≡ Some files → Begins files base next rows → AreKept files (S.images store.old)
         → LeavesOnly S.moment S.left_since store.old store.new (KeepsCommits files) }
+    ensures unopened { IsOneOf result (2 ∷ 3 ∷ 5 ∷ []) → store.new ≡ store.old }
     ensures untouched { IsOneOf result (2 ∷ 3 ∷ 5 ∷ 10 ∷ []) → S.files store.new ≡ S.files store.old }
 {
     match run(alloc, words, input, out, store, gate) {

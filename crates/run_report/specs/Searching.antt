@@ -6,6 +6,7 @@ use Rattle.ix_outside.specs.Files.{Files, Was}
 use Rattle.commit_point.specs.Holds.{Holds}
 use Rattle.commit_point.specs.Reading.{reading}
 use Rattle.ix_base.specs.declared.damaged.Damaged.{Damaged}
+use Rattle.ix_base.specs.declared.query.Query.{Query}
 use Rattle.run_report.specs.declared.outcome.Outcome.{Outcome}
 use Rattle.run_report.specs.declared.outcome.Answer.{Answer}
 use Rattle.run_report.specs.declared.outcome.Answer.TheVariants.{Searched}
@@ -34,6 +35,14 @@ pub record CanSearch (files : Files) (rows_of : ℕ → List Row) (outcomes : Li
   pub none : rows_of 0 ≡ []
   pub each : All (λ (o : Outcome). AnswerHolds files rows_of o.answer) outcomes
 
--- some commit of the store is first broken at this place
-abbrev pub IsDamagedIn : Option Files → Damaged → Type 0
-IsDamagedIn told damaged = (files : Files) × Was told files × (s : ℕ) × (reading files s ≡ Err damaged)
+-- the commit of this number is first broken at this place
+abbrev pub IsDamagedIn : Option Files → ℕ → Damaged → Type 0
+IsDamagedIn told number damaged = (files : Files) × Was told files × (reading files number ≡ Err damaged)
+
+-- The commit that the answer searches is first broken at this place. The number 0 stands for no commit.
+pub record SearchesDamaged (told : Option Files) (answer : Answer) (damaged : Damaged) : Type 0 where
+  pub number : ℕ
+  pub query : Query
+  pub searches : answer ≡ Searched number query
+  pub some : 1 ≤ number
+  pub broken : IsDamagedIn told number damaged

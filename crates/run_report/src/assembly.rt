@@ -1,13 +1,14 @@
 //! The report: one text for each line, in the order of the script.
-ghost use Rattle.std.specs.Prelude.{◌≡◌, ◌⊎◌, ◌<◌, ◌≤◌, ℕ, List, [], length, map, OnOk, IfOk, IfErr, Err, Some, All, replicate};
+ghost use Rattle.std.specs.Prelude.{◌≡◌, ◌⊎◌, ◌<◌, ◌≤◌, ℕ, List, [], length, map, OnOk, IfOk, IfErr, Err, Some, All, Contains, replicate};
 ghost use Rattle.std.specs.List.{concat};
 ghost use Rattle.ix_base.specs.declared.document.Row.{Row};
 ghost use Rattle.ix_outside.specs.Causes.{Rose};
 ghost use Rattle.ix_outside.specs.Calls.{OnlyReads};
 ghost use Rattle.ix_outside.specs.Files.{Files};
 ghost use Rattle.ix_base.specs.declared.damaged.Damaged.{Damaged};
+ghost use Rattle.run_report.specs.declared.outcome.Outcome.{Outcome};
 ghost use Rattle.run_report.specs.Texts.{outcome_text, texts};
-ghost use Rattle.run_report.specs.Searching.{CanSearch, IsDamagedIn};
+ghost use Rattle.run_report.specs.Searching.{CanSearch, SearchesDamaged};
 ghost use Rattle.run_report.specs.Assembling.{IsOrderOf};
 
 use crate::outcome::{Answer, Outcome};
@@ -70,7 +71,8 @@ fn texts_in_turn<S: Store>(
         → IfOk result (λ made. map (λ text. text.items) made.items ≡ map (outcome_text rows_of) outcomes.now) }
     ensures whole { (files : Files) (rows_of : ℕ → List Row) → S.files store.old ≡ Some files → CanSearch files rows_of outcomes.now
         → IfErr result (λ stop. (stop ≡ Stop.Fault Fault.Store) ⊎ (stop ≡ Stop.NoMemory)) }
-    ensures damaged { (damaged : Damaged) → result ≡ Err (Stop.Fault (Fault.Damaged damaged)) → IsDamagedIn (S.files store.old) damaged }
+    ensures damaged { (damaged : Damaged) → result ≡ Err (Stop.Fault (Fault.Damaged damaged))
+        → (outcome : Outcome) × Contains outcomes.now outcome × SearchesDamaged (S.files store.old) outcome.answer damaged }
     ensures reads { OnlyReads S.files S.unsynced S.images S.moment S.left_since store.old store.new }
     ensures later { S.fault_count store.old ≤ S.fault_count store.new }
     ensures failed { result ≡ Err (Stop.Fault Fault.Store) → Rose (S.fault_count store.old) (S.fault_count store.new) }
@@ -112,7 +114,8 @@ pub fn report<S: Store>(alloc: Global, store: &mut S, outcomes: &[Outcome]) -> R
         → IfOk result (λ bytes. bytes.items ≡ texts rows_of outcomes.now) }
     ensures whole { (files : Files) (rows_of : ℕ → List Row) → S.files store.old ≡ Some files → CanSearch files rows_of outcomes.now
         → IfErr result (λ stop. (stop ≡ Stop.Fault Fault.Store) ⊎ (stop ≡ Stop.NoMemory)) }
-    ensures damaged { (damaged : Damaged) → result ≡ Err (Stop.Fault (Fault.Damaged damaged)) → IsDamagedIn (S.files store.old) damaged }
+    ensures damaged { (damaged : Damaged) → result ≡ Err (Stop.Fault (Fault.Damaged damaged))
+        → (outcome : Outcome) × Contains outcomes.now outcome × SearchesDamaged (S.files store.old) outcome.answer damaged }
     ensures reads { OnlyReads S.files S.unsynced S.images S.moment S.left_since store.old store.new }
     ensures later { S.fault_count store.old ≤ S.fault_count store.new }
     ensures failed { result ≡ Err (Stop.Fault Fault.Store) → Rose (S.fault_count store.old) (S.fault_count store.new) }

@@ -10,7 +10,7 @@ ghost use Rattle.ix_base.specs.declared.damaged.Damaged.{Damaged};
 ghost use Rattle.run_report.specs.Texts.{outcome_text, answer_text};
 ghost use Rattle.report_text.specs.Lines.{text_line, search_value};
 ghost use Rattle.run_report.specs.Texts.{matching};
-ghost use Rattle.run_report.specs.Searching.{IsIndexed, AnswerHolds, HoldsCommit, IsDamagedIn, is_search};
+ghost use Rattle.run_report.specs.Searching.{IsIndexed, AnswerHolds, HoldsCommit, IsDamagedIn, SearchesDamaged, is_search};
 
 use crate::outcome::{Answer, Outcome};
 use crate::stop::Stop;
@@ -62,7 +62,7 @@ impl SearchedCommit {
         ensures rows { (files : Files) (rows : List Row) → S.files store.old ≡ Some files → HoldsCommit files number rows → IfOk result (λ commit. commit.rows ≡ rows) }
         ensures whole { (files : Files) (rows : List Row) → S.files store.old ≡ Some files → HoldsCommit files number rows
             → IfErr result (λ stop. (stop ≡ Stop.Fault Fault.Store) ⊎ (stop ≡ Stop.NoMemory)) }
-        ensures damaged { (damaged : Damaged) → result ≡ Err (Stop.Fault (Fault.Damaged damaged)) → IsDamagedIn (S.files store.old) damaged }
+        ensures damaged { (damaged : Damaged) → result ≡ Err (Stop.Fault (Fault.Damaged damaged)) → IsDamagedIn (S.files store.old) number damaged }
         ensures reads { OnlyReads S.files S.unsynced S.images S.moment S.left_since store.old store.new }
         ensures later { S.fault_count store.old ≤ S.fault_count store.new }
         ensures failed { result ≡ Err (Stop.Fault Fault.Store) → Rose (S.fault_count store.old) (S.fault_count store.new) }
@@ -95,7 +95,7 @@ fn reopen<S: Store>(
         → (number ≡ 0) ⊎ ((1 ≤ number) × HoldsCommit files number (rows_of number)) → OnOk result (commit.new.rows ≡ rows_of number) }
     ensures whole { (files : Files) (rows : List Row) → S.files store.old ≡ Some files → (number ≡ 0) ⊎ ((1 ≤ number) × HoldsCommit files number rows)
         → IfErr result (λ stop. (stop ≡ Stop.Fault Fault.Store) ⊎ (stop ≡ Stop.NoMemory)) }
-    ensures damaged { (damaged : Damaged) → result ≡ Err (Stop.Fault (Fault.Damaged damaged)) → IsDamagedIn (S.files store.old) damaged }
+    ensures damaged { (damaged : Damaged) → result ≡ Err (Stop.Fault (Fault.Damaged damaged)) → (1 ≤ number) × IsDamagedIn (S.files store.old) number damaged }
     ensures reads { OnlyReads S.files S.unsynced S.images S.moment S.left_since store.old store.new }
     ensures later { S.fault_count store.old ≤ S.fault_count store.new }
     ensures failed { result ≡ Err (Stop.Fault Fault.Store) → Rose (S.fault_count store.old) (S.fault_count store.new) }
@@ -150,7 +150,7 @@ pub fn line_text<S: Store>(
         → AnswerHolds files rows_of outcome.now.answer → IfOk result (λ text. (text.items ≡ outcome_text rows_of outcome.now) × (commit.new.rows ≡ rows_of commit.new.number)) }
     ensures whole { (files : Files) (rows_of : ℕ → List Row) → S.files store.old ≡ Some files → AnswerHolds files rows_of outcome.now.answer
         → IfErr result (λ stop. (stop ≡ Stop.Fault Fault.Store) ⊎ (stop ≡ Stop.NoMemory)) }
-    ensures damaged { (damaged : Damaged) → result ≡ Err (Stop.Fault (Fault.Damaged damaged)) → IsDamagedIn (S.files store.old) damaged }
+    ensures damaged { (damaged : Damaged) → result ≡ Err (Stop.Fault (Fault.Damaged damaged)) → SearchesDamaged (S.files store.old) outcome.now.answer damaged }
     ensures reads { OnlyReads S.files S.unsynced S.images S.moment S.left_since store.old store.new }
     ensures later { S.fault_count store.old ≤ S.fault_count store.new }
     ensures failed { result ≡ Err (Stop.Fault Fault.Store) → Rose (S.fault_count store.old) (S.fault_count store.new) }

@@ -1,8 +1,9 @@
-//! Reports of lines that search nothing, and of a search before any commit.
+//! Reports of lines that search nothing, of a search before any commit, and of one with many hits.
 use crate::assembly::report;
 use crate::outcome::{Answer, Outcome};
-use ix_base::{NoMemory, Query};
+use ix_base::{FileName, NoMemory, Query};
 use ix_memory::MemoryStore;
+use ix_outside::{Store, StoreFault};
 use std::alloc::Global;
 
 /// Outcomes of six lines, of which two search where there is no commit.
@@ -35,4 +36,71 @@ fn texts_stand_in_the_order_of_the_lines(rt: HostRuntime) {
     let wanted =
         "{\"line\":1,\"seq\":1}\n{\"commit\":0,\"hits\":[],\"line\":2}\n{\"line\":3,\"refused\":\"term\",\"size\":32767}\n{\"docs\":1,\"line\":4,\"seq\":2}\n{\"line\":5,\"refused\":\"query\",\"size\":131073}\n{\"commit\":0,\"hits\":[],\"line\":6}\n";
     assert_eq!(rt; bytes.as_slice(), wanted.as_bytes());
+}
+
+/// The commit file of a thousand documents, whose last one has the commit's number.
+const THOUSAND: [u8; 60] = [
+    0x49, 0x58, 0x43, 0x4f, 0x4d, 0x30, 0x30, 0x31, 0, 0, 0, 0, 0, 0, 3, 0xe8, 0, 0, 0, 0, 0, 0, 3,
+    0xe8, 0, 0, 0, 0, 0, 0, 0, 2, 0, 0, 0, 0, 0, 0, 0, 1, 0, 0, 0, 0, 0, 0, 0, 1, 0, 0, 3, 0xe8, 0,
+    0, 0, 0, 0, 0, 3, 0xe8,
+];
+
+/// What a file of rows begins with: its mark, the id 1 and a thousand rows.
+const ROWS_FRONT: [u8; 20] = [
+    0x49, 0x58, 0x52, 0x4f, 0x57, 0x30, 0x30, 0x31, 0, 0, 0, 0, 0, 0, 0, 1, 0, 0, 3, 0xe8,
+];
+
+/// A document of the key `a1` and nothing else.
+const DOCUMENT: [u8; 22] = [
+    0, 0, 0, 2, 0x61, 0x31, 0, 0, 0, 0, 0, 0, 0, 0, 0, 0, 0, 0, 0, 0, 0, 0,
+];
+
+/// The rows of a thousand documents.
+fn thousand_rows(alloc: Global) -> Result<Vec<u8>, NoMemory> {
+    let mut bytes = Vec::new(alloc);
+    bytes.extend_from_slice(&ROWS_FRONT)?;
+    for birth in 1..1001u64 {
+        bytes.extend_from_slice(&birth.to_be_bytes())?;
+        bytes.extend_from_slice(&DOCUMENT)?;
+    }
+    Ok(bytes)
+}
+
+/// The text of a search line that a thousand documents match.
+fn thousand_hits(alloc: Global) -> Result<Vec<u8>, NoMemory> {
+    let mut text = Vec::new(alloc);
+    text.extend_from_slice("{\"commit\":1000,\"hits\":[".as_bytes())?;
+    for _ in 1..1000 {
+        text.extend_from_slice("{\"key\":\"a1\",\"num\":{}},".as_bytes())?;
+    }
+    text.extend_from_slice("{\"key\":\"a1\",\"num\":{}}],\"line\":1}\n".as_bytes())?;
+    Ok(text)
+}
+
+/// A store with the commit of a thousand documents.
+fn store_of_thousand(alloc: Global) -> Result<MemoryStore, StoreFault> {
+    let mut store = MemoryStore::new(alloc);
+    let rows = thousand_rows(alloc)?;
+    store.write(FileName::Rows(1), rows.as_slice())?;
+    store.write(FileName::Commit(1000), &THOUSAND)?;
+    Ok(store)
+}
+
+#[test]
+fn a_search_has_all_its_hits(rt: HostRuntime) {
+    let alloc = rt.alloc();
+    let Ok(mut store) = store_of_thousand(alloc) else {
+        panic!(rt; "memory");
+    };
+    let Ok(wanted) = thousand_hits(alloc) else {
+        panic!(rt; "memory");
+    };
+    let outcome = Outcome {
+        line: 1,
+        answer: Answer::Searched(1000, Query::All),
+    };
+    let Ok(bytes) = report(alloc, &mut store, &[outcome]) else {
+        panic!(rt; "the commit is whole");
+    };
+    assert_eq!(rt; bytes.as_slice(), wanted.as_slice());
 }

@@ -1,6 +1,10 @@
-use Rattle.std.proofs.Common.{◌≡◌, ◌∙◌, ℕ, inl, inr, sym, subst}
+use Rattle.std.proofs.Common.{◌≡◌, ◌∙◌, ℕ, inl, inr, sym, subst, arith}
+use Rattle.std.proofs.lemmas.Result.{IfOk-weaker}
+use Rattle.ix_outside.specs.Files.{Files}
 use Rattle.commit_point.specs.Holds.{Holds}
-use Rattle.std.specs.Prelude.{IfOk}
+use Rattle.std.specs.Prelude.{IfOk, Option}
+use Rattle.run_report.specs.Searching.{IsDamagedIn}
+use Rattle.index_run.specs.Beginning.{IsBase}
 use Rattle.index_run.specs.declared.writer.Writer.{Writer}
 use Rattle.index_run.proofs.begin.begin.Goals as goal
 
@@ -23,3 +27,19 @@ returns-clause-whole g c = λ files base next rows told last on low.
       | inl none ↦ absurd (c.if-base-eq0.false (same ∙ none.0))
       | inr held ↦ c.begin_on.ensures.whole files next rows still (subst (λ (n : ℕ). Holds files n next rows) (sym same) held.1)
     ]
+
+pub returns-clause-last : goal.returns-clause-last
+returns-clause-last g c =
+    IfOk-weaker c.begin_on.result _ _ (λ writer is. subst (λ (n : ℕ). IsBase (g.S.Store.files c.args.store.now) n) (sym is) c.in-Ok.ensures.last) c.begin_on.ensures.number
+
+pub returns-clause-damaged : goal.returns-clause-damaged
+returns-clause-damaged g c = λ damaged is.
+    let base = c.in-Ok.base in
+    let not_none = c.if-base-eq0.false in (
+      base,
+      record {
+        last = c.in-Ok.ensures.last;
+        some = omega (arith, not_none);
+        broken = subst (λ (told : Option Files). IsDamagedIn told base damaged) c.last_commit.ensures.reads.same (c.begin_on.ensures.damaged damaged is);
+      },
+    )

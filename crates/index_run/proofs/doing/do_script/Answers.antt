@@ -1,7 +1,8 @@
 use Rattle.std.proofs.Common.{◌≡◌, ◌∙◌, ◌+◌, ◌*◌, ◌≤◌, ◌^◌, [], ◌∷◌, length, refl, sym, subst, inl, inr}
 use Rattle.ix_outside.specs.Calls.{LeavesOnly}
 use Rattle.ix_outside.specs.CallLaws.{reads_none}
-use Rattle.ix_outside.specs.Files.{Changes}
+use Rattle.std.specs.Prelude.{Option}
+use Rattle.ix_outside.specs.Files.{Files, Changes}
 use Rattle.ix_outside.specs.Images.{Follows}
 use Rattle.commit_point.specs.Putting.{Reaches}
 use Rattle.index_run.specs.declared.writer.Writer.{Writer}
@@ -13,6 +14,8 @@ use Rattle.index_run.specs.Headline.{HasCommits, Starts}
 use Rattle.index_run.specs.Crashes.{HasAll, HasFront}
 use Rattle.index_run.proofs.Beginnings.{begins_starts, begins_on, begins_room}
 use Rattle.index_run.proofs.Finish.{done_in, whole_in, kept_in}
+use Rattle.run_report.specs.Searching.{IsDamagedIn}
+use Rattle.index_run.proofs.Asked.{is_asked}
 use Rattle.index_run.proofs.Stopped.{starts_all, script_crash, begun_crash, script_stands}
 use Rattle.index_run.proofs.doing.do_script.Goals as goal
 
@@ -123,3 +126,29 @@ returns-clause-acknowledged g c = λ files base next rows told begins are.
     (c.in-Ok-do_lines.ensures.acknowledged files (c.begin.ensures.reads.same ∙ told) began room) in
     script_stands base next rows c.args.lines files (g.S.Store.files c.args.store.now) (g.S.Store.files c.report.new.store) (g.S.Store.images c.args.store.now) (g.S.Store.images c.begin.new.store) (g.S.Store.images c.do_lines.new.store) (g.S.Store.images c.report.new.store)
     c.report.result told are c.begin.ensures.reads.crash stands c.report.ensures.reads.crash (returns-clause-done g c files base next rows told begins)
+
+pub returns-in-Err-clause-damaged : goal.returns-in-Err-clause-damaged
+returns-in-Err-clause-damaged g c = λ damaged is.
+    let found = c.in-Err.ensures.damaged damaged cc in
+    record {
+      base = found.0;
+      last = found.1.last;
+      number = found.0;
+      some = found.1.some;
+      reads = inl (refl, c.begin.ensures.reads.same);
+      broken = subst (λ (told : Option Files). IsDamagedIn told found.0 damaged) (sym c.begin.ensures.reads.same) found.1.broken;
+    }
+
+pub returns-clause-damaged : goal.returns-clause-damaged
+returns-clause-damaged g c = λ damaged is.
+    let w = c.in-Ok.writer in
+    let found = c.report.ensures.damaged damaged is in
+    let outcomes = c.as_slice.ensures.value ∙ c.in-Ok-do_lines.ensures.outcomes in
+    record {
+      base = w.number;
+      last = c.in-Ok.ensures.last;
+      number = found.2.number;
+      some = found.2.some;
+      reads = inr (is_asked w.number w.rows c.args.lines c.as_slice.result.now found.0 found.2.number found.2.query c.requires.rise outcomes found.1 found.2.searches);
+      broken = subst (λ (told : Option Files). IsDamagedIn told found.2.number damaged) (sym c.report.ensures.reads.same) found.2.broken;
+    }

@@ -95,3 +95,6 @@ returns-clause-acknowledged_front g c = λ bytes lines files base next rows told
     let written = subst (λ (t : List ℕ). Appends (g.O.Sink.written c.args.out.now) (g.O.Sink.written c.write_all.new.out) (take front.count t)) c.as_slice.ensures.value front.front in
     runs_right base next rows lines c.in-Ok.lines text (λ (t : List ℕ). (n : ℕ) × Appends (g.O.Sink.written c.args.out.now) (g.O.Sink.written c.write_all.new.out) (take n t)) (Some files) (Some x) same (front.count, written)
     (c.in-Ok-do_script.ensures.acknowledged files base next rows store begins are x image)
+
+pub returns-in-Err-do_script-clause-damaged : goal.returns-in-Err-do_script-clause-damaged
+returns-in-Err-do_script-clause-damaged g c = λ damaged is. (c.in-Ok.lines, c.in-Ok.ensures.script, c.in-Err-do_script.ensures.damaged damaged cc)

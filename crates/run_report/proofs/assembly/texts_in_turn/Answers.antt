@@ -1,4 +1,4 @@
-use Rattle.std.proofs.Common.{◌≡◌, ◌∙◌, ◌<◌, ℕ, List, [], ◌∷◌, suc, ◌+◌, refl, length, get_or, map, Some, sym, ap, subst, arith, Vec}
+use Rattle.std.proofs.Common.{◌≡◌, ◌∙◌, ◌<◌, ℕ, List, [], ◌∷◌, suc, ◌+◌, refl, length, get_or, map, Option, Some, sym, ap, subst, arith, Vec}
 use Rattle.std.specs.declared.alloc.Global.{Global}
 use Rattle.std.proofs.lemmas.List.{map-set, length-set}
 use Rattle.std.proofs.lemmas.List.Elements.{All-get_or}
@@ -6,7 +6,7 @@ use Rattle.ix_base.specs.declared.document.Row.{Row}
 use Rattle.ix_outside.specs.Files.{Files}
 use Rattle.run_report.specs.declared.outcome.Outcome.{Outcome}
 use Rattle.run_report.specs.declared.assembly.Turn.{Turn}
-use Rattle.run_report.specs.Searching.{AnswerHolds, CanSearch}
+use Rattle.run_report.specs.Searching.{AnswerHolds, CanSearch, SearchesDamaged}
 use Rattle.run_report.proofs.Filled.{FilledAt, filled_more, all_filled, turn_in_range, get_or_any}
 use Rattle.ix_outside.specs.CallLaws.{reads_then}
 use Rattle.run_report.proofs.assembly.texts_in_turn.Goals as goal
@@ -60,3 +60,14 @@ pub returns-clause-texts : goal.returns-clause-texts
 returns-clause-texts g c = λ files rows_of told can.
     all_filled rows_of c.args.outcomes.now _ c.args.turns.now (length_items c.loop-turn.made.items ∙ c.loop-turn.invariant.count) c.requires
     (λ k d lt. c.loop-turn.invariant.filled files rows_of told can k d (omega (arith, lt, c.loop-turn-test.false)))
+
+pub returns-in-Err-line_text-clause-damaged : goal.returns-in-Err-line_text-clause-damaged
+returns-in-Err-line_text-clause-damaged g c = λ damaged is.
+    let some : Turn = record { commit = 0; at = 0 } in
+    let lt = turn_in_range (length c.args.outcomes.now) c.args.turns.now c.loop-turn.turn-index some c.requires c.loop-turn-test.true in
+    let outcome = c.index-outcomes-turn.result in
+    (
+      outcome,
+      (_, lt, sym c.index-outcomes-turn.is),
+      subst (λ (told : Option Files). SearchesDamaged told outcome.answer damaged) c.loop-turn.invariant.reads.same (c.in-Err-line_text.ensures.damaged damaged cc),
+    )

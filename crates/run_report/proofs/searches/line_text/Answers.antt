@@ -22,3 +22,8 @@ pub returns-clause-text : goal.returns-clause-text
 returns-clause-text g c = λ files rows_of told same none holds.
     same_text _ c.plain_text.result _ c.or_no_memory-2.ensures.ok
     (IfOk-weaker c.plain_text.result _ _ (λ text is. (is, same)) (c.plain_text.ensures rows_of (not_search c.args.outcome.now.answer c.in_default.not-Searched)))
+
+pub returns-in-Err-clause-damaged : goal.returns-in-Err-clause-damaged
+returns-in-Err-clause-damaged g c = λ damaged is.
+    let found = c.in-Err.ensures.damaged damaged cc in
+    record { number = c.in-Searched.number; query = c.in-Searched.query; searches = c.in-Searched.is; some = found.0; broken = found.1 }
