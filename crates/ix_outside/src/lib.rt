@@ -5,6 +5,7 @@
 #![tactic(auto)]
 
 mod dir_store;
+mod directory;
 mod fault_count;
 mod gate;
 #[cfg(test)]
