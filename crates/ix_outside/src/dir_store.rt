@@ -128,7 +128,9 @@ impl<R: Files + AllocGlobal + Clone + Drop> Store for DirStore<R> {
     fn rename(&mut self, from: FileName, to: FileName) -> Result<(), StoreFault> {
         let old = self.directory.path_of(from)?;
         let new = self.directory.path_of(to)?;
-        let answer = self.directory.rename_file((from, old.as_str()), (to, new.as_str()));
+        let answer = self
+            .directory
+            .rename_file((from, old.as_str()), (to, new.as_str()));
         changed(&mut self.faults, answer)
     }
 
