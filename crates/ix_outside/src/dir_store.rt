@@ -1,7 +1,7 @@
 //! A directory of the system as a store. It tells nothing of its contents.
-ghost use Rattle.std.specs.Prelude.{◌≡◌, ◌≢◌, ◌↔◌, IfErr, IfOk, IsErrOf, IsOk, OnErr, OnOk};
+ghost use Rattle.std.specs.Prelude.{◌≡◌, ◌≢◌, ◌↔◌, ◌≤◌, IfErr, IfOk, IsErrOf, IsOk, OnErr, OnOk};
 ghost use Rattle.std.specs.IoError.{error_kind};
-ghost use Rattle.ix_outside.specs.Causes.{HasStoreCause};
+ghost use Rattle.ix_outside.specs.Causes.{HasStoreCause, Rose};
 
 use crate::directory::Directory;
 use crate::fault_count::FaultCount;
@@ -50,7 +50,7 @@ impl<R: Files + AllocGlobal + Clone + Drop> DirStore<R> {
 /// What a call that only reads answers for what the system answered. Each error but want of memory
 /// is a fault.
 fn told<T: Drop>(faults: &mut FaultCount, answer: io::Result<T>) -> Result<T, StoreFault>
-    ensures value { IfOk result (λ value. answer ≡ Ok value) }
+    ensures value { IfOk answer (λ value. result ≡ Ok value) }
     ensures failed { IfErr answer (λ error. IsErrOf result StoreFault.Failed ↔ (error_kind error ≢ ErrorKind.OutOfMemory)) }
     ensures no_memory { IfErr answer (λ error. IsErrOf result StoreFault.NoMemory ↔ (error_kind error ≡ ErrorKind.OutOfMemory)) }
     ensures cause { HasStoreCause faults.old.count faults.new.count result }
@@ -58,26 +58,30 @@ fn told<T: Drop>(faults: &mut FaultCount, answer: io::Result<T>) -> Result<T, St
     match answer {
         Ok(value) => Ok(value),
         Err(error) if error.kind() == ErrorKind::OutOfMemory => Err(StoreFault::NoMemory),
-        Err(_) => {
-            faults.raise();
-            Err(StoreFault::Failed)
-        }
+        Err(_) => Err(failed(faults)),
     }
 }
 
 /// What a call that changes something answers for what the system answered. Each error is a fault.
 fn changed(faults: &mut FaultCount, answer: io::Result<()>) -> Result<(), StoreFault>
-    ensures value { OnOk result (IsOk answer) }
+    ensures done { OnOk answer (IsOk result) }
     ensures failed { OnErr answer (IsErrOf result StoreFault.Failed) }
     ensures cause { HasStoreCause faults.old.count faults.new.count result }
 {
     match answer {
         Ok(()) => Ok(()),
-        Err(_) => {
-            faults.raise();
-            Err(StoreFault::Failed)
-        }
+        Err(_) => Err(failed(faults)),
     }
+}
+
+/// A fault, which is counted.
+fn failed(faults: &mut FaultCount) -> StoreFault
+    ensures failed { result ≡ StoreFault.Failed }
+    ensures rose { Rose faults.old.count faults.new.count }
+    ensures later { faults.old.count ≤ faults.new.count }
+{
+    faults.raise();
+    StoreFault::Failed
 }
 
 impl<R: Files + AllocGlobal + Clone + Drop> Store for DirStore<R> {

@@ -90,19 +90,19 @@ impl Write for OddWriter<'_> {
 /// The system, but that each directory has the entries of these names, each ended by a NUL. Of those
 /// that end in a digit 2 is a directory, 3 a symbolic link, 4 gone meanwhile, and others are files.
 #[derive(Clone, Drop)]
-pub struct OddDirectory {
+pub struct OddDirectory<'a> {
     system: HostRuntime,
-    names: &'static [u8],
+    names: &'a [u8],
 }
 
-impl OddDirectory {
+impl<'a> OddDirectory<'a> {
     /// The system with these names in each directory.
-    pub fn new(system: HostRuntime, names: &'static [u8]) -> Self {
+    pub fn new(system: HostRuntime, names: &'a [u8]) -> Self {
         OddDirectory { system, names }
     }
 }
 
-impl Alloc for OddDirectory {
+impl Alloc for OddDirectory<'_> {
     type A = Global;
 
     fn alloc(&self) -> Global {
@@ -110,16 +110,16 @@ impl Alloc for OddDirectory {
     }
 }
 
-impl Files for OddDirectory {
+impl<'a> Files for OddDirectory<'a> {
     type File = File;
 
-    type Dir = &'static [u8];
+    type Dir = &'a [u8];
 
     fn open_file(&self, how: &OpenOptions, path: &str) -> io::Result<File> {
         self.system.open_file(how, path)
     }
 
-    fn open_dir(&self, _path: &str) -> io::Result<&'static [u8]> {
+    fn open_dir(&self, _path: &str) -> io::Result<&'a [u8]> {
         Ok(self.names)
     }
 

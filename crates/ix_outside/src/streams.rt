@@ -80,7 +80,7 @@ impl<W: Write> Sink for WriteSink<W> {
 
     fn write(&mut self, bytes: &[u8]) -> Result<usize, Failed> {
         match write_and_flush(&mut self.writer, bytes) {
-            Ok(count) => Ok(count),
+            Ok(taken) => Ok(taken),
             Err(_) => {
                 self.faults.raise();
                 Err(Failed)
