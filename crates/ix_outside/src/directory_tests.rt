@@ -236,18 +236,24 @@ fn large_files_in_short_steps(rt: HostRuntime) {
         names.as_slice(),
         [FileName::Pending(2), FileName::Rows(1)].as_slice()
     );
-    journal.tell_length(1_000_001);
-    assert!(rt;
-        has(
-            rt.alloc(),
-            &mut recorded,
-            FileName::Rows(1),
-            &bytes.as_slice()[..1_000_001]
-        )
-    );
-    journal.tell_length(3_000_001);
+    fs::remove_dir_all(&rt, path).expect(&rt, "to remove it");
+}
+
+#[test]
+fn a_read_takes_the_length_that_is_told(rt: HostRuntime) {
+    let path = "ix_outside_length";
+    assert!(rt; make_directory(&rt, path));
+    let journal = Journal::new(rt.alloc());
+    let Some(mut store) = recorded_at(&rt, path, &journal) else {
+        panic!(rt; "memory");
+    };
+    let rows = FileName::Rows(1);
+    assert_eq!(rt; store.write(rows, b"longer"), Ok(()));
+    journal.tell_length(4);
+    assert!(rt; has(rt.alloc(), &mut store, rows, b"long"));
+    journal.tell_length(7);
     assert_eq!(rt;
-        recorded.read(rt.alloc(), FileName::Rows(1)).err(),
+        store.read(rt.alloc(), rows).err(),
         Some(StoreFault::Failed)
     );
     fs::remove_dir_all(&rt, path).expect(&rt, "to remove it");
