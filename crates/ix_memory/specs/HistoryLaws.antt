@@ -1,5 +1,5 @@
 -- What follows of the calls of a store from its definitions.
-use Rattle.std.specs.Prelude.{◌≡◌, ◌≢◌, ℕ, ◌≤◌, List, [], ◌∷◌, length, Option, Some, None, Bool, true, false, not, ◌&&◌, ◌==◌, if◌then◌else◌, refl}
+use Rattle.std.specs.Prelude.{◌≡◌, ◌≢◌, ℕ, ◌≤◌, List, [], ◌∷◌, length, Option, Some, None, IfSome, Bool, true, false, not, ◌&&◌, ◌==◌, if◌then◌else◌, refl}
 use Rattle.std.proofs.Common.{inl, inr, arith, subst, sym, ap, ◌∙◌}
 use Rattle.std.proofs.lemmas.Bool.{eq-eqb, eqb-true}
 use Rattle.ix_base.specs.declared.file_name.FileName.{FileName}
@@ -222,3 +222,7 @@ whole_is_read (Settled ∷ older) = whole_is_read older
 -- what reads give is what a crash may leave
 pub read_is_image : (calls : List Call) → IsImage calls (files_of calls)
 read_is_image calls = subst (λ (f : Files). IsImage calls f) (whole_is_read calls) (outcome_is_image Every Whole calls)
+
+-- the same of files that are told
+pub reads_now : (calls : List Call) (here : Files) → Some (files_of calls) ≡ Some here → IsImage calls here
+reads_now calls here told = subst (λ (o : Option Files). IfSome o (IsImage calls)) told (read_is_image calls)

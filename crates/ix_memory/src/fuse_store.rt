@@ -80,6 +80,8 @@ impl<S: Store> Store for FuseStore<S> {
 
     ghost only_now = { λ store c left. S.only_now store.inner c left };
 
+    ghost reads_are_image = { λ store here told. S.reads_are_image store.inner here told };
+
     ghost use Rattle.std.specs.Prelude.{◌≡◌, ◌≢◌, ◌<◌, Err, IfOk, OnOk, All, IfSome, option_map};
     ghost use Rattle.ix_base.specs.FileNames.{IsName};
     ghost use Rattle.ix_outside.specs.Files.{Lists, Puts, Removes, Renames, MayRename, MayRemove, SameBut, Same, Does, Reads};

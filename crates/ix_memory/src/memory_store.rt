@@ -104,7 +104,7 @@ impl MemoryStore {
 impl Store for MemoryStore {
     ghost use Rattle.std.specs.Prelude.{Some, length};
     ghost use Rattle.ix_memory.specs.History.{files_of, IsUnsynced, IsImage, HasLeft};
-    ghost use Rattle.ix_memory.specs.HistoryLaws.{now_is_left, last_is_now};
+    ghost use Rattle.ix_memory.specs.HistoryLaws.{now_is_left, last_is_now, reads_now};
 
     ghost files = { λ store. Some (files_of store.history) };
 
@@ -121,6 +121,8 @@ impl Store for MemoryStore {
     ghost counts_now = { λ store t c le now. now_is_left store.history t c le now };
 
     ghost only_now = { λ store c left. last_is_now store.history c left };
+
+    ghost reads_are_image = { λ store here told. reads_now store.history here told };
 
     ghost use Rattle.std.specs.Prelude.{◌≡◌, ◌≢◌, ◌⊎◌, ◌↔◌, None, IfOk, OnOk, All, IfSome, IsErrOf, option_map};
     ghost use Rattle.ix_base.specs.FileNames.{IsName};

@@ -64,7 +64,7 @@ impl SteadyStore {
 impl Store for SteadyStore {
     ghost use Rattle.std.specs.Prelude.{Some, length};
     ghost use Rattle.ix_memory.specs.History.{files_of, IsUnsynced, IsImage, HasLeft};
-    ghost use Rattle.ix_memory.specs.HistoryLaws.{now_is_left, last_is_now};
+    ghost use Rattle.ix_memory.specs.HistoryLaws.{now_is_left, last_is_now, reads_now};
 
     ghost files = { λ store. Some (files_of store.history) };
 
@@ -81,6 +81,8 @@ impl Store for SteadyStore {
     ghost counts_now = { λ store t c le now. now_is_left store.history t c le now };
 
     ghost only_now = { λ store c left. last_is_now store.history c left };
+
+    ghost reads_are_image = { λ store here told. reads_now store.history here told };
 
     fn list(&mut self, alloc: Global) -> Result<Vec<FileName>, StoreFault> {
         list_names(&self.history, alloc)

@@ -1,5 +1,5 @@
 //! Where the files are.
-ghost use Rattle.std.specs.Prelude.{◌≡◌, ◌≢◌, ◌≤◌, ℕ, Option, IfOk, OnOk, OnErr, All, IfSome, option_map};
+ghost use Rattle.std.specs.Prelude.{◌≡◌, ◌≢◌, ◌≤◌, ℕ, Option, Some, IfOk, OnOk, OnErr, All, IfSome, option_map};
 ghost use Rattle.ix_base.specs.FileNames.{IsName};
 ghost use Rattle.ix_base.specs.declared.file_name.FileName.{FileName};
 ghost use Rattle.ix_outside.specs.Files.{Files, Lists, Puts, Removes, Renames, MayRename, MayRemove, SameBut, Same, Does, Reads};
@@ -82,6 +82,9 @@ pub trait Store {
 
     /// A crash since this moment leaves what a crash now may leave.
     ghost only_now: { (store : Self) (c : Files) → left_since store (moment store) c → images store c };
+
+    /// A crash now may leave the files as reads give them.
+    ghost reads_are_image: { (store : Self) (here : Files) → files store ≡ Some here → images store here };
 
     /// The names of the files, each once. Foreign names are passed over.
     fn list(&mut self, alloc: Global) -> Result<Vec<FileName>, StoreFault>
