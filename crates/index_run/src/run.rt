@@ -45,7 +45,7 @@ pub fn run<I: Source, O: Sink, S: Store, G: Gate>(
     ensures source { result ≡ Err (Stop.Fault Fault.Source) → Rose (I.fault_count input.old) (I.fault_count input.new) }
     ensures sink { result ≡ Err Stop.Sink → Rose (O.fault_count out.old) (O.fault_count out.new) }
     ensures store { result ≡ Err (Stop.Fault Fault.Store) → Rose (S.fault_count store.old) (S.fault_count store.new) }
-    ensures damaged { (damaged : Damaged) → result ≡ Err (Stop.Fault (Fault.Damaged damaged)) 
+    ensures damaged { (damaged : Damaged) → result ≡ Err (Stop.Fault (Fault.Damaged damaged))
         → FindsDamage (I.left input.old) (told_files (S.disk store.old)) (told_files (S.disk store.new)) damaged }
     ensures base { (base : ℕ) → result ≡ Err (Stop.Fault (Fault.Base base)) → IsHighBase (told_files (S.disk store.old)) base }
     ensures high { (bytes : List ℕ) (lines : List Line) (files : Files) (base : ℕ) → IsAccepted words.now → I.left input.old ≡ Some bytes → script bytes ≡ Ok lines

@@ -1,7 +1,7 @@
-//! A run with some thousand documents, whose files have some megabytes, against a report that is
-//! computed from the numbers of its lines.
+//! Large runs. One has 2,000 documents and a file of two megabytes; its report is computed from the
+//! numbers of its lines. One has a document of 900 names, and 300 commits.
 //!
-//! It has three rounds of 1,004 lines. A round adds 1,000 documents, numbered on from those of the
+//! The first has two rounds of 1,004 lines. A round adds 1,000 documents, numbered on from those of the
 //! round before, deletes the first of them, makes a commit, and searches it for all documents and
 //! for those whose number ends in 7.
 use crate::tests::run_script;
@@ -81,7 +81,7 @@ fn script_and_report(alloc: Global) -> Result<(String, String), NoMemory> {
     let long = "x".repeat(alloc, 1000)?;
     let mut script = String::new(alloc);
     let mut report = String::new(alloc);
-    for index in 0..3012u32 {
+    for index in 0..2008u32 {
         script.push_str(&script_line(alloc, index, &long)?)?;
         report.push_str(&report_line(alloc, index)?)?;
     }
@@ -100,10 +100,46 @@ fn many_documents(rt: HostRuntime) -> Result<(), Fail> {
     );
     let mut store = done.store;
     let rows = store
-        .read(alloc, FileName::Rows(3))
+        .read(alloc, FileName::Rows(2))
         .ok()
         .ok_or("a read that fails")?;
     let rows = rows.ok_or("an absent file")?;
-    assert!(rt; rows.len() > 3_000_000, "a small file");
+    assert!(rt; rows.len() > 2_000_000, "a small file");
+    Ok(())
+}
+
+/// Members of 300 names, each with this value.
+fn members(alloc: Global, letter: &str, value: &str) -> Result<String, Fail> {
+    let mut list = String::new(alloc);
+    for number in 100..400u32 {
+        if !list.is_empty() {
+            list.push_str(",")?;
+        }
+        list.push_str(&format!(in alloc; "\"{letter}{number}\":{value}")?)?;
+    }
+    Ok(list)
+}
+
+/// A document with 300 names of each kind, and 300 commits; the next run begins on the last of them.
+#[test]
+fn many_names_and_commits(rt: HostRuntime) -> Result<(), Fail> {
+    let alloc = rt.alloc();
+    let text = members(alloc, "t", "\"a b\"")?;
+    let exact = members(alloc, "e", "\"x\"")?;
+    let num = members(alloc, "n", "-5")?;
+    let add = format!(in alloc;
+        "{{\"c\":0,\"op\":\"add\",\"doc\":{{\"key\":\"m\",\"text\":{{{text}}},\"exact\":{{{exact}}},\"num\":{{{num}}}}}}}\n"
+    )?;
+    let commits = "{\"c\":0,\"op\":\"commit\"}\n".repeat(alloc, 300)?;
+    let script = [add.as_str(), commits.as_str()];
+    let first = run_script(&rt, alloc, &script, MemoryStore::new(alloc))?;
+    assert_eq!(rt; first.status, 0);
+    let search =
+        "{\"c\":0,\"op\":\"search\",\"query\":{\"bool\":{\"must\":[{\"phrase\":[\"t399\",\"a b\"]},{\"term\":[\"e399\",\"x\"]}]}}}\n";
+    let second = run_script(&rt, alloc, &[search], first.store)?;
+    let report = format!(in alloc;
+        "{{\"commit\":301,\"hits\":[{{\"key\":\"m\",\"num\":{{{num}}}}}],\"line\":1}}\n"
+    )?;
+    assert_eq!(rt; second.written.as_slice(), report.as_bytes());
     Ok(())
 }

@@ -1,6 +1,7 @@
 //! What whole runs leave in the store, and the example scripts with the reports that are printed
 //! beside them.
 use crate::tests::run_script;
+use commit_point::{OpenFault, head, list_commits, open_commit};
 use ix_base::{FileName, NoMemory};
 use ix_memory::MemoryStore;
 use ix_outside::Store;
@@ -147,5 +148,27 @@ fn examples_twice(rt: HostRuntime) -> Result<(), Fail> {
         let second = run_script(&rt, alloc, &[script], first.store)?;
         assert_eq!(rt; second.written.as_slice(), again.as_bytes(), "{again}");
     }
+    Ok(())
+}
+
+/// The commits of two runs over one store, read back: the numbers of each and of its rows.
+#[test]
+fn commits_are_read_back(rt: HostRuntime) -> Result<(), Fail> {
+    let alloc = rt.alloc();
+    let first = run_script(&rt, alloc, &[SHORT], MemoryStore::new(alloc))?;
+    let mut store = run_script(&rt, alloc, &[FULL], first.store)?.store;
+    let numbers = list_commits(alloc, &mut store).ok().ok_or("a fault")?;
+    assert_eq!(rt; numbers.as_slice(), [2u64, 4].as_slice());
+    for (number, docs, next_id) in [(2u64, 1u64, 2u64), (4, 2, 3)] {
+        let read = head(alloc, &mut store, number).ok().ok_or("a fault")?;
+        assert_eq!(rt; (read.docs, read.next_id), (docs, next_id));
+        let opened = open_commit(alloc, &mut store, number)
+            .ok()
+            .ok_or("a fault")?;
+        assert_eq!(rt; (opened.rows.len() as u64, opened.next_id), (docs, next_id));
+    }
+    let absent = OpenFault::NoSuch { number: 3 };
+    assert!(rt; head(alloc, &mut store, 3).err() == Some(absent));
+    assert!(rt; open_commit(alloc, &mut store, 3).err() == Some(absent));
     Ok(())
 }

@@ -1,8 +1,12 @@
 -- The names of a directory's entries.
-use Rattle.std.specs.Prelude.{◌≡◌, ◌⊎◌, ℕ, List, [], ◌∷◌, ◌++◌}
-use Rattle.ix_base.specs.FileNames.{name_text}
+use Rattle.std.specs.Prelude.{◌≡◌, ◌≢◌, ◌⊎◌, ℕ, List, [], ◌∷◌, ◌++◌}
+use Rattle.ix_base.specs.FileNames.{IsName, name_text}
 use Rattle.ix_base.specs.declared.file_name.FileName.{FileName}
 
--- the entry of this text is passed over, or the name with this text is put at the end
-abbrev pub MayTake : List ℕ → List FileName → List FileName → Type 0
-MayTake text old new = (new ≡ old) ⊎ ((name : FileName) × (name_text name ≡ text) × (new ≡ old ++ name ∷ []))
+-- no name of the grammar has this text
+abbrev pub IsForeign : List ℕ → Type 0
+IsForeign text = (name : FileName) → IsName name → name_text name ≢ text
+
+-- The entry of a foreign text is passed over, and the name with any other text is put at the end.
+abbrev pub Takes : List ℕ → List FileName → List FileName → Type 0
+Takes text old new = (IsForeign text × (new ≡ old)) ⊎ ((name : FileName) × IsName name × (name_text name ≡ text) × (new ≡ old ++ name ∷ []))

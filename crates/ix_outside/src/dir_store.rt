@@ -1,137 +1,56 @@
 //! A directory of the system as a store. It tells nothing of its contents.
-ghost use Rattle.std.specs.Prelude.{◌≡◌, ◌≢◌, ◌↔◌, ◌++◌, codes, string_bytes, All, IfErr, IfOk, IsErrOf, OnOk};
+ghost use Rattle.std.specs.Prelude.{◌≡◌, ◌≢◌, ◌↔◌, ◌≤◌, IfErr, IfOk, IsErrOf, IsOk, OnErr, OnOk};
 ghost use Rattle.std.specs.IoError.{error_kind};
-ghost use Rattle.ix_base.specs.FileNames.{IsName, name_text};
-ghost use Rattle.ix_outside.specs.Listing.{MayTake};
-ghost use Rattle.ix_outside.specs.Causes.{HasStoreCause};
+ghost use Rattle.ix_outside.specs.Causes.{HasStoreCause, Rose};
 
+use crate::directory::Directory;
 use crate::fault_count::FaultCount;
 use crate::store::{Store, StoreFault};
 use ix_base::FileName;
 use std::alloc::Global;
-use std::fs::OpenFile;
-use std::io::{Error, ErrorKind, Read};
+use std::io;
+use std::io::ErrorKind;
 use std::rt::Files;
-use std::{fs, io};
 
-/// The most bytes that a file is read of.
-const GREATEST_FILE: u64 = 2_147_483_648;
-
-/// The files of a directory. It makes no directory. Each error of the system is a fault, want of
-/// memory aside, and so is a file above 2,147,483,648 bytes, an entry whose name isn't UTF-8, and a
-/// missing directory.
+/// The files of a directory. It makes no directory.
+///
+/// - The files of the index are the regular files whose names are in the grammar. An entry of
+///   another kind is no file of the index, whatever its name is: it isn't listed, read, renamed or
+///   deleted. A symbolic link isn't followed; the directory's own path may lead through some.
+/// - A write makes a new file, and removes the entry that had the name, which mustn't be a directory.
+/// - A file is kept open from its write to its sync, so that the sync sees an error of a late write.
+///   Where 64 files are open already, or memory runs out, the write syncs the file itself.
+/// - A sync puts the file's entry on the disk too: it syncs the directory where a file was made or
+///   renamed since the directory was last synced, or nobody knows.
+/// - After a sync that failed each later one fails: nobody knows what the disk has kept.
+/// - An interrupted call is made again, up to 2^64 - 1 times.
+///
+/// Each error of the system is a fault, but want of memory of `list` and `read`, which change
+/// nothing. So is a file to be read of more than 2,147,483,648 bytes, an entry whose name isn't
+/// UTF-8, and a missing directory.
 #[derive(Drop)]
-pub struct DirStore<R> {
-    runtime: R,
-    path: String,
+pub struct DirStore<R: Files> {
+    directory: Directory<R>,
     faults: FaultCount,
 }
 
 impl<R: Files + AllocGlobal + Clone + Drop> DirStore<R> {
-    /// The store of the directory at this path, without a fault yet. It doesn't look at it.
+    /// The store of the directory at this path, without a fault yet. It doesn't look at it, and takes
+    /// no memory.
     pub fn new(runtime: R, path: String) -> Self
         ensures faults { result.faults.count ≡ 0 }
     {
         DirStore {
-            runtime,
-            path,
+            directory: Directory::new(runtime, path),
             faults: FaultCount::new(),
         }
     }
-
-    /// The path of the file.
-    fn path_of(&self, name: FileName) -> io::Result<String>
-        ensures { IfOk result (λ path. string_bytes path ≡ string_bytes self.now.path ++ (codes "/" ++ name_text name)) }
-    {
-        let mut path = String::from_str(self.runtime.alloc(), self.path.as_str())?;
-        path.push('/')?;
-        path.push_str(name.text().as_str())?;
-        Ok(path)
-    }
-
-    /// Whether the error is that there is no such file, in a directory that is there.
-    fn is_absent(&self, error: &Error) -> bool {
-        error.kind() == ErrorKind::NotFound
-            && fs::metadata(&self.runtime, self.path.as_str()).is_ok()
-    }
-
-    fn list_names(&self, alloc: Global) -> io::Result<Vec<FileName>>
-        ensures { IfOk result (λ names. All IsName names.items) }
-    {
-        let mut names = Vec::new(alloc);
-        for entry in fs::read_dir(&self.runtime, self.path.as_str())? {
-            let entry = entry?;
-            keep_name(&mut names, entry.file_name())?;
-        }
-        Ok(names)
-    }
-
-    fn read_file(&self, alloc: Global, name: FileName) -> io::Result<Vec<u8>> {
-        let path = self.path_of(name)?;
-        let mut file = fs::open(&self.runtime, path.as_str())?;
-        if file.metadata()?.len() > GREATEST_FILE {
-            return Err(Error::from(ErrorKind::FileTooLarge));
-        }
-        let mut bytes = Vec::new(alloc);
-        file.read_to_end(&mut bytes)?;
-        Ok(bytes)
-    }
-
-    fn read_if_there(&self, alloc: Global, name: FileName) -> io::Result<Option<Vec<u8>>> {
-        match self.read_file(alloc, name) {
-            Ok(bytes) => Ok(Some(bytes)),
-            Err(error) if self.is_absent(&error) => Ok(None),
-            Err(error) => Err(error),
-        }
-    }
-
-    fn write_file(&self, name: FileName, bytes: &[u8]) -> io::Result<()> {
-        let path = self.path_of(name)?;
-        fs::write(&self.runtime, path.as_str(), bytes)
-    }
-
-    fn sync_file(&self, name: FileName) -> io::Result<()> {
-        let path = self.path_of(name)?;
-        fs::open(&self.runtime, path.as_str())?.sync_all()
-    }
-
-    fn rename_file(&self, from: FileName, to: FileName) -> io::Result<()> {
-        let old = self.path_of(from)?;
-        let new = self.path_of(to)?;
-        fs::rename(&self.runtime, old.as_str(), new.as_str())
-    }
-
-    fn delete_file(&self, name: FileName) -> io::Result<()> {
-        let path = self.path_of(name)?;
-        match fs::remove_file(&self.runtime, path.as_str()) {
-            Ok(()) => Ok(()),
-            Err(error) if self.is_absent(&error) => Ok(()),
-            Err(error) => Err(error),
-        }
-    }
-
-    fn sync_directory(&self) -> io::Result<()> {
-        fs::open(&self.runtime, self.path.as_str())?.sync_all()
-    }
 }
 
-/// Puts the name that the text is into the list, unless it is foreign.
-fn keep_name(names: &mut Vec<FileName>, text: &str) -> io::Result<()>
-    ensures real { OnOk result (All IsName names.old.items → All IsName names.new.items) }
-    ensures taken { OnOk result (MayTake text.now names.old.items names.new.items) }
-{
-    match FileName::parse(text) {
-        Some(name) => {
-            names.push(name)?;
-            Ok(())
-        }
-        None => Ok(()),
-    }
-}
-
-/// What the store answers for what the system answered. Each error but want of memory is a fault.
+/// What a call that only reads answers for what the system answered. Each error but want of memory
+/// is a fault.
 fn told<T: Drop>(faults: &mut FaultCount, answer: io::Result<T>) -> Result<T, StoreFault>
-    ensures value { IfOk result (λ value. answer ≡ Ok value) }
+    ensures value { IfOk answer (λ value. result ≡ Ok value) }
     ensures failed { IfErr answer (λ error. IsErrOf result StoreFault.Failed ↔ (error_kind error ≢ ErrorKind.OutOfMemory)) }
     ensures no_memory { IfErr answer (λ error. IsErrOf result StoreFault.NoMemory ↔ (error_kind error ≡ ErrorKind.OutOfMemory)) }
     ensures cause { HasStoreCause faults.old.count faults.new.count result }
@@ -139,11 +58,30 @@ fn told<T: Drop>(faults: &mut FaultCount, answer: io::Result<T>) -> Result<T, St
     match answer {
         Ok(value) => Ok(value),
         Err(error) if error.kind() == ErrorKind::OutOfMemory => Err(StoreFault::NoMemory),
-        Err(_) => {
-            faults.raise();
-            Err(StoreFault::Failed)
-        }
+        Err(_) => Err(failed(faults)),
     }
+}
+
+/// What a call that changes something answers for what the system answered. Each error is a fault.
+fn changed(faults: &mut FaultCount, answer: io::Result<()>) -> Result<(), StoreFault>
+    ensures done { OnOk answer (IsOk result) }
+    ensures failed { OnErr answer (IsErrOf result StoreFault.Failed) }
+    ensures cause { HasStoreCause faults.old.count faults.new.count result }
+{
+    match answer {
+        Ok(()) => Ok(()),
+        Err(_) => Err(failed(faults)),
+    }
+}
+
+/// A fault, which is counted.
+fn failed(faults: &mut FaultCount) -> StoreFault
+    ensures failed { result ≡ StoreFault.Failed }
+    ensures rose { Rose faults.old.count faults.new.count }
+    ensures later { faults.old.count ≤ faults.new.count }
+{
+    faults.raise();
+    StoreFault::Failed
 }
 
 impl<R: Files + AllocGlobal + Clone + Drop> Store for DirStore<R> {
@@ -154,38 +92,46 @@ impl<R: Files + AllocGlobal + Clone + Drop> Store for DirStore<R> {
     ghost fault_count = { λ store. store.faults.count };
 
     fn list(&mut self, alloc: Global) -> Result<Vec<FileName>, StoreFault> {
-        let answer = self.list_names(alloc);
+        let answer = self.directory.list_files(alloc);
         told(&mut self.faults, answer)
     }
 
     fn read(&mut self, alloc: Global, name: FileName) -> Result<Option<Vec<u8>>, StoreFault> {
-        let answer = self.read_if_there(alloc, name);
+        let path = self.directory.path_of(name)?;
+        let answer = self.directory.read_file(alloc, path.as_str());
         told(&mut self.faults, answer)
     }
 
     fn write(&mut self, name: FileName, bytes: &[u8]) -> Result<(), StoreFault> {
-        let answer = self.write_file(name, bytes);
-        told(&mut self.faults, answer)
+        let path = self.directory.path_of(name)?;
+        let answer = self.directory.write_file(name, path.as_str(), bytes);
+        changed(&mut self.faults, answer)
     }
 
     fn sync(&mut self, name: FileName) -> Result<(), StoreFault> {
-        let answer = self.sync_file(name);
-        told(&mut self.faults, answer)
+        let path = self.directory.path_of(name)?;
+        let answer = self.directory.sync_file(name, path.as_str());
+        changed(&mut self.faults, answer)
     }
 
     fn rename(&mut self, from: FileName, to: FileName) -> Result<(), StoreFault> {
-        let answer = self.rename_file(from, to);
-        told(&mut self.faults, answer)
+        let old = self.directory.path_of(from)?;
+        let new = self.directory.path_of(to)?;
+        let answer = self
+            .directory
+            .rename_file((from, old.as_str()), (to, new.as_str()));
+        changed(&mut self.faults, answer)
     }
 
     fn delete(&mut self, name: FileName) -> Result<(), StoreFault> {
-        let answer = self.delete_file(name);
-        told(&mut self.faults, answer)
+        let path = self.directory.path_of(name)?;
+        let answer = self.directory.delete_file(name, path.as_str());
+        changed(&mut self.faults, answer)
     }
 
     fn sync_all(&mut self) -> Result<(), StoreFault> {
-        let answer = self.sync_directory();
-        told(&mut self.faults, answer)
+        let answer = self.directory.sync_directory();
+        changed(&mut self.faults, answer)
     }
 
     fn faults(&self) -> u64 {

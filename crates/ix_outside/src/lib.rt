@@ -5,10 +5,15 @@
 #![tactic(auto)]
 
 mod dir_store;
+mod directory;
+#[cfg(test)]
+mod directory_tests;
 mod fault_count;
 mod gate;
 #[cfg(test)]
 mod odd_outside;
+#[cfg(test)]
+mod recorded_system;
 mod sink;
 mod source;
 mod step;

@@ -5,7 +5,8 @@ use std::io;
 use std::io::{Error, ErrorKind, Read, Write};
 use std::rt::Files;
 
-/// Gives one byte a call, the call's number as a digit. The second call fails.
+/// Gives one byte a call, the call's number as a digit. Each first call of three is interrupted, and
+/// the fifth fails.
 #[derive(Drop)]
 pub struct OddReader {
     calls: u8,
@@ -21,7 +22,10 @@ impl OddReader {
 impl Read for OddReader {
     fn read(&mut self, buffer: &mut [u8]) -> io::Result<usize> {
         self.calls = self.calls.saturating_add(1);
-        if self.calls == 2 {
+        if self.calls % 3 == 1 {
+            return Err(Error::from(ErrorKind::Interrupted));
+        }
+        if self.calls == 5 {
             return Err(Error::from(ErrorKind::Other));
         }
         if buffer.is_empty() {
@@ -33,51 +37,72 @@ impl Read for OddReader {
     }
 }
 
-/// Takes one byte a call. The second write fails, and the third one's flush.
+/// Takes one byte a call, into the space that it is given. Each first write of two is interrupted,
+/// and so is each first flush. The sixth write fails, and the seventh flush.
 #[derive(Drop)]
-pub struct OddWriter {
-    calls: u8,
+pub struct OddWriter<'a> {
+    taken: &'a mut Vec<u8>,
+    writes: u8,
+    flushes: u8,
 }
 
-impl OddWriter {
+impl<'a> OddWriter<'a> {
     /// The writer before its first call.
-    pub fn new() -> Self {
-        OddWriter { calls: 0 }
+    pub fn new(taken: &'a mut Vec<u8>) -> Self {
+        OddWriter {
+            taken,
+            writes: 0,
+            flushes: 0,
+        }
     }
 }
 
-impl Write for OddWriter {
+impl Write for OddWriter<'_> {
     fn write(&mut self, bytes: &[u8]) -> io::Result<usize> {
-        self.calls = self.calls.saturating_add(1);
-        if self.calls == 2 {
+        self.writes = self.writes.saturating_add(1);
+        if self.writes % 2 == 1 {
+            return Err(Error::from(ErrorKind::Interrupted));
+        }
+        if self.writes == 6 {
             return Err(Error::from(ErrorKind::Other));
         }
-        Ok(bytes.len().min(1))
+        match bytes.first() {
+            Some(byte) => {
+                self.taken.push(*byte)?;
+                Ok(1)
+            }
+            None => Ok(0),
+        }
     }
 
     fn flush(&mut self) -> io::Result<()> {
-        if self.calls == 3 {
+        self.flushes = self.flushes.saturating_add(1);
+        if self.flushes % 2 == 1 && self.flushes < 7 {
+            return Err(Error::from(ErrorKind::Interrupted));
+        }
+        if self.flushes == 7 {
             return Err(Error::from(ErrorKind::Other));
         }
         Ok(())
     }
 }
 
-/// The system, but that each directory has the entries of these names, each ended by a NUL.
+/// The system, but that each directory has the entries of these names, each ended by a NUL. Of those
+/// that end in a digit 2 is a directory, 3 a symbolic link, 4 gone meanwhile, and others are files.
 #[derive(Clone, Drop)]
-pub struct OddDirectory {
+pub struct OddDirectory<'a> {
     system: HostRuntime,
-    names: &'static [u8],
+    names: &'a [u8],
 }
 
-impl OddDirectory {
+impl<'a> OddDirectory<'a> {
     /// The system with these names in each directory.
-    pub fn new(system: HostRuntime, names: &'static [u8]) -> Self {
+    pub fn new(system: HostRuntime, names: &'a [u8]) -> Self {
         OddDirectory { system, names }
     }
 }
 
-impl Alloc for OddDirectory {
+impl Alloc for OddDirectory<'_> {
     type A = Global;
 
     fn alloc(&self) -> Global {
@@ -85,16 +110,16 @@ impl Alloc for OddDirectory {
     }
 }
 
-impl Files for OddDirectory {
+impl<'a> Files for OddDirectory<'a> {
     type File = File;
 
-    type Dir = &'static [u8];
+    type Dir = &'a [u8];
 
     fn open_file(&self, how: &OpenOptions, path: &str) -> io::Result<File> {
         self.system.open_file(how, path)
     }
 
-    fn open_dir(&self, _path: &str) -> io::Result<&'static [u8]> {
+    fn open_dir(&self, _path: &str) -> io::Result<&'a [u8]> {
         Ok(self.names)
     }
 
@@ -103,7 +128,12 @@ impl Files for OddDirectory {
     }
 
     fn symlink_metadata(&self, path: &str) -> io::Result<Metadata> {
-        self.system.symlink_metadata(path)
+        match path.as_bytes().last() {
+            Some(b'2') => Ok(Metadata::of_dir()),
+            Some(b'3') => Ok(Metadata::of_symlink(1)),
+            Some(b'4') => Err(Error::from(ErrorKind::NotFound)),
+            _ => Ok(Metadata::of_file(0)),
+        }
     }
 
     fn copy(&self, from: &str, to: &str) -> io::Result<u64> {

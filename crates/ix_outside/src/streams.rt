@@ -1,13 +1,16 @@
 //! The standard library's readers and writers as the outside.
-ghost use Rattle.std.specs.Prelude.{◌≡◌, ◌≤◌, ◌<◌, None, IfSome, length};
+ghost use Rattle.std.specs.Prelude.{◌≡◌, ◌≤◌, ◌<◌, None, IfOk, length};
+ghost use Rattle.std.specs.Io.{ReadsAtMost, WritesAtMost};
+ghost use Rattle.std.specs.Io.KnownBytes.{ReadConsumes};
 
 use crate::fault_count::FaultCount;
 use crate::sink::Sink;
 use crate::source::{Failed, Source};
-use std::io::{Read, Write};
+use std::io;
+use std::io::{Error, ErrorKind, Read, Write};
 
-/// A reader as a source, which tells the bytes that are left where the reader tells them. Each error
-/// of the reader is a fault.
+/// A reader as a source, which tells the bytes that are left where the reader tells them. A read that
+/// was interrupted is made again, up to 2^64 - 1 times. Each other error of the reader is a fault.
 #[derive(Drop)]
 pub struct ReadSource<R> {
     reader: R,
@@ -33,7 +36,7 @@ impl<R: Read> Source for ReadSource<R> {
     ghost fault_count = { λ source. source.faults.count };
 
     fn read(&mut self, buffer: &mut [u8]) -> Result<usize, Failed> {
-        match self.reader.read(buffer) {
+        match read_again(&mut self.reader, buffer) {
             Ok(count) => Ok(count),
             Err(_) => {
                 self.faults.raise();
@@ -48,8 +51,9 @@ impl<R: Read> Source for ReadSource<R> {
 }
 
 /// A writer as a sink, which it flushes after each write. It tells nothing of its bytes, since a
-/// flush can fail once they are taken. Each error of the writer is a fault, and so is a write that
-/// takes no byte of a piece that has some.
+/// flush can fail once they are taken. A write or a flush that was interrupted is made again, up to
+/// 2^64 - 1 times. Each other error of the writer is a fault, and so is a write that takes no byte of
+/// a piece that has some.
 #[derive(Drop)]
 pub struct WriteSink<W> {
     writer: W,
@@ -76,8 +80,8 @@ impl<W: Write> Sink for WriteSink<W> {
 
     fn write(&mut self, bytes: &[u8]) -> Result<usize, Failed> {
         match write_and_flush(&mut self.writer, bytes) {
-            Some(count) => Ok(count),
-            None => {
+            Ok(taken) => Ok(taken),
+            Err(_) => {
                 self.faults.raise();
                 Err(Failed)
             }
@@ -89,19 +93,53 @@ impl<W: Write> Sink for WriteSink<W> {
     }
 }
 
-/// How many bytes the writer took and flushed: `None` after an error, or where it took none of some.
-fn write_and_flush<W: Write>(writer: &mut W, bytes: &[u8]) -> Option<usize>
-    ensures bound { IfSome result (λ count. count ≤ length bytes.now) }
-    ensures some { IfSome result (λ count. 0 < length bytes.now → 0 < count) }
+/// How many bytes the writer took and flushed. It is an error to take none of a piece that has some.
+fn write_and_flush<W: Write>(writer: &mut W, bytes: &[u8]) -> io::Result<usize>
+    ensures bound { IfOk result (λ count. count ≤ length bytes.now) }
+    ensures some { IfOk result (λ count. 0 < length bytes.now → 0 < count) }
 {
-    let Ok(count) = writer.write(bytes) else {
-        return None;
-    };
+    let count = write_again(writer, bytes)?;
     if count == 0 && bytes.len() > 0 {
-        return None;
+        return Err(Error::from(ErrorKind::WriteZero));
     }
-    match writer.flush() {
-        Ok(()) => Some(count),
-        Err(_) => None,
+    flush_again(writer)?;
+    Ok(count)
+}
+
+/// Reads, again where the read was interrupted.
+fn read_again<R: Read>(reader: &mut R, buffer: &mut [u8]) -> io::Result<usize>
+    ensures bound { ReadsAtMost result buffer.new }
+    ensures bytes { ReadConsumes (R.remaining reader.old) (R.remaining reader.new) result buffer.new }
+{
+    for _ in 0..u64::MAX {
+        match reader.read(buffer) {
+            Err(error) if error.kind() == ErrorKind::Interrupted => {}
+            answer => return answer,
+        }
     }
+    Err(Error::from(ErrorKind::TimedOut))
+}
+
+/// Writes, again where the write was interrupted.
+fn write_again<W: Write>(writer: &mut W, bytes: &[u8]) -> io::Result<usize>
+    ensures bound { WritesAtMost result bytes.now }
+{
+    for _ in 0..u64::MAX {
+        match writer.write(bytes) {
+            Err(error) if error.kind() == ErrorKind::Interrupted => {}
+            answer => return answer,
+        }
+    }
+    Err(Error::from(ErrorKind::TimedOut))
+}
+
+/// Flushes, again where the flush was interrupted.
+fn flush_again<W: Write>(writer: &mut W) -> io::Result<()> {
+    for _ in 0..u64::MAX {
+        match writer.flush() {
+            Err(error) if error.kind() == ErrorKind::Interrupted => {}
+            answer => return answer,
+        }
+    }
+    Err(Error::from(ErrorKind::TimedOut))
 }

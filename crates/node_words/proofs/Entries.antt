@@ -8,45 +8,32 @@ use Rattle.ix_base.specs.QueryBytes.{query_bytes, IsQuery}
 use Rattle.ix_base.specs.Spelling.{signed64, text_bytes, IsName}
 use Rattle.ix_base.specs.Tree.{Tree}
 use Rattle.ix_base.specs.declared.document.Term.{Term}
-use Rattle.node_words.proofs.Both.{both_one_form, first_fails, second_fails}
+use Rattle.node_words.proofs.Both.{both_begin, both_one_form, first_fails, second_fails}
 use Rattle.node_words.proofs.Forms.{OneForm, one_name, one_signed}
 use Rattle.node_words.proofs.QueryForms.{one_pair, one_query}
-use Rattle.node_words.specs.Reads.{Begins, Fails, FailsAll, Pair, IsTerm, IsOfKind}
+use Rattle.node_words.specs.Reads.{Begins, NoneBegins, IsSpelling, IsNoSpelling, FailsAll, Pair, IsPair, pair_bytes, Setting, IsSetting, setting_bytes, IsOfKind}
 use Rattle.node_words.specs.declared.fault.ReadError.{ReadError}
 use Rattle.node_words.specs.declared.fault.ReadError.TheVariants.{Memory, Foreign}
 
 -- ---- the own term
 
-pub one_term : OneForm IsTerm term_bytes
-one_term t u x y p q e =
-    let s = one_pair (t.field, t.bytes) (u.field, u.bytes) x y p q e in
-    (ap (λ (pair : Pair). record { field = pair.0; bytes = pair.1 }) s.0, s.1)
-
-as_term : (term : Term) → IsOwnTerm term → IsTerm term
-as_term term is = (is.field, is.text)
+as_pair : (term : Term) → IsOwnTerm term → IsPair (term.field, term.bytes)
+as_pair term is = (is.field, is.text)
 
 pub one_own_term : OneForm IsOwnTerm term_bytes
-one_own_term t u x y p q e = one_term t u x y (as_term t p) (as_term u q) e
+one_own_term t u x y p q e =
+    let s = one_pair (t.field, t.bytes) (u.field, u.bytes) x y (as_pair t p) (as_pair u q) e in
+    (ap (λ (pair : Pair). record { field = pair.0; bytes = pair.1 }) s.0, s.1)
 
-pub own_term_fails : (e : ReadError) (bytes : List ℕ) → Fails IsTerm term_bytes bytes e → Fails IsOwnTerm term_bytes bytes e
-own_term_fails Memory bytes h = tt
-own_term_fails Foreign bytes h = λ term rest is e. h term rest (as_term term is) e
+pub no_pair_begins : (bytes : List ℕ) → NoneBegins IsPair pair_bytes bytes → NoneBegins IsOwnTerm term_bytes bytes
+no_pair_begins bytes h term rest is e = h (term.field, term.bytes) rest (as_pair term is) e
 
-pub long_term_fails : (term : Term) (bytes rest : List ℕ) → Begins IsTerm term_bytes term bytes rest → 32766 < length term.bytes → Fails IsOwnTerm term_bytes bytes Foreign
-long_term_fails term bytes rest p long = λ own after is e.
-    let s = one_term term own rest after p.0 (as_term own is) (sym p.1 ∙ e) in
-    absurd (omega (arith, ap (λ (t : Term). length t.bytes) s.0, is.short))
+pub long_term : (pair : Pair) (bytes rest : List ℕ) → Begins IsPair pair_bytes pair bytes rest → 32766 < length pair.1 → NoneBegins IsOwnTerm term_bytes bytes
+long_term pair bytes rest p long own after is e =
+    let s = one_pair pair (own.field, own.bytes) rest after p.0 (as_pair own is) (sym p.1 ∙ e) in
+    absurd (omega (arith, ap (λ (found : Pair). length found.1) s.0, is.short))
 
 -- ---- the fields of a set number
-
-abbrev pub Setting : Type 0
-Setting = Term × (List ℕ × ℤ)
-
-abbrev pub IsSetting : Setting → Type 0
-IsSetting s = IsOwnTerm s.0 × (IsName s.1.0 × FitsSigned w64 s.1.1)
-
-abbrev pub setting_bytes : Setting → List ℕ
-setting_bytes s = term_bytes s.0 ++ (text_bytes s.1.0 ++ signed64 s.1.1)
 
 abbrev IsNamed : List ℕ × ℤ → Type 0
 IsNamed n = IsName n.0 × FitsSigned w64 n.1
@@ -54,90 +41,114 @@ IsNamed n = IsName n.0 × FitsSigned w64 n.1
 abbrev named_bytes : List ℕ × ℤ → List ℕ
 named_bytes n = text_bytes n.0 ++ signed64 n.1
 
-one_setting : OneForm IsSetting setting_bytes
+pub one_setting : OneForm IsSetting setting_bytes
 one_setting = both_one_form IsOwnTerm term_bytes IsNamed named_bytes one_own_term (both_one_form IsName text_bytes (FitsSigned w64) signed64 one_name one_signed)
+
+pub no_set_term : (bytes : List ℕ) → NoneBegins IsOwnTerm term_bytes bytes → NoneBegins IsSetting setting_bytes bytes
+no_set_term bytes h = first_fails IsOwnTerm term_bytes IsNamed named_bytes (λ (s : Setting). s.0) (λ (s : Setting). s.1) Foreign bytes h
+
+pub no_set_name : (term : Term) (bytes mid : List ℕ) → Begins IsOwnTerm term_bytes term bytes mid → NoneBegins IsName text_bytes mid → NoneBegins IsSetting setting_bytes bytes
+no_set_name term bytes mid p h =
+    second_fails IsOwnTerm term_bytes IsNamed named_bytes (λ (s : Setting). s.0) (λ (s : Setting). s.1) one_own_term Foreign term bytes mid p
+    (first_fails IsName text_bytes (FitsSigned w64) signed64 (λ (n : List ℕ × ℤ). n.0) (λ (n : List ℕ × ℤ). n.1) Foreign mid h)
+
+pub no_set_value : (term : Term) (name bytes mid rest : List ℕ) → Begins IsOwnTerm term_bytes term bytes mid → Begins IsName text_bytes name mid rest → NoneBegins (FitsSigned w64) signed64 rest
+    → NoneBegins IsSetting setting_bytes bytes
+no_set_value term name bytes mid rest p q h =
+    second_fails IsOwnTerm term_bytes IsNamed named_bytes (λ (s : Setting). s.0) (λ (s : Setting). s.1) one_own_term Foreign term bytes mid p
+    (second_fails IsName text_bytes (FitsSigned w64) signed64 (λ (n : List ℕ × ℤ). n.0) (λ (n : List ℕ × ℤ). n.1) one_name Foreign name mid rest q h)
+
+pub setting_begins : (term : Term) (name : List ℕ) (value : ℤ) (bytes mid late rest : List ℕ) → Begins IsOwnTerm term_bytes term bytes mid → Begins IsName text_bytes name mid late → Begins (FitsSigned w64) signed64 value late rest
+    → Begins IsSetting setting_bytes (term, (name, value)) bytes rest
+setting_begins term name value bytes mid late rest p q r =
+    both_begin IsOwnTerm term_bytes IsNamed named_bytes term (name, value) bytes mid rest p (both_begin IsName text_bytes (FitsSigned w64) signed64 name value mid late rest q r)
+
+-- ---- all of the bytes
+
+pub no_spelling : {V : Type 0} (IsOne : V → Type 0) (spelling : V → List ℕ) (start bytes : List ℕ) → start ≡ bytes → NoneBegins IsOne spelling start → IsNoSpelling IsOne spelling bytes
+no_spelling IsOne spelling start bytes s h v is e = h v [] is (s ∙ e ∙ sym (append-nil (spelling v)))
+
+-- bytes with more behind a value spell none
+pub more_behind : {V : Type 0} (IsOne : V → Type 0) (spelling : V → List ℕ) → OneForm IsOne spelling → (v : V) (start bytes rest : List ℕ) → start ≡ bytes → Begins IsOne spelling v start rest → 0 < length rest
+    → IsNoSpelling IsOne spelling bytes
+more_behind IsOne spelling one v start bytes rest s p some w is e =
+    let t = one v w rest [] p.0 is (sym p.1 ∙ s ∙ e ∙ sym (append-nil (spelling w))) in
+    absurd (omega (arith, ap length t.1))
+
+pub all_read : {V : Type 0} (spelling : V → List ℕ) (v : V) (start bytes rest : List ℕ) → start ≡ bytes → start ≡ spelling v ++ rest → length rest ≡ 0 → bytes ≡ spelling v
+all_read spelling v start bytes rest s e len = sym s ∙ e ∙ ap (λ (t : List ℕ). spelling v ++ t) (nil_from_length rest len) ∙ append-nil (spelling v)
 
 -- ---- of one kind
 
--- what begins no fields of a kind begins no entry of the kind
-update_fails' : (bytes : List ℕ) → Fails IsOwnTerm term_bytes bytes Foreign → (kind : ℕ) → kind ≡ 2 → Fails (IsOfKind kind) entry_bytes bytes Foreign
-update_fails' bytes h kind k add rest is e = absurd (omega (arith, is.1))
-update_fails' bytes h kind k (update t) rest is e = h t rest is.0 e
-update_fails' bytes h kind k (delete_term t) rest is e = absurd (omega (arith, is.1))
-update_fails' bytes h kind k (delete_query q) rest is e = absurd (omega (arith, is.1))
-update_fails' bytes h kind k (set_number t n v) rest is e = absurd (omega (arith, is.1))
-update_fails' bytes h kind k commit rest is e = absurd (omega (arith, is.1))
-update_fails' bytes h kind k turn rest is e = absurd (omega (arith, is.1))
+-- an entry without fields has no bytes
+pub plain_fails : (kind : ℕ) (bytes : List ℕ) → (2 ≤ kind → kind ≤ 5 → ⊥) → 0 < length bytes → IsNoSpelling (IsOfKind kind) entry_bytes bytes
+plain_fails kind bytes not some add is e = absurd (omega (arith, ap length e))
+plain_fails kind bytes not some (update t) is e = not (omega (arith, is.1)) (omega (arith, is.1))
+plain_fails kind bytes not some (delete_term t) is e = not (omega (arith, is.1)) (omega (arith, is.1))
+plain_fails kind bytes not some (delete_query q) is e = not (omega (arith, is.1)) (omega (arith, is.1))
+plain_fails kind bytes not some (set_number t n v) is e = not (omega (arith, is.1)) (omega (arith, is.1))
+plain_fails kind bytes not some commit is e = absurd (omega (arith, ap length e))
+plain_fails kind bytes not some turn is e = absurd (omega (arith, ap length e))
 
-pub update_fails : (e : ReadError) (bytes : List ℕ) (kind : ℕ) → kind ≡ 2 → Fails IsOwnTerm term_bytes bytes e → Fails (IsOfKind kind) entry_bytes bytes e
-update_fails Memory bytes kind k h = tt
-update_fails Foreign bytes kind k h = update_fails' bytes h kind k
+no_update : (bytes : List ℕ) → IsNoSpelling IsOwnTerm term_bytes bytes → (kind : ℕ) → kind ≡ 2 → IsNoSpelling (IsOfKind kind) entry_bytes bytes
+no_update bytes h kind k add is e = absurd (omega (arith, is.1))
+no_update bytes h kind k (update t) is e = h t is.0 e
+no_update bytes h kind k (delete_term t) is e = absurd (omega (arith, is.1))
+no_update bytes h kind k (delete_query q) is e = absurd (omega (arith, is.1))
+no_update bytes h kind k (set_number t n v) is e = absurd (omega (arith, is.1))
+no_update bytes h kind k commit is e = absurd (omega (arith, is.1))
+no_update bytes h kind k turn is e = absurd (omega (arith, is.1))
 
-delete_fails' : (bytes : List ℕ) → Fails IsOwnTerm term_bytes bytes Foreign → (kind : ℕ) → kind ≡ 3 → Fails (IsOfKind kind) entry_bytes bytes Foreign
-delete_fails' bytes h kind k add rest is e = absurd (omega (arith, is.1))
-delete_fails' bytes h kind k (update t) rest is e = absurd (omega (arith, is.1))
-delete_fails' bytes h kind k (delete_term t) rest is e = h t rest is.0 e
-delete_fails' bytes h kind k (delete_query q) rest is e = absurd (omega (arith, is.1))
-delete_fails' bytes h kind k (set_number t n v) rest is e = absurd (omega (arith, is.1))
-delete_fails' bytes h kind k commit rest is e = absurd (omega (arith, is.1))
-delete_fails' bytes h kind k turn rest is e = absurd (omega (arith, is.1))
+pub update_fails : (e : ReadError) (bytes : List ℕ) (kind : ℕ) → kind ≡ 2 → FailsAll IsOwnTerm term_bytes bytes e → FailsAll (IsOfKind kind) entry_bytes bytes e
+update_fails Memory bytes kind k h = (update h.0, (h.1, sym k), h.2)
+update_fails Foreign bytes kind k h = no_update bytes h kind k
 
-pub delete_fails : (e : ReadError) (bytes : List ℕ) (kind : ℕ) → kind ≡ 3 → Fails IsOwnTerm term_bytes bytes e → Fails (IsOfKind kind) entry_bytes bytes e
-delete_fails Memory bytes kind k h = tt
-delete_fails Foreign bytes kind k h = delete_fails' bytes h kind k
+no_delete : (bytes : List ℕ) → IsNoSpelling IsOwnTerm term_bytes bytes → (kind : ℕ) → kind ≡ 3 → IsNoSpelling (IsOfKind kind) entry_bytes bytes
+no_delete bytes h kind k add is e = absurd (omega (arith, is.1))
+no_delete bytes h kind k (update t) is e = absurd (omega (arith, is.1))
+no_delete bytes h kind k (delete_term t) is e = h t is.0 e
+no_delete bytes h kind k (delete_query q) is e = absurd (omega (arith, is.1))
+no_delete bytes h kind k (set_number t n v) is e = absurd (omega (arith, is.1))
+no_delete bytes h kind k commit is e = absurd (omega (arith, is.1))
+no_delete bytes h kind k turn is e = absurd (omega (arith, is.1))
 
-query_fails' : (bytes : List ℕ) → Fails IsQuery query_bytes bytes Foreign → (kind : ℕ) → kind ≡ 4 → Fails (IsOfKind kind) entry_bytes bytes Foreign
-query_fails' bytes h kind k add rest is e = absurd (omega (arith, is.1))
-query_fails' bytes h kind k (update t) rest is e = absurd (omega (arith, is.1))
-query_fails' bytes h kind k (delete_term t) rest is e = absurd (omega (arith, is.1))
-query_fails' bytes h kind k (delete_query q) rest is e = h q rest is.0.0 e
-query_fails' bytes h kind k (set_number t n v) rest is e = absurd (omega (arith, is.1))
-query_fails' bytes h kind k commit rest is e = absurd (omega (arith, is.1))
-query_fails' bytes h kind k turn rest is e = absurd (omega (arith, is.1))
+pub delete_fails : (e : ReadError) (bytes : List ℕ) (kind : ℕ) → kind ≡ 3 → FailsAll IsOwnTerm term_bytes bytes e → FailsAll (IsOfKind kind) entry_bytes bytes e
+delete_fails Memory bytes kind k h = (delete_term h.0, (h.1, sym k), h.2)
+delete_fails Foreign bytes kind k h = no_delete bytes h kind k
 
-pub query_fails : (e : ReadError) (bytes : List ℕ) (kind : ℕ) → kind ≡ 4 → Fails IsQuery query_bytes bytes e → Fails (IsOfKind kind) entry_bytes bytes e
-query_fails Memory bytes kind k h = tt
-query_fails Foreign bytes kind k h = query_fails' bytes h kind k
+no_query : (bytes : List ℕ) → IsNoSpelling IsQuery query_bytes bytes → (kind : ℕ) → kind ≡ 4 → IsNoSpelling (IsOfKind kind) entry_bytes bytes
+no_query bytes h kind k add is e = absurd (omega (arith, is.1))
+no_query bytes h kind k (update t) is e = absurd (omega (arith, is.1))
+no_query bytes h kind k (delete_term t) is e = absurd (omega (arith, is.1))
+no_query bytes h kind k (delete_query q) is e = h q is.0.0 e
+no_query bytes h kind k (set_number t n v) is e = absurd (omega (arith, is.1))
+no_query bytes h kind k commit is e = absurd (omega (arith, is.1))
+no_query bytes h kind k turn is e = absurd (omega (arith, is.1))
 
-setting_fails' : (bytes : List ℕ) → Fails IsSetting setting_bytes bytes Foreign → Fails (IsOfKind 5) entry_bytes bytes Foreign
-setting_fails' bytes h add rest is e = absurd (omega (arith, is.1))
-setting_fails' bytes h (update t) rest is e = absurd (omega (arith, is.1))
-setting_fails' bytes h (delete_term t) rest is e = absurd (omega (arith, is.1))
-setting_fails' bytes h (delete_query q) rest is e = absurd (omega (arith, is.1))
-setting_fails' bytes h (set_number t n v) rest is e = h (t, (n, v)) rest (is.0.0, (is.0.1, is.0.2)) e
-setting_fails' bytes h commit rest is e = absurd (omega (arith, is.1))
-setting_fails' bytes h turn rest is e = absurd (omega (arith, is.1))
+pub query_fails : (e : ReadError) (bytes : List ℕ) (kind : ℕ) → kind ≡ 4 → length bytes ≤ 131072 → FailsAll IsQuery query_bytes bytes e → FailsAll (IsOfKind kind) entry_bytes bytes e
+query_fails Memory bytes kind k le h = (delete_query h.0, ((h.1, omega (arith, ap length h.2)), sym k), h.2)
+query_fails Foreign bytes kind k le h = no_query bytes h kind k
 
-setting_fails : (e : ReadError) (bytes : List ℕ) → Fails IsSetting setting_bytes bytes e → Fails (IsOfKind 5) entry_bytes bytes e
-setting_fails Memory bytes h = tt
-setting_fails Foreign bytes h = setting_fails' bytes h
+pub no_set_number : (bytes : List ℕ) → IsNoSpelling IsSetting setting_bytes bytes → IsNoSpelling (IsOfKind 5) entry_bytes bytes
+no_set_number bytes h add is e = absurd (omega (arith, is.1))
+no_set_number bytes h (update t) is e = absurd (omega (arith, is.1))
+no_set_number bytes h (delete_term t) is e = absurd (omega (arith, is.1))
+no_set_number bytes h (delete_query q) is e = absurd (omega (arith, is.1))
+no_set_number bytes h (set_number t n v) is e = h (t, (n, v)) (is.0.0, (is.0.1, is.0.2)) e
+no_set_number bytes h commit is e = absurd (omega (arith, is.1))
+no_set_number bytes h turn is e = absurd (omega (arith, is.1))
 
-pub set_term_fails : (e : ReadError) (bytes : List ℕ) → Fails IsOwnTerm term_bytes bytes e → Fails (IsOfKind 5) entry_bytes bytes e
-set_term_fails e bytes h = setting_fails e bytes (first_fails IsOwnTerm term_bytes IsNamed named_bytes (λ (s : Setting). s.0) (λ (s : Setting). s.1) e bytes h)
+pub set_number_there : (s : Setting) (bytes : List ℕ) → IsSetting s → bytes ≡ setting_bytes s → IsSpelling (IsOfKind 5) entry_bytes bytes
+set_number_there s bytes is e = (set_number s.0 s.1.0 s.1.1, ((is.0, is.1.0, is.1.1), refl), e)
 
-pub set_name_fails : (e : ReadError) (term : Term) (bytes mid : List ℕ) → Begins IsOwnTerm term_bytes term bytes mid → Fails IsName text_bytes mid e → Fails (IsOfKind 5) entry_bytes bytes e
-set_name_fails e term bytes mid p h =
-    setting_fails e bytes (second_fails IsOwnTerm term_bytes IsNamed named_bytes (λ (s : Setting). s.0) (λ (s : Setting). s.1) one_own_term e term bytes mid p
-    (first_fails IsName text_bytes (FitsSigned w64) signed64 (λ (n : List ℕ × ℤ). n.0) (λ (n : List ℕ × ℤ). n.1) e mid h))
-
-pub set_value_fails : (e : ReadError) (term : Term) (name bytes mid rest : List ℕ) → Begins IsOwnTerm term_bytes term bytes mid → Begins IsName text_bytes name mid rest → Fails (FitsSigned w64) signed64 rest e
-    → Fails (IsOfKind 5) entry_bytes bytes e
-set_value_fails e term name bytes mid rest p q h =
-    setting_fails e bytes (second_fails IsOwnTerm term_bytes IsNamed named_bytes (λ (s : Setting). s.0) (λ (s : Setting). s.1) one_own_term e term bytes mid p
-    (second_fails IsName text_bytes (FitsSigned w64) signed64 (λ (n : List ℕ × ℤ). n.0) (λ (n : List ℕ × ℤ). n.1) one_name e name mid rest q h))
-
-pub no_kind : (bytes : List ℕ) (kind : ℕ) → (1 ≤ kind → kind ≤ 7 → ⊥) → Fails (IsOfKind kind) entry_bytes bytes Foreign
-no_kind bytes kind not add rest is e = not (omega (arith, is.1)) (omega (arith, is.1))
-no_kind bytes kind not (update t) rest is e = not (omega (arith, is.1)) (omega (arith, is.1))
-no_kind bytes kind not (delete_term t) rest is e = not (omega (arith, is.1)) (omega (arith, is.1))
-no_kind bytes kind not (delete_query q) rest is e = not (omega (arith, is.1)) (omega (arith, is.1))
-no_kind bytes kind not (set_number t n v) rest is e = not (omega (arith, is.1)) (omega (arith, is.1))
-no_kind bytes kind not commit rest is e = not (omega (arith, is.1)) (omega (arith, is.1))
-no_kind bytes kind not turn rest is e = not (omega (arith, is.1)) (omega (arith, is.1))
-
--- a query's entry
-pub query_entry : (q : Tree) (bytes rest : List ℕ) → length bytes ≤ 131072 → Begins IsQuery query_bytes q bytes rest → Begins (IsOfKind 4) entry_bytes (delete_query q) bytes rest
-query_entry q bytes rest le p = (((p.0, omega (arith, ap length p.1, length-append (query_bytes q) rest)), refl), p.1)
+pub no_kind : (bytes : List ℕ) (kind : ℕ) → (1 ≤ kind → kind ≤ 7 → ⊥) → IsNoSpelling (IsOfKind kind) entry_bytes bytes
+no_kind bytes kind not add is e = not (omega (arith, is.1)) (omega (arith, is.1))
+no_kind bytes kind not (update t) is e = not (omega (arith, is.1)) (omega (arith, is.1))
+no_kind bytes kind not (delete_term t) is e = not (omega (arith, is.1)) (omega (arith, is.1))
+no_kind bytes kind not (delete_query q) is e = not (omega (arith, is.1)) (omega (arith, is.1))
+no_kind bytes kind not (set_number t n v) is e = not (omega (arith, is.1)) (omega (arith, is.1))
+no_kind bytes kind not commit is e = not (omega (arith, is.1)) (omega (arith, is.1))
+no_kind bytes kind not turn is e = not (omega (arith, is.1)) (omega (arith, is.1))
 
 -- ---- no entry's bytes begin another's of its kind
 
@@ -159,16 +170,12 @@ one_entry kind commit commit x y p q e = (refl, e)
 one_entry kind turn turn x y p q e = (refl, e)
 one_entry kind _ _ x y p q e = absurd (omega (arith, p.1, q.1))
 
--- ---- all of the bytes
+-- ---- a query that is all of the bytes
 
-pub all_fails : (e : ReadError) (kind : ℕ) (bytes : List ℕ) → Fails (IsOfKind kind) entry_bytes bytes e → FailsAll (IsOfKind kind) entry_bytes bytes e
-all_fails Memory kind bytes h = tt
-all_fails Foreign kind bytes h = λ v is e. h v [] is (e ∙ sym (append-nil (entry_bytes v)))
+pub query_read : (q : Tree) (start bytes rest : List ℕ) → start ≡ bytes → IsSpelling IsQuery query_bytes bytes → Begins IsQuery query_bytes q start rest → IsQuery q × (bytes ≡ query_bytes q)
+query_read q start bytes rest s is p =
+    let t = one_query q is.0 rest [] p.0 is.1 (sym p.1 ∙ s ∙ is.2 ∙ sym (append-nil (query_bytes is.0))) in
+    (p.0, is.2 ∙ ap query_bytes (sym t.0))
 
-pub more_fails : (kind : ℕ) (v : Entry) (bytes rest : List ℕ) → Begins (IsOfKind kind) entry_bytes v bytes rest → 0 < length rest → FailsAll (IsOfKind kind) entry_bytes bytes Foreign
-more_fails kind v bytes rest p some = λ w is e.
-    let s = one_entry kind v w rest [] p.0 is (sym p.1 ∙ e ∙ sym (append-nil (entry_bytes w))) in
-    absurd (omega (arith, ap length s.1))
-
-pub all_read : (v : Entry) (bytes rest : List ℕ) → bytes ≡ entry_bytes v ++ rest → length rest ≡ 0 → bytes ≡ entry_bytes v
-all_read v bytes rest e len = e ∙ ap (λ (t : List ℕ). entry_bytes v ++ t) (nil_from_length rest len) ∙ append-nil (entry_bytes v)
+pub query_there : (start bytes : List ℕ) → start ≡ bytes → IsSpelling IsQuery query_bytes bytes → NoneBegins IsQuery query_bytes start → ⊥
+query_there start bytes s is none = none is.0 [] is.1 (s ∙ is.2 ∙ sym (append-nil (query_bytes is.0)))

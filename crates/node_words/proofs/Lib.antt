@@ -5,6 +5,7 @@ pub mod QueryForms
 pub mod Packing
 pub mod Sizes
 pub mod Reading
+pub mod Passing
 pub mod Entries
 pub mod Small
 pub mod Spelled

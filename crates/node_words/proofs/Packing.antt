@@ -11,7 +11,7 @@ use Rattle.ix_base.specs.EntryLaws.{length-words_in, head_again}
 use Rattle.ix_base.specs.Spelling.{be64}
 use Rattle.ix_base.specs.Words.{first_word, words_in, words_for, packed, head, head_len, head_kind}
 use Rattle.node_words.proofs.Forms.{same_front, be64-same}
-use Rattle.node_words.specs.Packed.{AreBytes, Holds}
+use Rattle.node_words.specs.Packed.{AreBytes, Holds, IsCounted}
 
 -- ---- one word more
 
@@ -160,6 +160,13 @@ held_once words kind kind' bytes bytes' p q =
     let len : length bytes ≡ length bytes' = sym a.1 ∙ ap head_len s.0 ∙ b.1 in
     let filled = sym (bytes_of-packed bytes p.bytes_fit) ∙ ap (flat_map be64) s.1 ∙ bytes_of-packed bytes' q.bytes_fit in
     (sym a.0 ∙ ap head_kind s.0 ∙ b.0, (same_front bytes bytes' _ _ len filled).0)
+
+-- words that hold something are counted by their head
+pub held_counted : (words : List ℕ) (kind : ℕ) (bytes : List ℕ) → Holds words kind bytes → IsCounted words
+held_counted words kind bytes p =
+    let len : head_len (get_or words 0 0) ≡ length bytes = ap (λ (ws : List ℕ). head_len (get_or ws 0 0)) p.spelled ∙ (head_again kind (length bytes) (omega (arith, p.short))).1 in
+    let behind : length (packed bytes) ≡ words_for (head_len (get_or words 0 0)) = length-words_in (words_for (length bytes)) bytes ∙ ap words_for (sym len) in
+    record { short = omega (arith, len, p.short); count = omega (arith, ap length p.spelled, behind) }
 
 -- words with another number of words, or of too many bytes, hold nothing
 pub none_held : (words : List ℕ) (h : ℕ) (rest : List ℕ) → words ≡ h ∷ rest → (head_len h ≤ 131072 → length rest ≡ words_for (head_len h) → ⊥) → (kind : ℕ) (bytes : List ℕ) → Holds words kind bytes → ⊥

@@ -3,7 +3,6 @@ use Rattle.std.proofs.Common.{◌≡◌, ℕ, ◌+◌, ◌<◌, ◌≤◌, ◌^�
 use Rattle.ix_base.specs.EntryLaws.{length-be32}
 use Rattle.ix_base.specs.Query.{tree_of, trees_of}
 use Rattle.ix_base.specs.QueryBytes.{count_of, query_bytes, queries_bytes, list_bytes, IsQuery, AreQueries, IsQueryList}
-use Rattle.ix_base.specs.Entry.{term_bytes}
 use Rattle.ix_base.specs.Spelling.{be32}
 use Rattle.ix_base.specs.Tree.{all, term, phrase, bool, Trees}
 use Rattle.ix_base.specs.declared.query.Query.{Query}
@@ -11,7 +10,7 @@ use Rattle.node_words.proofs.Forms.{one_number}
 use Rattle.node_words.proofs.Both.{first_fails, second_fails}
 use Rattle.node_words.proofs.QueryForms.{goes_on, one_list}
 use Rattle.node_words.proofs.Sizes.{queries_bytes-push, count_of-push, AreQueries-push}
-use Rattle.node_words.specs.Reads.{Begins, Fails, byte_alone, IsPair, pair_bytes, IsTerm, Lists, AreLists, lists_bytes}
+use Rattle.node_words.specs.Reads.{Begins, NoneBegins, IsSpelling, IsNoSpelling, Fails, byte_alone, IsPair, pair_bytes, Lists, AreLists, lists_bytes}
 use Rattle.node_words.specs.declared.fault.ReadError.{ReadError}
 use Rattle.node_words.specs.declared.fault.ReadError.TheVariants.{Memory, Foreign}
 
@@ -27,13 +26,13 @@ pub byte_fails : (e : ReadError) (bytes : List ℕ) → Fails (λ b. b < 256) by
 byte_fails Memory bytes h = tt
 byte_fails Foreign bytes h = first_byte bytes h
 
-after_one : (bytes mid : List ℕ) → bytes ≡ 1 ∷ mid → Fails IsTerm term_bytes mid Foreign → Fails IsQuery query_bytes bytes Foreign
+after_one : (bytes mid : List ℕ) → bytes ≡ 1 ∷ mid → Fails IsPair pair_bytes mid Foreign → Fails IsQuery query_bytes bytes Foreign
 after_one bytes mid b h all rest is e = absurd (cc b)
-after_one bytes mid b h (term f t) rest is e = h (record { field = f; bytes = t }) rest is (ap (drop 1) (sym b ∙ e))
+after_one bytes mid b h (term f t) rest is e = h (f, t) rest is (ap (drop 1) (sym b ∙ e))
 after_one bytes mid b h (phrase f t) rest is e = absurd (cc b)
 after_one bytes mid b h (bool x y z) rest is e = absurd (cc b)
 
-pub term_fails : (e : ReadError) (bytes mid : List ℕ) (byte : ℕ) → byte ≡ 1 → bytes ≡ byte_alone byte ++ mid → Fails IsTerm term_bytes mid e → Fails IsQuery query_bytes bytes e
+pub term_fails : (e : ReadError) (bytes mid : List ℕ) (byte : ℕ) → byte ≡ 1 → bytes ≡ byte_alone byte ++ mid → Fails IsPair pair_bytes mid e → Fails IsQuery query_bytes bytes e
 term_fails Memory bytes mid byte one b h = tt
 term_fails Foreign bytes mid byte one b h = after_one bytes mid (b ∙ ap (λ (n : ℕ). n ∷ mid) one) h
 

@@ -3,7 +3,7 @@ use Rattle.std.proofs.Common.{◌≡◌, ℕ, List, [], ◌∷◌, ◌++◌, len
 use Rattle.ix_base.specs.Entry.{Entry, kind_of, entry_bytes}
 use Rattle.ix_base.specs.Words.{head, packed, Spells, IsEntryWords}
 use Rattle.node_words.proofs.Entries.{one_entry}
-use Rattle.node_words.proofs.Packing.{held_once}
+use Rattle.node_words.proofs.Packing.{held_once, held_counted}
 use Rattle.node_words.proofs.Small.{spelled_held}
 use Rattle.node_words.specs.Entry.{value_of}
 use Rattle.node_words.specs.Packed.{Holds, Unpacks, ReadsEntry}
@@ -13,7 +13,7 @@ use Rattle.node_words.specs.declared.fault.ReadError.{ReadError}
 use Rattle.node_words.specs.declared.fault.ReadError.TheVariants.{Memory, Foreign}
 
 pub unpack_fails : (e : ReadError) (words : List ℕ) → Unpacks words (Err e) → ReadsEntry words (Err e)
-unpack_fails Memory words h = tt
+unpack_fails Memory words h = h
 unpack_fails Foreign words h = λ v s. h (kind_of v) (entry_bytes v) (spelled_held words v s)
 
 pub entry_read : (words : List ℕ) (kind : ℕ) (bytes : List ℕ) (r : Result code.Entry ReadError) → Holds words kind bytes → ReadsAll value_of (IsOfKind kind) entry_bytes bytes r → ReadsEntry words r
@@ -23,7 +23,7 @@ entry_read words kind bytes (Ok entry) held p =
       fits = p.0.0;
       spelled = held.spelled ∙ ap (λ (bs : List ℕ). head kind (length bs) ∷ packed bs) p.1 ∙ ap (λ (k : ℕ). head k (length (entry_bytes v)) ∷ packed (entry_bytes v)) (sym p.0.1);
     }
-entry_read words kind bytes (Err Memory) held p = tt
+entry_read words kind bytes (Err Memory) held p = held_counted words kind bytes held
 entry_read words kind bytes (Err Foreign) held p = λ v s.
     let once = held_once words kind (kind_of v) bytes (entry_bytes v) held (spelled_held words v s) in
     p v (s.fits, sym once.0) once.1

@@ -2,7 +2,7 @@
 use Rattle.std.specs.Prelude.{◌≡◌, ℕ, ◌<◌, ◌≤◌, List, ◌∷◌, length, slice_index, Result, Ok, Err}
 use Rattle.std.specs.Global.{Vec}
 use Rattle.ix_base.specs.Entry.{Entry, most_query_bytes}
-use Rattle.ix_base.specs.Words.{head, packed, Spells}
+use Rattle.ix_base.specs.Words.{head, head_len, packed, word_count, Spells}
 use Rattle.node_words.specs.Entry.{value_of}
 use Rattle.node_words.specs.declared.entry.Entry as code
 use Rattle.node_words.specs.declared.fault.ReadError.{ReadError}
@@ -17,13 +17,19 @@ pub record Holds (words : List ℕ) (kind : ℕ) (bytes : List ℕ) : Type 0 whe
   pub short : length bytes ≤ most_query_bytes
   pub spelled : words ≡ head kind (length bytes) ∷ packed bytes
 
+-- the head tells how many words there are, and of no more bytes than an entry has
+pub record IsCounted (words : List ℕ) : Type 0 where
+  pub short : head_len (slice_index words 0) ≤ most_query_bytes
+  pub count : length words ≡ word_count (slice_index words 0)
+
+-- memory is taken only for words that the head counts
 abbrev pub Unpacks : List ℕ → Result (ℕ × Vec ℕ) ReadError → Type 0
 Unpacks words (Ok found) = Holds words found.0 found.1.items
-Unpacks words (Err Memory) = Unit {0}
+Unpacks words (Err Memory) = IsCounted words
 Unpacks words (Err Foreign) = (kind : ℕ) (bytes : List ℕ) → Holds words kind bytes → ⊥
 
 -- what reading an entry from words answers
 abbrev pub ReadsEntry : List ℕ → Result code.Entry ReadError → Type 0
 ReadsEntry words (Ok entry) = Spells words (value_of entry)
-ReadsEntry words (Err Memory) = Unit {0}
+ReadsEntry words (Err Memory) = IsCounted words
 ReadsEntry words (Err Foreign) = (e : Entry) → Spells words e → ⊥

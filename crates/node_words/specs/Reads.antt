@@ -1,31 +1,71 @@
 -- Reading one value from the front of bytes, or from all of them.
-use Rattle.std.specs.Prelude.{◌≡◌, ℕ, List, [], ◌∷◌, ◌++◌, Result, Ok, Err}
-use Rattle.ix_base.specs.Entry.{Entry, kind_of, IsEntry}
+use Rattle.std.specs.Prelude.{◌≡◌, ℕ, ℤ, ⊤, List, [], ◌∷◌, ◌++◌, Result, Ok, Err, FitsSigned}
+use Rattle.std.specs.Int.{w64}
+use Rattle.ix_base.specs.Entry.{Entry, kind_of, term_bytes, IsEntry, IsOwnTerm}
 use Rattle.ix_base.specs.QueryBytes.{list_bytes, IsQueryList}
-use Rattle.ix_base.specs.Spelling.{text_bytes, IsText, IsName}
+use Rattle.ix_base.specs.Spelling.{signed64, text_bytes, IsText, IsName}
 use Rattle.ix_base.specs.Tree.{Trees}
 use Rattle.ix_base.specs.declared.document.Term.{Term}
 use Rattle.node_words.specs.declared.fault.ReadError.{ReadError}
 use Rattle.node_words.specs.declared.fault.ReadError.TheVariants.{Memory, Foreign}
+use Rattle.node_words.specs.declared.fault.WrongForm.{WrongForm}
+use Rattle.node_words.specs.declared.parts.TextPair.{TextPair}
+use Rattle.node_words.specs.declared.parts.SetParts.{SetParts}
 
 -- The value has a spelling, which stands at the front, and these bytes are left.
 abbrev pub Begins : {V : Type 0} → (V → Type 0) → (V → List ℕ) → V → List ℕ → List ℕ → Type 0
 Begins IsOne spelling v bytes rest = IsOne v × (bytes ≡ spelling v ++ rest)
 
+-- no value begins the bytes
+abbrev pub NoneBegins : {V : Type 0} → (V → Type 0) → (V → List ℕ) → List ℕ → Type 0
+NoneBegins {V} IsOne spelling bytes = (v : V) (rest : List ℕ) → IsOne v → bytes ≡ spelling v ++ rest → ⊥
+
+-- a value is spelled by all of the bytes
+abbrev pub IsSpelling : {V : Type 0} → (V → Type 0) → (V → List ℕ) → List ℕ → Type 0
+IsSpelling {V} IsOne spelling bytes = (v : V) × IsOne v × (bytes ≡ spelling v)
+
+-- no value is spelled by all of the bytes
+abbrev pub IsNoSpelling : {V : Type 0} → (V → Type 0) → (V → List ℕ) → List ℕ → Type 0
+IsNoSpelling {V} IsOne spelling bytes = (v : V) → IsOne v → bytes ≡ spelling v → ⊥
+
+-- ---- without memory: what is answered is exact
+
+-- what finding such a value answers, seen by view, with the bytes before and after
+abbrev pub Finds : {X V : Type 0} → (X → V) → (V → Type 0) → (V → List ℕ) → List ℕ → List ℕ → Result X WrongForm → Type 0
+Finds view IsOne spelling before after (Ok x) = Begins IsOne spelling (view x) before after
+Finds view IsOne spelling before after (Err e) = NoneBegins IsOne spelling before
+
+-- what passing over such a value answers
+abbrev pub Skips : {V : Type 0} → (V → Type 0) → (V → List ℕ) → List ℕ → List ℕ → Result ⊤ WrongForm → Type 0
+Skips {V} IsOne spelling before after (Ok u) = (v : V) × Begins IsOne spelling v before after
+Skips IsOne spelling before after (Err e) = NoneBegins IsOne spelling before
+
+-- what finding a value in all of the bytes answers
+abbrev pub FindsAll : {X V : Type 0} → (X → V) → (V → Type 0) → (V → List ℕ) → List ℕ → Result X WrongForm → Type 0
+FindsAll view IsOne spelling bytes (Ok x) = IsOne (view x) × (bytes ≡ spelling (view x))
+FindsAll view IsOne spelling bytes (Err e) = IsNoSpelling IsOne spelling bytes
+
+-- whether all of the bytes spell a value
+abbrev pub ChecksAll : {V : Type 0} → (V → Type 0) → (V → List ℕ) → List ℕ → Result ⊤ WrongForm → Type 0
+ChecksAll IsOne spelling bytes (Ok u) = IsSpelling IsOne spelling bytes
+ChecksAll IsOne spelling bytes (Err e) = IsNoSpelling IsOne spelling bytes
+
+-- ---- with memory
+
 -- no value begins the bytes, unless memory ran out
 abbrev pub Fails : {V : Type 0} → (V → Type 0) → (V → List ℕ) → List ℕ → ReadError → Type 0
 Fails IsOne spelling bytes Memory = Unit {0}
-Fails {V} IsOne spelling bytes Foreign = (v : V) (rest : List ℕ) → IsOne v → bytes ≡ spelling v ++ rest → ⊥
+Fails IsOne spelling bytes Foreign = NoneBegins IsOne spelling bytes
 
 -- what a reader of such a value answers, seen by view, with the bytes before and after
 abbrev pub Reads : {X V : Type 0} → (X → V) → (V → Type 0) → (V → List ℕ) → List ℕ → List ℕ → Result X ReadError → Type 0
 Reads view IsOne spelling before after (Ok x) = Begins IsOne spelling (view x) before after
 Reads view IsOne spelling before after (Err e) = Fails IsOne spelling before e
 
--- no value is spelled by all of the bytes, unless memory ran out
+-- memory runs out only where all of the bytes spell a value
 abbrev pub FailsAll : {V : Type 0} → (V → Type 0) → (V → List ℕ) → List ℕ → ReadError → Type 0
-FailsAll IsOne spelling bytes Memory = Unit {0}
-FailsAll {V} IsOne spelling bytes Foreign = (v : V) → IsOne v → bytes ≡ spelling v → ⊥
+FailsAll IsOne spelling bytes Memory = IsSpelling IsOne spelling bytes
+FailsAll IsOne spelling bytes Foreign = IsNoSpelling IsOne spelling bytes
 
 abbrev pub ReadsAll : {X V : Type 0} → (X → V) → (V → Type 0) → (V → List ℕ) → List ℕ → Result X ReadError → Type 0
 ReadsAll view IsOne spelling bytes (Ok x) = IsOne (view x) × (bytes ≡ spelling (view x))
@@ -46,8 +86,24 @@ IsPair pair = IsName pair.0 × IsText pair.1
 abbrev pub pair_bytes : Pair → List ℕ
 pair_bytes pair = text_bytes pair.0 ++ text_bytes pair.1
 
-abbrev pub IsTerm : Term → Type 0
-IsTerm term = IsName term.field × IsText term.bytes
+abbrev pub pair_in : TextPair → Pair
+pair_in found = (found.name.now, found.text.now)
+
+abbrev pub term_in : TextPair → Term
+term_in found = record { field = found.name.now; bytes = found.text.now }
+
+-- the fields of an entry that sets a number
+abbrev pub Setting : Type 0
+Setting = Term × (List ℕ × ℤ)
+
+abbrev pub IsSetting : Setting → Type 0
+IsSetting s = IsOwnTerm s.0 × (IsName s.1.0 × FitsSigned w64 s.1.1)
+
+abbrev pub setting_bytes : Setting → List ℕ
+setting_bytes s = term_bytes s.0 ++ (text_bytes s.1.0 ++ signed64 s.1.1)
+
+abbrev pub setting_in : SetParts → Setting
+setting_in found = (term_in found.term, (found.num.now, found.value))
 
 -- the three lists of a bool query
 abbrev pub Lists : Type 0

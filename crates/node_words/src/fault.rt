@@ -1,15 +1,27 @@
 //! Why nothing was read.
 ghost use Rattle.std.specs.Prelude.{◌≡◌};
-ghost use Rattle.node_words.specs.declared.fault.ReadError.TheVariants.{Memory};
+ghost use Rattle.node_words.specs.declared.fault.ReadError.TheVariants.{Memory, Foreign};
 
 use ix_base::NoMemory;
 use std::alloc::{AllocError, AllocFailed};
+
+/// What stands there is not of the wanted form. A function that takes no memory answers this alone.
+#[derive(Clone, Copy, Debug, PartialEq, Eq)]
+pub(crate) struct WrongForm;
 
 /// Why nothing was read: memory ran out, or what stands there is not of the wanted form.
 #[derive(Drop)]
 pub(crate) enum ReadError {
     Memory,
     Foreign,
+}
+
+impl From<WrongForm> for ReadError {
+    ghost from_gives = { λ _ e. e ≡ Foreign };
+
+    fn from(_error: WrongForm) -> ReadError {
+        ReadError::Foreign
+    }
 }
 
 impl From<NoMemory> for ReadError {

@@ -11,6 +11,8 @@ mod encoding;
 mod entry;
 mod fault;
 mod pack;
+mod parts;
+mod query_check;
 mod query_read;
 mod query_size;
 mod query_write;

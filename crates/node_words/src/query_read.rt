@@ -3,25 +3,45 @@ ghost use Rattle.std.specs.Prelude.{◌≤◌, length};
 ghost use Rattle.ix_base.specs.Entry.{most_query_bytes};
 ghost use Rattle.ix_base.specs.Query.{tree_of};
 ghost use Rattle.ix_base.specs.QueryBytes.{query_bytes, list_bytes, IsQuery, IsQueryList};
-ghost use Rattle.node_words.specs.Reads.{Reads, IsPair, pair_bytes};
+ghost use Rattle.node_words.specs.Reads.{Reads, ReadsAll};
 
 use crate::fault::ReadError;
+use crate::parts::{phrase_from, term_from};
+use crate::query_check::check_query;
 use crate::reader::Reader;
-use ix_base::{Name, PhraseText, Queries, Query};
+use ix_base::{Queries, Query};
 use std::alloc::Global;
+
+/// The query that the bytes, all of them, spell. They are tested before any memory is taken.
+pub(crate) fn read_whole_query(alloc: Global, bytes: &[u8]) -> Result<Query, ReadError>
+    requires { length bytes.now ≤ most_query_bytes }
+    ensures { ReadsAll tree_of IsQuery query_bytes bytes.now result }
+{
+    check_query(bytes)?;
+    let mut reader = Reader::new(bytes);
+    match read_query(alloc, &mut reader) {
+        Ok(query) => Ok(query),
+        Err(ReadError::Memory) => Err(ReadError::Memory),
+        Err(ReadError::Foreign) => unreachable!(),
+    }
+}
 
 /// The query at the front. A query within a query has fewer bytes than it, so the bytes bound how
 /// deep this goes.
 #[cycle(read_query)]
-pub(crate) fn read_query(alloc: Global, reader: &mut Reader<'_>) -> Result<Query, ReadError>
+fn read_query(alloc: Global, reader: &mut Reader<'_>) -> Result<Query, ReadError>
     requires { length reader.old ≤ most_query_bytes }
     ensures { Reads tree_of IsQuery query_bytes reader.old reader.new result }
 {
     match reader.byte()? {
         0 => Ok(Query::All),
-        1 => Ok(Query::Term(reader.term(alloc)?)),
+        1 => {
+            let pair = reader.pair()?;
+            Ok(Query::Term(term_from(alloc, pair)?))
+        }
         2 => {
-            let (field, text) = read_phrase(alloc, reader)?;
+            let pair = reader.pair()?;
+            let (field, text) = phrase_from(alloc, pair)?;
             Ok(Query::Phrase(field, text))
         }
         3 => {
@@ -35,18 +55,6 @@ pub(crate) fn read_query(alloc: Global, reader: &mut Reader<'_>) -> Result<Query
             })
         }
         _ => Err(ReadError::Foreign),
-    }
-}
-
-fn read_phrase(alloc: Global, reader: &mut Reader<'_>) -> Result<(Name, PhraseText), ReadError>
-    requires { length reader.old ≤ most_query_bytes }
-    ensures { Reads (λ found. found) IsPair pair_bytes reader.old reader.new result }
-{
-    let field = reader.name(alloc)?;
-    let text = reader.text(alloc)?;
-    match PhraseText::new(text) {
-        Some(phrase) => Ok((field, phrase)),
-        None => Err(ReadError::Foreign),
     }
 }
 

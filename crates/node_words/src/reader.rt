@@ -1,13 +1,14 @@
-//! Reading numbers, texts and terms from the front of bytes.
-ghost use Rattle.std.specs.Prelude.{◌≡◌, ℕ, ◌<◌, ◌≤◌, ◌^◌, ◌++◌, ◌==◌, List, length, IfOk, IfErr, FitsSigned};
+//! Finding numbers, texts and terms at the front of bytes. It takes no memory.
+ghost use Rattle.std.specs.Prelude.{◌≡◌, ℕ, ◌<◌, ◌≤◌, ◌^◌, ◌++◌, [], List, length, IfOk, IfErr, FitsSigned};
 ghost use Rattle.std.specs.Int.{w64};
-ghost use Rattle.ix_base.specs.Entry.{term_bytes};
+ghost use Rattle.ix_base.specs.Entry.{term_bytes, IsOwnTerm};
+ghost use Rattle.ix_base.specs.Limits.{is_name};
 ghost use Rattle.ix_base.specs.Spelling.{be32, signed64, text_bytes, IsText, IsName};
-ghost use Rattle.node_words.specs.Reads.{Reads, byte_alone, IsTerm};
+ghost use Rattle.node_words.specs.Reads.{Finds, byte_alone, pair_in, term_in, IsPair, pair_bytes};
 
-use crate::fault::ReadError;
-use ix_base::{Name, Term, Text};
-use std::alloc::Global;
+use crate::MOST_TERM_BYTES;
+use crate::fault::WrongForm;
+use crate::parts::TextPair;
 use std::marker::Model;
 
 /// Bytes that are read from the front. Contracts see those that are left.
@@ -31,73 +32,107 @@ impl<'a> Reader<'a> {
         Reader { rest: bytes }
     }
 
-    pub(crate) fn is_empty(&self) -> bool
-        ensures { result ≡ (length self.now == 0) }
+    /// `Ok` where no bytes are left.
+    pub(crate) fn end(&self) -> Result<(), WrongForm>
+        ensures none { IfOk result (λ _. length self.now ≡ 0) }
+        ensures some { IfErr result (λ _. 0 < length self.now) }
     {
-        self.rest.is_empty()
+        no_more(self.rest)
     }
 
-    fn take(&mut self, count: usize) -> Result<&'a [u8], ReadError>
+    fn take(&mut self, count: usize) -> Result<&'a [u8], WrongForm>
         ensures len { IfOk result (λ front. length front.now ≡ count) }
         ensures front { IfOk result (λ front. self.old ≡ front.now ++ self.new) }
-        ensures short { IfErr result (λ e. (e ≡ ReadError.Foreign) × (length self.old < count)) }
+        ensures short { IfErr result (λ _. length self.old < count) }
     {
         if self.rest.len() < count {
-            return Err(ReadError::Foreign);
+            return Err(WrongForm);
         }
         let (front, rest) = self.rest.split_at(count);
         self.rest = rest;
         Ok(front)
     }
 
-    pub(crate) fn byte(&mut self) -> Result<u8, ReadError>
-        ensures { Reads (λ found. found) (λ b. b < 256) byte_alone self.old self.new result }
+    pub(crate) fn byte(&mut self) -> Result<u8, WrongForm>
+        ensures { Finds (λ found. found) (λ b. b < 256) byte_alone self.old self.new result }
     {
         let front = self.take(1)?;
         Ok(front[0])
     }
 
-    pub(crate) fn number(&mut self) -> Result<u32, ReadError>
-        ensures { Reads (λ found. found) (λ n. n < 2 ^ 32) be32 self.old self.new result }
+    pub(crate) fn number(&mut self) -> Result<u32, WrongForm>
+        ensures { Finds (λ found. found) (λ n. n < 2 ^ 32) be32 self.old self.new result }
     {
         let front = self.take(4)?;
         Ok(number_of(front))
     }
 
-    pub(crate) fn signed(&mut self) -> Result<i64, ReadError>
-        ensures { Reads (λ found. found) (FitsSigned w64) signed64 self.old self.new result }
+    pub(crate) fn signed(&mut self) -> Result<i64, WrongForm>
+        ensures { Finds (λ found. found) (FitsSigned w64) signed64 self.old self.new result }
     {
         let front = self.take(8)?;
         Ok(signed_of(front))
     }
 
-    pub(crate) fn text(&mut self, alloc: Global) -> Result<Text, ReadError>
-        ensures { Reads (λ found. found) IsText text_bytes self.old self.new result }
+    pub(crate) fn text(&mut self) -> Result<&'a str, WrongForm>
+        ensures { Finds (λ found. found.now) IsText text_bytes self.old self.new result }
     {
         let len = self.number()? as usize;
         let front = self.take(len)?;
         match str::from_utf8(front) {
-            Ok(text) => Ok(Text::copy_of(alloc, text)?),
-            Err(_) => Err(ReadError::Foreign),
+            Ok(text) => Ok(text),
+            Err(_) => Err(WrongForm),
         }
     }
 
-    pub(crate) fn name(&mut self, alloc: Global) -> Result<Name, ReadError>
-        ensures { Reads (λ found. found) IsName text_bytes self.old self.new result }
+    pub(crate) fn name(&mut self) -> Result<&'a str, WrongForm>
+        ensures { Finds (λ found. found.now) IsName text_bytes self.old self.new result }
     {
-        let text = self.text(alloc)?;
-        match Name::new(text) {
-            Some(name) => Ok(name),
-            None => Err(ReadError::Foreign),
+        let name = self.text()?;
+        if is_name(name) {
+            Ok(name)
+        } else {
+            Err(WrongForm)
         }
     }
 
-    pub(crate) fn term(&mut self, alloc: Global) -> Result<Term, ReadError>
-        ensures { Reads (λ found. found) IsTerm term_bytes self.old self.new result }
+    /// A name, and a text behind it.
+    pub(crate) fn pair(&mut self) -> Result<TextPair<'a>, WrongForm>
+        ensures { Finds pair_in IsPair pair_bytes self.old self.new result }
     {
-        let field = self.name(alloc)?;
-        let bytes = self.text(alloc)?;
-        Ok(Term { field, bytes })
+        let name = self.name()?;
+        let text = self.text()?;
+        Ok(TextPair { name, text })
+    }
+
+    /// A term that is short enough to be an operation's own.
+    pub(crate) fn own_term(&mut self) -> Result<TextPair<'a>, WrongForm>
+        ensures { Finds term_in IsOwnTerm term_bytes self.old self.new result }
+    {
+        let term = self.pair()?;
+        if term.text.len() > MOST_TERM_BYTES {
+            return Err(WrongForm);
+        }
+        Ok(term)
+    }
+}
+
+/// Whether a text is a name: it has 1 to 255 bytes.
+fn is_name(text: &str) -> bool
+    ensures { result ≡ is_name text.now }
+{
+    0 < text.len() && text.len() < 256
+}
+
+/// `Ok` where these are no bytes.
+pub(crate) fn no_more(bytes: &[u8]) -> Result<(), WrongForm>
+    ensures none { IfOk result (λ _. length bytes.now ≡ 0) }
+    ensures some { IfErr result (λ _. 0 < length bytes.now) }
+{
+    if bytes.is_empty() {
+        Ok(())
+    } else {
+        Err(WrongForm)
     }
 }
 

@@ -1,7 +1,20 @@
 use super::*;
-use ix_base::{Name, Operation, PhraseText, Queries, Query, Term, Text};
+use crate::pack::pack;
+use ix_base::{Name, NoMemory, Operation, PhraseText, Queries, Query, Term, Text};
 use std::alloc::Global;
+use std::fmt::Write;
 use std::test::*;
+
+/// The words that are written so, each of sixteen digits.
+fn words_in(alloc: Global, text: &str) -> Result<Vec<u64>, Fail> {
+    let mut words = Vec::new(alloc);
+    for word in text.split(' ') {
+        if !word.is_empty() {
+            words.push(u64::from_str_radix(word, 16)?)?;
+        }
+    }
+    Ok(words)
+}
 
 fn text_of(string: String) -> Result<Text, Fail> {
     Ok(Text::new(string).ok_or("a text")?)
@@ -43,38 +56,96 @@ fn outcome(alloc: Global, operation: &Operation) -> (u64, u64) {
     }
 }
 
+/// What an entry asks for, a query left out.
+fn shown(alloc: Global, entry: &Entry) -> Result<String, Fail> {
+    let mut text = String::new(alloc);
+    match entry {
+        Entry::Add => text.push_str("add")?,
+        Entry::Update(term) => {
+            let (field, bytes) = (term.field.as_str(), term.bytes.as_str());
+            write!(text, "update {field} {bytes}")?;
+        }
+        Entry::DeleteTerm(term) => {
+            let (field, bytes) = (term.field.as_str(), term.bytes.as_str());
+            write!(text, "delete {field} {bytes}")?;
+        }
+        Entry::DeleteQuery(_) => text.push_str("query")?,
+        Entry::SetNumber { term, num, value } => {
+            let (field, bytes) = (term.field.as_str(), term.bytes.as_str());
+            let num = num.as_str();
+            write!(text, "set {field} {bytes} {num} {value}")?;
+        }
+        Entry::Commit => text.push_str("commit")?,
+        Entry::Turn => text.push_str("turn")?,
+    }
+    Ok(text)
+}
+
+/// What the words spell, or what was answered.
+fn answer(alloc: Global, words: &[u64]) -> Result<String, Fail> {
+    match decode(alloc, words) {
+        Ok(Some(entry)) => shown(alloc, &entry),
+        Ok(None) => Ok(String::from_str(alloc, "none")?),
+        Err(NoMemory) => Ok(String::from_str(alloc, "no memory")?),
+    }
+}
+
+/// Words written by hand: an entry of each kind, and words that are one step from a spelling.
+#[test]
+fn words_by_hand(rt: HostRuntime) -> Result<(), Fail> {
+    let alloc = rt.alloc();
+    let cases = [
+        ("0000000100000000", "add"),
+        (
+            "000000020000000d 000000036b657900 0000026131000000",
+            "update key a1",
+        ),
+        (
+            "000000030000000d 000000036b657900 0000026131000000",
+            "delete key a1",
+        ),
+        (
+            "0000000400000025 0300000001010000 0001660000000161 0000000000000001 0200000001660000 0003622063000000",
+            "query",
+        ),
+        (
+            "000000050000001a 000000036b657900 0000026131000000 016effffffffffff fffe000000000000",
+            "set key a1 n -2",
+        ),
+        ("0000000600000000", "commit"),
+        ("0000000700000000", "turn"),
+        ("", "none"),
+        ("0000000000000000", "none"),
+        ("0000000800000000", "none"),
+        ("0000000100000000 0000000000000000", "none"),
+        ("0000000700000001 0000000000000000", "none"),
+        ("0000000400000001 0400000000000000", "none"),
+        ("000000030000000d 000000036b657900", "none"),
+        ("000000030000000d 000000036b657900 0000026131000001", "none"),
+        ("000000030000000e 000000036b657900 0000026131000000", "none"),
+        ("000000030000000d 00000003ff657900 0000026131000000", "none"),
+    ];
+    for (text, want) in cases {
+        let words = words_in(alloc, text)?;
+        let found = answer(alloc, &words)?;
+        assert_eq!(rt; found.as_str(), want, "at {text}");
+        if want == "query" {
+            let same = again(alloc, &words)?;
+            assert!(rt; words.as_slice() == same.as_slice());
+        }
+    }
+    Ok(())
+}
+
 #[test]
 fn one_delete(rt: HostRuntime) -> Result<(), Fail> {
     let alloc = rt.alloc();
     let field = name(alloc, "key")?;
     let delete = delete_term(field, text(alloc, "a1")?);
     let words = encode(alloc, &delete).ok().ok_or("words")?;
-    assert!(rt;
-        words.as_slice()
-            == [
-                0x0000_0003_0000_000d,
-                0x0000_0003_6b65_7900,
-                0x0000_0261_3100_0000
-            ]
-            .as_slice()
-    );
+    let want = words_in(alloc, "000000030000000d 000000036b657900 0000026131000000")?;
+    assert!(rt; words.as_slice() == want.as_slice());
     Ok(())
-}
-
-#[test]
-fn one_delete_read(rt: HostRuntime) {
-    let words = [
-        0x0000_0003_0000_000d,
-        0x0000_0003_6b65_7900,
-        0x0000_0261_3100_0000,
-    ];
-    match decode(rt.alloc(), &words) {
-        Ok(Some(Entry::DeleteTerm(term))) => {
-            assert_eq!(rt; term.field.as_str(), "key");
-            assert_eq!(rt; term.bytes.as_str(), "a1");
-        }
-        _ => assert!(rt; false),
-    }
 }
 
 #[test]
@@ -99,38 +170,73 @@ fn query_limit(rt: HostRuntime) -> Result<(), Fail> {
     Ok(())
 }
 
-fn is_foreign(alloc: Global, words: &[u64]) -> bool {
-    matches!(&decode(alloc, words), Ok(None))
+/// Whether these bytes are those of an entry of this kind.
+fn is_entry(alloc: Global, kind: u64, bytes: &[u8]) -> Result<bool, Fail> {
+    let words = pack(alloc, kind * (1 << 32) + bytes.len() as u64, bytes)?;
+    match decode(alloc, &words) {
+        Ok(entry) => Ok(entry.is_some()),
+        Err(NoMemory) => Err("memory".into()),
+    }
 }
 
-/// Words that are one step from a spelling.
+/// The bytes of an entry of each kind that has some: each cut of them is foreign, and so is a byte
+/// more.
 #[test]
-fn foreign_words(rt: HostRuntime) {
-    let foreign: [&[u64]; 8] = [
-        &[],
-        &[0],
-        &[0x0000_0008_0000_0000],
-        &[0x0000_0001_0000_0000, 0],
-        &[0x0000_0003_0000_000d, 0x0000_0003_6b65_7900],
-        &[
-            0x0000_0003_0000_000d,
-            0x0000_0003_6b65_7900,
-            0x0000_0261_3100_0001,
-        ],
-        &[
-            0x0000_0003_0000_000e,
-            0x0000_0003_6b65_7900,
-            0x0000_0261_3100_0000,
-        ],
-        &[
-            0x0000_0003_0000_000d,
-            0x0000_0003_ff65_7900,
-            0x0000_0261_3100_0000,
-        ],
+fn foreign_cuts(rt: HostRuntime) -> Result<(), Fail> {
+    let alloc = rt.alloc();
+    let cases = [
+        (2, "\0\0\0\x03key\0\0\0\x02a1"),
+        (4, "\x01\0\0\0\x01f\0\0\0\x01a"),
+        (4, "\x02\0\0\0\x01f\0\0\0\x03b c"),
+        (4, "\x03\0\0\0\0\0\0\0\x01\0\0\0\0\x01\0"),
+        (5, "\0\0\0\x03key\0\0\0\x02a1\0\0\0\x01n\0\0\0\0\0\0\0\x07"),
     ];
-    for words in foreign {
-        assert!(rt; is_foreign(rt.alloc(), words));
+    for (kind, text) in cases {
+        let mut bytes = Vec::new(alloc);
+        for byte in text.as_bytes() {
+            assert!(rt; !is_entry(alloc, kind, &bytes)?);
+            bytes.push(*byte)?;
+        }
+        assert!(rt; is_entry(alloc, kind, &bytes)?);
+        bytes.push(0)?;
+        assert!(rt; !is_entry(alloc, kind, &bytes)?);
     }
+    Ok(())
+}
+
+fn put_letters(out: &mut Vec<u8>, count: u32) -> Result<(), Fail> {
+    out.extend_from_slice(&count.to_be_bytes())?;
+    for _ in 0..count {
+        out.push(b'a')?;
+    }
+    Ok(())
+}
+
+/// Terms and queries by the bytes of the name and of the text, at their limits.
+#[test]
+fn read_limits(rt: HostRuntime) -> Result<(), Fail> {
+    let alloc = rt.alloc();
+    for (kind, name, text, want) in [
+        (3, 1, 0, true),
+        (3, 0, 1, false),
+        (3, 255, 32766, true),
+        (3, 256, 1, false),
+        (3, 1, 32767, false),
+        (4, 255, 32767, true),
+        (4, 0, 1, false),
+        (4, 256, 1, false),
+        (4, 4, 131_059, true),
+        (4, 4, 131_060, false),
+    ] {
+        let mut bytes = Vec::new(alloc);
+        if kind == 4 {
+            bytes.push(2)?;
+        }
+        put_letters(&mut bytes, name)?;
+        put_letters(&mut bytes, text)?;
+        assert!(rt; is_entry(alloc, kind, &bytes)? == want);
+    }
+    Ok(())
 }
 
 fn wrapped(alloc: Global, query: Query) -> Result<Query, Fail> {
@@ -166,22 +272,41 @@ fn again(alloc: Global, words: &[u64]) -> Result<Vec<u64>, Fail> {
     }
 }
 
-/// The deepest query that has words: one of 131,072 bytes nests no deeper.
+/// A query of 2,500 bools, each in the next.
 #[test]
-fn deepest_query(rt: HostRuntime) -> Result<(), Fail> {
+fn deep_query(rt: HostRuntime) -> Result<(), Fail> {
     let alloc = rt.alloc();
-    let delete = nested(alloc, 10082)?;
+    let delete = nested(alloc, 2500)?;
     let words = encode(alloc, &delete).ok().ok_or("words")?;
-    assert_eq!(rt; words.len(), 16385);
+    assert_eq!(rt; words.len(), 4064);
     let same = again(alloc, &words)?;
     assert!(rt; words.as_slice() == same.as_slice());
     Ok(())
 }
 
+/// A delete by a bool of so many queries.
+fn wide(alloc: Global, count: usize) -> Result<Operation, Fail> {
+    let mut should = Vec::new(alloc);
+    for _ in 0..count {
+        should.push(Query::All)?;
+    }
+    Ok(Operation::DeleteQuery(Query::Bool {
+        must: Queries::from_vec(Vec::new(alloc)),
+        should: Queries::from_vec(should),
+        must_not: Queries::from_vec(Vec::new(alloc)),
+    }))
+}
+
+/// The largest query that has words, and one of a byte more.
 #[test]
-fn deeper_query(rt: HostRuntime) -> Result<(), Fail> {
+fn wide_query(rt: HostRuntime) -> Result<(), Fail> {
     let alloc = rt.alloc();
-    let deeper = nested(alloc, 10083)?;
-    assert!(rt; outcome(alloc, &deeper) == (2, 131_080));
+    let delete = wide(alloc, 131_059)?;
+    let words = encode(alloc, &delete).ok().ok_or("words")?;
+    assert_eq!(rt; words.len(), 16385);
+    let same = again(alloc, &words)?;
+    assert!(rt; words.as_slice() == same.as_slice());
+    let wider = wide(alloc, 131_060)?;
+    assert!(rt; outcome(alloc, &wider) == (2, 131_073));
     Ok(())
 }

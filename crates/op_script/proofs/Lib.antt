@@ -6,3 +6,4 @@ mod Shapes
 mod Scripts
 mod Examples
 mod Trees
+mod Checks

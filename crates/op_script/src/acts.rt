@@ -1,15 +1,19 @@
-//! What a line asks for, by its verb.
-ghost use Rattle.std.specs.Prelude.{◌≡◌, IfOk, Ok, Err};
+//! What a line asks for, by its verb: its members are tested in their order, and then copied.
+ghost use Rattle.std.specs.Prelude.{◌≡◌, true, IfOk, IsOk, Ok, Err};
 ghost use Rattle.serde_json.specs.View.{view};
+ghost use Rattle.ix_base.specs.Limits.{is_name};
 ghost use Rattle.op_script.specs.Language.{act_of};
 ghost use Rattle.op_script.specs.declared.verbs.Verb.{Verb};
 ghost use Rattle.op_script.specs.declared.script.Why.{Why};
 
 use crate::arguments::{document_at, name_at, number_at, query_at, text_at};
+use crate::documents::document_from;
 use crate::line_fault::LineFault;
+use crate::members::{name_from, text_from};
+use crate::queries::query_from;
 use crate::script::Act;
 use crate::verbs::Verb;
-use ix_base::{Operation, Term};
+use ix_base::{NoMemory, Operation, Term};
 use serde_json::Value;
 use std::alloc::Global;
 
@@ -17,51 +21,58 @@ use std::alloc::Global;
 pub fn add_in(alloc: Global, value: &Value) -> Result<Act, LineFault>
     ensures ok { IfOk result (λ act. act_of Verb.Add (view value.now) ≡ Ok act) }
     ensures bad { (why : Why) → result ≡ Err (LineFault.Bad why) → act_of Verb.Add (view value.now) ≡ Err why }
+    ensures memory { result ≡ Err LineFault.NoMemory → IsOk (act_of Verb.Add (view value.now)) }
 {
-    let doc = document_at(alloc, value, "doc")?;
-    Ok(Act::Do(Operation::Add(doc)))
+    let doc = document_at(value, "doc")?;
+    Ok(Act::Do(Operation::Add(document_from(alloc, doc)?)))
 }
 
 /// An update: the term, and then the document.
 pub fn update_in(alloc: Global, value: &Value) -> Result<Act, LineFault>
     ensures ok { IfOk result (λ act. act_of Verb.Update (view value.now) ≡ Ok act) }
     ensures bad { (why : Why) → result ≡ Err (LineFault.Bad why) → act_of Verb.Update (view value.now) ≡ Err why }
+    ensures memory { result ≡ Err LineFault.NoMemory → IsOk (act_of Verb.Update (view value.now)) }
 {
-    let field = name_at(alloc, value, "field")?;
-    let bytes = text_at(alloc, value, "term")?;
-    let doc = document_at(alloc, value, "doc")?;
-    Ok(Act::Do(Operation::Update(Term { field, bytes }, doc)))
+    let field = name_at(value, "field")?;
+    let bytes = text_at(value, "term")?;
+    let doc = document_at(value, "doc")?;
+    let term = term_from(alloc, field, bytes)?;
+    Ok(Act::Do(Operation::Update(term, document_from(alloc, doc)?)))
 }
 
 /// A deletion by a term.
 pub fn delete_in(alloc: Global, value: &Value) -> Result<Act, LineFault>
     ensures ok { IfOk result (λ act. act_of Verb.Delete (view value.now) ≡ Ok act) }
     ensures bad { (why : Why) → result ≡ Err (LineFault.Bad why) → act_of Verb.Delete (view value.now) ≡ Err why }
+    ensures memory { result ≡ Err LineFault.NoMemory → IsOk (act_of Verb.Delete (view value.now)) }
 {
-    let field = name_at(alloc, value, "field")?;
-    let bytes = text_at(alloc, value, "term")?;
-    Ok(Act::Do(Operation::DeleteTerm(Term { field, bytes })))
+    let field = name_at(value, "field")?;
+    let bytes = text_at(value, "term")?;
+    Ok(Act::Do(Operation::DeleteTerm(term_from(alloc, field, bytes)?)))
 }
 
 /// A deletion by a query.
 pub fn delete_query_in(alloc: Global, value: &Value) -> Result<Act, LineFault>
     ensures ok { IfOk result (λ act. act_of Verb.DeleteQuery (view value.now) ≡ Ok act) }
     ensures bad { (why : Why) → result ≡ Err (LineFault.Bad why) → act_of Verb.DeleteQuery (view value.now) ≡ Err why }
+    ensures memory { result ≡ Err LineFault.NoMemory → IsOk (act_of Verb.DeleteQuery (view value.now)) }
 {
-    let query = query_at(alloc, value, "query")?;
-    Ok(Act::Do(Operation::DeleteQuery(query)))
+    let query = query_at(value, "query")?;
+    Ok(Act::Do(Operation::DeleteQuery(query_from(alloc, query)?)))
 }
 
 /// The setting of a number: both names, then the text of the term, and then the value.
 pub fn set_in(alloc: Global, value: &Value) -> Result<Act, LineFault>
     ensures ok { IfOk result (λ act. act_of Verb.Set (view value.now) ≡ Ok act) }
     ensures bad { (why : Why) → result ≡ Err (LineFault.Bad why) → act_of Verb.Set (view value.now) ≡ Err why }
+    ensures memory { result ≡ Err LineFault.NoMemory → IsOk (act_of Verb.Set (view value.now)) }
 {
-    let field = name_at(alloc, value, "field")?;
-    let num = name_at(alloc, value, "num")?;
-    let bytes = text_at(alloc, value, "term")?;
+    let field = name_at(value, "field")?;
+    let num = name_at(value, "num")?;
+    let bytes = text_at(value, "term")?;
     let value = number_at(value, "value")?;
-    let term = Term { field, bytes };
+    let term = term_from(alloc, field, bytes)?;
+    let num = name_from(alloc, num)?;
     Ok(Act::Do(Operation::SetNumber { term, num, value }))
 }
 
@@ -69,7 +80,18 @@ pub fn set_in(alloc: Global, value: &Value) -> Result<Act, LineFault>
 pub fn search_in(alloc: Global, value: &Value) -> Result<Act, LineFault>
     ensures ok { IfOk result (λ act. act_of Verb.Search (view value.now) ≡ Ok act) }
     ensures bad { (why : Why) → result ≡ Err (LineFault.Bad why) → act_of Verb.Search (view value.now) ≡ Err why }
+    ensures memory { result ≡ Err LineFault.NoMemory → IsOk (act_of Verb.Search (view value.now)) }
 {
-    let query = query_at(alloc, value, "query")?;
-    Ok(Act::Search(query))
+    let query = query_at(value, "query")?;
+    Ok(Act::Search(query_from(alloc, query)?))
+}
+
+/// The term of a field of this name.
+fn term_from(alloc: Global, field: &str, bytes: &str) -> Result<Term, NoMemory>
+    requires { is_name field.now ≡ true }
+    ensures { IfOk result (λ term. term ≡ record { field = field.now; bytes = bytes.now }) }
+{
+    let field = name_from(alloc, field)?;
+    let bytes = text_from(alloc, bytes)?;
+    Ok(Term { field, bytes })
 }

@@ -1,26 +1,32 @@
-//! Reading documents.
-ghost use Rattle.std.specs.Prelude.{◌≡◌, IfOk, IfSome, map, option_map, true, codes};
+//! Copying documents out of values.
+ghost use Rattle.std.specs.Prelude.{◌≡◌, IfOk, IfSome, map, option_map, is_some, Some, true, codes, ◌&&◌};
 ghost use Rattle.serde_json.specs.Data.{object};
 ghost use Rattle.serde_json.specs.View.{view, members_view};
-ghost use Rattle.ix_base.specs.Limits.{is_among, share_name, names_rise};
+ghost use Rattle.ix_base.specs.Limits.{names_rise};
 ghost use Rattle.op_script.specs.Values.{has_only};
-ghost use Rattle.op_script.specs.Documents.{document_of, document_names, are_apart, names_at, texts_at, numbers_at, texts_of, numbers_of, few_by, named_text, named_number};
+ghost use Rattle.op_script.specs.Documents.{document_of, document_names, are_apart, texts_at, numbers_at, texts_of, numbers_of, few_by, named_text, named_number};
 
-use crate::members::{has_member, has_only, text_from};
+use crate::document_check::MOST_MEMBERS;
+use crate::members::text_from;
 use ix_base::{Document, Fields, Name, NoMemory, Numbers, Text};
 use serde_json::{Map, Value};
 use std::alloc::Global;
 
-/// A document has at most this many texts, as many exact texts and as many numbers.
-pub const MOST_MEMBERS: usize = 65_535;
+/// The document that a value is.
+pub fn document_from(alloc: Global, value: &Value) -> Result<Document, NoMemory>
+    requires { is_some (document_of (view value.now)) ≡ true }
+    ensures { IfOk result (λ doc. document_of (view value.now) ≡ Some doc) }
+{
+    match read_document(alloc, value)? {
+        Some(doc) => Ok(doc),
+        None => unreachable!(),
+    }
+}
 
-/// The document that a value is, if it is one.
-pub fn read_document(alloc: Global, value: &Value) -> Result<Option<Document>, NoMemory>
+fn read_document(alloc: Global, value: &Value) -> Result<Option<Document>, NoMemory>
+    requires { has_only document_names (view value.now) && are_apart (view value.now) ≡ true }
     ensures { IfOk result (λ found. found ≡ document_of (view value.now)) }
 {
-    if !has_only(value, &["key", "text", "exact", "num"]) || !are_apart(value) {
-        return Ok(None);
-    }
     let Some(key) = value.get("key").and_then(Value::as_str) else {
         return Ok(None);
     };
@@ -40,35 +46,6 @@ pub fn read_document(alloc: Global, value: &Value) -> Result<Option<Document>, N
         exact,
         num,
     }))
-}
-
-/// Whether no text or exact text is named `key`, and no name stands in both.
-fn are_apart(value: &Value) -> bool
-    ensures { result ≡ are_apart (view value.now) }
-{
-    !has_name(value, "text", "key") && !has_name(value, "exact", "key") && !share_name(value)
-}
-
-/// Whether the object at this member has a member of this name.
-fn has_name(value: &Value, at: &str, name: &str) -> bool
-    ensures { result ≡ is_among (names_at at.now (view value.now)) name.now }
-{
-    match value.get(at) {
-        Some(inner) => has_member(inner, name),
-        None => false,
-    }
-}
-
-/// Whether a name of `text` stands in `exact` too.
-fn share_name(value: &Value) -> bool
-    ensures { result ≡ share_name (names_at (codes "text") (view value.now)) (names_at (codes "exact") (view value.now)) }
-{
-    match value.get("text").and_then(Value::as_object) {
-        Some(members) => members
-            .keys()
-            .any(|name| has_name(value, "exact", name.as_str())),
-        None => false,
-    }
 }
 
 fn read_texts(alloc: Global, value: &Value, at: &str) -> Result<Option<Fields>, NoMemory>

@@ -3,10 +3,12 @@
 
 mod acts;
 mod arguments;
+mod document_check;
 mod documents;
 mod line_fault;
 mod members;
 mod queries;
+mod query_check;
 mod read;
 mod requests;
 mod script;

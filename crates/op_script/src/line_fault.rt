@@ -15,6 +15,14 @@ pub enum LineFault {
     NoMemory,
 }
 
+impl From<Why> for LineFault {
+    ghost from_gives = { λ why f. f ≡ fault.Bad why };
+
+    fn from(why: Why) -> LineFault {
+        LineFault::Bad(why)
+    }
+}
+
 impl From<NoMemory> for LineFault {
     ghost from_gives = { λ _ f. f ≡ fault.NoMemory };
 

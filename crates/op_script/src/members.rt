@@ -1,10 +1,10 @@
 //! JSON values and the members of objects.
-ghost use Rattle.std.specs.Prelude.{◌≡◌, IfOk, map, option_map};
+ghost use Rattle.std.specs.Prelude.{◌≡◌, true, IfOk, map, option_map};
 ghost use Rattle.serde_json.specs.View.{view};
-ghost use Rattle.ix_base.specs.Limits.{is_among};
+ghost use Rattle.ix_base.specs.Limits.{is_among, is_name};
 ghost use Rattle.op_script.specs.Values.{value_of, member_names, has_only, has_exactly, text_pair};
 
-use ix_base::{NoMemory, Text};
+use ix_base::{Name, NoMemory, Text};
 use serde_json::Value;
 use std::alloc::Global;
 
@@ -65,6 +65,24 @@ pub fn text_pair(value: &Value) -> Option<(&str, &str)>
     let first = items[0].as_str()?;
     let second = items[1].as_str()?;
     Some((first, second))
+}
+
+/// Whether a text is a name: it has 1 to 255 bytes.
+pub fn is_name(text: &str) -> bool
+    ensures { result ≡ is_name text.now }
+{
+    0 < text.len() && text.len() < 256
+}
+
+/// A name of these bytes.
+pub fn name_from(alloc: Global, name: &str) -> Result<Name, NoMemory>
+    requires { is_name name.now ≡ true }
+    ensures { IfOk result (λ copy. copy ≡ name.now) }
+{
+    match Name::new(text_from(alloc, name)?) {
+        Some(name) => Ok(name),
+        None => unreachable!(),
+    }
 }
 
 /// A text of these bytes.

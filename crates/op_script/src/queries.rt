@@ -1,5 +1,5 @@
-//! Reading queries.
-ghost use Rattle.std.specs.Prelude.{◌≡◌, IfOk, option_map, option_and_then};
+//! Copying queries out of values.
+ghost use Rattle.std.specs.Prelude.{◌≡◌, true, is_some, Some, IfOk, option_map, option_and_then};
 ghost use Rattle.serde_json.specs.View.{view, members_view, items_view};
 ghost use Rattle.ix_base.specs.Query.{trees_of};
 ghost use Rattle.op_script.specs.Queries.{query_of, member_query, leaf_query, bool_query, queries_at, list_query, queries_of, term_by, phrase_by};
@@ -10,9 +10,20 @@ use ix_base::{Name, NoMemory, PhraseText, Queries, Query, Term};
 use serde_json::{Map, Value};
 use std::alloc::Global;
 
+/// The query that a value is.
+pub fn query_from(alloc: Global, value: &Value) -> Result<Query, NoMemory>
+    requires { is_some (query_of (view value.now)) ≡ true }
+    ensures { IfOk result (λ query. query_of (view value.now) ≡ Some query) }
+{
+    match read_query(alloc, value)? {
+        Some(query) => Ok(query),
+        None => unreachable!(),
+    }
+}
+
 /// The query that a value is, if it is one.
 #[cycle(reading)]
-pub fn read_query(alloc: Global, value: &Value) -> Result<Option<Query>, NoMemory>
+fn read_query(alloc: Global, value: &Value) -> Result<Option<Query>, NoMemory>
     ensures { IfOk result (λ found. found ≡ query_of (view value.now)) }
 {
     match value {

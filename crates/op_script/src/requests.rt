@@ -1,5 +1,5 @@
 //! Reading a line.
-ghost use Rattle.std.specs.Prelude.{◌≡◌, IfOk, Ok, Err, option_map};
+ghost use Rattle.std.specs.Prelude.{◌≡◌, IfOk, IsOk, Ok, Err, option_map};
 ghost use Rattle.serde_json.specs.View.{view};
 ghost use Rattle.op_script.specs.Lines.{is_blank};
 ghost use Rattle.op_script.specs.Language.{caller_of, verb_of, act_of, line_of, request_of, line_at};
@@ -52,6 +52,8 @@ fn read_request(alloc: Global, at: u32, text: &[u8]) -> Result<Line, LineFault>
 fn line_in(alloc: Global, at: u32, value: &Value) -> Result<Line, LineFault>
     ensures ok { IfOk result (λ line. line_of at (view value.now) ≡ Ok line) }
     ensures bad { (why : Why) → result ≡ Err (LineFault.Bad why) → line_of at (view value.now) ≡ Err why }
+    // Memory runs out only where the line is good.
+    ensures memory { result ≡ Err LineFault.NoMemory → IsOk (line_of at (view value.now)) }
 {
     if value.as_object().is_none() {
         return Err(LineFault::Bad(Why::Json));
@@ -94,6 +96,7 @@ fn verb_in(value: &Value) -> Option<Verb>
 fn act_in(alloc: Global, verb: Verb, value: &Value) -> Result<Act, LineFault>
     ensures ok { IfOk result (λ act. act_of verb (view value.now) ≡ Ok act) }
     ensures bad { (why : Why) → result ≡ Err (LineFault.Bad why) → act_of verb (view value.now) ≡ Err why }
+    ensures memory { result ≡ Err LineFault.NoMemory → IsOk (act_of verb (view value.now)) }
 {
     match verb {
         Verb::Add => add_in(alloc, value),

@@ -37,6 +37,8 @@ fn hostile_scripts(rt: HostRuntime) -> Result<(), Fail> {
         ("[]", "1 Json"),
         ("7", "1 Json"),
         ("{\"c\":0,\"op\":\"commit\"} x", "1 Json"),
+        ("{\"c\":0", "1 Json"),
+        ("{\"c\":0,\"op\":\"comm", "1 Json"),
         ("{\"c\":0,\"op\":\"\\ud800\"}", "1 Json"),
         ("{\"op\":\"commit\"}", "1 Caller"),
         ("{\"c\":256,\"op\":\"flush\"}", "1 Caller"),
@@ -262,6 +264,20 @@ fn nested(alloc: Global, depth: u32) -> Result<String, Fail> {
     Ok(text)
 }
 
+/// A search for the bool of a bool and so on, so many, round `all`.
+fn bools(alloc: Global, depth: u32) -> Result<String, Fail> {
+    let mut text = String::from_str(alloc, "{\"c\":0,\"op\":\"search\",\"query\":")?;
+    for _ in 0..depth {
+        text.push_str("{\"bool\":{\"must\":[")?;
+    }
+    text.push_str("\"all\"")?;
+    for _ in 0..depth {
+        text.push_str("]}}")?;
+    }
+    text.push_str("}")?;
+    Ok(text)
+}
+
 /// A document with so many numbers, or with a number of so long a name.
 fn numbered(alloc: Global, count: u32, len: u32) -> Result<String, Fail> {
     let mut text = String::from_str(
@@ -292,6 +308,10 @@ fn limits(rt: HostRuntime) -> Result<(), Fail> {
     for (depth, want) in [(127, "1 Query"), (128, "1 Json"), (200, "1 Json")] {
         let found = answer(alloc, nested(alloc, depth)?.as_bytes())?;
         assert_eq!(rt; found.as_str(), want, "nested {depth} deep");
+    }
+    for (depth, want) in [(42, "1 lines"), (43, "1 Json")] {
+        let found = answer(alloc, bools(alloc, depth)?.as_bytes())?;
+        assert_eq!(rt; found.as_str(), want, "{depth} bools");
     }
     for (count, len, want) in [
         (1, 255, "1 lines"),

@@ -37,8 +37,7 @@ returns-clause-last g c =
 pub returns-clause-damaged : goal.returns-clause-damaged
 returns-clause-damaged g c = λ damaged is.
     let base = c.in-Ok.base in
-    let not_none = c.if-base-eq0.false in
-    (
+    let not_none = c.if-base-eq0.false in (
       base,
       record {
         last = c.in-Ok.ensures.last;

@@ -1,7 +1,6 @@
-use Rattle.std.proofs.Common.{◌≡◌, ◌≤◌, ◌<◌, ◌+◌, ◌-◌, ◌++◌, ℕ, List, length, take, arith}
-use Rattle.std.specs.Io.KnownBytes.{Consumes}
+use Rattle.std.proofs.Common.{◌≤◌, ◌+◌, length, arith}
 use Rattle.std.proofs.lemmas.Grind.{common_steps}
-use Rattle.index_run.proofs.Inputs.{takes_kept, takes_more, consumes_more, consumes_none}
+use Rattle.index_run.proofs.Inputs.{takes_kept, takes_more, consumes_none}
 use Rattle.index_run.proofs.input.read_input.Goals as goal
 
 pub returns-in_default-clause-bound : goal.returns-in_default-clause-bound

@@ -29,3 +29,13 @@ pub returns-in-Some-clause-acknowledged : goal.returns-in-Some-clause-acknowledg
 returns-in-Some-clause-acknowledged g c = λ files told room x image.
     let is : refusal c.args.operation ≡ Some (refusal_as c.in-Some.refusal) = (let a = c.in_ok-refusal.ensures in let b = c.in-Some.is in cc) in
     (x, image, image_stays c.args.writer.now c.args.operation (refusal_as c.in-Some.refusal) is x)
+
+pub returns-in_err-apply-clause-crash : goal.returns-in_err-apply-clause-crash
+returns-in_err-apply-clause-crash g c = λ files told room.
+    leaves_none (g.S.Store.disk c.args.store.now) (Reaches (MayLeave c.args.writer.now (Do c.args.operation)) (MayHold (g.S.Store.disk c.args.store.now)))
+    (λ x image. (x, image, may_stay c.args.writer.now (Do c.args.operation) x))
+
+pub returns-else-commits-clause-crash : goal.returns-else-commits-clause-crash
+returns-else-commits-clause-crash g c = λ files told room.
+    leaves_none (g.S.Store.disk c.args.store.now) (Reaches (MayLeave c.args.writer.now (Do c.args.operation)) (MayHold (g.S.Store.disk c.args.store.now)))
+    (λ x image. (x, image, may_stay c.args.writer.now (Do c.args.operation) x))

@@ -1,20 +1,18 @@
-use Rattle.std.proofs.Common.{ℕ, List, ◌<◌, subst, arith, length}
 use Rattle.std.proofs.lemmas.Result.{err_from_is_err_and}
+use Rattle.node_words.proofs.Entries.{update_fails, delete_fails, query_fails}
 use Rattle.node_words.proofs.decoding.read_entry.Goals as goal
-use Rattle.std.proofs.lemmas.Bool.Decides.{nat_tests}
-use Rattle.ix_base.specs.Entry.{entry_bytes}
-use Rattle.node_words.specs.Entry.{value_of}
-use Rattle.node_words.specs.Reads.{Begins, Fails, IsOfKind}
-use Rattle.node_words.proofs.Entries.{all_fails, more_fails}
 
-pub returns-in_err-entry : goal.returns-in_err-entry
-returns-in_err-entry c =
-    let p = err_from_is_err_and c.from_residual.result c.from_residual.ensures.1 in
-    let fails = subst (λ (bytes : List ℕ). Fails (IsOfKind c.args.kind) entry_bytes bytes c.in_err-entry.field-0.0) c.new-reader.ensures c.in_err-entry.ensures in
-    rw (p.1, p.2) (all_fails c.in_err-entry.field-0.0 c.args.kind c.args.bytes.now fails)
+pub returns-in_err-read_own_term-in-2 : goal.returns-in_err-read_own_term-in-2
+returns-in_err-read_own_term-in-2 c =
+    let p = err_from_is_err_and c.from_residual-in_err-read_own_term-in-2.result c.from_residual-in_err-read_own_term-in-2.ensures.1 in
+    rw (p.1, p.2) (update_fails c.in_err-read_own_term-in-2.field-0.0 c.args.bytes.now c.args.kind c.in-2.is c.in_err-read_own_term-in-2.ensures)
 
-pub returns-else-is_empty : goal.returns-else-is_empty
-returns-else-is_empty c =
-    let some : 0 < length c.read_kind.new.reader = grind (arith, nat_tests, c.if-is_empty.ensures) in
-    let begins = subst (λ (bytes : List ℕ). Begins (IsOfKind c.args.kind) entry_bytes (value_of c.in_ok-entry.entry) bytes c.read_kind.new.reader) c.new-reader.ensures c.in_ok-entry.ensures in
-    more_fails c.args.kind (value_of c.in_ok-entry.entry) c.args.bytes.now c.read_kind.new.reader begins some
+pub returns-in_err-read_own_term-in-3 : goal.returns-in_err-read_own_term-in-3
+returns-in_err-read_own_term-in-3 c =
+    let p = err_from_is_err_and c.from_residual-in_err-read_own_term-in-3.result c.from_residual-in_err-read_own_term-in-3.ensures.1 in
+    rw (p.1, p.2) (delete_fails c.in_err-read_own_term-in-3.field-0.0 c.args.bytes.now c.args.kind c.in-3.is c.in_err-read_own_term-in-3.ensures)
+
+pub returns-in_err-read_whole_query-in-4 : goal.returns-in_err-read_whole_query-in-4
+returns-in_err-read_whole_query-in-4 c =
+    let p = err_from_is_err_and c.from_residual-in_err-read_whole_query-in-4.result c.from_residual-in_err-read_whole_query-in-4.ensures.1 in
+    rw (p.1, p.2) (query_fails c.in_err-read_whole_query-in-4.field-0.0 c.args.bytes.now c.args.kind c.in-4.is c.requires c.in_err-read_whole_query-in-4.ensures)

@@ -3,6 +3,7 @@ use Rattle.std.proofs.lemmas.Result.{err_from_is_err_and}
 use Rattle.ix_base.specs.Query.{trees_of}
 use Rattle.ix_base.specs.QueryBytes.{queries_bytes}
 use Rattle.node_words.proofs.Reading.{byte_fails, term_fails, phrase_fails, bool_fails, must_fails, should_fails, must_not_fails, other_fails, list_fails, one_read, left_le, count_taken}
+use Rattle.node_words.specs.declared.fault.ReadError.TheVariants.{Foreign}
 use Rattle.node_words.proofs.query_read.+read_query.Goals as goal
 
 pub read_list-read_query-requires : goal.read_list-read_query-requires
@@ -26,17 +27,17 @@ read_list-loop-preserved t c =
 pub read_query-returns-in_err-byte : goal.read_query-returns-in_err-byte
 read_query-returns-in_err-byte t c =
     let p = err_from_is_err_and c.from_residual.result c.from_residual.ensures.1 in
-    rw (p.1, p.2) (byte_fails c.in_err-byte.field-0.0 c.args.reader.now c.in_err-byte.ensures)
+    rw (p.1, p.2) (byte_fails Foreign c.args.reader.now c.in_err-byte.ensures)
 
-pub read_query-returns-in_err-term-in-1 : goal.read_query-returns-in_err-term-in-1
-read_query-returns-in_err-term-in-1 t c =
-    let p = err_from_is_err_and c.from_residual-in_err-term-in-1.result c.from_residual-in_err-term-in-1.ensures.1 in
-    rw (p.1, p.2) (term_fails c.in_err-term-in-1.field-0.0 c.args.reader.now c.byte.new.self c.in_ok-byte.field-0 c.in-1.is c.in_ok-byte.ensures.1 c.in_err-term-in-1.ensures)
+pub read_query-returns-in_err-pair-in-1 : goal.read_query-returns-in_err-pair-in-1
+read_query-returns-in_err-pair-in-1 t c =
+    let p = err_from_is_err_and c.from_residual-in_err-pair-in-1.result c.from_residual-in_err-pair-in-1.ensures.1 in
+    rw (p.1, p.2) (term_fails Foreign c.args.reader.now c.byte.new.self c.in_ok-byte.field-0 c.in-1.is c.in_ok-byte.ensures.1 c.in_err-pair-in-1.ensures)
 
-pub read_query-returns-in_err-field-in-2 : goal.read_query-returns-in_err-field-in-2
-read_query-returns-in_err-field-in-2 t c =
-    let p = err_from_is_err_and c.from_residual-in_err-field-in-2.result c.from_residual-in_err-field-in-2.ensures.1 in
-    rw (p.1, p.2) (phrase_fails c.in_err-field-in-2.field-0.0 c.args.reader.now c.byte.new.self c.in_ok-byte.field-0 c.in-2.is c.in_ok-byte.ensures.1 c.in_err-field-in-2.ensures)
+pub read_query-returns-in_err-pair-in-2 : goal.read_query-returns-in_err-pair-in-2
+read_query-returns-in_err-pair-in-2 t c =
+    let p = err_from_is_err_and c.from_residual-in_err-pair-in-2.result c.from_residual-in_err-pair-in-2.ensures.1 in
+    rw (p.1, p.2) (phrase_fails Foreign c.args.reader.now c.byte.new.self c.in_ok-byte.field-0 c.in-2.is c.in_ok-byte.ensures.1 c.in_err-pair-in-2.ensures)
 
 pub read_query-returns-in_err-must-in-3 : goal.read_query-returns-in_err-must-in-3
 read_query-returns-in_err-must-in-3 t c =

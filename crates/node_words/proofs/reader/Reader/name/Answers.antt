@@ -1,5 +1,6 @@
+use Rattle.std.proofs.Common.{sym, ◌∙◌}
 use Rattle.node_words.proofs.Fields.{name_foreign}
 use Rattle.node_words.proofs.reader.Reader.name.Goals as goal
 
-pub returns-in-None : goal.returns-in-None
-returns-in-None c = name_foreign c.in_ok-text.text c.args.self.now c.text.new.self c.in_ok-text.ensures (λ h. cc (c.in-None.ensures.fits.1 h))
+pub returns-else-is_name : goal.returns-else-is_name
+returns-else-is_name c = name_foreign c.in_ok-name.name.now c.args.self.now c.text.new.self c.in_ok-name.ensures (λ h. cc (sym c.if-is_name.false ∙ c.is_name.ensures ∙ h))

@@ -1,13 +1,12 @@
-use Rattle.std.proofs.Common.{arith}
 use Rattle.std.proofs.lemmas.Result.{err_from_is_err_and}
+use Rattle.std.proofs.Common.{arith}
 use Rattle.std.specs.Int.{w64}
 use Rattle.std.specs.Prelude.{FitsSigned}
 use Rattle.ix_base.specs.EntryLaws.{length-signed64}
 use Rattle.ix_base.specs.Spelling.{signed64}
 use Rattle.node_words.proofs.Fields.{short_fails}
+use Rattle.node_words.specs.declared.fault.ReadError.TheVariants.{Foreign}
 use Rattle.node_words.proofs.reader.Reader.signed.Goals as goal
 
 pub returns-in_err-front : goal.returns-in_err-front
-returns-in_err-front c =
-    let p = err_from_is_err_and c.from_residual.result c.from_residual.ensures.1 in
-    rw (p.1, p.2) (short_fails (FitsSigned w64) signed64 8 c.args.self.now c.in_err-front.field-0.0 (λ n is. omega (arith, length-signed64 n)) c.in_err-front.ensures.short.1)
+returns-in_err-front c = rw ((err_from_is_err_and c.from_residual.result c.from_residual.ensures.1).1) (short_fails (FitsSigned w64) signed64 8 c.args.self.now Foreign (λ n is. omega (arith, length-signed64 n)) c.in_err-front.ensures.short)

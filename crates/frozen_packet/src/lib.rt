@@ -1,0 +1,16 @@
+//! What a list of operations does to the rows that stand when they come, coalesced: of each term
+//! its last delete, and the deletes by query and the settings. Updates grow by one entry at a time
+//! and are then frozen to a packet, which segments apply.
+#![tactic(auto)]
+
+mod deleted_terms;
+mod laws;
+mod packet;
+#[cfg(test)]
+mod tests;
+mod updates;
+
+pub use deleted_terms::{DeletedTerms, TermKey};
+pub use laws::{stands_for_itself, taking_stands};
+pub use packet::{Packet, freeze};
+pub use updates::{QueryDelete, Setting, Updates};

@@ -1,0 +1,97 @@
+//! Updates taken one by one, and what they then are, worked out by hand.
+ghost use Rattle.std.specs.Prelude.{◌<◌, IfOk, OnOk};
+ghost use Rattle.frozen_packet.specs.Updates.{as_operations, NumberedWithin};
+
+use crate::packet::freeze;
+use crate::updates::Updates;
+use ix_base::{Name, NoMemory, Query, Term, Text};
+use node_words::Entry;
+use std::alloc::Global;
+
+fn text(alloc: Global, bytes: &str) -> Result<Text, NoMemory> {
+    Text::new(String::from_str(alloc, bytes)?).ok_or(NoMemory)
+}
+
+fn name(alloc: Global, bytes: &str) -> Result<Name, NoMemory> {
+    Name::new(text(alloc, bytes)?).ok_or(NoMemory)
+}
+
+fn key_term(alloc: Global, key: &str) -> Result<Term, NoMemory> {
+    Ok(Term {
+        field: name(alloc, "key")?,
+        bytes: text(alloc, key)?,
+    })
+}
+
+/// The entry of each number.
+fn entry(alloc: Global, number: u64) -> Result<Entry, NoMemory> {
+    match number {
+        1 => Ok(Entry::Update(key_term(alloc, "b")?)),
+        2 => Ok(Entry::DeleteTerm(key_term(alloc, "a")?)),
+        3 => Ok(Entry::DeleteQuery(Query::All)),
+        4 => Ok(Entry::SetNumber {
+            term: key_term(alloc, "a")?,
+            num: name(alloc, "n")?,
+            value: -7,
+        }),
+        5 => Ok(Entry::Add),
+        6 => Ok(Entry::DeleteTerm(key_term(alloc, "a")?)),
+        7 => Ok(Entry::Commit),
+        _ => Ok(Entry::Turn),
+    }
+}
+
+fn take_next(alloc: Global, updates: &mut Updates, number: u64) -> Result<(), NoMemory>
+    requires earlier { NumberedWithin 0 number (as_operations updates.old) }
+    requires positive { 0 < number }
+    ensures { OnOk result (NumberedWithin 0 number (as_operations updates.new)) }
+{
+    let entry = entry(alloc, number)?;
+    updates.take(alloc, number, &entry)
+}
+
+/// The entries 1 to 8, taken.
+fn eight_taken(alloc: Global) -> Result<Updates, NoMemory>
+    ensures { IfOk result (λ updates. NumberedWithin 0 9 (as_operations updates)) }
+{
+    let mut updates = Updates::new(alloc);
+    for number in 1..9 {
+        take_next(alloc, &mut updates, number)?;
+    }
+    Ok(updates)
+}
+
+/// The terms that are deleted by, each with its number, as `a6`.
+fn shown(alloc: Global, updates: &Updates) -> Result<String, NoMemory> {
+    let mut shown = String::new(alloc);
+    for (key, number) in updates.deletes().as_map() {
+        shown.push_str(key.term().bytes.as_str())?;
+        shown.push((b'0' + (*number % 10) as u8) as char)?;
+    }
+    Ok(shown)
+}
+
+#[test]
+fn eight_entries(rt: HostRuntime) {
+    let alloc = rt.alloc();
+    assert!(rt; Updates::new(alloc).is_empty());
+    let Ok(updates) = eight_taken(alloc) else {
+        panic!(rt; "memory");
+    };
+    let packet = freeze(updates, 0, 9);
+    assert!(rt; !packet.updates.is_empty());
+    let Ok(terms) = shown(alloc, &packet.updates) else {
+        panic!(rt; "memory");
+    };
+    assert_eq!(rt; terms.as_str(), "a6b1");
+    assert_eq!(rt; packet.updates.queries().len(), 1);
+    for delete in packet.updates.queries() {
+        assert_eq!(rt; delete.number, 3);
+    }
+    assert_eq!(rt; packet.updates.settings().len(), 1);
+    for setting in packet.updates.settings() {
+        assert_eq!(rt; (setting.number, setting.value), (4, -7));
+        assert_eq!(rt; setting.term.bytes.as_str(), "a");
+        assert_eq!(rt; setting.num.as_str(), "n");
+    }
+}

@@ -1,0 +1,124 @@
+//! Coalesced updates.
+ghost use Rattle.std.specs.Prelude.{◌≡◌, ◌↔◌, [], IsTrue, IfOk, OnOk, OnErr};
+ghost use Rattle.frozen_packet.specs.Updates.{as_operations, KeepsBounds, NumberedUpTo, Takes};
+
+use crate::deleted_terms::DeletedTerms;
+use ix_base::{List, Name, NoMemory, Query, Term};
+use node_words::Entry;
+use std::alloc::Global;
+
+/// A delete of the documents that match a query, with its operation's number.
+#[derive(Drop)]
+pub struct QueryDelete {
+    pub number: u64,
+    pub query: Query,
+}
+
+/// A number set in the documents that hold a term: `num` gets this value. `number` is that of the
+/// operation.
+#[derive(Drop)]
+pub struct Setting {
+    pub number: u64,
+    pub term: Term,
+    pub num: Name,
+    pub value: i64,
+}
+
+/// What entries do to the rows that stand when they come: of each term its last delete, and the
+/// deletes by query and the settings, each with its number, in the order in which they came. An
+/// update counts as a delete by its term. The documents that entries add are not in them. A delete
+/// or setting acts only on rows that were born before it.
+#[derive(Drop)]
+pub struct Updates {
+    deletes: DeletedTerms,
+    queries: List<QueryDelete>,
+    settings: List<Setting>,
+}
+
+impl Updates {
+    /// No update. It takes no memory.
+    pub fn new(alloc: Global) -> Updates
+        ensures { as_operations result ≡ [] }
+    {
+        Updates {
+            deletes: DeletedTerms::new(alloc),
+            queries: List::new(alloc),
+            settings: List::new(alloc),
+        }
+    }
+
+    /// Whether there is no delete and no setting. It takes no memory.
+    pub fn is_empty(&self) -> bool
+        ensures { IsTrue result ↔ (as_operations self.now ≡ []) }
+    {
+        self.deletes.is_empty() && self.queries.len() == 0 && self.settings.len() == 0
+    }
+
+    /// The deletes by term, of each term the last one.
+    pub fn deletes(&self) -> &DeletedTerms
+        ensures { result.now ≡ self.now.deletes }
+    {
+        &self.deletes
+    }
+
+    /// The deletes by query, in the order in which they came.
+    pub fn queries(&self) -> &[QueryDelete]
+        ensures { result.now ≡ self.now.queries }
+    {
+        self.queries.as_slice()
+    }
+
+    /// The settings, in the order in which they came.
+    pub fn settings(&self) -> &[Setting]
+        ensures { result.now ≡ self.now.settings }
+    {
+        self.settings.as_slice()
+    }
+
+    /// Takes one more entry, whose number is not below those taken before: it makes of every row what
+    /// the earlier ones made of it and then this one. Adds, commits and turns change nothing. After
+    /// an error all is as before.
+    pub fn take(&mut self, alloc: Global, number: u64, entry: &Entry) -> Result<(), NoMemory>
+        requires { NumberedUpTo number (as_operations self.old) }
+        ensures takes { OnOk result (Takes self.old number entry.now self.new) }
+        ensures bounds { OnOk result (KeepsBounds self.old number self.new) }
+        ensures upto { OnOk result (NumberedUpTo number (as_operations self.new)) }
+        ensures err { OnErr result (self.new ≡ self.old) }
+    {
+        match entry {
+            Entry::Add | Entry::Commit | Entry::Turn => Ok(()),
+            Entry::Update(term) | Entry::DeleteTerm(term) => self.deletes.put(alloc, term, number),
+            Entry::DeleteQuery(query) => {
+                let query = query.clone_in(alloc)?;
+                self.queries.push(QueryDelete { number, query })
+            }
+            Entry::SetNumber { term, num, value } => {
+                let setting = setting_of(alloc, number, term, num, value)?;
+                self.settings.push(setting)
+            }
+        }
+    }
+}
+
+/// The setting of these parts.
+fn setting_of(
+    alloc: Global,
+    number: u64,
+    term: &Term,
+    num: &Name,
+    value: &i64,
+) -> Result<Setting, NoMemory>
+    ensures { IfOk result (λ made. made ≡ record {
+      number = number;
+      term = term.now;
+      num = num.now;
+      value = value.now;
+    }) }
+{
+    Ok(Setting {
+        number,
+        term: term.clone_in(alloc)?,
+        num: num.clone_in(alloc)?,
+        value: *value,
+    })
+}

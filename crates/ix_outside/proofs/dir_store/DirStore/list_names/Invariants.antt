@@ -1,6 +1,0 @@
-use Rattle.std.proofs.Common.{All}
-use Rattle.ix_base.specs.FileNames.{IsName}
-use Rattle.ix_outside.proofs.dir_store.DirStore.list_names.Given as goal
-
-abbrev pub invariant-loop-entry : goal.invariant-loop-entry
-invariant-loop-entry g l = All IsName l.names.items

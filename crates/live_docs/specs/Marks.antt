@@ -1,0 +1,48 @@
+-- The live bits and set values of a segment's rows.
+use Rattle.std.specs.Prelude.{◌≡◌, ◌≢◌, ℕ, zero, suc, ℤ, List, [], ◌∷◌, true, false, Option, Some, None, length, if◌then◌else◌}
+use Rattle.std.specs.List.{filter}
+use Rattle.std.specs.Str.{bytes_eq}
+use Rattle.ix_base.specs.Steps.{Named, with_number}
+use Rattle.live_docs.specs.declared.live_docs.Mark.{Mark}
+
+-- What contracts see of live docs: up to which number operations are in them, and a mark for each
+-- row, which says whether it is live and which numbers were set in it.
+pub record Marks : Type 0 where
+  pub applied : ℕ
+  pub marks : List Mark
+
+-- a mark of a row that is live and in which no number was set
+abbrev pub fresh : Mark
+fresh = record { live = true; values = [] }
+
+-- the mark of a row that is no longer live
+abbrev pub killed : Mark → Mark
+killed m = record m { live = false }
+
+-- a mark with this number set
+abbrev pub valued : List ℕ → ℤ → Mark → Mark
+valued name value m = record m { values = with_number name value m.values }
+
+-- the marks with that of one row changed
+abbrev pub changed_at : (Mark → Mark) → ℕ → List Mark → List Mark
+changed_at change i [] = []
+changed_at change zero (m ∷ marks) = change m ∷ marks
+changed_at change (suc i) (m ∷ marks) = m ∷ changed_at change i marks
+
+-- how many rows are live
+abbrev pub count_live : List Mark → ℕ
+count_live marks = length (filter (λ (m : Mark). m.live) marks)
+
+-- the number by this name, if there is one
+abbrev pub value_of : List ℕ → List Named → Option ℤ
+value_of name [] = None
+value_of name (v ∷ values) = if bytes_eq v.0 name then Some v.1 else value_of name values
+
+-- What was set last by a name is read by it, and the numbers by other names stay.
+pub record SetsOne (name : List ℕ) (value : ℤ) (values : List Named) : Type 0 where
+  pub set : value_of name (with_number name value values) ≡ Some value
+  pub others : (other : List ℕ) → other ≢ name → value_of other (with_number name value values) ≡ value_of other values
+
+-- Set numbers are a map from names to numbers.
+abbrev pub SetNumbersAreAMap : Type 0
+SetNumbersAreAMap = (name : List ℕ) (value : ℤ) (values : List Named) → SetsOne name value values

@@ -1,0 +1,12 @@
+//! Which rows of a segment are live, and the numbers that were set in them since they were added.
+#![tactic(auto)]
+
+mod laws;
+mod live_docs;
+mod numbers;
+#[cfg(test)]
+mod tests;
+
+pub use laws::set_numbers_are_a_map;
+pub use live_docs::{LiveDocs, Mark};
+pub use numbers::with_number;

@@ -1,0 +1,173 @@
+//! Live bits and set values of the rows of a segment.
+ghost use Rattle.std.specs.Prelude.{◌≡◌, ◌<◌, length, replicate, IfOk, OnOk, OnErr, slice_index_or};
+ghost use Rattle.live_docs.specs.Marks.{fresh, killed, valued, changed_at, count_live, value_of};
+
+use crate::numbers::with_number;
+use ix_base::{Name, NoMemory, Numbers};
+use std::alloc::Global;
+use std::marker::Model;
+use std::mem;
+
+/// Whether a row is live, and the numbers that were set in it, by name.
+#[derive(Drop)]
+pub struct Mark {
+    pub live: bool,
+    pub values: Numbers,
+}
+
+/// Of each row of a segment, whether it is live, and the numbers that were set in it. Rows are
+/// named by their places in the segment, from 0. `applied` is the number up to which operations are
+/// in it: a later operation isn't.
+#[derive(Drop)]
+pub struct LiveDocs {
+    applied: u64,
+    live: u32,
+    marks: Vec<Mark>,
+}
+
+impl Model for LiveDocs {
+    ghost use Rattle.std.specs.Prelude.{◌≡◌};
+    ghost use Rattle.live_docs.specs.Marks.{Marks, count_live};
+
+    ghost Value = { Marks };
+
+    ghost view = { λ docs. record { applied = docs.applied; marks = docs.marks.items } };
+
+    ghost invariant = { λ docs. docs.live ≡ count_live docs.marks.items };
+}
+
+impl Mark {
+    /// A copy of this mark.
+    fn clone_in(&self, alloc: Global) -> Result<Mark, NoMemory>
+        ensures { IfOk result (λ mark. mark ≡ self.now) }
+    {
+        Ok(Mark {
+            live: self.live,
+            values: self.values.clone_in(alloc)?,
+        })
+    }
+}
+
+impl LiveDocs {
+    /// So many rows, which are all live and in which no number was set.
+    pub fn new(alloc: Global, rows: u32, applied: u64) -> Result<LiveDocs, NoMemory>
+        ensures { IfOk result (λ docs. docs ≡ record { applied = applied; marks = replicate rows fresh }) }
+    {
+        let mut marks = Vec::new(alloc);
+        for _row in 0..rows {
+            marks.push(Mark {
+                live: true,
+                values: Numbers::none(alloc),
+            })?;
+        }
+        Ok(LiveDocs {
+            applied,
+            live: rows,
+            marks,
+        })
+    }
+
+    /// A copy of these.
+    pub fn clone_in(&self, alloc: Global) -> Result<LiveDocs, NoMemory>
+        ensures { IfOk result (λ docs. docs ≡ self.now) }
+    {
+        let mut marks = Vec::new(alloc);
+        for mark in &self.marks {
+            marks.push(mark.clone_in(alloc)?)?;
+        }
+        Ok(LiveDocs {
+            applied: self.applied,
+            live: self.live,
+            marks,
+        })
+    }
+
+    /// The number up to which operations are in these.
+    pub fn applied(&self) -> u64
+        ensures { result ≡ self.now.applied }
+    {
+        self.applied
+    }
+
+    /// Says that operations are in these up to this number. Rows and values stay.
+    pub fn set_applied(&mut self, applied: u64)
+        ensures { self.new ≡ record self.old { applied = applied } }
+    {
+        self.applied = applied;
+    }
+
+    /// Whether the row is live.
+    pub fn is_live(&self, row: u32) -> bool
+        requires { row < length self.now.marks }
+        ensures { result ≡ (slice_index_or self.now.marks row fresh).live }
+    {
+        self.marks[row as usize].live
+    }
+
+    /// How many rows are live.
+    pub fn live_count(&self) -> u32
+        ensures { result ≡ count_live self.now.marks }
+    {
+        self.live
+    }
+
+    /// The numbers that were set in the row, by name: of each name the one set last. A row that is
+    /// no longer live keeps its own. It takes no memory.
+    pub fn values(&self, row: u32) -> &[(Name, i64)]
+        requires { row < length self.now.marks }
+        ensures { result.now ≡ (slice_index_or self.now.marks row fresh).values }
+    {
+        self.marks[row as usize].values.as_slice()
+    }
+
+    /// The number by this name that was set in the row last: `None` exactly where none was.
+    pub fn value(&self, row: u32, name: &Name) -> Option<i64>
+        requires { row < length self.now.marks }
+        ensures { result ≡ value_of name.now (slice_index_or self.now.marks row fresh).values }
+    {
+        value_in(self.values(row), name)
+    }
+
+    /// The row is no longer live. Its values, and all other rows, stay.
+    pub fn kill(&mut self, row: u32)
+        requires { row < length self.old.marks }
+        ensures killed { self.new ≡ record self.old { marks = changed_at killed row self.old.marks } }
+        ensures rows { length self.new.marks ≡ length self.old.marks }
+    {
+        let mark = &mut self.marks[row as usize];
+        let was_live = mem::replace(&mut mark.live, false);
+        self.live -= u32::from(was_live);
+    }
+
+    /// Sets a number of the row, in place of the one by this name where there is one. All else
+    /// stays; after an error all is as before.
+    pub fn set_value(
+        &mut self,
+        alloc: Global,
+        row: u32,
+        name: &Name,
+        value: i64,
+    ) -> Result<(), NoMemory>
+        requires { row < length self.old.marks }
+        ensures ok { let marks = changed_at (valued name.now value) row self.old.marks in
+            OnOk result (self.new ≡ record self.old { marks = marks }) }
+        ensures rows { OnOk result (length self.new.marks ≡ length self.old.marks) }
+        ensures err { OnErr result (self.new ≡ self.old) }
+    {
+        let mark = &mut self.marks[row as usize];
+        mark.values = with_number(alloc, &mark.values, name, value)?;
+        Ok(())
+    }
+}
+
+/// The number by this name among these.
+fn value_in(values: &[(Name, i64)], name: &Name) -> Option<i64>
+    ensures { result ≡ value_of name.now values.now }
+{
+    for pair in values {
+        if pair.0.as_str() == name.as_str() {
+            return Some(pair.1);
+        }
+    }
+    None
+}

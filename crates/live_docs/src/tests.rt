@@ -1,0 +1,55 @@
+//! Rows killed and numbers set, in steps that were worked out by hand.
+ghost use Rattle.std.specs.Prelude.{◌≡◌, ◌<◌, length, IfOk, OnOk};
+
+use crate::live_docs::LiveDocs;
+use ix_base::{Name, NoMemory, Text};
+use std::alloc::Global;
+
+fn name(alloc: Global, bytes: &str) -> Result<Name, NoMemory> {
+    match Text::new(String::from_str(alloc, bytes)?) {
+        Some(text) => Name::new(text).ok_or(NoMemory),
+        None => Err(NoMemory),
+    }
+}
+
+fn set(alloc: Global, docs: &mut LiveDocs, bytes: &str, value: i64) -> Result<(), NoMemory>
+    requires { 2 < length docs.old.marks }
+    ensures { OnOk result (length docs.new.marks ≡ length docs.old.marks) }
+{
+    let name = name(alloc, bytes)?;
+    docs.set_value(alloc, 2, &name, value)
+}
+
+/// Three rows. The second is killed, twice; in the third `b` is set, then `a`, then `b` again.
+fn three_rows(alloc: Global) -> Result<LiveDocs, NoMemory>
+    ensures { IfOk result (λ docs. length docs.marks ≡ 3) }
+{
+    let mut docs = LiveDocs::new(alloc, 3, 7)?;
+    docs.kill(1);
+    docs.kill(1);
+    set(alloc, &mut docs, "b", 1)?;
+    set(alloc, &mut docs, "a", -2)?;
+    set(alloc, &mut docs, "b", 3)?;
+    docs.clone_in(alloc)
+}
+
+#[test]
+fn rows_and_numbers(rt: HostRuntime) {
+    let alloc = rt.alloc();
+    let Ok(docs) = three_rows(alloc) else {
+        panic!(rt; "memory");
+    };
+    assert_eq!(rt; docs.applied(), 7);
+    assert_eq!(rt; docs.live_count(), 2);
+    for (row, live) in [(0, true), (1, false), (2, true)] {
+        assert_eq!(rt; docs.is_live(row), live, "row {row}");
+    }
+    for (bytes, value) in [("a", Some(-2)), ("b", Some(3)), ("c", None)] {
+        let Ok(name) = name(alloc, bytes) else {
+            panic!(rt; "memory");
+        };
+        assert_eq!(rt; docs.value(2, &name), value, "{bytes}");
+        assert_eq!(rt; docs.value(1, &name), None, "{bytes}");
+    }
+    assert_eq!(rt; docs.values(2).len(), 2);
+}

@@ -1,0 +1,14 @@
+use Rattle.std.proofs.Common.{◌≡◌, ◌∙◌, sym, ap, length, is_some, arith}
+use Rattle.op_script.specs.Documents.{numbers_of}
+use Rattle.op_script.proofs.Pairs.{few_by-few, few_by-many}
+use Rattle.op_script.proofs.document_check.are_few_numbers.Goals as goal
+
+pub returns-then-len-gt-MOST_MEMBERS : goal.returns-then-len-gt-MOST_MEMBERS
+returns-then-len-gt-MOST_MEMBERS c =
+    let len : c.len.result ≡ length c.args.members.now.entries = c.len.ensures.len in
+    ap is_some (sym (few_by-many numbers_of c.args.members.now.entries (omega arith)))
+
+pub returns : goal.returns
+returns c =
+    let len : c.len.result ≡ length c.args.members.now.entries = c.len.ensures.len in
+    c.are_numbers.ensures ∙ ap is_some (sym (few_by-few numbers_of c.args.members.now.entries (omega arith)))

@@ -1,0 +1,83 @@
+#!/usr/bin/env python3
+"""Prints what the files of an index hold, read by docs/FORMATS.md alone: a line for each commit and, below the last one,
+a line for each of its rows.
+
+usage: look.py DIR
+
+It stops at a file that is not in the grammar. It does not test all rules: `index_run` does.
+"""
+import json
+import os
+import re
+import sys
+
+
+class Reader:
+    """The fields of a file, from its first byte on."""
+
+    def __init__(self, path):
+        with open(path, "rb") as file:
+            self.path, self.bytes, self.at = path, file.read(), 0
+
+    def take(self, count):
+        piece = self.bytes[self.at:self.at + count]
+        if len(piece) < count:
+            sys.exit(f"{self.path}: cut short at {self.at}")
+        self.at += count
+        return piece
+
+    def mark(self, wanted):
+        if self.take(8) != wanted:
+            sys.exit(f"{self.path}: no mark {wanted.decode()}")
+
+    def number(self, size, signed=False):
+        return int.from_bytes(self.take(size), "big", signed=signed)
+
+    def text(self):
+        return self.take(self.number(4)).decode()
+
+    def end(self):
+        if self.at != len(self.bytes):
+            sys.exit(f"{self.path}: {len(self.bytes) - self.at} bytes after the last field")
+
+
+def read_commit(directory, number):
+    file = Reader(os.path.join(directory, f"segments_{number}"))
+    file.mark(b"IXCOM001")
+    head = {"commit": file.number(8), "docs": file.number(8), "next_id": file.number(8)}
+    head["segments"] = [
+        {"id": file.number(8), "n": file.number(4), "v": file.number(8)} for _ in range(file.number(8))
+    ]
+    file.end()
+    return head
+
+
+def read_rows(directory, segment):
+    file = Reader(os.path.join(directory, f"seg_{segment}.row"))
+    file.mark(b"IXROW001")
+    file.number(8)
+    rows = []
+    for _ in range(file.number(4)):
+        row = {"birth": file.number(8), "key": file.text()}
+        row["text"] = {file.text(): file.text() for _ in range(file.number(4))}
+        row["exact"] = {file.text(): file.text() for _ in range(file.number(4))}
+        row["num"] = {file.text(): file.number(8, signed=True) for _ in range(file.number(8))}
+        rows.append(row)
+    file.end()
+    return rows
+
+
+def main():
+    directory = sys.argv[1]
+    names = [re.fullmatch(r"segments_([1-9][0-9]*)", name) for name in os.listdir(directory)]
+    numbers = sorted(int(name[1]) for name in names if name)
+    for number in numbers:
+        commit = read_commit(directory, number)
+        print(json.dumps(commit, ensure_ascii=False))
+    if numbers:
+        rows = [row for segment in commit["segments"] for row in read_rows(directory, segment["id"])]
+        for row in sorted(rows, key=lambda row: row["birth"]):
+            print(json.dumps(row, ensure_ascii=False))
+
+
+main()
