@@ -16,7 +16,7 @@ use Rattle.ix_outside.specs.Calls.{LeavesOnly}
 use Rattle.ix_outside.specs.CallLaws.{leaves_none, leaves_then}
 use Rattle.ix_outside.specs.Files.{Files, Changes}
 use Rattle.ix_outside.specs.Images.{Follows}
-use Rattle.commit_point.specs.Holds.{Holds, KeepsCommits}
+use Rattle.commit_point.specs.Holds.{KeepsCommits}
 use Rattle.commit_point.specs.Laws.{holds_kept, other_commit}
 use Rattle.ix_outside.specs.Images.{Reaches}
 use Rattle.commit_point.specs.Writing.{Commits, SameElsewhere, MayCommit, next_after}

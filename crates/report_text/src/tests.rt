@@ -1,6 +1,5 @@
 use super::*;
-use ix_base::Damaged;
-use ix_base::{FileName, Operation, Row};
+use ix_base::{Damaged, FileName, Operation, Row};
 use op_script::{Act, BadLine, Why, read_script};
 use std::alloc::Global;
 use std::test::*;
