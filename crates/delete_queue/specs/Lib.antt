@@ -1,0 +1,4 @@
+pub mod Ties
+pub mod Seats
+pub mod Answers
+pub mod Linking
