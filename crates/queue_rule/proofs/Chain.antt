@@ -68,6 +68,7 @@ fits_else k ws es n a x v past low high other h = let room = h.room in let some_
   number = h.number;
   seats = h.seats;
   owns = h.owns;
+  held = h.held;
   olds = h.olds;
   blank = h.blank;
   spares = h.spares;

@@ -14,7 +14,7 @@ use Rattle.queue_rule.specs.Views.{numbers, more_numbers, front, with_draft}
 use Rattle.queue_rule.specs.Chain.{ChainEntry, need, start, used, own, own_from, filled, Spelled}
 use Rattle.queue_rule.specs.Rule.{total, IsKnown, Fits, Kept}
 use Rattle.queue_rule.specs.Steps.{Drafted}
-use Rattle.queue_rule.proofs.Lists.{all_at, all_more, total_two, total_set, total_at}
+use Rattle.queue_rule.proofs.Lists.{used_take, all_at, all_more, total_two, total_set, total_at}
 use Rattle.queue_rule.proofs.Chain.{AllPast, is_past, chained_set, lies_set, known_set, fits_else}
 
 filled_if : (b : Bool) (o : Own) (os os' : List Own) (u : ℕ) → filled os ≡ u → filled os' ≡ u → filled (if b then o ∷ os else os') ≡ (if b then length o.words + 1 else 0) + u
@@ -24,6 +24,9 @@ filled_if false o os os' u e f = f ∙ omega arith
 pub filled_own : (i p : ℕ) (es : List ChainEntry) → filled (own_from i p es) ≡ used i es
 filled_own i p [] = refl
 filled_own i p (e ∷ es) = filled_if (eqb e.seat i) (own p e.words) (own_from i (p + 1) es) (own_from i (p + 1) es) (used i es) (filled_own i (p + 1) es) (filled_own i (p + 1) es)
+
+pub no_entry : (n : ℕ) (es : List ChainEntry) → own_from n 1 es ≡ [] → (j : ℕ) (e : ChainEntry) → get_elem? es j ≡ some e → e.seat ≡ n → ⊥
+no_entry n es no_own j e got is = let u : used n es ≡ 0 = sym (filled_own n 1 es) ∙ ap filled no_own in let t = used_take es j e got in let same : used e.seat es ≡ used n es = ap (λ (i : ℕ). used i es) is in omega (arith, u, t, same)
 
 pub redrafted : (ws : List ℕ) (at : ℕ) (xs : List ℕ) (d x : ℕ) → Spelled ws at xs → d ≤ length xs → at + d < length ws → Spelled (set ws (at + d) x) at (take d xs ++ x ∷ [])
 redrafted ws at xs d x h le inside j l = let short : length (take d xs) ≡ d = length-take-le d xs le in let long : length (take d xs ++ x ∷ []) ≡ d + 1 = length-append (take d xs) (x ∷ []) ∙ ap (λ (n : ℕ). n + 1) short in dite (ℕ_discrete j d)
@@ -90,6 +93,7 @@ module _ (k : ℕ) where
         number = f.number;
         seats = f.seats;
         owns = f.owns;
+        held = f.held;
         olds = f.olds;
         blank = f.blank;
         spares = f.spares;

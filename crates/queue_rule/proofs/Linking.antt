@@ -1,5 +1,5 @@
 -- A compare-exchange on the next word of the last entry seen keeps the rule.
-use Rattle.std.proofs.Common.{◌≡◌, ◌≢◌, ℕ, zero, suc, ◌+◌, ◌<◌, ◌≤◌, ◌⊎◌, eqb, Bool, true, false, if◌then◌else◌, MatchBool, List, [], ◌∷◌, ◌++◌, append_assoc, append-nil, map, length, get_or, take, drop, set, sym, refl, ap, ◌∙◌, subst, ap₂, inl, inr, ⊎_elim, arith, eq-eqb, ne_eqb, get_or-set_other, get_or-set_same, length-set, length-append, lt_of_not-le}
+use Rattle.std.proofs.Common.{◌≡◌, ◌≢◌, ℕ, suc, ◌+◌, ◌<◌, ◌≤◌, ◌⊎◌, eqb, Bool, true, MatchBool, List, [], ◌∷◌, ◌++◌, append_assoc, append-nil, map, length, get_or, take, drop, set, sym, refl, ap, ◌∙◌, subst, ap₂, inl, inr, ⊎_elim, arith, eq-eqb, ne_eqb, get_or-set_other, length-set, length-append, lt_of_not-le}
 use Rattle.std.proofs.lemmas.List.{set-get_or, length-map, map-append, take-append-le, take_all}
 use mathlib.Core.Option.{some, none, some-injective, some-ne-none}
 use mathlib.Core.Logic.{dite}
@@ -9,133 +9,25 @@ use prog.Atomic.{either}
 use Rattle.atomic_table.specs.Table.{State, Me, step, keeps, stepped, Allows, Act, Valid, carried_after}
 use Rattle.atomic_table.proofs.Lists.{at_snoc, at_longer}
 use Rattle.queue_rule.specs.declared.view.View.{View}
-use Rattle.queue_rule.specs.declared.view.Own.{Own}
 use Rattle.queue_rule.specs.declared.view.Known.{Known}
 use Rattle.queue_rule.specs.declared.view.Old.{Old}
-use Rattle.queue_rule.specs.Lists.{Each, Starts, times, last_or}
+use Rattle.queue_rule.specs.Lists.{Each, times, last_or}
 use Rattle.queue_rule.specs.Views.{numbers, more_numbers, front, known, sees, links}
-use Rattle.queue_rule.specs.Rule.{IsOld, IsKnown, Fits, Kept}
+use Rattle.queue_rule.specs.Rule.{IsKnown, Fits, Kept}
 use Rattle.queue_rule.specs.Chain.{ChainEntry, need, start, used, own, own_from, filled, IsOpen, Chained, Spelled, Lies, IsLinked, IsNext}
 use Rattle.ix_base.specs.Words.{head_kind, IsEntryWords}
-use Rattle.queue_rule.specs.Told.{Knows, SawOpen}
+use Rattle.queue_rule.specs.Told.{SawOpen}
+use Rattle.queue_rule.specs.Views.{Knows}
 use Rattle.queue_rule.specs.Steps.{Tried}
 use Rattle.queue_rule.proofs.Lists.{at_inside, all_more, used_take}
 use Rattle.queue_rule.proofs.Chain.{has_words, AllLie, AllPast, is_past, linked_else}
-use Rattle.queue_rule.proofs.Drafting.{apart, elsewhere, once_here, own_number, live_numbers, no_times, times_append, same_once, fit_set, filled_own}
-
-abbrev pub at_of : ChainEntry → ℕ
-at_of e = e.at
-
--- ---- chains
-
-pub chained_split : (ws : List ℕ) (p : ℕ) (xs ys : List ℕ) → Chained ws p (xs ++ ys) → Chained ws (last_or p xs) ys
-chained_split ws p [] ys h = h
-chained_split ws p (a ∷ xs) ys h = chained_split ws a xs ys h.2
-
-chained_last : (ws : List ℕ) (p : ℕ) (xs : List ℕ) → Chained ws p xs → get_or ws (last_or p xs) 0 ≡ 0
-chained_last ws p [] h = h
-chained_last ws p (a ∷ xs) h = chained_last ws a xs h.2
-
-chained_more : (ws : List ℕ) (p : ℕ) (xs : List ℕ) (a : ℕ) → Chained ws p xs → last_or p xs < length ws → 0 < a → a ≢ last_or p xs → get_or ws a 0 ≡ 0 → Chained (set ws (last_or p xs) a) p (xs ++ a ∷ [])
-chained_more ws p [] a h inside some_a other zero_a = (get_or-set_same ws p a 0 inside, some_a, get_or-set_other ws p a a 0 other ∙ zero_a)
-chained_more ws p (b ∷ xs) a h inside some_a other zero_a =
-    let last = chained_last ws b xs h.2 in
-    let first = h.0 in
-    let some_b = h.1 in
-    (get_or-set_other ws (last_or b xs) p a 0 (λ e. let same = ap (λ (i : ℕ). get_or ws i 0) e in let z : ⊥ = omega (arith, same, last, first, some_b) in z) ∙ h.0, h.1, chained_more ws b xs a h.2 inside some_a other zero_a)
-
--- the entry at a place of the chain
-pub entry_at : (es : List ChainEntry) (xs : List ℕ) (a : ℕ) (rest : List ℕ) → map at_of es ≡ xs ++ a ∷ rest → (e : ChainEntry) × (get_elem? es (length xs) ≡ some e) × (e.at ≡ a)
-entry_at [] [] a rest h = let n : 0 ≡ 1 + length rest = ap length h ∙ omega arith in absurd (omega (arith, n))
-entry_at [] (x ∷ xs) a rest h = let n : 0 ≡ 1 + length (xs ++ a ∷ rest) = ap length h ∙ omega arith in absurd (omega (arith, n))
-entry_at (e ∷ es) [] a rest h = (e, refl, ap (λ l. get_or l 0 0) h)
-entry_at (e ∷ es) (x ∷ xs) a rest h = entry_at es xs a rest (ap (drop 1) h)
-
--- the last entry, or word 0
-pub last_entry : (es : List ChainEntry) (p : ℕ) → (es ≡ []) ⊎ ((e : ChainEntry) × (j : ℕ) × (get_elem? es j ≡ some e) × (j + 1 ≡ length es) × (last_or p (map at_of es) ≡ e.at))
-last_entry [] p = inl refl
-last_entry (e ∷ es) p = inr (⊎_elim (λ (is : es ≡ []). (e, 0, refl, ap (λ (l : List ChainEntry). suc (length l)) (sym is), ap (λ l. last_or e.at (map at_of l)) is))
-    (λ (t : (x : ChainEntry) × (j : ℕ) × (get_elem? es j ≡ some x) × (j + 1 ≡ length es) × (last_or e.at (map at_of es) ≡ x.at)). let len = t.3 in (t.0, suc t.1, t.2, omega (arith, len), t.4)) (last_entry es e.at))
-
--- ---- one entry more
-
-pub used_more : (i : ℕ) (es : List ChainEntry) (e : ChainEntry) → used i (es ++ e ∷ []) ≡ used i es + used i (e ∷ [])
-used_more i [] e = omega arith
-used_more i (x ∷ es) e = let h = used_more i es e in omega (arith, h)
-
-pub used_same : (e : ChainEntry) → used e.seat (e ∷ []) ≡ need e
-used_same e = ap (λ (b : Bool). (if b then need e else 0) + 0) (eq-eqb e.seat e.seat refl) ∙ omega arith
-
-pub used_other : (i : ℕ) (e : ChainEntry) → e.seat ≢ i → used i (e ∷ []) ≡ 0
-used_other i e n = ap (λ (b : Bool). (if b then need e else 0) + 0) (ne_eqb e.seat i n)
-
-own_if : (b : Bool) (o : Own) (os ps : List Own) → (if b then o ∷ (os ++ ps) else (os ++ ps)) ≡ (if b then o ∷ os else os) ++ ps
-own_if true o os ps = refl
-own_if false o os ps = refl
-
-own_more : (i p : ℕ) (es : List ChainEntry) (e : ChainEntry) → own_from i p (es ++ e ∷ []) ≡ own_from i p es ++ own_from i (p + length es) (e ∷ [])
-own_more i p [] e = ap (λ (n : ℕ). own_from i n (e ∷ [])) (omega arith)
-own_more i p (x ∷ es) e = let h = own_more i (p + 1) es e in let n : (p + 1) + length es ≡ p + suc (length es) = omega arith in
-    let h' : own_from i (p + 1) (es ++ e ∷ []) ≡ own_from i (p + 1) es ++ own_from i (p + suc (length es)) (e ∷ []) = h ∙ ap (λ (m : ℕ). own_from i (p + 1) es ++ own_from i m (e ∷ [])) n in
-    ap (λ l. if eqb x.seat i then own p x.words ∷ l else l) h' ∙ own_if (eqb x.seat i) (own p x.words) (own_from i (p + 1) es) (own_from i (p + suc (length es)) (e ∷ []))
-
-own_same : (e : ChainEntry) (p : ℕ) → own_from e.seat p (e ∷ []) ≡ own p e.words ∷ []
-own_same e p = ap (λ (b : Bool). if b then own p e.words ∷ [] else []) (eq-eqb e.seat e.seat refl)
-
-own_other : (i p : ℕ) (e : ChainEntry) → e.seat ≢ i → own_from i p (e ∷ []) ≡ []
-own_other i p e n = ap (λ (b : Bool). if b then own p e.words ∷ [] else []) (ne_eqb e.seat i n)
-
-spelled_else : (ws : List ℕ) (a x at : ℕ) (xs : List ℕ) → Spelled ws at xs → ((j : ℕ) → j < length xs → at + j ≢ a) → Spelled (set ws a x) at xs
-spelled_else ws a x at xs h other j l = get_or-set_other ws a (at + j) x 0 (other j l) ∙ h j l
-
-pub take_before : (es : List ChainEntry) (i j : ℕ) (e : ChainEntry) → get_elem? es j ≡ some e → j < i → (get_elem? (take i es) j ≡ some e) × (take j (take i es) ≡ take j es)
-take_before [] i j e h l = absurd (some-ne-none e (sym h))
-take_before (x ∷ es) zero j e h l = absurd (omega (arith, l))
-take_before (x ∷ es) (suc i) zero e h l = (h, refl)
-take_before (x ∷ es) (suc i) (suc j) e h l = let r = take_before es i j e h (omega (arith, l)) in (r.0, ap (λ t. x ∷ t) r.1)
-
-at_last_place : (es : List ChainEntry) (j : ℕ) (y : ChainEntry) → get_elem? es j ≡ some y → j + 1 ≡ length es → y.at ≡ last_or 0 (map at_of es)
-at_last_place es j y got len = ⊎_elim (λ (none : es ≡ []). absurd (some-ne-none y (sym (subst (λ (l : List ChainEntry). get_elem? l j ≡ some y) none got))))
-    (λ (t : (z : ChainEntry) × (i : ℕ) × (get_elem? es i ≡ some z) × (i + 1 ≡ length es) × (last_or 0 (map at_of es) ≡ z.at)). let li = t.3 in let same : j ≡ t.1 = omega (arith, li, len) in
-    ap at_of (some-injective y t.0 (sym got ∙ (ap (get_elem? es) same ∙ t.2))) ∙ sym t.4) (last_entry es 0)
-
-lt_or_not : (a b : ℕ) → (a < b → ⊥) → b ≤ a
-lt_or_not a b n = dite (dec_le b a) (λ le. le) (λ gt. absurd (n (lt_of_not-le gt)))
-
-pub each_at : {A : Type 0} (P : A → Type 0) (l : List A) → Each P l → (j : ℕ) (a : A) → get_elem? l j ≡ some a → P a
-each_at P [] h j a e = absurd (some-ne-none a (sym e))
-each_at P (x ∷ l) h zero a e = subst P (some-injective x a e) h.0
-each_at P (x ∷ l) h (suc j) a e = each_at P l h.1 j a e
-
-at_end : (es : List ChainEntry) (e y : ChainEntry) (j : ℕ) → get_elem? (es ++ e ∷ []) j ≡ some y → (get_elem? es j ≡ some y) ⊎ ((j ≡ length es) × (e ≡ y))
-at_end [] e y zero h = inr (refl, some-injective e y h)
-at_end [] e y (suc j) h = absurd (some-ne-none y (sym h))
-at_end (x ∷ es) e y zero h = inl h
-at_end (x ∷ es) e y (suc j) h = ⊎_elim (λ o. inl o) (λ t. inr (ap suc t.0, t.1)) (at_end es e y j h)
-
--- the olds and the spare numbers of a view that doesn't hold the entry's seat
-starts_more : (l xs : List ℕ) (a : ℕ) → Starts l xs → Starts (l ++ a ∷ []) xs
-starts_more l xs a h = (h.0 ++ a ∷ [], ap (λ m. m ++ a ∷ []) h.1 ∙ append_assoc xs h.0 (a ∷ []))
-
-own_else : (es : List ChainEntry) (e : ChainEntry) (n : ℕ) → n ≢ e.seat → own_from n 1 (es ++ e ∷ []) ≡ own_from n 1 es
-own_else es e n ne = own_more n 1 es e ∙ (ap (λ l. own_from n 1 es ++ l) (own_other n (1 + length es) e (λ q. ne (sym q))) ∙ append-nil (own_from n 1 es))
-
-old_more : (es : List ChainEntry) (e : ChainEntry) (n m : ℕ) (o : Old) → n ≤ m → o.number ≢ e.seat → IsOld es n o → IsOld (es ++ e ∷ []) m o
-old_more es e n m o up ne h = let now = sym (map-append at_of es (e ∷ [])) in let a = h.3 in let b = h.4 in (h.0 ∙ sym (own_else es e o.number ne), subst (λ l. Starts l o.seen) now (starts_more (map at_of es) o.seen e.at h.1), subst (λ l. Starts l o.mine) now (starts_more (map at_of es) o.mine e.at h.2), omega (arith, a, up), omega (arith, b, up))
-
-olds_more : (es : List ChainEntry) (e : ChainEntry) (n m : ℕ) (os : List Old) → n ≤ m → times e.seat (map (λ (o : Old). o.number) os) ≡ 0 → Each (IsOld es n) os → Each (IsOld (es ++ e ∷ []) m) os
-olds_more es e n m [] up absent h = tt
-olds_more es e n m (o ∷ os) up absent h = (old_more es e n m o up (no_times e.seat o.number (map (λ (x : Old). x.number) os) absent) h.0, olds_more es e n m os up (omega (arith, absent)) h.1)
-
-pub olds_longer : (es : List ChainEntry) (n m : ℕ) (os : List Old) → n ≤ m → Each (IsOld es n) os → Each (IsOld es m) os
-olds_longer es n m os up = all_more (IsOld es n) (IsOld es m) os (λ o h. let a = h.3 in let b = h.4 in (h.0, h.1, h.2, omega (arith, a, up), omega (arith, b, up)))
-
-one_longer : {A : Type 0} (xs : List A) (x : A) → length (xs ++ x ∷ []) ≡ length xs + 1
-one_longer xs x = length-append xs (x ∷ [])
-
-spares_more : (k : ℕ) (es : List ChainEntry) (e : ChainEntry) (ns : List ℕ) → times e.seat ns ≡ 0 → Each (λ n. (n < k) × (own_from n 1 es ≡ [])) ns → Each (λ n. (n < k) × (own_from n 1 (es ++ e ∷ []) ≡ [])) ns
-spares_more k es e [] absent h = tt
-spares_more k es e (n ∷ ns) absent h = ((h.0.0, own_else es e n (no_times e.seat n ns absent) ∙ h.0.1), spares_more k es e ns (omega (arith, absent)) h.1)
+use Rattle.queue_rule.proofs.Drafting.{apart, elsewhere, once_here, own_number, live_numbers, times_append, same_once, fit_set, filled_own}
+use Rattle.queue_rule.specs.Views.{known_from, KnownFrom}
+use Rattle.queue_rule.specs.Rule.{KnowsAll}
+use Rattle.atomic_table.proofs.Lists.{at_last}
+use Rattle.queue_rule.proofs.Lists.{each_append}
+use Rattle.queue_rule.proofs.Knowing.{in_same, in_longer, in_behind, known_at, each_known, known_longer, held_longer, olds_longer}
+use Rattle.queue_rule.proofs.Entries.{at_end, at_last_place, at_of, chained_last, chained_more, chained_split, each_at, entry_at, held_more, last_entry, lt_or_not, olds_more, one_longer, own_else, own_more, own_same, payload_known, spares_more, spelled_else, take_before, used_more, used_other, used_same}
 
 -- ---- the step
 
@@ -172,7 +64,8 @@ module _ (k : ℕ) where
           number = f.number;
           seats = f.seats;
           owns = f.owns;
-          olds = olds_longer r.entries (length v.seen) (length (v.seen ++ a ∷ [])) v.olds (let n = one_longer v.seen a in omega (arith, n)) f.olds;
+          held = held_longer r.entries v.known v.known (length v.seen) (length (v.seen ++ a ∷ [])) v.number (in_same v.known) (let n = one_longer v.seen a in omega (arith, n)) f.held;
+          olds = olds_longer r.entries v.known v.known (length v.seen) (length (v.seen ++ a ∷ [])) v.olds (in_same v.known) (let n = one_longer v.seen a in omega (arith, n)) f.olds;
           blank = λ z. let n = one_longer v.seen a in absurd (omega (arith, n, z));
           spares = f.spares;
           room = f.room;
@@ -288,18 +181,28 @@ module _ (k : ℕ) where
       let w = links v in
       let own_now : w.own ≡ own_from i 1 entries = ap (λ l. l ++ own (length v.seen + 1) (drop 1 v.draft) ∷ []) f.owns
       ∙ (ap (λ o. own_from i 1 es ++ o ∷ []) (ap₂ own (omega (arith, places)) (ap (drop 1) draft)) ∙ (ap (λ l. own_from i 1 es ++ l) (sym (own_same e (1 + length es))) ∙ sym (own_more i 1 es e))) in
+      let payload : drop 1 v.draft ≡ ws = ap (drop 1) draft in
+      let last_at : get_elem? entries (length es) ≡ some e = at_last es e (length es) refl in
+      let known_now : Each (IsKnown (set s.words last a) entries) (known_from (a + 1) (drop 1 v.draft)) = subst (λ l. Each (IsKnown (set s.words last a) entries) (known_from (a + 1) l)) (sym payload)
+      (each_known (IsKnown (set s.words last a) entries) (a + 1) ws (λ d lt. subst (λ (x : ℕ). IsKnown (set s.words last a) entries (known (a + 1 + d) x)) (spelled d lt) (payload_known k (set s.words last a) entries lies (length es) d e last_at lt))) in
+      let own_known : KnownFrom w.known (a + 1) ws = known_longer (known_from (a + 1) (drop 1 v.draft)) w.known (a + 1) ws (in_behind v.known (known_from (a + 1) (drop 1 v.draft)))
+      (subst (λ l. KnownFrom (known_from (a + 1) l) (a + 1) ws) (sym payload) (known_at (a + 1) ws)) in
+      let held_now : KnowsAll entries w.known (length (v.seen ++ a ∷ [])) i = λ j y got is_seat. let n = one_longer v.seen a in ⊎_elim
+      (λ (old : get_elem? es j ≡ some y). held_longer es v.known w.known (length v.seen) (length (v.seen ++ a ∷ [])) i (in_longer v.known (known_from (a + 1) (drop 1 v.draft))) (omega (arith, n)) f.held j y old is_seat)
+      (λ (new : (j ≡ length es) × (e ≡ y)). let end = new.0 in (omega (arith, end, n, places), subst (λ (z : ChainEntry). KnownFrom w.known (z.at + 1) z.words) new.1 own_known)) (at_end es e y j got) in
       let mine : Fits k (set s.words last a) entries w = record {
         number = f.number;
         seats = f.seats;
         owns = own_now;
-        olds = olds_more es e (length v.seen) (length (v.seen ++ a ∷ [])) v.olds (let n = one_longer v.seen a in omega (arith, n)) (omega (arith, none_else)) f.olds;
+        held = held_now;
+        olds = olds_more es e v.known w.known (length v.seen) (length (v.seen ++ a ∷ [])) v.olds (in_longer v.known (known_from (a + 1) (drop 1 v.draft))) (let n = one_longer v.seen a in omega (arith, n)) (omega (arith, none_else)) f.olds;
         blank = λ z. let n = one_longer v.seen a in absurd (omega (arith, n, z));
         spares = spares_more k es e v.spares (omega (arith, none_else)) f.spares;
         room = omega (arith, used_now, room, draft_len);
         draft = λ j l. absurd (omega (arith, l));
         unseen = [];
         seen = chain_now ∙ (ap (λ l. l ++ a ∷ []) whole ∙ sym (append-nil (v.seen ++ a ∷ [])));
-        known = all_more (IsKnown s.words es) (IsKnown (set s.words last a) entries) v.known (λ o. known_more s.words es e last a o zero_there next fresh) f.known;
+        known = each_append (IsKnown (set s.words last a) entries) v.known (known_from (a + 1) (drop 1 v.draft)) (all_more (IsKnown s.words es) (IsKnown (set s.words last a) entries) v.known (λ o. known_more s.words es e last a o zero_there next fresh) f.known) known_now;
       } in
       let others : (j : ℕ) (u : View) → j ≢ id → get_elem? s.views j ≡ some u → u.live ≡ true → Fits k (set s.words last a) entries u = λ j u other got live.
       let g = r.fits j u got live in
@@ -314,7 +217,8 @@ module _ (k : ℕ) where
         number = g.number;
         seats = g.seats;
         owns = g.owns ∙ sym (own_else es e u.number ne);
-        olds = olds_more es e (length u.seen) (length u.seen) u.olds (omega arith) (omega (arith, none_there)) g.olds;
+        held = held_more es e u.known u.known (length u.seen) (length u.seen) u.number (in_same u.known) (omega arith) ne g.held;
+        olds = olds_more es e u.known u.known (length u.seen) (length u.seen) u.olds (in_same u.known) (omega arith) (omega (arith, none_there)) g.olds;
         blank = g.blank;
         spares = spares_more k es e u.spares (omega (arith, none_there)) g.spares;
         room = omega (arith, used_u, room_u);

@@ -1,5 +1,5 @@
 -- Lists read by `get_elem?`, and what the entries of a seat take.
-use Rattle.std.proofs.Common.{◌≡◌, ◌≢◌, ℕ, zero, suc, ◌+◌, ◌<◌, ◌≤◌, List, [], ◌∷◌, map, length, take, set, sym, refl, ap, subst, arith, eq-eqb}
+use Rattle.std.proofs.Common.{◌++◌, ◌≡◌, ◌≢◌, ℕ, zero, suc, ◌+◌, ◌<◌, ◌≤◌, List, [], ◌∷◌, map, length, take, set, sym, refl, ap, subst, arith, eq-eqb}
 use mathlib.Core.Option.{some, some-injective, some-ne-none}
 use lib.ListN.{get_elem?}
 use Rattle.queue_rule.specs.declared.view.View.{View}
@@ -20,6 +20,10 @@ module _ {A : Type 0} where
   pub all_more : (P Q : A → Type 0) (l : List A) → ((a : A) → P a → Q a) → Each P l → Each Q l
   all_more P Q [] f h = tt
   all_more P Q (x ∷ xs) f h = (f x h.0, all_more P Q xs f h.1)
+
+  pub each_append : (P : A → Type 0) (xs ys : List A) → Each P xs → Each P ys → Each P (xs ++ ys)
+  each_append P [] ys h g = g
+  each_append P (x ∷ xs) ys h g = (h.0, each_append P xs ys h.1 g)
 
 -- the words of an entry lie below the end of its seat's
 pub used_take : (es : List ChainEntry) (j : ℕ) (e : ChainEntry) → get_elem? es j ≡ some e → used e.seat (take j es) + need e ≤ used e.seat es

@@ -15,8 +15,10 @@ use Rattle.queue_rule.specs.Rule.{total, IsOld, IsKnown, Fits, Kept}
 use Rattle.queue_rule.specs.Views.{numbers, numbers_from, newcomer, kept_back, split_off, old_of, joined, spent}
 use Rattle.queue_rule.proofs.Lists.{total_set}
 use Rattle.queue_rule.proofs.Drafting.{filled_own, live_numbers, times_append, fit_set}
-use Rattle.queue_rule.proofs.Linking.{at_of, olds_longer}
-use Rattle.queue_rule.proofs.Viewing.{each_append}
+use Rattle.queue_rule.proofs.Entries.{at_of}
+use Rattle.queue_rule.proofs.Knowing.{in_longer, in_behind, held_longer, olds_longer}
+use Rattle.queue_rule.proofs.Drafting.{no_entry}
+use Rattle.queue_rule.proofs.Lists.{each_append}
 
 total_append : (f : View → ℕ) (vs ws : List View) → total f (vs ++ ws) ≡ total f vs + total f ws
 total_append f [] ws = omega arith
@@ -55,6 +57,7 @@ module _ (k : ℕ) where
         number = subst (λ (n : ℕ). n < k) (sym first) spares.0.0;
         seats = f.seats;
         owns = sym (subst (λ (n : ℕ). own_from n 1 r.entries ≡ []) (sym first) spares.0.1);
+        held = λ j e got here. absurd (no_entry (get_or v.spares 0 0) r.entries (subst (λ (n : ℕ). own_from n 1 r.entries ≡ []) (sym first) spares.0.1) j e got here);
         olds = tt;
         blank = λ _. refl;
         spares = tt;
@@ -64,7 +67,7 @@ module _ (k : ℕ) where
         seen = f.seen;
         known = tt;
       } in
-      let l_fits : Fits k s.words r.entries l = record { number = f.number; seats = f.seats; owns = f.owns; olds = f.olds; blank = f.blank; spares = subst (Each (λ n. (n < k) × (own_from n 1 r.entries ≡ []))) (sym behind) spares.1; room = f.room; draft = f.draft; unseen = f.unseen; seen = f.seen; known = f.known } in
+      let l_fits : Fits k s.words r.entries l = record { number = f.number; seats = f.seats; owns = f.owns; held = f.held; olds = f.olds; blank = f.blank; spares = subst (Each (λ n. (n < k) × (own_from n 1 r.entries ≡ []))) (sym behind) spares.1; room = f.room; draft = f.draft; unseen = f.unseen; seen = f.seen; known = f.known } in
       let all = fit_set k s.words r.entries s.views id l l_fits (λ j u _ got alive. r.fits j u got alive) in record {
         entries = r.entries;
         long = r.long;
@@ -100,12 +103,22 @@ module _ (k : ℕ) where
   joined_fits ws es v w f g =
       let n : ℕ = length (longer v.seen w.seen) in
       let long : (length v.seen ≤ n) × (length w.seen ≤ n) = longer_len v.seen w.seen in
+      let taken : IsOld es (v.known ++ w.known) n (old_of v w) = record {
+        owns = g.owns;
+        seen = (g.unseen, g.seen);
+        mine = (f.unseen, f.seen);
+        seen_short = long.1;
+        mine_short = long.0;
+        held = held_longer es w.known (v.known ++ w.known) (length w.seen) n w.number (in_behind v.known w.known) long.1 g.held;
+      } in
       let seen : Starts (map at_of es) (longer v.seen w.seen) = ⊎_elim (λ (e : longer v.seen w.seen ≡ v.seen). subst (Starts (map at_of es)) (sym e) (f.unseen, f.seen)) (λ (e : longer v.seen w.seen ≡ w.seen). subst (Starts (map at_of es)) (sym e) (g.unseen, g.seen))
       (longer_is v.seen w.seen (ltb (length v.seen) (length w.seen))) in record {
         number = f.number;
         seats = f.seats;
         owns = f.owns;
-        olds = each_append (IsOld es n) v.olds (old_of v w ∷ w.olds) (olds_longer es (length v.seen) n v.olds long.0 f.olds) ((g.owns, (g.unseen, g.seen), (f.unseen, f.seen), long.1, long.0), olds_longer es (length w.seen) n w.olds long.1 g.olds);
+        held = held_longer es v.known (v.known ++ w.known) (length v.seen) n v.number (in_longer v.known w.known) long.0 f.held;
+        olds = each_append (IsOld es (v.known ++ w.known) n) v.olds (old_of v w ∷ w.olds) (olds_longer es v.known (v.known ++ w.known) (length v.seen) n v.olds (in_longer v.known w.known) long.0 f.olds)
+            (taken, olds_longer es w.known (v.known ++ w.known) (length w.seen) n w.olds (in_behind v.known w.known) long.1 g.olds);
         blank = λ z. let l = long.0 in let m = long.1 in ap₂ ◌++◌ (f.blank (omega (arith, l, z))) (g.blank (omega (arith, m, z)));
         spares = f.spares;
         room = f.room;
@@ -165,6 +178,7 @@ module _ (k : ℕ) where
       number = some_k;
       seats = refl;
       owns = refl;
+      held = λ j e got. absurd (some-ne-none e (sym got));
       olds = tt;
       blank = λ _. refl;
       spares = spares_from k 1 (k - 1) (omega (arith, some_k));

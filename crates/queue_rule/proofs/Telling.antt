@@ -1,42 +1,42 @@
 -- What the rule tells a view.
 use Rattle.std.proofs.Common.{MatchBool, ◌≡◌, ◌≢◌, ℕ, zero, suc, ◌+◌, ◌*◌, ◌<◌, ◌≤◌, eqb, Bool, true, false, if◌then◌else◌, List, [], ◌∷◌, ◌++◌, map, length, get_or, take, drop, sym, refl, ap, ◌∙◌, subst, ap₂, arith, eq-eqb, ne_eqb, length-append, take_all}
 use Rattle.std.proofs.lemmas.List.{length-map, ext_get_or}
-use Rattle.ix_base.specs.Words.{word_count}
-use mathlib.Core.Option.{some, none}
+use Rattle.ix_base.specs.Words.{head_kind, word_count}
+use mathlib.Core.Option.{some-ne-none, some, none}
 use mathlib.Core.Logic.{dite}
 use native.Mathlib.Decide.{ℕ_discrete}
 use lib.ListN.{get_elem?}
 use Rattle.atomic_table.specs.Table.{State, Me, step, Allows}
 use Rattle.atomic_table.proofs.Lists.{set_here}
 use Rattle.queue_rule.specs.Steps.{Drafted, Tried, Looked, HasRead}
-use Rattle.queue_rule.specs.Views.{front}
+use Rattle.queue_rule.specs.Views.{view_of, front}
 use Rattle.queue_rule.specs.Lists.{last_or}
 use Rattle.queue_rule.specs.Told.{SawOpen, MayRead}
-use Rattle.ix_base.specs.Words.{IsEntryWords}
+use Rattle.ix_base.specs.Words.{head_kind, IsEntryWords}
 use Rattle.queue_rule.proofs.Drafting.{drafts}
 use Rattle.queue_rule.proofs.Linking.{tries}
 use Rattle.queue_rule.proofs.Viewing.{reads, looks}
 use prog.Atomic.{either}
 use Rattle.queue_rule.specs.declared.view.View.{View}
 use Rattle.queue_rule.specs.Lists.{Each, Starts}
-use Rattle.queue_rule.specs.Chain.{ChainEntry, need, start, used, filled}
-use Rattle.queue_rule.specs.Views.{known}
+use Rattle.queue_rule.specs.Chain.{Chained, ChainEntry, need, start, used, filled}
+use Rattle.queue_rule.specs.Views.{view_of, known}
 use Rattle.queue_rule.specs.Rule.{IsKnown, Fits, Kept, IsOld}
 use Rattle.queue_rule.specs.Told.{Sound}
 use Rattle.queue_rule.specs.declared.view.Old.{Old}
 use Rattle.queue_rule.proofs.Lists.{at_inside, all_more}
 use Rattle.queue_rule.proofs.Chain.{has_words, has_count, AllLie}
 use Rattle.queue_rule.proofs.Drafting.{filled_own}
-use Rattle.queue_rule.proofs.Linking.{at_of, each_at, used_more, used_other, used_same}
+use Rattle.queue_rule.proofs.Entries.{at_of, each_at, used_more, used_other, used_same}
+use Rattle.queue_rule.proofs.Learning.{head_of, chain_next, has_own, needs, heads_needs}
+use Rattle.queue_rule.specs.Told.{HasOwn, HeadsAt, filled_by}
+use Rattle.ix_base.specs.EntryLaws.{IsEntryWords-kind}
+use Rattle.atomic_table.proofs.Lists.{at_longer}
 use Rattle.queue_rule.proofs.Viewing.{entry_seen}
 
 each_from : {A : Type 0} (P : A → Type 0) (l : List A) → ((j : ℕ) (a : A) → get_elem? l j ≡ some a → P a) → Each P l
 each_from P [] h = tt
 each_from P (x ∷ l) h = (h 0 x refl, each_from P l (λ j a e. h (suc j) a e))
-
-needs : List ChainEntry → ℕ
-needs [] = 0
-needs (e ∷ es) = need e + needs es
 
 used_below : ℕ → List ChainEntry → ℕ
 used_below zero es = 0
@@ -100,6 +100,10 @@ prefix_in (x ∷ xs) (y ∷ ys) r t e le = let p = prefix_in xs ys r t (ap (drop
 starts_in : (l xs ys : List ℕ) → Starts l xs → Starts l ys → length xs ≤ length ys → Starts ys xs
 starts_in l xs ys a b le = prefix_in xs ys a.0 b.0 (sym a.1 ∙ b.1) le
 
+no_heads : (v : View) (hs : List ℕ) → HeadsAt v [] hs → filled_by hs ≤ 16642 * v.seats
+no_heads v [] h = omega arith
+no_heads v (x ∷ hs) h = absurd h
+
 module _ (k : ℕ) where
   pub sound : (s : State (Unit {0}) View) (r : Kept k s) (v : View) → Fits k s.words r.entries v → Sound v
   sound s r v f =
@@ -118,6 +122,17 @@ module _ (k : ℕ) where
             (omega (arith, place, is), omega (arith, seat, place, fits, some_words, is, seats)));
         room = omega (arith, fill, room);
         bound = omega (arith, count, same, most, len, seats);
+        total = λ hs heads. let t = heads_needs es v v.seen f.unseen hs (λ j e got h read. let e_head = head_of k s.words es v r.lies f.known j (e.at) h e got refl read in let c = has_count (r.lies j e got) in let n : word_count (get_or e.words 0 0) ≡ word_count h = ap word_count e_head in omega (arith, c, n)) f.seen heads in omega (arith, t, same, most, seats);
+        fits = λ j a h got read. let e = entry_seen es v.seen f.unseen j a f.seen got in let l = r.lies j e.0 e.1 in let c = has_count l in let n : word_count (get_or e.0.words 0 0) ≡ word_count h = ap word_count (head_of k s.words es v r.lies f.known j a h e.0 e.1 e.2 read) in
+            let seat = l.seat in let place = l.at in let fits = l.room in let is = e.2 in omega (arith, seat, place, fits, is, c, n, seats);
+        kinds = λ j a h got read. let e = entry_seen es v.seen f.unseen j a f.seen got in let l = r.lies j e.0 e.1 in
+            subst (λ (n : ℕ). (1 ≤ head_kind n) × (head_kind n ≤ 7)) (head_of k s.words es v r.lies f.known j a h e.0 e.1 e.2 read) (IsEntryWords-kind e.0.words l.grammar);
+        opens = λ j a h got more read. let e = entry_seen es v.seen f.unseen j a f.seen got in
+            subst (λ (n : ℕ). head_kind n < 6) (head_of k s.words es v r.lies f.known j a h e.0 e.1 e.2 read) (r.opens j e.0 e.1 (omega (arith, len, more)));
+        nexts = λ j a b x here behind read. let p = each_at (IsKnown s.words es) v.known f.known read.0 (known a x) read.1 in
+            sym p.present ∙ chain_next s.words 0 (v.seen ++ f.unseen) j a b (subst (Chained s.words 0) f.seen r.chained) (at_longer (0 ∷ v.seen) f.unseen j a here) (at_longer v.seen f.unseen j b behind);
+        owns = has_own es v f.unseen f.seen v.own v.number f.owns f.held;
+        old_owns = all_more (IsOld es v.known (length v.seen)) (λ (o : Old). HasOwn v o.own) v.olds (λ o h. has_own es v f.unseen f.seen o.own o.number h.owns h.held) f.olds;
         grammar = λ j a ws got has len read.
             let e = entry_seen es v.seen f.unseen j a f.seen got in
             let l = r.lies j e.0 e.1 in
@@ -127,10 +142,29 @@ module _ (k : ℕ) where
             let same : (d : ℕ) → d < length e.0.words → d < length ws → get_or e.0.words d 0 ≡ get_or ws d 0 = λ d lt lt'. sym (l.spelled d lt) ∙ (ap (λ (n : ℕ). get_or s.words n 0) (shift d) ∙ word d lt') in
             let lens : length e.0.words ≡ length ws = has_count l ∙ (ap word_count (same 0 (has_words l) has) ∙ sym len) in
             subst IsEntryWords (ext_get_or 0 e.0.words ws lens (λ d lt. same d lt (omega (arith, lens, lt)))) l.grammar;
-        met = all_more (IsOld es (length v.seen)) (λ (o : Old). Starts v.seen o.seen × Starts v.seen o.mine) v.olds (λ o h. (starts_in (map at_of es) o.seen v.seen h.1 (f.unseen, f.seen) h.3, starts_in (map at_of es) o.mine v.seen h.2 (f.unseen, f.seen) h.4)) f.olds;
+        met = all_more (IsOld es v.known (length v.seen)) (λ (o : Old). Starts v.seen o.seen × Starts v.seen o.mine) v.olds (λ o h. (starts_in (map at_of es) o.seen v.seen h.seen (f.unseen, f.seen) h.seen_short, starts_in (map at_of es) o.mine v.seen h.mine (f.unseen, f.seen) h.mine_short)) f.olds;
         blank = f.blank;
         agree = λ a x y one two. let p = each_at (IsKnown s.words es) v.known f.known one.0 (known a x) one.1 in let q = each_at (IsKnown s.words es) v.known f.known two.0 (known a y) two.1 in sym p.present ∙ q.present;
       }
+
+  pub fresh_sound : (n : ℕ) (spares : List ℕ) → n < k → Sound (view_of k n spares [])
+  fresh_sound n spares low = record {
+    number = low;
+    inside = tt;
+    room = omega arith;
+    bound = omega arith;
+    total = λ hs heads. no_heads (view_of k n spares []) hs heads;
+    fits = λ j a h got. absurd (some-ne-none a (sym got));
+    kinds = λ j a h got. absurd (some-ne-none a (sym got));
+    opens = λ j a h got. absurd (some-ne-none a (sym got));
+    nexts = λ j a b x here behind. absurd (some-ne-none b (sym behind));
+    owns = λ i o got. absurd (some-ne-none o (sym got));
+    old_owns = tt;
+    grammar = λ j a ws got. absurd (some-ne-none a (sym got));
+    met = tt;
+    blank = λ _. refl;
+    agree = λ a x y one. absurd (some-ne-none (known a x) (sym one.1));
+  }
 
   abbrev M : Type 0
   M = Me (Unit {0}) View

@@ -1,35 +1,24 @@
 -- The two loads keep the rule.
-use Rattle.std.proofs.Common.{◌≡◌, ◌≢◌, ℕ, zero, suc, ◌+◌, ◌<◌, ◌≤◌, ◌⊎◌, Bool, true, MatchBool, List, [], ◌∷◌, ◌++◌, append-nil, map, length, get_or, take, drop, sym, refl, ap, ◌∙◌, subst, inl, inr, ⊎_elim, arith, eq-eqb, ne_eqb, lt_of_not-le, length-append}
+use Rattle.std.proofs.Common.{◌≡◌, ℕ, zero, suc, ◌+◌, ◌<◌, Bool, true, MatchBool, List, [], ◌∷◌, ◌++◌, append-nil, map, length, get_or, drop, sym, refl, ap, ◌∙◌, subst, inl, inr, ⊎_elim, arith, eq-eqb, ne_eqb, length-append}
 use mathlib.Core.Option.{some, none, some-injective, some-ne-none}
-use mathlib.Core.Logic.{dite}
-use native.Mathlib.Decide.{ℕ_discrete, dec_le, dec_lt}
 use lib.ListN.{get_elem?}
 use Rattle.atomic_table.specs.Table.{State, step, keeps, stepped, Allows, Act, Valid, carried_after}
 use Rattle.queue_rule.specs.declared.view.View.{View}
 use Rattle.queue_rule.specs.declared.view.Loaded.{Loaded}
 use Rattle.queue_rule.specs.declared.view.Old.{Old}
-use Rattle.queue_rule.specs.Lists.{Each, last_or}
-use Rattle.queue_rule.specs.Chain.{ChainEntry, need, start, used, Chained, own_from}
-use Rattle.queue_rule.specs.Views.{known, loaded, with_loaded, sees, knows}
-use Rattle.queue_rule.specs.Told.{Knows, MayRead, Whole}
+use Rattle.queue_rule.specs.Lists.{last_or}
+use Rattle.queue_rule.specs.Chain.{IsNext, ChainEntry, start, Chained, own_from}
+use Rattle.queue_rule.specs.Views.{Knows, known, loaded, with_loaded, sees, knows}
+use Rattle.queue_rule.specs.Told.{MayRead, Whole}
 use Rattle.ix_base.specs.Words.{word_count}
 use Rattle.queue_rule.specs.Rule.{IsKnown, Fits, Kept, IsOld}
 use Rattle.queue_rule.specs.Steps.{Looked, HasRead}
-use Rattle.queue_rule.proofs.Lists.{at_inside, used_take, all_more}
-use Rattle.queue_rule.proofs.Chain.{has_words, has_count, AllLie}
-use Rattle.queue_rule.proofs.Linking.{at_of, chained_split, take_before, each_at, stays, found_more, Same}
-
--- two entries lie apart
-pub pair_apart : (k : ℕ) (ws : List ℕ) (es : List ChainEntry) → AllLie k ws es → (i j : ℕ) (x y : ChainEntry) → get_elem? es i ≡ some x → get_elem? es j ≡ some y → i < j → (x.at + need x ≤ y.at) ⊎ (y.at + need y ≤ x.at)
-pair_apart k ws es lies i j x y gx gy before =
-    let lx = lies i x gx in let ly = lies j y gy in let place_x = lx.at in let place_y = ly.at in let room_x = lx.room in let room_y = ly.room in
-    let cut = take_before es j i x gx before in
-    let in_front = used_take (take j es) i x cut.0 in
-    let front_used : used x.seat (take i (take j es)) ≡ used x.seat (take i es) = ap (used x.seat) cut.1 in
-    dite (ℕ_discrete x.seat y.seat)
-    (λ seat. let su : used x.seat (take j es) ≡ used y.seat (take j es) = ap (λ (n : ℕ). used n (take j es)) seat in inl (omega (arith, place_x, place_y, in_front, front_used, seat, su)))
-    (λ apart. dite (dec_le x.seat y.seat) (λ low. inl (let ne : x.seat ≢ y.seat = apart in omega (arith, place_x, place_y, room_x, low, ne)))
-    (λ high. let above : y.seat < x.seat = lt_of_not-le high in inr (omega (arith, place_x, room_y, place_y, above))))
+use Rattle.queue_rule.proofs.Lists.{at_inside, all_more}
+use Rattle.queue_rule.proofs.Chain.{has_words, has_count}
+use Rattle.queue_rule.proofs.Lists.{each_append}
+use Rattle.queue_rule.proofs.Knowing.{in_longer, held_longer, olds_longer}
+use Rattle.queue_rule.proofs.Entries.{at_of, chained_split, each_at, payload_stays}
+use Rattle.queue_rule.proofs.Linking.{stays, found_more, Same}
 
 -- the next word of an entry behind which one stands isn't 0
 chained_next : (ws : List ℕ) (p : ℕ) (l : List ℕ) (j a : ℕ) → Chained ws p l → get_elem? l j ≡ some a → j + 1 < length l → 0 < get_or ws a 0
@@ -53,10 +42,6 @@ at_front (x ∷ xs) ys (suc j) a e = at_front xs ys j a e
 first_next : (ws xs rest : List ℕ) → Chained ws 0 (xs ++ rest) → 0 < length xs → get_or ws 0 0 ≡ 0 → ⊥
 first_next ws [] rest h l z = omega (arith, l)
 first_next ws (x ∷ xs) rest h l z = let is = h.0 in let some_x = h.1 in omega (arith, is, some_x, z)
-
-pub each_append : {A : Type 0} (P : A → Type 0) (xs ys : List A) → Each P xs → Each P ys → Each P (xs ++ ys)
-each_append P [] ys h g = g
-each_append P (x ∷ xs) ys h g = (h.0, each_append P xs ys h.1 g)
 
 may_some : (v : View) (a : ℕ) → MayRead v a → length v.seen ≡ 0 → ⊥
 may_some v a (inl h) z = let l = h.1 in omega (arith, l, z)
@@ -98,16 +83,7 @@ module _ (k : ℕ) where
       subst (λ (n : ℕ). d < n) (sym (has_count l ∙ ap word_count head)) t.2) word.5 in record {
         linked = inr (j, e.0, e.1, omega (arith, place, is), omega (arith, place, is, inside));
         present = refl;
-        stays = λ next _. ⊎_elim (λ (z : a ≡ 0). let y : ⊥ = omega (arith, z, is) in y)
-            (λ (t : (i : ℕ) × (y : ChainEntry) × (get_elem? r.entries i ≡ some y) × (y.at ≡ a)). let p = t.3 in
-            dite (ℕ_discrete t.0 j)
-            (λ same. let both : e.0 ≡ t.1 = some-injective e.0 t.1 (sym e.1 ∙ (ap (get_elem? r.entries) (sym same) ∙ t.2)) in let q = ap at_of both in let y : ⊥ = omega (arith, p, q, place, is) in y)
-            (λ other. dite (dec_lt t.0 j)
-            (λ lt. ⊎_elim (λ (h : t.1.at + need t.1 ≤ e.0.at). let y : ⊥ = omega (arith, h, p, place, is) in y) (λ (h : e.0.at + need e.0 ≤ t.1.at). let y : ⊥ = omega (arith, h, p, place, is, inside) in y)
-            (pair_apart k s.words r.entries r.lies t.0 j t.1 e.0 t.2 e.1 lt))
-            (λ ge. let gt : j < t.0 = let n : t.0 ≢ j = other in dite (dec_le t.0 j) (λ le. absurd (ge (omega (arith, le, n)))) (λ nle. lt_of_not-le nle) in
-            ⊎_elim (λ (h : e.0.at + need e.0 ≤ t.1.at). let y : ⊥ = omega (arith, h, p, place, is, inside) in y) (λ (h : t.1.at + need t.1 ≤ e.0.at). let y : ⊥ = omega (arith, h, p, place, is) in y)
-            (pair_apart k s.words r.entries r.lies j t.0 e.0 t.1 e.1 t.2 gt)))) next;
+        stays = λ next _. payload_stays k s.words r.entries r.lies j d e.0 e.1 inside (subst (IsNext r.entries) (omega (arith, place, is)) next);
       }
 
   -- a load of a linked word
@@ -120,7 +96,8 @@ module _ (k : ℕ) where
       number = f.number;
       seats = f.seats;
       owns = f.owns;
-      olds = f.olds;
+      held = held_longer r.entries v.known (v.known ++ known a x ∷ []) (length v.seen) (length v.seen) v.number (in_longer v.known (known a x ∷ [])) (omega arith) f.held;
+      olds = olds_longer r.entries v.known (v.known ++ known a x ∷ []) (length v.seen) (length v.seen) v.olds (in_longer v.known (known a x ∷ [])) (omega arith) f.olds;
       blank = λ z. absurd (may_some v a may z);
       spares = f.spares;
       room = f.room;
@@ -133,14 +110,15 @@ module _ (k : ℕ) where
   )
 
   fits_loaded : (ws : List ℕ) (es : List ChainEntry) (v : View) (l : Loaded) → Fits k ws es v → Fits k ws es (with_loaded v l)
-  fits_loaded ws es v l f = record { number = f.number; seats = f.seats; owns = f.owns; olds = f.olds; blank = f.blank; spares = f.spares; room = f.room; draft = f.draft; unseen = f.unseen; seen = f.seen; known = f.known }
+  fits_loaded ws es v l f = record { number = f.number; seats = f.seats; owns = f.owns; held = f.held; olds = f.olds; blank = f.blank; spares = f.spares; room = f.room; draft = f.draft; unseen = f.unseen; seen = f.seen; known = f.known }
 
   whole : (s : St) (r : Kept k s) (v : View) (f : Fits k s.words r.entries v) → f.unseen ≡ [] → Whole v
   whole s r v f is = record {
     entries = r.entries;
     seen = f.seen ∙ (ap (λ l. v.seen ++ l) is ∙ append-nil v.seen);
     owns = f.owns;
-    olds = all_more (IsOld r.entries (length v.seen)) (λ (o : Old). o.own ≡ own_from o.number 1 r.entries) v.olds (λ o h. h.0) f.olds;
+    olds = all_more (IsOld r.entries v.known (length v.seen)) (λ (o : Old). o.own ≡ own_from o.number 1 r.entries) v.olds (λ o h. h.owns) f.olds;
+    seats = λ j e got. let l = r.lies j e got in let low = l.seat in let place = l.at in let room = l.room in let seats = f.seats in (omega (arith, low, seats), omega (arith, place), omega (arith, place, room));
     grammar = λ j e got. (r.lies j e got).grammar;
     opens = r.opens;
     words = λ j e d x got lt read. sym (each_at (IsKnown s.words r.entries) v.known f.known read.0 (known (e.at + 1 + d) x) read.1).present ∙ (r.lies j e got).spelled d lt;

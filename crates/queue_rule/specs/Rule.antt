@@ -8,7 +8,7 @@ use Rattle.queue_rule.specs.declared.view.Known.{Known}
 use Rattle.queue_rule.specs.declared.view.Old.{Old}
 use Rattle.queue_rule.specs.Lists.{Each, Starts, times}
 use Rattle.queue_rule.specs.Chain.{ChainEntry, start, used, own_from, Chained, Spelled, IsOpen, Lies, IsLinked, IsNext}
-use Rattle.queue_rule.specs.Views.{numbers}
+use Rattle.queue_rule.specs.Views.{numbers, KnownFrom}
 
 -- the sum of f over the views
 abbrev pub total : (View → ℕ) → List View → ℕ
@@ -21,9 +21,20 @@ pub record IsKnown (ws : List ℕ) (es : List ChainEntry) (x : Known) : Type 0 w
   pub present : slice_index ws x.at ≡ x.word
   pub stays : IsNext es x.at → x.word ≢ 0
 
--- what a view that has seen n entries keeps of a joined seat: its own entries are those of its number, and both seen lists are prefixes
-abbrev pub IsOld : List ChainEntry → ℕ → Old → Type 0
-IsOld es n o = (o.own ≡ own_from o.number 1 es) × Starts (map (λ (e : ChainEntry). e.at) es) o.seen × Starts (map (λ (e : ChainEntry). e.at) es) o.mine × (length o.seen ≤ n) × (length o.mine ≤ n)
+-- the entries of seat i are among the first n of the chain, and all their words are known
+abbrev pub KnowsAll : List ChainEntry → List Known → ℕ → ℕ → Type 0
+KnowsAll es ks n i = (j : ℕ) (e : ChainEntry) → get_elem? es j ≡ some e → e.seat ≡ i → (j < n) × KnownFrom ks (e.at + 1) e.words
+
+-- what a view that has seen n entries and knows these words keeps of a joined seat
+pub record IsOld (es : List ChainEntry) (ks : List Known) (n : ℕ) (o : Old) : Type 0 where
+  -- its own entries are those of its number
+  pub owns : o.own ≡ own_from o.number 1 es
+  -- both seen lists are prefixes of the chain
+  pub seen : Starts (map (λ (e : ChainEntry). e.at) es) o.seen
+  pub mine : Starts (map (λ (e : ChainEntry). e.at) es) o.mine
+  pub seen_short : length o.seen ≤ n
+  pub mine_short : length o.mine ≤ n
+  pub held : KnowsAll es ks n o.number
 
 -- what a seat in use knows is so
 pub record Fits (k : ℕ) (ws : List ℕ) (es : List ChainEntry) (v : View) : Type 0 where
@@ -31,7 +42,8 @@ pub record Fits (k : ℕ) (ws : List ℕ) (es : List ChainEntry) (v : View) : Ty
   pub seats : v.seats ≡ k
   -- its own entries are those of its number
   pub owns : v.own ≡ own_from v.number 1 es
-  pub olds : Each (IsOld es (length v.seen)) v.olds
+  pub held : KnowsAll es v.known (length v.seen) v.number
+  pub olds : Each (IsOld es v.known (length v.seen)) v.olds
   pub blank : length v.seen ≡ 0 → v.known ≡ []
   -- a number that no seat has yet has no entry
   pub spares : Each (λ n. (n < k) × (own_from n 1 es ≡ [])) v.spares

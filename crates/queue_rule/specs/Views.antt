@@ -1,5 +1,7 @@
 -- Views, and what each kind of step makes of one.
-use Rattle.std.specs.Prelude.{ℕ, zero, suc, true, false, ◌+◌, ◌-◌, if◌then◌else◌, List, [], ◌∷◌, ◌++◌, map, length, drop, slice_index}
+use Rattle.std.specs.Prelude.{◌≡◌, ◌<◌, ℕ, zero, suc, true, false, ◌+◌, ◌-◌, if◌then◌else◌, List, [], ◌∷◌, ◌++◌, map, length, drop, slice_index}
+use mathlib.Core.Option.{some}
+use lib.ListN.{get_elem?}
 use Rattle.queue_rule.specs.declared.view.View.{View}
 use Rattle.queue_rule.specs.declared.view.Known.{Known}
 use Rattle.queue_rule.specs.declared.view.Old.{Old}
@@ -12,6 +14,23 @@ loaded a x n = record { at = a; word = x; count = n }
 
 abbrev pub known : ℕ → ℕ → Known
 known a x = record { at = a; word = x }
+
+-- the words as known words, the first of them at this address
+abbrev pub known_from : ℕ → List ℕ → List Known
+known_from at [] = []
+known_from at (w ∷ ws) = known at w ∷ known_from (at + 1) ws
+
+-- the word at a is known to be x
+abbrev pub IsAmong : List Known → ℕ → ℕ → Type 0
+IsAmong ks a x = (i : ℕ) × (get_elem? ks i ≡ some (known a x))
+
+-- these words are known to stand from `at` on
+abbrev pub KnownFrom : List Known → ℕ → List ℕ → Type 0
+KnownFrom ks at ws = (d : ℕ) → d < length ws → IsAmong ks (at + d) (slice_index ws d)
+
+-- the view knows that the word at a is x for good
+abbrev pub Knows : View → ℕ → ℕ → Type 0
+Knows v a x = IsAmong v.known a x
 
 -- the seat numbers of joined seats, and those that may still be split off
 abbrev pub more_numbers : View → List ℕ
@@ -51,9 +70,9 @@ with_loaded v l = record { live = v.live; seats = v.seats; number = v.number; sp
 abbrev pub knows : View → ℕ → ℕ → View
 knows v a x = record { live = v.live; seats = v.seats; number = v.number; spares = v.spares; olds = v.olds; seen = v.seen; known = v.known ++ known a x ∷ []; own = v.own; draft = v.draft; loaded = v.loaded }
 
--- the draft has become the view's own entry, the last one of the chain
+-- the draft has become the view's own entry, the last one of the chain, whose words it knows
 abbrev pub links : View → View
-links v = record { live = v.live; seats = v.seats; number = v.number; spares = v.spares; olds = v.olds; seen = v.seen ++ front v ∷ []; known = v.known; own = v.own ++ own (length v.seen + 1) (drop 1 v.draft) ∷ []; draft = []; loaded = v.loaded }
+links v = record { live = v.live; seats = v.seats; number = v.number; spares = v.spares; olds = v.olds; seen = v.seen ++ front v ∷ []; known = v.known ++ known_from (front v + 1) (drop 1 v.draft); own = v.own ++ own (length v.seen + 1) (drop 1 v.draft) ∷ []; draft = []; loaded = v.loaded }
 
 -- the view without its first spare number
 abbrev pub kept_back : View → View
