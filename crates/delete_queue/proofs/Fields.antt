@@ -9,14 +9,17 @@ use Rattle.queue_rule.specs.declared.view.Known.{Known}
 use Rattle.queue_rule.specs.declared.view.Own.{Own}
 use Rattle.queue_rule.specs.Lists.{Starts, last_or}
 use Rattle.queue_rule.specs.Chain.{start, filled, own}
-use Rattle.queue_rule.specs.Views.{with_draft, links, sees, knows, known, front}
-use Rattle.queue_rule.specs.Told.{Knows, SawOpen, MayRead, Sound}
+use Rattle.queue_rule.specs.Views.{Knows, with_draft, links, sees, knows, known, known_from, front}
+use Rattle.queue_rule.specs.Told.{SawOpen, MayRead, Sound}
 use Rattle.delete_queue.specs.declared.queue.DeleteQueue.{DeleteQueue}
 use Rattle.delete_queue.specs.declared.seat.Seat.{Seat}
 use Rattle.delete_queue.specs.declared.seat.Progress.{Progress}
 use Rattle.delete_queue.specs.Ties.{IsTold}
 use Rattle.delete_queue.specs.Seats.{IsSeatOf, Shows, the_view, used_of, SawClosed}
-use Rattle.delete_queue.specs.Linking.{GoesOn, Came, Follows}
+use Rattle.delete_queue.specs.Linking.{GoesOn, Came, Follows, HasRoom}
+use Rattle.ix_base.specs.Words.{IsEntryWords}
+use Rattle.ix_base.specs.EntryLaws.{IsEntryWords-not_empty}
+use Rattle.queue_rule.proofs.Knowing.{in_longer, in_behind, known_at}
 use Rattle.delete_queue.proofs.Lists.{empty, last_snoc}
 
 -- ---- known words
@@ -135,4 +138,42 @@ missed q s t found h low inner v room b p =
       ends = ap (λ (x : View). x.seen) v;
       room = omega (arith, seats, room);
       kept_back = subst (λ (x : View). filled x.own ≤ 16640) (sym v) low;
+    }
+
+-- the draft was linked
+follows_links : (v : View) → Follows v (links v)
+follows_links v = record {
+  seen = (front v ∷ [], refl);
+  known = in_longer v.known (known_from (front v + 1) (drop 1 v.draft));
+  number = refl;
+  olds = refl;
+}
+
+pub followed_links : (u v w : View) → Follows u v → w ≡ links v → Follows u w
+followed_links u v w f e = subst (Follows u) (sym e) (follows_on u v (links v) f (follows_links v))
+
+pub came_in : (q : DeleteQueue) (s t : Seat) (used : ℕ) (ws : List ℕ) → IsSeatOf q s → used ≡ used_of s → HasRoom used ws → IsEntryWords ws → (the_view s).draft ≡ 0 ∷ ws
+    → IsTold q t.inner → the_view t ≡ links (the_view s) → t.base ≡ s.base → t.progress ≡ s.progress → Came q t (front (the_view s)) ws
+came_in q s t used ws h u room is d inner v b p =
+    let w = the_view s in
+    let some_word = IsEntryWords-not_empty ws is in
+    let words : drop 1 w.draft ≡ ws = ap (drop 1) d in
+    let snoc : filled (links w).own ≡ filled w.own + (length ws + 1) = filled_snoc w.own (own (length w.seen + 1) (drop 1 w.draft)) ∙ ap (λ (l : List ℕ). filled w.own + (length l + 1)) words in
+    let same = h.shows.used in
+    let count = h.shows.count in
+    let more : length (links w).seen ≡ length w.seen + 1 = length-append w.seen (front w ∷ []) in
+    let now_used : filled (the_view t).own ≡ filled (links w).own = ap (λ (x : View). filled x.own) v in
+    let at = in_behind w.known (known_from (front w + 1) (drop 1 w.draft)) (front w + 1 + 0) (slice_index (drop 1 w.draft) 0) (known_at (front w + 1) (drop 1 w.draft) 0 (subst (λ (l : List ℕ). 0 < length l) (sym words) some_word)) in
+    let plain : front w + 1 + 0 ≡ front w + 1 = omega arith in record {
+      table = inner;
+      base = b ∙ h.base;
+      spares = ap (λ (x : View). x.spares) v ∙ h.spares;
+      number = ap (λ (x : Progress). x.number) p ∙ (h.shows.number ∙ ap (λ (x : View). x.number) (sym v));
+      used = let r : t.progress.used ≡ s.progress.used = ap (λ (x : Progress). x.used) p in omega (arith, r, same, snoc, now_used);
+      count = (let c = ap (λ (x : Progress). x.count) p in let r : t.progress.count + 1 ≡ length (links w).seen = omega (arith, c, count, more) in r) ∙ ap (λ (x : View). length x.seen) (sym v);
+      last = ap (λ (x : View). last_or 0 x.seen) v ∙ last_snoc 0 (front w) w.seen;
+      some_word = some_word;
+      head = subst (λ (x : View). Knows x (front w + 1) (slice_index ws 0)) (sym v)
+          (subst (λ (l : List ℕ). Knows (links w) (front w + 1) (slice_index l 0)) words (subst (λ (a : ℕ). Knows (links w) a (slice_index (drop 1 w.draft) 0)) plain at));
+      kept_back = ⊎_elim (λ le. inl (omega (arith, le, now_used, snoc, u))) (λ high. inr high) room.kept_back;
     }

@@ -1,2 +1,4 @@
 pub mod Lists
 pub mod Fields
+pub mod Growing
+pub mod Words

@@ -8,7 +8,7 @@ use Rattle.queue_rule.specs.declared.view.Own.{Own}
 use Rattle.queue_rule.specs.declared.view.Old.{Old}
 use Rattle.queue_rule.specs.Lists.{Starts, last_or}
 use Rattle.queue_rule.specs.Chain.{filled, own}
-use Rattle.queue_rule.specs.Told.{Knows as KnowsWord}
+use Rattle.queue_rule.specs.Views.{Knows as KnowsWord}
 use Rattle.delete_queue.specs.declared.queue.DeleteQueue.{DeleteQueue}
 use Rattle.delete_queue.specs.declared.seat.Seat.{Seat}
 use Rattle.delete_queue.specs.declared.seat.Progress.{Progress}
