@@ -7,16 +7,17 @@ use Rattle.ix_base.specs.Words.{head_kind}
 use Rattle.queue_rule.specs.declared.view.View.{View}
 use Rattle.queue_rule.specs.declared.view.Known.{Known}
 use Rattle.queue_rule.specs.declared.view.Own.{Own}
+use Rattle.queue_rule.specs.declared.view.Loaded.{Loaded}
 use Rattle.queue_rule.specs.Lists.{Starts, last_or}
 use Rattle.queue_rule.specs.Chain.{start, filled, own}
-use Rattle.queue_rule.specs.Views.{Knows, with_draft, links, sees, knows, known, known_from, front}
+use Rattle.queue_rule.specs.Views.{Knows, with_loaded, with_draft, links, sees, knows, known, known_from, front}
 use Rattle.queue_rule.specs.Told.{SawOpen, MayRead, Sound}
 use Rattle.delete_queue.specs.declared.queue.DeleteQueue.{DeleteQueue}
 use Rattle.delete_queue.specs.declared.seat.Seat.{Seat}
 use Rattle.delete_queue.specs.declared.seat.Progress.{Progress}
 use Rattle.delete_queue.specs.Ties.{IsTold}
 use Rattle.delete_queue.specs.Seats.{IsSeatOf, Shows, the_view, used_of, SawClosed}
-use Rattle.delete_queue.specs.Linking.{GoesOn, Came, Follows, HasRoom}
+use Rattle.delete_queue.specs.Linking.{GoesOn, Came, Follows, Rereads, HasRoom}
 use Rattle.ix_base.specs.Words.{IsEntryWords}
 use Rattle.ix_base.specs.EntryLaws.{IsEntryWords-not_empty}
 use Rattle.queue_rule.proofs.Knowing.{in_longer, in_behind, known_at}
@@ -176,4 +177,45 @@ came_in q s t used ws h u room is d inner v b p =
       head = subst (λ (x : View). Knows x (front w + 1) (slice_index ws 0)) (sym v)
           (subst (λ (l : List ℕ). Knows (links w) (front w + 1) (slice_index l 0)) words (subst (λ (a : ℕ). Knows (links w) a (slice_index (drop 1 w.draft) 0)) plain at));
       kept_back = ⊎_elim (λ le. inl (omega (arith, le, now_used, snoc, u))) (λ high. inr high) room.kept_back;
+    }
+
+-- ---- words that were read again, or for the first time
+
+pub rereads_on : (u v w : View) → Rereads u v → Rereads v w → Rereads u w
+rereads_on u v w r t = record {
+  number = t.number ∙ r.number;
+  spares = t.spares ∙ r.spares;
+  olds = t.olds ∙ r.olds;
+  own = t.own ∙ r.own;
+  seen = t.seen ∙ r.seen;
+  known = λ a x k. t.known a x (r.known a x k);
+}
+
+pub rereads_same : (v : View) → Rereads v v
+rereads_same v = record { number = refl; spares = refl; olds = refl; own = refl; seen = refl; known = λ a x k. k }
+
+pub rereads_knows : (v w : View) (a x : ℕ) → w ≡ knows v a x → Rereads v w
+rereads_knows v w a x e = subst (Rereads v) (sym e) (record { number = refl; spares = refl; olds = refl; own = refl; seen = refl; known = λ b y k. knows_more v a x b y k })
+
+pub rereads_loaded : (v w : View) (l : Loaded) → w ≡ with_loaded v l → Rereads v w
+rereads_loaded v w l e = subst (Rereads v) (sym e) (record { number = refl; spares = refl; olds = refl; own = refl; seen = refl; known = λ b y k. k })
+
+pub rereads_follows : (v w : View) → Rereads v w → Follows v w
+rereads_follows v w r = record { seen = ([], r.seen ∙ sym (append-nil v.seen)); known = r.known; number = r.number; olds = r.olds }
+
+pub reread : (q : DeleteQueue) (s t : Seat) → IsSeatOf q s → IsTold q t.inner → Rereads (the_view s) (the_view t) → t.base ≡ s.base → t.progress ≡ s.progress → IsSeatOf q t
+reread q s t h inner r b p =
+    let v = the_view s in let w = the_view t in
+    let longer : (x : ℕ) → Knows v (last_or 0 v.seen + 1) x → Knows w (last_or 0 w.seen + 1) x = λ x k. subst (λ (l : List ℕ). Knows w (last_or 0 l + 1) x) (sym r.seen) (r.known (last_or 0 v.seen + 1) x k) in record {
+      table = inner;
+      base = b ∙ h.base;
+      spares = r.spares ∙ h.spares;
+      shows = subst (λ (x : Progress). Shows w x) (sym p) (record {
+        number = h.shows.number ∙ sym r.number;
+        used = h.shows.used ∙ ap filled (sym r.own);
+        count = h.shows.count ∙ ap length (sym r.seen);
+        last = h.shows.last ∙ ap (last_or 0) (sym r.seen);
+        head = ⊎_elim (λ z. inl (r.seen ∙ z.0, z.1)) (λ k. inr (longer s.progress.head k)) h.shows.head;
+      });
+      kept_back = ⊎_elim (λ le. inl (subst (λ (o : List Own). filled o ≤ 16640) (sym r.own) le)) (λ c. inr (c.0, longer c.0 c.1, c.2)) h.kept_back;
     }

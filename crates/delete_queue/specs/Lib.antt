@@ -2,3 +2,4 @@ pub mod Ties
 pub mod Seats
 pub mod Answers
 pub mod Linking
+pub mod Making

@@ -18,6 +18,15 @@ pub record Follows (v w : View) : Type 0 where
   pub number : w.number ≡ v.number
   pub olds : w.olds ≡ v.olds
 
+-- w is v but for its draft, its loads and the words that it knows, of which it has more
+pub record Rereads (v w : View) : Type 0 where
+  pub number : w.number ≡ v.number
+  pub spares : w.spares ≡ v.spares
+  pub olds : w.olds ≡ v.olds
+  pub own : w.own ≡ v.own
+  pub seen : w.seen ≡ v.seen
+  pub known : (a x : ℕ) → KnowsWord v a x → KnowsWord w a x
+
 -- the seat has just seen an entry that its fields don't show yet
 pub record GoesOn (q : DeleteQueue) (s : Seat) (found : ℕ) : Type 0 where
   pub table : IsTold q s.inner

@@ -86,12 +86,16 @@ pub record Shows (v : View) (p : Progress) : Type 0 where
   pub last : p.last ≡ last_or 0 v.seen
   pub head : ((v.seen ≡ []) × (p.head ≡ 0)) ⊎ KnowsWord v (last_or 0 v.seen + 1) p.head
 
+-- the seat's fields say how far it has come
+abbrev pub IsSeat : Seat → Type 0
+IsSeat s = Shows (the_view s) s.progress
+
 -- a seat of this queue
 pub record IsSeatOf (q : DeleteQueue) (s : Seat) : Type 0 where
   pub table : IsTold q s.inner
   pub base : s.base ≡ q.base
   pub spares : (the_view s).spares ≡ []
-  pub shows : Shows (the_view s) s.progress
+  pub shows : IsSeat s
   -- two words are kept back, until the queue is seen to be closed
   pub kept_back : (filled (the_view s).own ≤ 16640) ⊎ SawClosed (the_view s)
 

@@ -10,7 +10,9 @@
 #![tactic(auto)]
 
 mod link;
+mod make;
 mod queue;
+mod read;
 mod seat;
 mod steps;
 

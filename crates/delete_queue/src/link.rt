@@ -44,7 +44,7 @@ fn closing_head(closing: Closing) -> u64
 
 impl DeleteQueue {
     /// The number of the last numbered entry that the seat has seen, the base where there is none.
-    pub(crate) fn last_number(&self, seat: &Seat) -> u64
+    pub fn last_number(&self, seat: &Seat) -> u64
         requires { IsSeatOf self.now seat.now }
         ensures { result ≡ last_of seat.now }
     {
