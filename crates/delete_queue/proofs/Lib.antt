@@ -1,0 +1,7 @@
+pub mod Lists
+pub mod Fields
+pub mod Growing
+pub mod Making
+pub mod Reading
+pub mod Looking
+pub mod Words

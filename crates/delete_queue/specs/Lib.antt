@@ -1,0 +1,5 @@
+pub mod Ties
+pub mod Seats
+pub mod Answers
+pub mod Linking
+pub mod Making
