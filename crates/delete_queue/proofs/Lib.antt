@@ -5,3 +5,6 @@ pub mod Making
 pub mod Reading
 pub mod Looking
 pub mod Words
+
+pub mod Cutting
+pub mod Copying

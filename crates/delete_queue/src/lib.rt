@@ -9,12 +9,16 @@
 //! atomic step. No call but `make` and `finish` takes memory, and none waits.
 #![tactic(auto)]
 
+mod copy;
+mod entry;
 mod link;
+mod log;
 mod make;
 mod queue;
 mod read;
 mod seat;
 mod steps;
 
+pub use log::QueueLog;
 pub use queue::DeleteQueue;
 pub use seat::{Closing, Found, Linked, Look, Place, Seat};
