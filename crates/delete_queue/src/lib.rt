@@ -11,6 +11,7 @@
 
 mod link;
 mod make;
+mod meet;
 mod queue;
 mod read;
 mod seat;
