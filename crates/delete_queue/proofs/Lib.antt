@@ -2,6 +2,7 @@ pub mod Lists
 pub mod Fields
 pub mod Growing
 pub mod Making
+pub mod Meeting
 pub mod Reading
 pub mod Looking
 pub mod Words

@@ -31,16 +31,16 @@ at_some [] n lt = absurd (omega (arith, lt))
 at_some (x ∷ l) zero lt = (x, refl)
 at_some (x ∷ l) (suc n) lt = at_some l n (omega (arith, lt))
 
--- no entry is found behind one that closes the queue
-still_open : (v w : View) (found : ℕ) (l : List ℕ) → v.seen ≡ l → Sound v → Sound w → w.seen ≡ v.seen ++ found ∷ [] → w.known ≡ v.known → SawClosed v → ⊥
-still_open v w found [] e sv sw seen known closed = knows_none v (last_or 0 v.seen + 1) closed.0 (sv.blank (ap length e)) closed.1
-still_open v w found (x ∷ xs) e sv sw seen known closed =
+-- no entry stands behind one that closes the queue
+pub still_open : (v w : View) (found : ℕ) (rest l : List ℕ) → v.seen ≡ l → Sound v → Sound w → w.seen ≡ v.seen ++ found ∷ rest → ((a x : ℕ) → Knows v a x → Knows w a x) → SawClosed v → ⊥
+still_open v w found rest [] e sv sw seen known closed = knows_none v (last_or 0 v.seen + 1) closed.0 (sv.blank (ap length e)) closed.1
+still_open v w found rest (x ∷ xs) e sv sw seen known closed =
     let high = closed.2 in
-    let all : w.seen ≡ (x ∷ xs) ++ found ∷ [] = seen ∙ ap (λ (l : List ℕ). l ++ found ∷ []) e in
-    let len : length w.seen ≡ length (x ∷ xs) + 1 = ap length all ∙ length-append (x ∷ xs) (found ∷ []) in
-    let at : get_elem? w.seen (length xs) ≡ some (last_or x xs) = ap (λ l. get_elem? l (length xs)) all ∙ at_longer (x ∷ xs) (found ∷ []) (length xs) (last_or x xs) (at_count x xs) in
+    let all : w.seen ≡ (x ∷ xs) ++ found ∷ rest = seen ∙ ap (λ (l : List ℕ). l ++ found ∷ rest) e in
+    let len : length w.seen ≡ length (x ∷ xs) + length (found ∷ rest) = ap length all ∙ length-append (x ∷ xs) (found ∷ rest) in
+    let at : get_elem? w.seen (length xs) ≡ some (last_or x xs) = ap (λ l. get_elem? l (length xs)) all ∙ at_longer (x ∷ xs) (found ∷ rest) (length xs) (last_or x xs) (at_count x xs) in
     let last : last_or 0 v.seen ≡ last_or x xs = ap (last_or 0) e in
-    let head : Knows w (last_or x xs + 1) closed.0 = (closed.1.0, ap (λ l. get_elem? l closed.1.0) known ∙ subst (λ (a : ℕ). get_elem? v.known closed.1.0 ≡ some (record { at = a + 1; word = closed.0 })) last closed.1.1) in
+    let head : Knows w (last_or x xs + 1) closed.0 = subst (λ (a : ℕ). Knows w (a + 1) closed.0) last (known (last_or 0 v.seen + 1) closed.0 closed.1) in
     let low = sw.opens (length xs) (last_or x xs) closed.0 at (omega (arith, len)) head in
     omega (arith, high, low)
 
@@ -62,7 +62,7 @@ looked_on q s t l found h inner v room b p =
       ends = ap (λ (x : View). x.seen) v;
       room = omega (arith, seats, room);
       kept_back = subst (λ (x : View). filled x.own ≤ 16640) (sym v)
-          (⊎_elim (λ (le : filled w.own ≤ 16640). le) (λ (c : SawClosed w). absurd (still_open w (the_view t) found w.seen refl h.table.1 inner.1 (ap (λ (x : View). x.seen) v) (ap (λ (x : View). x.known) v) c)) h.kept_back);
+          (⊎_elim (λ (le : filled w.own ≤ 16640). le) (λ (c : SawClosed w). absurd (still_open w (the_view t) found [] w.seen refl h.table.1 inner.1 (ap (λ (x : View). x.seen) v) (λ a x k. subst (λ (y : View). Knows y a x) (sym v) k) c)) h.kept_back);
     }
 
 pub look_follows : (v w : View) (l : Loaded) (found head : ℕ) → w ≡ knows (sees (with_loaded v l) found) (found + 1) head → Follows v w

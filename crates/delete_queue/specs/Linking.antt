@@ -8,8 +8,9 @@ use Rattle.queue_rule.specs.Chain.{start, filled, own}
 use Rattle.queue_rule.specs.Views.{Knows as KnowsWord}
 use Rattle.delete_queue.specs.declared.queue.DeleteQueue.{DeleteQueue}
 use Rattle.delete_queue.specs.declared.seat.Seat.{Seat}
-use Rattle.delete_queue.specs.Ties.{IsTold}
-use Rattle.delete_queue.specs.Seats.{the_view, own_of, seen_of, SawClosed}
+use Rattle.delete_queue.specs.declared.seat.Progress.{Progress}
+use Rattle.delete_queue.specs.Ties.{IsTold, IsLiveOf}
+use Rattle.delete_queue.specs.Seats.{the_view, own_of, seen_of, IsSeat, SawClosed}
 
 -- w has seen and knows all that v had seen and known; the number and the joined seats are the same
 pub record Follows (v w : View) : Type 0 where
@@ -62,3 +63,14 @@ pub record HasRoom (used : ℕ) (words : List ℕ) : Type 0 where
 pub record Puts (s t : Seat) (words : List ℕ) : Type 0 where
   pub own : own_of t ≡ own_of s ++ own (seen_of t) words ∷ []
   pub head : t.progress.head ≡ slice_index words 0
+
+-- the progress of a seat that goes on to what another has seen
+abbrev pub gone_on : Progress → Progress → Progress
+gone_on mine theirs = record { number = mine.number; used = mine.used; count = theirs.count; last = theirs.last; head = theirs.head }
+
+-- the seat has taken another over, and the rule has not told yet what holds of its view
+pub record IsTaken (q : DeleteQueue) (s : Seat) : Type 0 where
+  pub table : IsLiveOf q s.inner
+  pub base : s.base ≡ q.base
+  pub spares : (the_view s).spares ≡ []
+  pub shows : IsSeat s

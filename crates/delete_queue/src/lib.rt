@@ -14,6 +14,7 @@ mod entry;
 mod link;
 mod log;
 mod make;
+mod meet;
 mod queue;
 mod read;
 mod seat;
