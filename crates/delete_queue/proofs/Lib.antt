@@ -9,3 +9,4 @@ pub mod Words
 
 pub mod Cutting
 pub mod Copying
+pub mod Learning
