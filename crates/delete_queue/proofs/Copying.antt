@@ -66,7 +66,7 @@ filled_more (x ∷ ps) h f = let r = filled_more ps h (λ i y e. f (suc i) y e) 
 seen_at : (l : List ℕ) (n m a : ℕ) → get_elem? (0 ∷ l) m ≡ some a → m ≡ n + 1 → get_elem? l n ≡ some a
 seen_at l n m a e is = subst (λ (x : ℕ). get_elem? (0 ∷ l) x ≡ some a) (let r : m ≡ suc n = omega (arith, is) in r) e
 
-seen_within : (l : List ℕ) (n a : ℕ) → get_elem? l n ≡ some a → n < length l
+pub seen_within : (l : List ℕ) (n a : ℕ) → get_elem? l n ≡ some a → n < length l
 seen_within [] n a e = absurd (some-ne-none a (sym e))
 seen_within (x ∷ l) zero a e = omega arith
 seen_within (x ∷ l) (suc n) a e = let h = seen_within l n a e in omega (arith, h)

@@ -10,3 +10,4 @@ pub mod Words
 pub mod Cutting
 pub mod Copying
 pub mod Learning
+pub mod Finishing
