@@ -19,3 +19,6 @@ mod steps;
 
 pub use queue::DeleteQueue;
 pub use seat::{Closing, Found, Linked, Look, Place, Seat};
+
+#[cfg(test)]
+mod tests;
