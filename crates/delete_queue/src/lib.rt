@@ -9,7 +9,10 @@
 //! atomic step. No call but `make` and `finish` takes memory, and none waits.
 #![tactic(auto)]
 
+mod copy;
+mod entry;
 mod link;
+mod log;
 mod make;
 mod meet;
 mod queue;
@@ -17,6 +20,7 @@ mod read;
 mod seat;
 mod steps;
 
+pub use log::QueueLog;
 pub use queue::DeleteQueue;
 pub use seat::{Closing, Found, Linked, Look, Place, Seat};
 

@@ -33,13 +33,13 @@ seen_at (y ∷ es) (x ∷ xs) rest zero e h got lt = ap some (sym (ap (λ l. get
 seen_at (y ∷ es) (x ∷ xs) rest (suc j) e h got lt = seen_at es xs rest j e (ap (drop 1) h) got (omega (arith, lt))
 
 -- an own entry is an entry of the chain, at its place
-abbrev IsOwnAt : ℕ → ℕ → List ChainEntry → Own → Type 0
+abbrev pub IsOwnAt : ℕ → ℕ → List ChainEntry → Own → Type 0
 IsOwnAt i p es o = (j : ℕ) × (e : ChainEntry) × (get_elem? es j ≡ some e) × (e.seat ≡ i) × (o ≡ own (p + j) e.words)
 
 own_behind : (i p : ℕ) (x : ChainEntry) (es : List ChainEntry) (o : Own) → IsOwnAt i (p + 1) es o → IsOwnAt i p (x ∷ es) o
 own_behind i p x es o t = (suc t.0, t.1, t.2, t.3, t.4 ∙ ap (λ (n : ℕ). own n t.1.words) (omega arith))
 
-own_place : (i p : ℕ) (es : List ChainEntry) (q : ℕ) (o : Own) → get_elem? (own_from i p es) q ≡ some o → IsOwnAt i p es o
+pub own_place : (i p : ℕ) (es : List ChainEntry) (q : ℕ) (o : Own) → get_elem? (own_from i p es) q ≡ some o → IsOwnAt i p es o
 own_place i p [] q o h = absurd (some-ne-none o (sym h))
 own_place i p (e ∷ es) zero o h = dite (ℕ_discrete e.seat i)
     (λ is. let here = subst (λ (b : Bool). get_elem? (if b then own p e.words ∷ own_from i (p + 1) es else own_from i (p + 1) es) 0 ≡ some o) (eq-eqb e.seat i is) h in

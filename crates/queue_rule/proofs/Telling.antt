@@ -24,11 +24,12 @@ use Rattle.queue_rule.specs.Views.{view_of, known}
 use Rattle.queue_rule.specs.Rule.{IsKnown, Fits, Kept, IsOld}
 use Rattle.queue_rule.specs.Told.{Sound}
 use Rattle.queue_rule.specs.declared.view.Old.{Old}
+use Rattle.queue_rule.specs.declared.view.Own.{Own}
 use Rattle.queue_rule.proofs.Lists.{at_inside, all_more}
 use Rattle.queue_rule.proofs.Chain.{has_words, has_count, AllLie}
 use Rattle.queue_rule.proofs.Drafting.{filled_own}
 use Rattle.queue_rule.proofs.Entries.{at_of, each_at, used_more, used_other, used_same}
-use Rattle.queue_rule.proofs.Learning.{head_of, chain_next, has_own, needs, heads_needs}
+use Rattle.queue_rule.proofs.Learning.{own_place, head_of, chain_next, has_own, needs, heads_needs}
 use Rattle.queue_rule.specs.Told.{HasOwn, HeadsAt, filled_by}
 use Rattle.ix_base.specs.EntryLaws.{IsEntryWords-kind}
 use Rattle.atomic_table.proofs.Lists.{at_longer}
@@ -132,6 +133,7 @@ module _ (k : ℕ) where
         nexts = λ j a b x here behind read. let p = each_at (IsKnown s.words es) v.known f.known read.0 (known a x) read.1 in
             sym p.present ∙ chain_next s.words 0 (v.seen ++ f.unseen) j a b (subst (Chained s.words 0) f.seen r.chained) (at_longer (0 ∷ v.seen) f.unseen j a here) (at_longer v.seen f.unseen j b behind);
         owns = has_own es v f.unseen f.seen v.own v.number f.owns f.held;
+        own_words = λ i o got. let at = own_place v.number 1 es i o (subst (λ (l : List Own). get_elem? l i ≡ some o) f.owns got) in subst IsEntryWords (sym (ap (λ (x : Own). x.words) at.4)) (r.lies at.0 at.1 at.2).grammar;
         old_owns = all_more (IsOld es v.known (length v.seen)) (λ (o : Old). HasOwn v o.own) v.olds (λ o h. has_own es v f.unseen f.seen o.own o.number h.owns h.held) f.olds;
         grammar = λ j a ws got has len read.
             let e = entry_seen es v.seen f.unseen j a f.seen got in
@@ -159,6 +161,7 @@ module _ (k : ℕ) where
     opens = λ j a h got. absurd (some-ne-none a (sym got));
     nexts = λ j a b x here behind. absurd (some-ne-none b (sym behind));
     owns = λ i o got. absurd (some-ne-none o (sym got));
+    own_words = λ i o got. absurd (some-ne-none o (sym got));
     old_owns = tt;
     grammar = λ j a ws got. absurd (some-ne-none a (sym got));
     met = tt;

@@ -52,6 +52,7 @@ pub record Sound (v : View) : Type 0 where
   pub nexts : (j a b x : ℕ) → get_elem? (0 ∷ v.seen) j ≡ some a → get_elem? v.seen j ≡ some b → Knows v a x → x ≡ b
   -- its own entries, and those of each joined seat, are known at their places
   pub owns : HasOwn v v.own
+  pub own_words : (i : ℕ) (o : Own) → get_elem? v.own i ≡ some o → IsEntryWords o.words
   pub old_owns : Each (λ (o : Old). HasOwn v o.own) v.olds
   -- words that are all known to stand behind a seen next word are an entry's
   pub grammar : (j a : ℕ) (ws : List ℕ) → get_elem? v.seen j ≡ some a → 0 < length ws → length ws ≡ word_count (slice_index ws 0) → ((d : ℕ) → d < length ws → Knows v (a + 1 + d) (slice_index ws d)) → IsEntryWords ws
