@@ -6,7 +6,9 @@ use lib.ListN.{get_elem?}
 use Rattle.atomic_table.proofs.Lists.{at_longer}
 use Rattle.ix_base.specs.Words.{word_count, IsEntryWords}
 use Rattle.queue_rule.specs.declared.view.Own.{Own}
-use Rattle.queue_rule.specs.Views.{Knows as KnowsWord}
+use Rattle.queue_rule.specs.Views.{Knows as KnowsWord, KnownFrom}
+use Rattle.ix_base.specs.EntryLaws.{IsEntryWords-not_empty, IsEntryWords-count}
+use Rattle.delete_queue.proofs.Looking.{at_place}
 use Rattle.delete_queue.specs.declared.queue.DeleteQueue.{DeleteQueue}
 use Rattle.delete_queue.specs.declared.seat.Seat.{Seat}
 use Rattle.delete_queue.specs.declared.seat.Place.{Place}
@@ -74,3 +76,17 @@ knows_once q s place ws xs h k l =
         h.table.1.agree (l.address + 1 + d) (get_or ws d 0) (get_or xs d 0) (subst (λ (a : ℕ). KnowsWord v (a + 1 + d) (get_or ws d 0)) same (k.each d lt)) (l.each d gt) in
     let len : length ws ≡ length xs = k.size ∙ (ap word_count (word 0 k.some_word l.some_word) ∙ sym l.size) in
     ext_get_or 0 ws xs len (λ d lt. word d lt (omega (arith, lt, len)))
+
+own_at : (s : Seat) (o : Own) → IsEntryWords o.words → (a : ℕ) × (0 < o.place) × (get_elem? (the_view s).seen (o.place - 1) ≡ some a) × KnownFrom (the_view s).known (a + 1) o.words → Knows s o.place o.words
+own_at s o grammar r = record {
+  address = r.0;
+  entry = r.1;
+  seen = let p = r.1 in subst (λ (m : ℕ). get_elem? (0 ∷ (the_view s).seen) m ≡ some r.0) (let is : o.place - 1 + 1 ≡ o.place = omega (arith, p) in is) (at_place (the_view s).seen (o.place - 1) r.0 r.2);
+  some_word = IsEntryWords-not_empty o.words grammar;
+  size = IsEntryWords-count o.words grammar;
+  each = r.3;
+}
+
+-- at the place of a seat's own entry it knows that entry's words, and so no others
+pub own_known : (q : DeleteQueue) (s : Seat) (i : ℕ) (o : Own) → IsSeatOf q s → get_elem? (own_of s) i ≡ some o → Knows s o.place o.words
+own_known q s i o h got = own_at s o (h.table.1.own_words i o got) (h.table.1.owns i o got)
