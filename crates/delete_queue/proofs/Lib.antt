@@ -1,6 +1,8 @@
 pub mod Lists
+pub mod Examples
 pub mod Fields
 pub mod Growing
+pub mod Laws
 pub mod Making
 pub mod Meeting
 pub mod Reading

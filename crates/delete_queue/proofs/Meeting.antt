@@ -166,6 +166,7 @@ blank_sound v w s t z =
       old_owns = each_append (λ (o : Old). HasOwn j o.own) v.olds (old_of v w ∷ w.olds)
           (all_more (λ (o : Old). HasOwn v o.own) (λ (o : Old). HasOwn j o.own) v.olds (λ o h. no_own v j o.own mine h) s.old_owns)
           (no_own w j w.own theirs t.owns, all_more (λ (o : Old). HasOwn w o.own) (λ (o : Old). HasOwn j o.own) w.olds (λ o h. no_own w j o.own theirs h) t.old_owns);
+      own_words = s.own_words;
       grammar = λ i a ws got. absurd (none_at j.seen i a here got);
       met = each_append (λ (o : Old). Starts (longer v.seen w.seen) o.seen × Starts (longer v.seen w.seen) o.mine) v.olds (old_of v w ∷ w.olds) (from v.seen mine v.olds s.met) ((starts w.seen theirs, starts v.seen mine), from w.seen theirs w.olds t.met);
       blank = λ _. nothing;

@@ -25,3 +25,6 @@ pub use finish::FinishRefused;
 pub use log::QueueLog;
 pub use queue::DeleteQueue;
 pub use seat::{Closing, Found, Linked, Look, Place, Seat};
+
+#[cfg(test)]
+mod tests;
