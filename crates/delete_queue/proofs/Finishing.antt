@@ -74,16 +74,14 @@ takes_later s t u up h = record {
 
 -- ---- the list
 
-logged : ChainEntry → Logged
+abbrev pub logged : ChainEntry → Logged
 logged e = record { seat = e.seat; words = e.words }
 
 own_logged : (i p : ℕ) (es : List ChainEntry) → own_in i p (map logged es) ≡ own_from i p es
-unfolding logged
 own_logged i p [] = refl
 own_logged i p (e ∷ es) = ap (λ (l : List Own). if eqb e.seat i then own p e.words ∷ l else l) (own_logged i (p + 1) es)
 
 words_logged : (es : List ChainEntry) → map (λ (e : Logged). e.words) (map logged es) ≡ map (λ (e : ChainEntry). e.words) es
-unfolding logged
 words_logged [] = refl
 words_logged (e ∷ es) = ap (λ (l : List (List ℕ)). e.words ∷ l) (words_logged es)
 
