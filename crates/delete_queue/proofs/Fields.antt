@@ -79,8 +79,8 @@ saw false q s h low =
       ⊎_elim (λ (z : (v.seen ≡ []) × (s.progress.head ≡ 0)). inl z.0) (λ k. inr (s.progress.head, k, low)) h.shows.head,
       ⊎_elim (λ (le : filled v.own ≤ 16640). le)
           (λ (closed : SawClosed v). let high = closed.2 in
-              ⊎_elim (λ (z : (v.seen ≡ []) × (s.progress.head ≡ 0)). absurd (knows_none v (last_or 0 v.seen + 1) closed.0 (sound.blank (ap length z.0)) closed.1))
-              (λ k. let same = sound.agree (last_or 0 v.seen + 1) closed.0 s.progress.head closed.1 k in absurd (omega (arith, high, low, same))) h.shows.head)
+          ⊎_elim (λ (z : (v.seen ≡ []) × (s.progress.head ≡ 0)). absurd (knows_none v (last_or 0 v.seen + 1) closed.0 (sound.blank (ap length z.0)) closed.1))
+          (λ k. let same = sound.agree (last_or 0 v.seen + 1) closed.0 s.progress.head closed.1 k in absurd (omega (arith, high, low, same))) h.shows.head)
           h.kept_back,
     )
 

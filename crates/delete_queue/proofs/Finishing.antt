@@ -109,9 +109,9 @@ held_is : (t : Seat) (w : Whole (the_view t)) (n : ℕ) (os : List Own) → Hold
 held_is t w n os h = ⊎_elim
     (λ (mine : (number_of t ≡ n) × (own_of t ≡ os)). sym mine.1 ∙ (w.owns ∙ (ap (λ (i : ℕ). own_from i 1 w.entries) mine.0 ∙ sym (own_logged n 1 w.entries))))
     (λ (old : (i : ℕ) × (get_elem? (olds_of t) i ≡ some (record { number = n; own = os }))).
-        let o = old_at (the_view t).olds old.0 (record { number = n; own = os }) old.1 in
-        let is = each_at (λ (x : Old). x.own ≡ own_from x.number 1 w.entries) (the_view t).olds w.olds old.0 o.0 o.1 in
-        sym (ap (λ (j : Joined). j.own) o.2) ∙ (is ∙ (ap (λ (j : Joined). own_from j.number 1 w.entries) o.2 ∙ sym (own_logged n 1 w.entries)))) h
+    let o = old_at (the_view t).olds old.0 (record { number = n; own = os }) old.1 in
+    let is = each_at (λ (x : Old). x.own ≡ own_from x.number 1 w.entries) (the_view t).olds w.olds old.0 o.0 o.1 in
+    sym (ap (λ (j : Joined). j.own) o.2) ∙ (is ∙ (ap (λ (j : Joined). own_from j.number 1 w.entries) o.2 ∙ sym (own_logged n 1 w.entries)))) h
 
 seen_all : (s t : Seat) (w : Whole (the_view t)) → Extends s t → seen_of s ≤ length (map logged w.entries)
 seen_all s t w up =

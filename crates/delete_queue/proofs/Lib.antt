@@ -8,7 +8,6 @@ pub mod Meeting
 pub mod Reading
 pub mod Looking
 pub mod Words
-
 pub mod Cutting
 pub mod Copying
 pub mod Learning

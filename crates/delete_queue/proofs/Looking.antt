@@ -68,7 +68,7 @@ looked_on q s t l found h inner v room b p =
 pub look_follows : (v w : View) (l : Loaded) (found head : ℕ) → w ≡ knows (sees (with_loaded v l) found) (found + 1) head → Follows v w
 look_follows v w l found head e = subst (Follows v) (sym e)
     (follows_on v (with_loaded v l) _ (rereads_follows v (with_loaded v l) (rereads_loaded v (with_loaded v l) l refl))
-        (follows_on (with_loaded v l) (sees (with_loaded v l) found) _ (follows_sees (with_loaded v l) found) (follows_knows (sees (with_loaded v l) found) (found + 1) head)))
+    (follows_on (with_loaded v l) (sees (with_loaded v l) found) _ (follows_sees (with_loaded v l) found) (follows_knows (sees (with_loaded v l) found) (found + 1) head)))
 
 -- ---- an entry that was found
 

@@ -4,7 +4,6 @@ use Rattle.ix_base.specs.Words.{head_kind}
 use Rattle.queue_rule.specs.declared.view.View.{View}
 use Rattle.queue_rule.specs.Lists.{Starts, last_or}
 use Rattle.queue_rule.specs.Chain.{start, filled, own}
-
 use Rattle.queue_rule.specs.Views.{Knows as KnowsWord}
 use Rattle.delete_queue.specs.declared.queue.DeleteQueue.{DeleteQueue}
 use Rattle.delete_queue.specs.declared.seat.Seat.{Seat}

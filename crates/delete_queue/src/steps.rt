@@ -35,7 +35,9 @@ impl DeleteQueue {
         ensures seat { IsTold self.now seat.new }
         ensures view { MatchBool (result == 0) (view seat.new ≡ links (view seat.old)) ((view seat.new ≡ sees (view seat.old) result) × (result + 1 < start (view seat.old).seats)) }
     {
-        self.table.shared.compare_exchange::<LinkDraft>(seat, last, 0, at)
+        self.table
+            .shared
+            .compare_exchange::<LinkDraft>(seat, last, 0, at)
     }
 
     /// A load of the next word of the last entry seen.

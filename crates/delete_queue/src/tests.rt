@@ -1,8 +1,8 @@
-use super::*;
 ghost use Rattle.std.specs.Prelude.{◌≡◌, ◌∷◌, []};
 ghost use Rattle.delete_queue.specs.Seats.{IsSeatOf};
 ghost use Rattle.delete_queue.specs.Answers.{IsOperation};
 
+use super::*;
 use std::test::*;
 
 /// The words of an add.
@@ -65,7 +65,12 @@ fn look_shows(rt: HostRuntime) -> Result<(), Fail> {
     let mut first = seats.pop().ok_or("a seat")?;
     assert!(rt; queue.link(&mut first, &delete_of_five()) == Linked::At(8));
     let place = Place { at: 1, word: 1 };
-    let found = Found { place, number: 8, kind: 3, words: 3 };
+    let found = Found {
+        place,
+        number: 8,
+        kind: 3,
+        words: 3,
+    };
     assert!(rt; queue.look(&mut second) == Look::Entry(found));
     assert!(rt; queue.look(&mut second) == Look::End);
     Ok(())

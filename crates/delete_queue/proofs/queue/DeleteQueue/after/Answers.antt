@@ -30,7 +30,7 @@ pub returns-clause-seat : goal.returns-clause-seat
 returns-clause-seat c =
     let v = the_view c.args.seat.now in let w = c.load_linked-word.new.seat.me.0 in let u = c.load_linked-head.new.seat.me.0 in
     reread c.args.self.now c.args.seat.now (record { inner = c.load_linked-head.new.seat; base = c.args.seat.now.base; progress = c.args.seat.now.progress }) c.requires.seat c.load_linked-head.ensures.seat
-        (rereads_on v w u (rereads_knows v w _ _ c.load_linked-word.ensures.view) (rereads_knows w u _ _ c.load_linked-head.ensures.view)) refl refl
+    (rereads_on v w u (rereads_knows v w _ _ c.load_linked-word.ensures.view) (rereads_knows w u _ _ c.load_linked-head.ensures.view)) refl refl
 
 pub returns-clause-learns : goal.returns-clause-learns
 returns-clause-learns c =
