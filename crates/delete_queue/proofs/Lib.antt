@@ -12,3 +12,5 @@ pub mod Words
 
 pub mod Cutting
 pub mod Copying
+pub mod Learning
+pub mod Finishing

@@ -48,4 +48,38 @@ impl DeleteQueue {
             words.push_reserved(self.load_linked(&mut seat.inner, first + i));
         }
     }
+
+    // Copies an entry that was found behind those in the room.
+    fn copy(&self, seat: &mut Seat, found: Found, room: &mut Room)
+        requires seat { IsSeatOf self.now seat.old }
+        requires found { IsFound seat.old found }
+        requires copied { Copied seat.old (found.place.at - 1) room.old }
+        requires space { HasSpace room.old (seats_of self.now) }
+        ensures seat { IsSeatOf self.now seat.new }
+        ensures learns { Learns seat.old seat.new × (seen_of seat.new ≡ seen_of seat.old) }
+        ensures copied { Copied seat.new found.place.at room.new }
+        ensures space { HasSpace room.new (seats_of self.now) }
+    {
+        self.copy_words(seat, found, &mut room.words);
+        room.ends.push_reserved(room.words.len());
+    }
+
+    // Copies the list, from its first entry to its end.
+    pub(crate) fn copy_all(&self, seat: &mut Seat, room: &mut Room)
+        requires seat { IsSeatOf self.now seat.old }
+        requires empty { (room.old.ends.items ≡ []) × (room.old.words.items ≡ []) }
+        requires space { HasSpace room.old (seats_of self.now) }
+        ensures seat { IsSeatOf self.now seat.new }
+        ensures learns { Learns seat.old seat.new }
+        ensures copied { CopiedAll seat.new room.new }
+    {
+        let mut place = Place { at: 0, word: 0 };
+        loop {
+            let Some(found) = self.next(seat, place) else {
+                return;
+            };
+            self.copy(seat, found, room);
+            place = found.place;
+        }
+    }
 }

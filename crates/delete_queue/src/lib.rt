@@ -11,6 +11,7 @@
 
 mod copy;
 mod entry;
+mod finish;
 mod link;
 mod log;
 mod make;
@@ -20,6 +21,7 @@ mod read;
 mod seat;
 mod steps;
 
+pub use finish::FinishRefused;
 pub use log::QueueLog;
 pub use queue::DeleteQueue;
 pub use seat::{Closing, Found, Linked, Look, Place, Seat};
