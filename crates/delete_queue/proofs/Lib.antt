@@ -5,6 +5,7 @@ pub mod Growing
 pub mod Laws
 pub mod Making
 pub mod Meeting
+pub mod Numbers
 pub mod Reading
 pub mod Looking
 pub mod Words

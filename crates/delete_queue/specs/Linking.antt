@@ -1,10 +1,11 @@
 -- What the functions inside the crate say of a seat on its way.
-use Rattle.std.specs.Prelude.{◌≡◌, ℕ, ◌+◌, ◌<◌, ◌≤◌, ◌⊎◌, List, [], ◌∷◌, ◌++◌, length, slice_index, drop}
-use Rattle.ix_base.specs.Words.{head_kind}
+use Rattle.std.specs.Prelude.{◌≡◌, ℕ, ◌+◌, ◌-◌, ◌<◌, ◌≤◌, ◌==◌, ◌⊎◌, List, [], ◌∷◌, ◌++◌, length, slice_index, take, drop, MatchBool}
+use Rattle.ix_base.specs.Words.{head_kind, IsEntryWords}
+use Rattle.queue_rule.specs.Told.{SawOpen, Whole}
 use Rattle.queue_rule.specs.declared.view.View.{View}
 use Rattle.queue_rule.specs.Lists.{Starts, last_or}
 use Rattle.queue_rule.specs.Chain.{start, filled, own}
-use Rattle.queue_rule.specs.Views.{Knows as KnowsWord}
+use Rattle.queue_rule.specs.Views.{Knows as KnowsWord, front, with_draft, links, sees, with_loaded, loaded}
 use Rattle.delete_queue.specs.declared.queue.DeleteQueue.{DeleteQueue}
 use Rattle.delete_queue.specs.declared.seat.Seat.{Seat}
 use Rattle.delete_queue.specs.declared.seat.Progress.{Progress}
@@ -73,3 +74,28 @@ pub record IsTaken (q : DeleteQueue) (s : Seat) : Type 0 where
   pub base : s.base ≡ q.base
   pub spares : (the_view s).spares ≡ []
   pub shows : IsSeat s
+
+-- a word was stored at this address, in place of what stood of the draft from there on
+abbrev pub drafted : View → ℕ → ℕ → View
+drafted v at word = with_draft v (take (at - front v) v.draft ++ word ∷ [])
+
+-- the next word of the draft goes to this address, inside the seat's own stretch
+pub record DraftsAt (v : View) (at : ℕ) : Type 0 where
+  pub low : front v ≤ at
+  pub next : at ≤ front v + length v.draft
+  pub high : at < start v.number + 16642
+
+-- the draft is a next word 0 and the words of an entry, and the last entry seen doesn't close the queue
+pub record MayLink (v : View) : Type 0 where
+  pub last_open : SawOpen v
+  pub draft : v.draft ≡ 0 ∷ drop 1 v.draft
+  pub grammar : IsEntryWords (drop 1 v.draft)
+
+-- the exchange found 0 and linked the draft, or it found an entry that was not seen
+abbrev pub Exchanged : View → View → ℕ → Type 0
+Exchanged v w found = MatchBool (found == 0) (w ≡ links v) ((w ≡ sees v found) × (found + 1 < start v.seats))
+
+-- the load found 0 and the entries seen are all there are, or it found an entry that was not seen
+abbrev pub Looked : View → View → ℕ → ℕ → Type 0
+Looked v w last found = let u = with_loaded v (loaded last found (v.loaded.count + 1)) in
+    MatchBool (found == 0) ((w ≡ u) × Whole w) ((w ≡ sees u found) × (found + 1 < start v.seats))

@@ -1,11 +1,11 @@
 // The six kinds of atomic step. The queue's table moves through these functions alone.
-ghost use Rattle.std.specs.Prelude.{◌≡◌, ℕ, ◌+◌, ◌-◌, ◌*◌, ◌<◌, ◌≤◌, ◌==◌, [], ◌∷◌, ◌++◌, length, take, drop, MatchBool};
-ghost use Rattle.ix_base.specs.Words.{IsEntryWords};
+ghost use Rattle.std.specs.Prelude.{◌≡◌, ◌<◌, [], length};
 ghost use Rattle.queue_rule.specs.Lists.{last_or};
 ghost use Rattle.queue_rule.specs.Chain.{start};
-ghost use Rattle.queue_rule.specs.Views.{front, with_draft, links, sees, knows, with_loaded, loaded, kept_back, split_off, joined};
-ghost use Rattle.queue_rule.specs.Told.{SawOpen, MayRead, Sound, Whole};
+ghost use Rattle.queue_rule.specs.Views.{front, knows, kept_back, split_off, joined};
+ghost use Rattle.queue_rule.specs.Told.{MayRead};
 ghost use Rattle.delete_queue.specs.Ties.{IsTold, IsLiveOf, view};
+ghost use Rattle.delete_queue.specs.Linking.{drafted, DraftsAt, MayLink, Exchanged, Looked};
 
 use crate::queue::DeleteQueue;
 use atomic_table::Seat;
@@ -15,11 +15,9 @@ impl DeleteQueue {
     /// A store of a draft word, behind the seat's own entries.
     pub(crate) fn store_draft(&self, seat: &mut Seat<(), View>, at: usize, word: u64)
         requires seat { IsTold self.now seat.old }
-        requires low { front (view seat.old) ≤ at }
-        requires next { at ≤ front (view seat.old) + length (view seat.old).draft }
-        requires high { at < start (view seat.old).number + 16642 }
+        requires place { DraftsAt (view seat.old) at }
         ensures seat { IsTold self.now seat.new }
-        ensures view { view seat.new ≡ with_draft (view seat.old) (take (at - front (view seat.old)) (view seat.old).draft ++ word ∷ []) }
+        ensures view { view seat.new ≡ drafted (view seat.old) at word }
     {
         self.table.shared.store::<StoreDraft>(seat, at, word)
     }
@@ -29,11 +27,9 @@ impl DeleteQueue {
     pub(crate) fn try_link(&self, seat: &mut Seat<(), View>, last: usize, at: u64) -> u64
         requires seat { IsTold self.now seat.old }
         requires place { (last ≡ last_or 0 (view seat.old).seen) × (at ≡ front (view seat.old)) }
-        requires open { SawOpen (view seat.old) }
-        requires draft { (view seat.old).draft ≡ 0 ∷ drop 1 (view seat.old).draft }
-        requires grammar { IsEntryWords (drop 1 (view seat.old).draft) }
+        requires entry { MayLink (view seat.old) }
         ensures seat { IsTold self.now seat.new }
-        ensures view { MatchBool (result == 0) (view seat.new ≡ links (view seat.old)) ((view seat.new ≡ sees (view seat.old) result) × (result + 1 < start (view seat.old).seats)) }
+        ensures view { Exchanged (view seat.old) (view seat.new) result }
     {
         self.table
             .shared
@@ -45,8 +41,7 @@ impl DeleteQueue {
         requires seat { IsTold self.now seat.old }
         requires place { last ≡ last_or 0 (view seat.old).seen }
         ensures seat { IsTold self.now seat.new }
-        ensures view { MatchBool (result == 0) ((view seat.new ≡ with_loaded (view seat.old) (loaded last result ((view seat.old).loaded.count + 1))) × Whole (view seat.new))
-            ((view seat.new ≡ sees (with_loaded (view seat.old) (loaded last result ((view seat.old).loaded.count + 1))) result) × (result + 1 < start (view seat.old).seats)) }
+        ensures view { Looked (view seat.old) (view seat.new) last result }
     {
         self.table.shared.load::<LoadNext>(seat, last)
     }

@@ -85,8 +85,14 @@ fn race<R: Threads>(rt: &R, alloc: Global) -> Result<bool, Fail> {
     let first = seats.pop().ok_or("a seat")?;
     let (a, b) = fill_both(rt, &queue, first, second);
     let full = a.linked == 4160 && b.linked == 4160 && a.rising && b.rising;
-    let Done { seat: mut first, .. } = a;
-    let Done { seat: mut second, .. } = b;
+    let Done {
+        seat: mut first,
+        ..
+    } = a;
+    let Done {
+        seat: mut second,
+        ..
+    } = b;
     let closed = queue.close(&mut first, Closing::Commit) == Linked::At(8321)
         && queue.close(&mut second, Closing::Turn) == Linked::Closed;
     let mut both = Vec::with_capacity(alloc, 2)?;
@@ -98,7 +104,7 @@ fn race<R: Threads>(rt: &R, alloc: Global) -> Result<bool, Fail> {
 
 #[test]
 fn two_threads_fill_a_queue(rt: HostRuntime) -> Result<(), Fail> {
-    for _ in 0..20 {
+    for _ in 0..1000 {
         assert!(rt; race(&rt, rt.alloc())?);
     }
     Ok(())

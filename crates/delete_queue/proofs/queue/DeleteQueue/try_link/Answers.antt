@@ -11,5 +11,5 @@ compare_exchange-requires c = let seat = c.requires.seat in let place = c.requir
     let last = last_inside v.seats 0 v.seen (omega arith) seat.1.inside in (
       seat.0.0,
       let is = place.0 in omega (arith, wide, last, is, same),
-      rw (place.0, place.1) (may_try c.args.self.now.table.shared.key c.args.self.now.table.shared.table_id.slots c.args.seat.now.id v c.args.seat.now.me.1 (drop 1 v.draft) seat.0.1 c.requires.open c.requires.draft c.requires.grammar),
+      rw (place.0, place.1) (may_try c.args.self.now.table.shared.key c.args.self.now.table.shared.table_id.slots c.args.seat.now.id v c.args.seat.now.me.1 (drop 1 v.draft) seat.0.1 c.requires.entry.last_open c.requires.entry.draft c.requires.entry.grammar),
     )
