@@ -1,5 +1,5 @@
 -- Words that are pushed behind others.
-use Rattle.std.proofs.Common.{◌≡◌, ℕ, suc, zero, ◌+◌, ◌-◌, ◌*◌, ◌<◌, ◌≤◌, ◌⊎◌, ⊎_elim, ap₂, map, slice_index, List, [], ◌∷◌, ◌++◌, append_assoc, length, get_or, sym, refl, ap, ◌∙◌, subst, arith, length-append}
+use Rattle.std.proofs.Common.{◌≡◌, ℕ, suc, zero, ◌+◌, ◌-◌, ◌*◌, ◌<◌, ◌≤◌, ⊎_elim, ap₂, map, slice_index, List, [], ◌∷◌, ◌++◌, append_assoc, length, get_or, sym, refl, ap, ◌∙◌, subst, arith, length-append}
 use Rattle.std.proofs.lemmas.List.{get_or_append_left, get_or_at, length-map, ext_get_or}
 use mathlib.Core.Option.{some, some-injective, some-ne-none}
 use lib.ListN.{get_elem?}
@@ -34,12 +34,12 @@ pushes v w first i x before now after is pushed h = let more = h.0 in (
   pushed ∙ (ap (λ (l : List ℕ). l ++ x ∷ []) h.1 ∙ append_assoc before more (x ∷ [])),
   length-append more (x ∷ []) ∙ ap (λ (n : ℕ). n + 1) h.2,
   λ d le. subst (λ (y : View). Knows y (first + d) (get_or (more ++ x ∷ []) d 0)) (sym is)
-    (dite (ℕ_discrete d i)
-        (λ same. subst (λ (n : ℕ). Knows (knows v (first + i) x) (first + d) n) (sym (ap (λ (n : ℕ). get_or (more ++ x ∷ []) n 0) same ∙ get_or_at more x [] 0 i h.2))
-            (subst (λ (n : ℕ). Knows (knows v (first + i) x) (first + n) x) (sym same) (knows_it v (first + i) x)))
-        (λ other. let lt : d < i = (let ne : ◌≡◌ d i → ⊥ = other in omega (arith, le, ne)) in let len = h.2 in
-            subst (λ (n : ℕ). Knows (knows v (first + i) x) (first + d) n) (sym (get_or_append_left more (x ∷ []) 0 d (omega (arith, lt, len))))
-            (knows_more v (first + i) x (first + d) (get_or more d 0) (h.3 d lt)))),
+      (dite (ℕ_discrete d i)
+      (λ same. subst (λ (n : ℕ). Knows (knows v (first + i) x) (first + d) n) (sym (ap (λ (n : ℕ). get_or (more ++ x ∷ []) n 0) same ∙ get_or_at more x [] 0 i h.2))
+      (subst (λ (n : ℕ). Knows (knows v (first + i) x) (first + n) x) (sym same) (knows_it v (first + i) x)))
+      (λ other. let lt : d < i = (let ne : ◌≡◌ d i → ⊥ = other in omega (arith, le, ne)) in let len = h.2 in
+      subst (λ (n : ℕ). Knows (knows v (first + i) x) (first + d) n) (sym (get_or_append_left more (x ∷ []) 0 d (omega (arith, lt, len))))
+      (knows_more v (first + i) x (first + d) (get_or more d 0) (h.3 d lt)))),
 )
 
 -- ---- room for one entry more
@@ -81,15 +81,15 @@ words_fit q s f room h is c =
     let some_place = is.known.entry in
     let count : length ps ≡ f.place.at - 1 = length-pieces 0 room.ends.items room.words.items ∙ c.count in
     let heads : HeadsAt v v.seen (map head_of ps ++ is.head ∷ []) = heads_at v v.seen (map head_of ps ++ is.head ∷ []) (λ i y e. ⊎_elim
-        (λ (old : get_elem? (map head_of ps) i ≡ some y).
-            let m = mapped_at ps i y old in
-            let k = c.knows i m.0 m.1 in
-            let known : Knows v (k.address + 1) (head_of m.0) = subst (λ (a : ℕ). Knows v a (head_of m.0)) (let z : k.address + 1 + 0 ≡ k.address + 1 = omega arith in z) (k.each 0 k.some_word) in
-            (k.address, seen_at v.seen i (i + 1) k.address k.seen refl, subst (λ (x : ℕ). Knows v (k.address + 1) x) m.2 known))
-        (λ (new : (i ≡ length (map head_of ps)) × (is.head ≡ y)).
-            let end = new.0 in let len = length-map ps head_of in
-            (f.place.word, seen_at v.seen i f.place.at f.place.word is.known.seen (omega (arith, end, len, count, some_place)), subst (λ (x : ℕ). Knows v (f.place.word + 1) x) new.1 is.known.known))
-        (at_end (map head_of ps) is.head y i e)) in
+    (λ (old : get_elem? (map head_of ps) i ≡ some y).
+    let m = mapped_at ps i y old in
+    let k = c.knows i m.0 m.1 in
+    let known : Knows v (k.address + 1) (head_of m.0) = subst (λ (a : ℕ). Knows v a (head_of m.0)) (let z : k.address + 1 + 0 ≡ k.address + 1 = omega arith in z) (k.each 0 k.some_word) in
+    (k.address, seen_at v.seen i (i + 1) k.address k.seen refl, subst (λ (x : ℕ). Knows v (k.address + 1) x) m.2 known))
+    (λ (new : (i ≡ length (map head_of ps)) × (is.head ≡ y)).
+    let end = new.0 in let len = length-map ps head_of in
+    (f.place.word, seen_at v.seen i f.place.at f.place.word is.known.seen (omega (arith, end, len, count, some_place)), subst (λ (x : ℕ). Knows v (f.place.word + 1) x) new.1 is.known.known))
+    (at_end (map head_of ps) is.head y i e)) in
     let most = h.table.1.total (map head_of ps ++ is.head ∷ []) heads in
     let fill = filled_more ps is.head (λ i x e. (c.knows i x e).size) in
     let all = all_pieces 0 room.ends.items room.words.items c.cut c.ended in
@@ -137,8 +137,8 @@ copied_more s t m before after some_m c up adds ends =
       knows = λ i x e. ⊎_elim
           (λ (old : get_elem? (copied_of before) i ≡ some x). knows_later s t (i + 1) x up (c.knows i x old))
           (λ (new : (i ≡ length (copied_of before)) × (more ≡ x)).
-              let end = new.0 in let all = length-pieces 0 before.ends.items words in
-              subst (λ (l : List ℕ). KnowsEntry t (i + 1) l) new.1 (subst (λ (n : ℕ). KnowsEntry t n more) (omega (arith, end, all, counted, some_m)) k))
+          let end = new.0 in let all = length-pieces 0 before.ends.items words in
+          subst (λ (l : List ℕ). KnowsEntry t (i + 1) l) new.1 (subst (λ (n : ℕ). KnowsEntry t n more) (omega (arith, end, all, counted, some_m)) k))
           (at_end (copied_of before) more x i (ap (λ (l : List (List ℕ)). get_elem? l i) (sym pieces) ∙ e));
     }
 

@@ -1,12 +1,12 @@
 -- Words cut into entries.
-use Rattle.std.proofs.Common.{◌⊎◌, inl, inr, ⊎_elim, ◌≡◌, ℕ, zero, suc, ◌+◌, ◌-◌, ◌<◌, ◌≤◌, List, [], ◌∷◌, ◌++◌, map, length, get_or, slice_index, take, drop, sym, refl, ap, ap₂, ◌∙◌, subst, arith, length-append, length-take-le}
+use Rattle.std.proofs.Common.{◌⊎◌, inl, inr, ⊎_elim, ◌≡◌, ℕ, zero, suc, ◌+◌, ◌-◌, ◌<◌, ◌≤◌, List, [], ◌∷◌, ◌++◌, length, get_or, slice_index, take, drop, sym, refl, ap, ap₂, ◌∙◌, arith, length-append, length-take-le}
 use Rattle.std.proofs.lemmas.List.{take-append-le, take_all}
 use mathlib.Core.Option.{some, some-injective, some-ne-none}
 use lib.ListN.{get_elem?}
 use Rattle.queue_rule.specs.Lists.{last_or}
 use Rattle.delete_queue.specs.declared.log.QueueLog.{QueueLog}
 use Rattle.delete_queue.specs.Log.{entries_of}
-use Rattle.delete_queue.specs.Cuts.{pieces_from, IsCut}
+use Rattle.delete_queue.specs.Cuts.{pieces_from}
 
 pub length-pieces : (p : ℕ) (ends words : List ℕ) → length (pieces_from p ends words) ≡ length ends
 length-pieces p [] words = refl
@@ -16,7 +16,6 @@ pub piece_at : (p : ℕ) (ends words : List ℕ) (i : ℕ) → i < length ends �
 piece_at p [] words i lt = absurd (omega (arith, lt))
 piece_at p (e ∷ ends) words zero lt = refl
 piece_at p (e ∷ ends) words (suc i) lt = piece_at e ends words i (omega (arith, lt))
-
 
 pub within : (log : QueueLog) (i : ℕ) → i < length (entries_of log) → i < length log.ends.items
 within log i lt = let len = length-pieces 0 log.ends.items log.words.items in omega (arith, len, lt)
@@ -74,7 +73,7 @@ pub pieces_more : (p : ℕ) (ends words more : List ℕ) → CutFrom p ends (len
 pieces_more p [] words more h last =
     let len = length-append words more in
     let all : take (length (words ++ more) - p) (drop p (words ++ more)) ≡ more =
-        ap (λ (n : ℕ). take (length (words ++ more) - p) (drop n (words ++ more))) last ∙ (ap (take (length (words ++ more) - p)) (drop_all words more) ∙ take_all (length (words ++ more) - p) more (omega (arith, len, last))) in
+    ap (λ (n : ℕ). take (length (words ++ more) - p) (drop n (words ++ more))) last ∙ (ap (take (length (words ++ more) - p)) (drop_all words more) ∙ take_all (length (words ++ more) - p) more (omega (arith, len, last))) in
     ap (λ (l : List ℕ). l ∷ []) all
 pieces_more p (e ∷ ends) words more h last =
     let r = h 0 (omega arith) in let a = r.0 in let b = r.1 in let len = length-dropped p words in

@@ -1,23 +1,23 @@
 -- One seat takes the others over, and the log is the list.
-use Rattle.std.proofs.Common.{◌≡◌, ℕ, suc, zero, ◌+◌, ◌-◌, ◌<◌, ◌≤◌, ◌⊎◌, inl, inr, ⊎_elim, List, [], ◌∷◌, ◌++◌, append_assoc, append-nil, map, length, slice_index, if◌then◌else◌, eqb, sym, refl, ap, ap₂, ◌∙◌, subst, arith, length-append}
+use Rattle.std.proofs.Common.{◌≡◌, ℕ, suc, zero, ◌+◌, ◌-◌, ◌<◌, ◌≤◌, inl, inr, ⊎_elim, List, [], ◌∷◌, ◌++◌, map, length, slice_index, if◌then◌else◌, eqb, sym, refl, ap, ap₂, ◌∙◌, subst, arith, length-append}
 use Rattle.std.proofs.lemmas.List.{length-map}
 use mathlib.Core.Option.{some, some-injective, some-ne-none}
 use lib.ListN.{get_elem?}
-use Rattle.atomic_table.proofs.Lists.{at_longer, at_last}
+use Rattle.atomic_table.proofs.Lists.{at_longer}
 use Rattle.ix_base.specs.Words.{head_kind, IsEntryWords}
 use Rattle.queue_rule.specs.declared.view.Own.{Own}
 use Rattle.queue_rule.specs.declared.view.Old.{Old}
 use Rattle.queue_rule.specs.Lists.{Each}
 use Rattle.queue_rule.specs.Chain.{ChainEntry, own, own_from}
 use Rattle.queue_rule.specs.Told.{Whole}
-use Rattle.queue_rule.proofs.Lists.{all_more, each_append}
+use Rattle.queue_rule.proofs.Lists.{all_more}
 use Rattle.queue_rule.proofs.Entries.{each_at}
 use Rattle.delete_queue.specs.declared.queue.DeleteQueue.{DeleteQueue}
 use Rattle.delete_queue.specs.declared.seat.Seat.{Seat}
 use Rattle.delete_queue.specs.declared.copy.Room.{Room}
 use Rattle.delete_queue.specs.declared.log.QueueLog.{QueueLog}
 use Rattle.delete_queue.specs.Seats.{IsSeatOf, Extends, Learns, Meets, Joined, Knows, joined_of, the_view, number_of, own_of, olds_of, seen_of, base_of, seats_of}
-use Rattle.delete_queue.specs.Copying.{CopiedAll, copied_of}
+use Rattle.delete_queue.specs.Copying.{CopiedAll}
 use Rattle.delete_queue.specs.Log.{Logged, own_in, HoldsList, TakesIn, HasAllOf, IsLogOf, entries_of}
 use Rattle.delete_queue.proofs.Copying.{knows_later, entry_words_are, seen_within}
 use Rattle.delete_queue.specs.Cuts.{pieces_from}
@@ -109,9 +109,9 @@ held_is : (t : Seat) (w : Whole (the_view t)) (n : ℕ) (os : List Own) → Hold
 held_is t w n os h = ⊎_elim
     (λ (mine : (number_of t ≡ n) × (own_of t ≡ os)). sym mine.1 ∙ (w.owns ∙ (ap (λ (i : ℕ). own_from i 1 w.entries) mine.0 ∙ sym (own_logged n 1 w.entries))))
     (λ (old : (i : ℕ) × (get_elem? (olds_of t) i ≡ some (record { number = n; own = os }))).
-        let o = old_at (the_view t).olds old.0 (record { number = n; own = os }) old.1 in
-        let is = each_at (λ (x : Old). x.own ≡ own_from x.number 1 w.entries) (the_view t).olds w.olds old.0 o.0 o.1 in
-        sym (ap (λ (j : Joined). j.own) o.2) ∙ (is ∙ (ap (λ (j : Joined). own_from j.number 1 w.entries) o.2 ∙ sym (own_logged n 1 w.entries)))) h
+    let o = old_at (the_view t).olds old.0 (record { number = n; own = os }) old.1 in
+    let is = each_at (λ (x : Old). x.own ≡ own_from x.number 1 w.entries) (the_view t).olds w.olds old.0 o.0 o.1 in
+    sym (ap (λ (j : Joined). j.own) o.2) ∙ (is ∙ (ap (λ (j : Joined). own_from j.number 1 w.entries) o.2 ∙ sym (own_logged n 1 w.entries)))) h
 
 seen_all : (s t : Seat) (w : Whole (the_view t)) → Extends s t → seen_of s ≤ length (map logged w.entries)
 seen_all s t w up =

@@ -1,9 +1,6 @@
 -- A seat from one call to the next.
-use Rattle.std.proofs.Common.{◌≡◌, ℕ, ◌+◌, ◌-◌, ◌<◌, ◌≤◌, ◌⊎◌, List, [], ◌∷◌, ◌++◌, map, length, Bool, true, false, if◌then◌else◌, sym, refl, ap, ◌∙◌, subst, ⊎_elim, arith, length-append, append-nil, le_refl}
-use Rattle.ix_base.specs.Words.{head_kind}
-use Rattle.queue_rule.specs.declared.view.View.{View}
+use Rattle.std.proofs.Common.{◌≡◌, ℕ, ◌+◌, ◌-◌, ◌≤◌, List, [], ◌∷◌, ◌++◌, map, length, Bool, true, false, if◌then◌else◌, sym, refl, ap, ◌∙◌, subst, ⊎_elim, arith, length-append, append-nil, le_refl}
 use Rattle.queue_rule.specs.declared.view.Own.{Own}
-use Rattle.queue_rule.specs.declared.view.Old.{Old}
 use Rattle.queue_rule.specs.Lists.{Starts, last_or}
 use Rattle.queue_rule.specs.Views.{Knows}
 use Rattle.delete_queue.specs.declared.queue.DeleteQueue.{DeleteQueue}
@@ -24,24 +21,24 @@ same_head q s t h g seen known =
     let v = the_view s in let w = the_view t in
     ⊎_elim
     (λ (z : (v.seen ≡ []) × (s.progress.head ≡ 0)).
-        ⊎_elim (λ (y : (w.seen ≡ []) × (t.progress.head ≡ 0)). y.1 ∙ sym z.1)
-        (λ k. absurd (knows_none w (last_or 0 w.seen + 1) t.progress.head (g.table.1.blank (ap length (seen ∙ z.0))) k)) g.shows.head)
+    ⊎_elim (λ (y : (w.seen ≡ []) × (t.progress.head ≡ 0)). y.1 ∙ sym z.1)
+    (λ k. absurd (knows_none w (last_or 0 w.seen + 1) t.progress.head (g.table.1.blank (ap length (seen ∙ z.0))) k)) g.shows.head)
     (λ k. let here : Knows w (last_or 0 w.seen + 1) s.progress.head = subst (λ (l : List ℕ). Knows w (last_or 0 l + 1) s.progress.head) (sym seen) (known (last_or 0 v.seen + 1) s.progress.head k) in
-        ⊎_elim (λ (y : (w.seen ≡ []) × (t.progress.head ≡ 0)). absurd (knows_none w (last_or 0 w.seen + 1) s.progress.head (g.table.1.blank (ap length y.0)) here))
-        (λ l. g.table.1.agree (last_or 0 w.seen + 1) t.progress.head s.progress.head l here) g.shows.head) h.shows.head
+    ⊎_elim (λ (y : (w.seen ≡ []) × (t.progress.head ≡ 0)). absurd (knows_none w (last_or 0 w.seen + 1) s.progress.head (g.table.1.blank (ap length y.0)) here))
+    (λ l. g.table.1.agree (last_or 0 w.seen + 1) t.progress.head s.progress.head l here) g.shows.head) h.shows.head
 
 last_grows : (q : DeleteQueue) (s t : Seat) → IsSeatOf q s → IsSeatOf q t → (rest : List ℕ) → (the_view t).seen ≡ (the_view s).seen ++ rest → ((a x : ℕ) → Knows (the_view s) a x → Knows (the_view t) a x) → last_of s ≤ last_of t
 last_grows q s t h g [] e known =
     let seen : (the_view t).seen ≡ (the_view s).seen = e ∙ append-nil (the_view s).seen in
     let base : t.base ≡ s.base = g.base ∙ sym h.base in
     let same : last_of t ≡ last_of s = ap (λ (b : ℕ). number_at b (length (the_view t).seen) t.progress.head) base
-        ∙ (ap (λ (l : List ℕ). number_at s.base (length l) t.progress.head) seen ∙ ap (λ (x : ℕ). number_at s.base (length (the_view s).seen) x) (same_head q s t h g seen known)) in
+    ∙ (ap (λ (l : List ℕ). number_at s.base (length l) t.progress.head) seen ∙ ap (λ (x : ℕ). number_at s.base (length (the_view s).seen) x) (same_head q s t h g seen known)) in
     subst (λ (n : ℕ). last_of s ≤ n) (sym same) (le_refl (last_of s))
 last_grows q s t h g (x ∷ rest) e known =
     let base : s.base ≡ t.base = h.base ∙ sym g.base in
     let len : length (the_view t).seen ≡ length (the_view s).seen + length (x ∷ rest) = ap length e ∙ length-append (the_view s).seen (x ∷ rest) in
     subst (λ (b : ℕ). number_at b (length (the_view s).seen) s.progress.head ≤ last_of t) (sym base)
-        (last_more t.base (length (the_view s).seen) (length (the_view t).seen) _ _ (omega (arith, len)))
+    (last_more t.base (length (the_view s).seen) (length (the_view t).seen) _ _ (omega (arith, len)))
 
 pub extended : (q : DeleteQueue) (s t : Seat) → IsSeatOf q s → IsSeatOf q t → Starts (the_view t).seen (the_view s).seen → ((a x : ℕ) → Knows (the_view s) a x → Knows (the_view t) a x) → Extends s t
 extended q s t h g seen known = record {

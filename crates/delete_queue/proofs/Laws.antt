@@ -1,5 +1,5 @@
 -- What the words for seats mean to the layers above.
-use Rattle.std.proofs.Common.{◌≡◌, ℕ, zero, suc, ◌+◌, ◌-◌, ◌<◌, ◌≤◌, List, [], ◌∷◌, ◌++◌, length, get_or, sym, refl, ap, ◌∙◌, subst, arith, append_assoc, append-nil, le_refl}
+use Rattle.std.proofs.Common.{◌≡◌, ℕ, zero, suc, ◌+◌, ◌-◌, ◌<◌, List, [], ◌∷◌, ◌++◌, length, get_or, sym, refl, ap, ◌∙◌, subst, arith, append_assoc, append-nil, le_refl}
 use Rattle.std.proofs.lemmas.List.{ext_get_or}
 use mathlib.Core.Option.{some, some-injective}
 use lib.ListN.{get_elem?}
@@ -73,7 +73,7 @@ knows_once q s place ws xs h k l =
     let v = the_view s in
     let same : k.address ≡ l.address = some-injective k.address l.address (sym k.seen ∙ l.seen) in
     let word : (d : ℕ) → d < length ws → d < length xs → get_or ws d 0 ≡ get_or xs d 0 = λ d lt gt.
-        h.table.1.agree (l.address + 1 + d) (get_or ws d 0) (get_or xs d 0) (subst (λ (a : ℕ). KnowsWord v (a + 1 + d) (get_or ws d 0)) same (k.each d lt)) (l.each d gt) in
+    h.table.1.agree (l.address + 1 + d) (get_or ws d 0) (get_or xs d 0) (subst (λ (a : ℕ). KnowsWord v (a + 1 + d) (get_or ws d 0)) same (k.each d lt)) (l.each d gt) in
     let len : length ws ≡ length xs = k.size ∙ (ap word_count (word 0 k.some_word l.some_word) ∙ sym l.size) in
     ext_get_or 0 ws xs len (λ d lt. word d lt (omega (arith, lt, len)))
 

@@ -9,7 +9,6 @@ pub mod Numbers
 pub mod Reading
 pub mod Looking
 pub mod Words
-
 pub mod Cutting
 pub mod Copying
 pub mod Learning

@@ -1,5 +1,5 @@
 -- Two seats in one.
-use Rattle.std.proofs.Common.{◌≡◌, ℕ, suc, zero, ◌+◌, ◌-◌, ◌*◌, ◌<◌, ◌≤◌, ◌⊎◌, inl, inr, ltb, ltb-true, ltb-false, Bool, true, false, if◌then◌else◌, List, [], ◌∷◌, ◌++◌, map, length, sym, refl, ap, ap₂, ◌∙◌, subst, ⊎_elim, arith, append-nil}
+use Rattle.std.proofs.Common.{◌≡◌, ℕ, suc, ◌+◌, ◌-◌, ◌*◌, ◌<◌, ◌≤◌, ◌⊎◌, inl, inr, ltb, ltb-true, ltb-false, Bool, true, false, if◌then◌else◌, List, [], ◌∷◌, ◌++◌, map, length, sym, refl, ap, ap₂, ◌∙◌, subst, ⊎_elim, arith, append-nil}
 use mathlib.Core.Option.{some, some-ne-none}
 use lib.ListN.{get_elem?}
 use Rattle.atomic_table.proofs.Lists.{at_longer}
@@ -12,12 +12,11 @@ use Rattle.queue_rule.specs.Chain.{start, filled}
 use Rattle.queue_rule.specs.Views.{Knows, known, knows, joined, old_of}
 use Rattle.queue_rule.specs.Told.{Sound, HasOwn, HeadsAt, filled_by}
 use Rattle.queue_rule.proofs.Lists.{all_more, each_append}
-
 use Rattle.delete_queue.specs.declared.queue.DeleteQueue.{DeleteQueue}
 use Rattle.delete_queue.specs.declared.seat.Seat.{Seat}
 use Rattle.delete_queue.specs.declared.seat.Progress.{Progress}
 use Rattle.delete_queue.specs.Ties.{IsTold, IsLiveOf}
-use Rattle.delete_queue.specs.Seats.{IsSeatOf, IsSeat, Shows, Meets, SawClosed, Joined, joined_of, the_view}
+use Rattle.delete_queue.specs.Seats.{IsSeatOf, Shows, Meets, SawClosed, joined_of, the_view}
 use Rattle.delete_queue.specs.Linking.{IsTaken, gone_on}
 use Rattle.delete_queue.proofs.Lists.{empty}
 use Rattle.delete_queue.proofs.Fields.{knows_more}
@@ -124,7 +123,7 @@ settled_loaded q s o r t n h g rough v inner e b p =
     let j = joined (the_view s) (the_view o) in
     let is : the_view t ≡ knows j 0 n = e ∙ ap (λ (z : View). knows z 0 n) v in
     settled q s o r t h g rough v inner (ap (λ (z : View). z.number) is) (ap (λ (z : View). z.own) is) (ap (λ (z : View). z.spares) is ∙ h.spares) (ap (λ (z : View). z.olds) is) (ap (λ (z : View). z.seen) is)
-        (λ a x k. subst (λ (z : View). Knows z a x) (sym is) (knows_more j 0 n a x k)) b p
+    (λ a x k. subst (λ (z : View). Knows z a x) (sym is) (knows_more j 0 n a x k)) b p
 
 -- ---- where neither has seen an entry
 
@@ -152,7 +151,7 @@ blank_sound v w s t z =
     let nothing : v.known ++ w.known ≡ [] = ap₂ ◌++◌ (s.blank both.0) (t.blank both.1) in
     let starts : (xs : List ℕ) → xs ≡ [] → Starts (longer v.seen w.seen) xs = λ xs e. (longer v.seen w.seen, ap (λ l. l ++ longer v.seen w.seen) (sym e)) in
     let from : (xs : List ℕ) → xs ≡ [] → (os : List Old) → Each (λ o. Starts xs o.seen × Starts xs o.mine) os → Each (λ o. Starts (longer v.seen w.seen) o.seen × Starts (longer v.seen w.seen) o.mine) os =
-        λ xs e os h. subst (λ l. Each (λ (o : Old). Starts l o.seen × Starts l o.mine) os) (e ∙ sym here) h in record {
+    λ xs e os h. subst (λ l. Each (λ (o : Old). Starts l o.seen × Starts l o.mine) os) (e ∙ sym here) h in record {
       number = s.number;
       inside = subst (Each (λ (a : ℕ). (0 < a) × (a + 1 < start v.seats))) (sym here) tt;
       room = s.room;
@@ -178,5 +177,5 @@ settled_blank q s o r h g rough v z =
     let j = joined (the_view s) (the_view o) in
     let c : length j.seen ≡ 0 = ap (λ (x : View). length x.seen) (sym v) ∙ (sym rough.shows.count ∙ z) in
     settled q s o r r h g rough v (rough.table, subst Sound (sym v) (blank_sound (the_view s) (the_view o) h.table.1 g.table.1 c))
-        (ap (λ (x : View). x.number) v) (ap (λ (x : View). x.own) v) rough.spares (ap (λ (x : View). x.olds) v) (ap (λ (x : View). x.seen) v)
-        (λ a x k. subst (λ (y : View). Knows y a x) (sym v) k) refl refl
+    (ap (λ (x : View). x.number) v) (ap (λ (x : View). x.own) v) rough.spares (ap (λ (x : View). x.olds) v) (ap (λ (x : View). x.seen) v)
+    (λ a x k. subst (λ (y : View). Knows y a x) (sym v) k) refl refl

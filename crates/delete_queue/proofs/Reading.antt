@@ -1,9 +1,8 @@
 -- Words that are read into a row.
-use Rattle.std.proofs.Common.{◌≡◌, ℕ, suc, zero, ◌+◌, ◌<◌, ◌≤◌, List, [], ◌∷◌, length, get_or, set, sym, refl, ap, ◌∙◌, subst, arith}
+use Rattle.std.proofs.Common.{◌≡◌, ℕ, ◌+◌, ◌<◌, List, ◌∷◌, length, get_or, set, sym, ap, ◌∙◌, subst, arith}
 use Rattle.std.proofs.lemmas.List.{get_or-set_same, get_or-set_other}
 use mathlib.Core.Logic.{dite}
 use native.Mathlib.Decide.{ℕ_discrete}
-use mathlib.Core.Option.{some}
 use lib.ListN.{get_elem?}
 use Rattle.ix_base.specs.Words.{word_count}
 use Rattle.queue_rule.specs.declared.view.View.{View}
@@ -22,10 +21,10 @@ Filled v first i words = (d : ℕ) → d < i → Knows v (first + d) (get_or wor
 pub fills : (v w : View) (first i x : ℕ) (words : List ℕ) → w ≡ knows v (first + i) x → i < length words → Filled v first i words → Filled w first (i + 1) (set words i x)
 fills v w first i x words is lt h d le = subst (λ (y : View). Knows y (first + d) (get_or (set words i x) d 0)) (sym is)
     (dite (ℕ_discrete d i)
-        (λ same. subst (λ (n : ℕ). Knows (knows v (first + i) x) (first + d) n) (sym (ap (λ (n : ℕ). get_or (set words i x) n 0) same ∙ get_or-set_same words i x 0 lt))
-            (subst (λ (n : ℕ). Knows (knows v (first + i) x) (first + n) x) (sym same) (knows_it v (first + i) x)))
-        (λ other. subst (λ (n : ℕ). Knows (knows v (first + i) x) (first + d) n) (sym (get_or-set_other words i d x 0 other))
-            (knows_more v (first + i) x (first + d) (get_or words d 0) (h d (let ne : ◌≡◌ d i → ⊥ = other in omega (arith, le, ne))))))
+    (λ same. subst (λ (n : ℕ). Knows (knows v (first + i) x) (first + d) n) (sym (ap (λ (n : ℕ). get_or (set words i x) n 0) same ∙ get_or-set_same words i x 0 lt))
+    (subst (λ (n : ℕ). Knows (knows v (first + i) x) (first + n) x) (sym same) (knows_it v (first + i) x)))
+    (λ other. subst (λ (n : ℕ). Knows (knows v (first + i) x) (first + d) n) (sym (get_or-set_other words i d x 0 other))
+    (knows_more v (first + i) x (first + d) (get_or words d 0) (h d (let ne : ◌≡◌ d i → ⊥ = other in omega (arith, le, ne))))))
 
 -- the seat knows the entry whose words were read
 pub knows_entry : (s : Seat) (p : Place) (head : ℕ) (words : List ℕ) → Sound (the_view s) → KnowsHead s p head → length words ≡ word_count head → Filled (the_view s) (p.word + 1) (length words) words → KnowsEntry s p.at words

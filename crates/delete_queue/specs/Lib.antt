@@ -3,7 +3,6 @@ pub mod Seats
 pub mod Answers
 pub mod Linking
 pub mod Making
-
 pub mod Cuts
 pub mod Log
 pub mod Copying

@@ -5,13 +5,12 @@ use Rattle.queue_rule.specs.Told.{SawOpen, Whole}
 use Rattle.queue_rule.specs.declared.view.View.{View}
 use Rattle.queue_rule.specs.Lists.{Starts, last_or}
 use Rattle.queue_rule.specs.Chain.{start, filled, own}
-
 use Rattle.queue_rule.specs.Views.{Knows as KnowsWord, front, with_draft, links, sees, with_loaded, loaded}
 use Rattle.delete_queue.specs.declared.queue.DeleteQueue.{DeleteQueue}
 use Rattle.delete_queue.specs.declared.seat.Seat.{Seat}
 use Rattle.delete_queue.specs.declared.seat.Progress.{Progress}
 use Rattle.delete_queue.specs.Ties.{IsTold, IsLiveOf}
-use Rattle.delete_queue.specs.Seats.{the_view, own_of, seen_of, IsSeat, SawClosed}
+use Rattle.delete_queue.specs.Seats.{the_view, own_of, seen_of, IsSeat}
 
 -- w has seen and knows all that v had seen and known; the number and the joined seats are the same
 pub record Follows (v w : View) : Type 0 where

@@ -14,7 +14,11 @@ use queue_rule::View;
 use std::alloc::Global;
 
 // A table for so many seats, and its first seat.
-fn new_table(alloc: Global, base: u64, seats: u64) -> Result<(DeleteQueue, TableSeat<(), View>), NoMemory>
+fn new_table(
+    alloc: Global,
+    base: u64,
+    seats: u64,
+) -> Result<(DeleteQueue, TableSeat<(), View>), NoMemory>
     requires { (base ≤ 2 ^ 62) × (0 < seats) × (seats ≤ 32) }
     ensures queue { IfOk result (λ r. (base_of r.0 ≡ base) × (seats_of r.0 ≡ seats)) }
     ensures seat { IfOk result (λ r. IsLiveOf r.0 r.1 × (view r.1 ≡ newcomer seats)) }

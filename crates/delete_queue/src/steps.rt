@@ -31,7 +31,9 @@ impl DeleteQueue {
         ensures seat { IsTold self.now seat.new }
         ensures view { Exchanged (view seat.old) (view seat.new) result }
     {
-        self.table.shared.compare_exchange::<LinkDraft>(seat, last, 0, at)
+        self.table
+            .shared
+            .compare_exchange::<LinkDraft>(seat, last, 0, at)
     }
 
     /// A load of the next word of the last entry seen.

@@ -1,8 +1,8 @@
-use super::*;
 ghost use Rattle.std.specs.Prelude.{◌≡◌, ◌∷◌, [], IfOk};
 ghost use Rattle.delete_queue.specs.Seats.{IsSeatOf};
 ghost use Rattle.delete_queue.specs.Answers.{IsOperation};
 
+use super::*;
 use ix_base::NoMemory;
 use std::alloc::Global;
 use std::test::*;
@@ -68,14 +68,24 @@ fn look_shows(rt: HostRuntime) -> Result<(), Fail> {
     let mut first = seats.pop().ok_or("a seat")?;
     assert!(rt; queue.link(&mut first, &delete_of_five()) == Linked::At(8));
     let place = Place { at: 1, word: 1 };
-    let found = Found { place, number: 8, kind: 3, words: 3 };
+    let found = Found {
+        place,
+        number: 8,
+        kind: 3,
+        words: 3,
+    };
     assert!(rt; queue.look(&mut second) == Look::Entry(found));
     assert!(rt; queue.look(&mut second) == Look::End);
     Ok(())
 }
 
 /// Links so many adds, and returns the numbers told.
-fn link_adds(alloc: Global, queue: &DeleteQueue, mut seat: Seat, count: u64) -> Result<(Seat, Vec<u64>), NoMemory>
+fn link_adds(
+    alloc: Global,
+    queue: &DeleteQueue,
+    mut seat: Seat,
+    count: u64,
+) -> Result<(Seat, Vec<u64>), NoMemory>
     requires { IsSeatOf queue.now seat }
     ensures { IfOk result (λ r. IsSeatOf queue.now r.0) }
 {
@@ -91,7 +101,13 @@ fn link_adds(alloc: Global, queue: &DeleteQueue, mut seat: Seat, count: u64) -> 
 type Told = Result<(Seat, Vec<u64>), NoMemory>;
 
 /// Two threads link a thousand adds each.
-fn link_both<R: Threads>(rt: &R, alloc: Global, queue: &DeleteQueue, first: Seat, second: Seat) -> (Told, Told)
+fn link_both<R: Threads>(
+    rt: &R,
+    alloc: Global,
+    queue: &DeleteQueue,
+    first: Seat,
+    second: Seat,
+) -> (Told, Told)
     requires first { IsSeatOf queue.now first }
     requires second { IsSeatOf queue.now second }
     ensures first { IfOk result.0 (λ r. IsSeatOf queue.now r.0) }

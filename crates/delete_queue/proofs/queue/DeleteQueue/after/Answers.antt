@@ -1,12 +1,11 @@
-use Rattle.std.proofs.Common.{◌≡◌, ℕ, ◌+◌, ◌*◌, ◌<◌, ◌∙◌, ◌∷◌, List, length, ap, sym, refl, subst, arith}
+use Rattle.std.proofs.Common.{◌≡◌, ◌+◌, ◌∙◌, length, ap, sym, refl, subst, arith}
 use mathlib.Core.Option.{some}
 use lib.ListN.{get_elem?}
 use Rattle.queue_rule.specs.declared.view.View.{View}
-use Rattle.queue_rule.specs.Views.{Knows, knows}
+use Rattle.queue_rule.specs.Views.{Knows}
 use Rattle.delete_queue.specs.declared.seat.Place.{Place}
 use Rattle.delete_queue.specs.declared.seat.Seat.{Seat}
 use Rattle.delete_queue.specs.Seats.{the_view, KnowsHead, number_at}
-use Rattle.delete_queue.specs.Linking.{Rereads}
 use Rattle.delete_queue.proofs.Fields.{knows_it, reread, rereads_on, rereads_knows, rereads_follows}
 use Rattle.delete_queue.proofs.Growing.{learnt}
 use Rattle.delete_queue.proofs.Looking.{may_next, behind, may_first, found_is, at_place}
@@ -30,7 +29,7 @@ pub returns-clause-seat : goal.returns-clause-seat
 returns-clause-seat c =
     let v = the_view c.args.seat.now in let w = c.load_linked-word.new.seat.me.0 in let u = c.load_linked-head.new.seat.me.0 in
     reread c.args.self.now c.args.seat.now (record { inner = c.load_linked-head.new.seat; base = c.args.seat.now.base; progress = c.args.seat.now.progress }) c.requires.seat c.load_linked-head.ensures.seat
-        (rereads_on v w u (rereads_knows v w _ _ c.load_linked-word.ensures.view) (rereads_knows w u _ _ c.load_linked-head.ensures.view)) refl refl
+    (rereads_on v w u (rereads_knows v w _ _ c.load_linked-word.ensures.view) (rereads_knows w u _ _ c.load_linked-head.ensures.view)) refl refl
 
 pub returns-clause-learns : goal.returns-clause-learns
 returns-clause-learns c =

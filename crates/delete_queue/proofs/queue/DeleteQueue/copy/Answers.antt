@@ -1,5 +1,4 @@
-use Rattle.std.proofs.Common.{◌≡◌, ◌+◌, ◌<◌, ◌≤◌, ◌∙◌, ◌∷◌, ◌++◌, [], length, ap, arith, ℕ}
-use Rattle.delete_queue.specs.Seats.{the_view, seen_of, seats_of}
+use Rattle.std.proofs.Common.{◌≡◌, ◌∙◌, ◌∷◌, ◌++◌, [], length, ap, arith, ℕ}
 use Rattle.delete_queue.proofs.Copying.{words_fit, place_within, copied_more}
 use Rattle.delete_queue.proofs.queue.DeleteQueue.copy.Goals as goal
 
@@ -18,4 +17,4 @@ pub returns-clause-copied : goal.returns-clause-copied
 returns-clause-copied c =
     let r : c.len.result ≡ length c.copy_words.new.words.items = c.len.ensures ∙ c.copy_words.new.words.ok.0 in
     copied_more c.args.seat.now c.copy_words.new.seat c.args.found.place.at c.args.room.now (record { ends = c.push_reserved.new.self; words = c.copy_words.new.words })
-        c.requires.found.known.entry c.requires.copied c.copy_words.ensures.learns.0.grows.extends c.copy_words.ensures.words (c.push_reserved.ensures.items ∙ ap (λ (n : ℕ). c.args.room.now.ends.items ++ n ∷ []) r)
+    c.requires.found.known.entry c.requires.copied c.copy_words.ensures.learns.0.grows.extends c.copy_words.ensures.words (c.push_reserved.ensures.items ∙ ap (λ (n : ℕ). c.args.room.now.ends.items ++ n ∷ []) r)

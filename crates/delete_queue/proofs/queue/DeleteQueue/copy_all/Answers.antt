@@ -1,7 +1,6 @@
-use Rattle.std.proofs.Common.{◌≡◌, ℕ, ◌+◌, ◌-◌, ◌<◌, ◌≤◌, ◌∙◌, subst, sym, arith}
-use Rattle.delete_queue.specs.Seats.{the_view, seen_of, seats_of}
+use Rattle.std.proofs.Common.{ℕ, subst, arith}
 use Rattle.delete_queue.specs.Copying.{Copied}
-use Rattle.delete_queue.proofs.Copying.{copied_later, all_copied, place_within}
+use Rattle.delete_queue.proofs.Copying.{copied_later, all_copied}
 use Rattle.delete_queue.proofs.Learning.{learns_on, seen_later}
 use Rattle.delete_queue.proofs.queue.DeleteQueue.copy_all.Goals as goal
 
@@ -9,13 +8,13 @@ pub returns-in_default-clause-copied : goal.returns-in_default-clause-copied
 returns-in_default-clause-copied c =
     let i = c.loop-found.invariant in let end = c.in_default.ensures.end in
     all_copied c.args.self.now c.next.new.seat c.loop-found.place.at c.loop-found.room c.in_default.ensures.seat
-        (copied_later c.loop-found.seat c.next.new.seat c.loop-found.place.at c.loop-found.room c.in_default.ensures.learns.grows.extends i.4) end.0 end.1
+    (copied_later c.loop-found.seat c.next.new.seat c.loop-found.place.at c.loop-found.room c.in_default.ensures.learns.grows.extends i.4) end.0 end.1
 
 pub copy-requires-clause-copied : goal.copy-requires-clause-copied
 copy-requires-clause-copied c =
     let i = c.loop-found.invariant in let next = c.in-Some.ensures.found.1 in
     subst (λ (n : ℕ). Copied c.next.new.seat n c.loop-found.room) (omega (arith, next))
-        (copied_later c.loop-found.seat c.next.new.seat c.loop-found.place.at c.loop-found.room c.in-Some.ensures.learns.grows.extends i.4)
+    (copied_later c.loop-found.seat c.next.new.seat c.loop-found.place.at c.loop-found.room c.in-Some.ensures.learns.grows.extends i.4)
 
 pub loop-found-preserved : goal.loop-found-preserved
 loop-found-preserved c =
