@@ -1,12 +1,12 @@
 -- Words cut into entries.
-use Rattle.std.proofs.Common.{◌⊎◌, inl, inr, ⊎_elim, ◌≡◌, ℕ, zero, suc, ◌+◌, ◌-◌, ◌<◌, ◌≤◌, List, [], ◌∷◌, ◌++◌, map, length, get_or, slice_index, take, drop, sym, refl, ap, ap₂, ◌∙◌, subst, arith, length-append, length-take-le}
+use Rattle.std.proofs.Common.{◌⊎◌, inl, inr, ⊎_elim, ◌≡◌, ℕ, zero, suc, ◌+◌, ◌-◌, ◌<◌, ◌≤◌, List, [], ◌∷◌, ◌++◌, length, get_or, slice_index, take, drop, sym, refl, ap, ap₂, ◌∙◌, arith, length-append, length-take-le}
 use Rattle.std.proofs.lemmas.List.{take-append-le, take_all}
 use mathlib.Core.Option.{some, some-injective, some-ne-none}
 use lib.ListN.{get_elem?}
 use Rattle.queue_rule.specs.Lists.{last_or}
 use Rattle.delete_queue.specs.declared.log.QueueLog.{QueueLog}
 use Rattle.delete_queue.specs.Log.{entries_of}
-use Rattle.delete_queue.specs.Cuts.{pieces_from, IsCut}
+use Rattle.delete_queue.specs.Cuts.{pieces_from}
 
 pub length-pieces : (p : ℕ) (ends words : List ℕ) → length (pieces_from p ends words) ≡ length ends
 length-pieces p [] words = refl

@@ -1,10 +1,10 @@
 -- The words of operations that the tests link.
-use Rattle.std.proofs.Common.{◌≡◌, ℕ, ◌≤◌, ◌<◌, List, [], ◌∷◌, refl, length, codes, arith, rules}
+use Rattle.std.proofs.Common.{ℕ, ◌≤◌, List, [], ◌∷◌, refl, length, codes, arith, rules}
 use Rattle.std.proofs.lemmas.Str.{IsUtf8-from_ascii}
 use Rattle.ix_base.specs.Entry as e
 use Rattle.ix_base.specs.Entry.{IsOwnTerm}
-use Rattle.ix_base.specs.Spelling.{IsName, IsText, be32}
-use Rattle.ix_base.specs.Words.{IsEntryWords, first_word, head_kind}
+use Rattle.ix_base.specs.Spelling.{IsText, be32}
+use Rattle.ix_base.specs.Words.{IsEntryWords, first_word}
 use Rattle.ix_base.specs.declared.document.Term.{Term}
 use Rattle.delete_queue.specs.Answers.{IsOperation}
 

@@ -1,17 +1,16 @@
 -- What a seat's fields say, from one moment to the next.
-use Rattle.std.proofs.Common.{◌≡◌, ℕ, suc, zero, ◌+◌, ◌*◌, ◌<◌, ◌≤◌, ◌⊎◌, inl, inr, List, [], ◌∷◌, ◌++◌, length, drop, slice_index, MatchBool, Bool, true, false, sym, refl, ap, ◌∙◌, subst, ⊎_elim, arith, length-append, append_assoc, append-nil}
-use mathlib.Core.Option.{some, some-ne-none}
+use Rattle.std.proofs.Common.{◌≡◌, ℕ, ◌+◌, ◌<◌, ◌≤◌, ◌⊎◌, inl, inr, List, [], ◌∷◌, ◌++◌, length, drop, slice_index, MatchBool, Bool, true, false, sym, refl, ap, ◌∙◌, subst, ⊎_elim, arith, length-append, append_assoc, append-nil}
+use mathlib.Core.Option.{some-ne-none}
 use lib.ListN.{get_elem?}
 use Rattle.atomic_table.proofs.Lists.{at_last, at_longer}
 use Rattle.ix_base.specs.Words.{head_kind}
 use Rattle.queue_rule.specs.declared.view.View.{View}
-use Rattle.queue_rule.specs.declared.view.Known.{Known}
 use Rattle.queue_rule.specs.declared.view.Own.{Own}
 use Rattle.queue_rule.specs.declared.view.Loaded.{Loaded}
-use Rattle.queue_rule.specs.Lists.{Starts, last_or}
+use Rattle.queue_rule.specs.Lists.{last_or}
 use Rattle.queue_rule.specs.Chain.{start, filled, own}
 use Rattle.queue_rule.specs.Views.{Knows, with_loaded, with_draft, links, sees, knows, known, known_from, front}
-use Rattle.queue_rule.specs.Told.{SawOpen, MayRead, Sound}
+use Rattle.queue_rule.specs.Told.{SawOpen, MayRead}
 use Rattle.delete_queue.specs.declared.queue.DeleteQueue.{DeleteQueue}
 use Rattle.delete_queue.specs.declared.seat.Seat.{Seat}
 use Rattle.delete_queue.specs.declared.seat.Progress.{Progress}
@@ -21,7 +20,7 @@ use Rattle.delete_queue.specs.Linking.{GoesOn, Came, Follows, Rereads, HasRoom}
 use Rattle.ix_base.specs.Words.{IsEntryWords}
 use Rattle.ix_base.specs.EntryLaws.{IsEntryWords-not_empty}
 use Rattle.queue_rule.proofs.Knowing.{in_longer, in_behind, known_at}
-use Rattle.delete_queue.proofs.Lists.{empty, last_snoc}
+use Rattle.delete_queue.proofs.Lists.{last_snoc}
 
 -- ---- known words
 

@@ -1,23 +1,23 @@
 -- One seat takes the others over, and the log is the list.
-use Rattle.std.proofs.Common.{◌≡◌, ℕ, suc, zero, ◌+◌, ◌-◌, ◌<◌, ◌≤◌, ◌⊎◌, inl, inr, ⊎_elim, List, [], ◌∷◌, ◌++◌, append_assoc, append-nil, map, length, slice_index, if◌then◌else◌, eqb, sym, refl, ap, ap₂, ◌∙◌, subst, arith, length-append}
+use Rattle.std.proofs.Common.{◌≡◌, ℕ, suc, zero, ◌+◌, ◌-◌, ◌<◌, ◌≤◌, inl, inr, ⊎_elim, List, [], ◌∷◌, ◌++◌, map, length, slice_index, if◌then◌else◌, eqb, sym, refl, ap, ap₂, ◌∙◌, subst, arith, length-append}
 use Rattle.std.proofs.lemmas.List.{length-map}
 use mathlib.Core.Option.{some, some-injective, some-ne-none}
 use lib.ListN.{get_elem?}
-use Rattle.atomic_table.proofs.Lists.{at_longer, at_last}
+use Rattle.atomic_table.proofs.Lists.{at_longer}
 use Rattle.ix_base.specs.Words.{head_kind, IsEntryWords}
 use Rattle.queue_rule.specs.declared.view.Own.{Own}
 use Rattle.queue_rule.specs.declared.view.Old.{Old}
 use Rattle.queue_rule.specs.Lists.{Each}
 use Rattle.queue_rule.specs.Chain.{ChainEntry, own, own_from}
 use Rattle.queue_rule.specs.Told.{Whole}
-use Rattle.queue_rule.proofs.Lists.{all_more, each_append}
+use Rattle.queue_rule.proofs.Lists.{all_more}
 use Rattle.queue_rule.proofs.Entries.{each_at}
 use Rattle.delete_queue.specs.declared.queue.DeleteQueue.{DeleteQueue}
 use Rattle.delete_queue.specs.declared.seat.Seat.{Seat}
 use Rattle.delete_queue.specs.declared.copy.Room.{Room}
 use Rattle.delete_queue.specs.declared.log.QueueLog.{QueueLog}
 use Rattle.delete_queue.specs.Seats.{IsSeatOf, Extends, Learns, Meets, Joined, Knows, joined_of, the_view, number_of, own_of, olds_of, seen_of, base_of, seats_of}
-use Rattle.delete_queue.specs.Copying.{CopiedAll, copied_of}
+use Rattle.delete_queue.specs.Copying.{CopiedAll}
 use Rattle.delete_queue.specs.Log.{Logged, own_in, HoldsList, TakesIn, HasAllOf, IsLogOf, entries_of}
 use Rattle.delete_queue.proofs.Copying.{knows_later, entry_words_are, seen_within}
 use Rattle.delete_queue.specs.Cuts.{pieces_from}

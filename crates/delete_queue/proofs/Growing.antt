@@ -1,9 +1,6 @@
 -- A seat from one call to the next.
-use Rattle.std.proofs.Common.{◌≡◌, ℕ, ◌+◌, ◌-◌, ◌<◌, ◌≤◌, ◌⊎◌, List, [], ◌∷◌, ◌++◌, map, length, Bool, true, false, if◌then◌else◌, sym, refl, ap, ◌∙◌, subst, ⊎_elim, arith, length-append, append-nil, le_refl}
-use Rattle.ix_base.specs.Words.{head_kind}
-use Rattle.queue_rule.specs.declared.view.View.{View}
+use Rattle.std.proofs.Common.{◌≡◌, ℕ, ◌+◌, ◌-◌, ◌≤◌, List, [], ◌∷◌, ◌++◌, map, length, Bool, true, false, if◌then◌else◌, sym, refl, ap, ◌∙◌, subst, ⊎_elim, arith, length-append, append-nil, le_refl}
 use Rattle.queue_rule.specs.declared.view.Own.{Own}
-use Rattle.queue_rule.specs.declared.view.Old.{Old}
 use Rattle.queue_rule.specs.Lists.{Starts, last_or}
 use Rattle.queue_rule.specs.Views.{Knows}
 use Rattle.delete_queue.specs.declared.queue.DeleteQueue.{DeleteQueue}

@@ -1,5 +1,5 @@
 -- What the words for seats mean to the layers above.
-use Rattle.std.proofs.Common.{◌≡◌, ℕ, zero, suc, ◌+◌, ◌-◌, ◌<◌, ◌≤◌, List, [], ◌∷◌, ◌++◌, length, get_or, sym, refl, ap, ◌∙◌, subst, arith, append_assoc, append-nil, le_refl}
+use Rattle.std.proofs.Common.{◌≡◌, ℕ, zero, suc, ◌+◌, ◌-◌, ◌<◌, List, [], ◌∷◌, ◌++◌, length, get_or, sym, refl, ap, ◌∙◌, subst, arith, append_assoc, append-nil, le_refl}
 use Rattle.std.proofs.lemmas.List.{ext_get_or}
 use mathlib.Core.Option.{some, some-injective}
 use lib.ListN.{get_elem?}

@@ -1,6 +1,5 @@
 -- What a seat learns in several calls.
-use Rattle.std.proofs.Common.{◌≡◌, ℕ, ◌+◌, ◌≤◌, List, [], ◌∷◌, ◌++◌, append_assoc, append-nil, sym, ap, ◌∙◌, arith}
-use mathlib.Core.Option.{some}
+use Rattle.std.proofs.Common.{ℕ, List, [], ◌∷◌, ◌++◌, append_assoc, append-nil, sym, ap, ◌∙◌, arith}
 use lib.ListN.{get_elem?}
 use Rattle.atomic_table.proofs.Lists.{at_longer}
 use Rattle.delete_queue.specs.declared.seat.Seat.{Seat}

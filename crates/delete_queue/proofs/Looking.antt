@@ -1,12 +1,12 @@
 -- Looking for an entry, and going along those seen.
-use Rattle.std.proofs.Common.{◌≡◌, ℕ, suc, zero, ◌+◌, ◌*◌, ◌<◌, ◌≤◌, ◌⊎◌, inl, inr, List, [], ◌∷◌, ◌++◌, length, slice_index, sym, refl, ap, ◌∙◌, subst, ⊎_elim, arith, length-append}
+use Rattle.std.proofs.Common.{◌≡◌, ℕ, suc, zero, ◌+◌, ◌<◌, ◌≤◌, inl, inr, List, [], ◌∷◌, ◌++◌, length, sym, refl, ap, ◌∙◌, subst, ⊎_elim, arith, length-append}
 use mathlib.Core.Option.{some, some-injective}
 use lib.ListN.{get_elem?}
-use Rattle.atomic_table.proofs.Lists.{at_last, at_longer}
+use Rattle.atomic_table.proofs.Lists.{at_longer}
 use Rattle.ix_base.specs.Words.{head_kind, word_count}
 use Rattle.queue_rule.specs.declared.view.View.{View}
 use Rattle.queue_rule.specs.declared.view.Loaded.{Loaded}
-use Rattle.queue_rule.specs.Lists.{Each, last_or}
+use Rattle.queue_rule.specs.Lists.{last_or}
 use Rattle.queue_rule.specs.Chain.{start, filled}
 use Rattle.queue_rule.specs.Views.{Knows, with_loaded, sees, knows}
 use Rattle.queue_rule.specs.Told.{MayRead, Sound}
@@ -18,8 +18,8 @@ use Rattle.delete_queue.specs.declared.seat.Place.{Place}
 use Rattle.delete_queue.specs.declared.seat.Found.{Found}
 use Rattle.delete_queue.specs.Ties.{IsTold}
 use Rattle.delete_queue.specs.Seats.{IsSeatOf, IsFound, KnowsHead, HasSeen, the_view, seen_of, number_at, SawClosed}
-use Rattle.delete_queue.specs.Linking.{GoesOn, Follows, Rereads}
-use Rattle.delete_queue.proofs.Fields.{knows_none, knows_it, knows_more, follows_on, follows_sees, follows_knows, rereads_loaded, rereads_follows}
+use Rattle.delete_queue.specs.Linking.{GoesOn, Follows}
+use Rattle.delete_queue.proofs.Fields.{knows_none, knows_it, follows_on, follows_sees, follows_knows, rereads_loaded, rereads_follows}
 
 -- the last of the entries seen, counted from the 0 before them
 pub at_count : (a : ℕ) (xs : List ℕ) → get_elem? (a ∷ xs) (length xs) ≡ some (last_or a xs)

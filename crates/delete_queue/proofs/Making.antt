@@ -1,14 +1,14 @@
 -- The seats of a new queue.
-use Rattle.std.proofs.Common.{◌≡◌, ℕ, suc, zero, ◌+◌, ◌-◌, ◌*◌, ◌<◌, ◌≤◌, ◌⊎◌, inl, inr, List, [], ◌∷◌, ◌++◌, map, length, sym, refl, ap, ◌∙◌, subst, arith, true}
+use Rattle.std.proofs.Common.{◌≡◌, ℕ, suc, zero, ◌+◌, ◌-◌, ◌<◌, ◌≤◌, ◌⊎◌, inl, List, [], ◌∷◌, ◌++◌, map, length, sym, refl, ap, ◌∙◌, subst, arith}
 use Rattle.queue_rule.specs.declared.view.View.{View}
-use Rattle.queue_rule.specs.Views.{view_of, numbers_from, kept_back, split_off}
+use Rattle.queue_rule.specs.Views.{view_of, numbers_from}
 use Rattle.queue_rule.specs.Told.{Sound}
 use Rattle.queue_rule.proofs.Telling.{fresh_sound}
 use Rattle.delete_queue.specs.declared.queue.DeleteQueue.{DeleteQueue}
 use Rattle.delete_queue.specs.declared.seat.Seat.{Seat}
 use Rattle.delete_queue.specs.declared.seat.Progress.{Progress}
 use Rattle.delete_queue.specs.Ties.{IsLiveOf, TableSeat, view}
-use Rattle.delete_queue.specs.Seats.{IsSeatOf, the_view, seats_of, base_of, Shows, SawClosed, joined_of, number_at}
+use Rattle.delete_queue.specs.Seats.{Shows, SawClosed, joined_of, number_at}
 use Rattle.queue_rule.specs.Chain.{filled}
 use Rattle.delete_queue.specs.Making.{IsNew, AreNewFrom}
 

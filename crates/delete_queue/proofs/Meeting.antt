@@ -1,5 +1,5 @@
 -- Two seats in one.
-use Rattle.std.proofs.Common.{◌≡◌, ℕ, suc, zero, ◌+◌, ◌-◌, ◌*◌, ◌<◌, ◌≤◌, ◌⊎◌, inl, inr, ltb, ltb-true, ltb-false, Bool, true, false, if◌then◌else◌, List, [], ◌∷◌, ◌++◌, map, length, sym, refl, ap, ap₂, ◌∙◌, subst, ⊎_elim, arith, append-nil}
+use Rattle.std.proofs.Common.{◌≡◌, ℕ, suc, ◌+◌, ◌-◌, ◌*◌, ◌<◌, ◌≤◌, ◌⊎◌, inl, inr, ltb, ltb-true, ltb-false, Bool, true, false, if◌then◌else◌, List, [], ◌∷◌, ◌++◌, map, length, sym, refl, ap, ap₂, ◌∙◌, subst, ⊎_elim, arith, append-nil}
 use mathlib.Core.Option.{some, some-ne-none}
 use lib.ListN.{get_elem?}
 use Rattle.atomic_table.proofs.Lists.{at_longer}
@@ -16,7 +16,7 @@ use Rattle.delete_queue.specs.declared.queue.DeleteQueue.{DeleteQueue}
 use Rattle.delete_queue.specs.declared.seat.Seat.{Seat}
 use Rattle.delete_queue.specs.declared.seat.Progress.{Progress}
 use Rattle.delete_queue.specs.Ties.{IsTold, IsLiveOf}
-use Rattle.delete_queue.specs.Seats.{IsSeatOf, IsSeat, Shows, Meets, SawClosed, Joined, joined_of, the_view}
+use Rattle.delete_queue.specs.Seats.{IsSeatOf, Shows, Meets, SawClosed, joined_of, the_view}
 use Rattle.delete_queue.specs.Linking.{IsTaken, gone_on}
 use Rattle.delete_queue.proofs.Lists.{empty}
 use Rattle.delete_queue.proofs.Fields.{knows_more}

@@ -1,9 +1,8 @@
 -- Numbers, kinds and places of entries, as the layers above use them.
-use Rattle.std.proofs.Common.{◌≡◌, ℕ, zero, suc, ◌+◌, ◌-◌, ◌<◌, ◌≤◌, ◌⊎◌, inl, inr, List, [], ◌∷◌, ◌++◌, length, get_or, Bool, true, false, eqb, if◌then◌else◌, sym, refl, ap, ◌∙◌, subst, ⊎_elim, arith, ne_eqb, eq-eqb}
-use mathlib.Core.Option.{some, some-injective, some-ne-none}
+use Rattle.std.proofs.Common.{◌≡◌, ℕ, zero, suc, ◌+◌, ◌-◌, ◌<◌, ◌≤◌, ◌⊎◌, inl, inr, List, [], ◌∷◌, length, get_or, Bool, if◌then◌else◌, sym, refl, ap, ◌∙◌, subst, ⊎_elim, arith, ne_eqb, eq-eqb}
+use mathlib.Core.Option.{some-injective}
 use mathlib.Core.Logic.{dite}
 use native.Mathlib.Decide.{ℕ_discrete}
-use lib.ListN.{get_elem?}
 use Rattle.ix_base.specs.Words.{head_kind, word_count}
 use Rattle.queue_rule.specs.Lists.{last_or}
 use Rattle.queue_rule.specs.Views.{Knows as KnowsWord}
@@ -11,7 +10,7 @@ use Rattle.delete_queue.specs.declared.queue.DeleteQueue.{DeleteQueue}
 use Rattle.delete_queue.specs.declared.seat.Seat.{Seat}
 use Rattle.delete_queue.specs.declared.seat.Place.{Place}
 use Rattle.delete_queue.specs.declared.seat.Found.{Found}
-use Rattle.delete_queue.specs.Seats.{IsSeatOf, HasSeen, KnowsHead, Knows, IsFound, Links, the_view, base_of, seen_of, last_of, number_at}
+use Rattle.delete_queue.specs.Seats.{IsSeatOf, HasSeen, Knows, IsFound, Links, the_view, base_of, seen_of, last_of, number_at}
 use Rattle.delete_queue.specs.Answers.{IsOperation}
 use Rattle.queue_rule.proofs.Lists.{at_inside}
 use Rattle.delete_queue.proofs.Fields.{knows_none}

@@ -1,7 +1,7 @@
 -- The words of an entry that closes a queue.
-use Rattle.std.proofs.Common.{◌≡◌, ℕ, List, [], ◌∷◌, sym, refl, subst}
+use Rattle.std.proofs.Common.{refl}
 use Rattle.ix_base.specs.Entry as e
-use Rattle.ix_base.specs.Words.{Spells, entry_words, IsEntryWords}
+use Rattle.ix_base.specs.Words.{IsEntryWords}
 use Rattle.delete_queue.specs.declared.seat.Closing.{Closing}
 use Rattle.delete_queue.specs.declared.seat.Closing.TheVariants.{Commit, Turn}
 use Rattle.delete_queue.specs.Answers.{closing_words}

@@ -1,5 +1,5 @@
 -- What a clause says of an answer.
-use Rattle.std.specs.Prelude.{◌≡◌, ◌≢◌, ℕ, ◌+◌, ◌<◌, ◌≤◌, List, [], ◌∷◌, length, slice_index}
+use Rattle.std.specs.Prelude.{◌≡◌, ◌≢◌, ℕ, ◌+◌, ◌<◌, ◌≤◌, List, slice_index}
 use Rattle.ix_base.specs.Words.{head_kind, entry_words, IsEntryWords}
 use Rattle.ix_base.specs.Entry as e
 use Rattle.queue_rule.specs.Told.{Whole}

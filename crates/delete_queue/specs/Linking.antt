@@ -10,7 +10,7 @@ use Rattle.delete_queue.specs.declared.queue.DeleteQueue.{DeleteQueue}
 use Rattle.delete_queue.specs.declared.seat.Seat.{Seat}
 use Rattle.delete_queue.specs.declared.seat.Progress.{Progress}
 use Rattle.delete_queue.specs.Ties.{IsTold, IsLiveOf}
-use Rattle.delete_queue.specs.Seats.{the_view, own_of, seen_of, IsSeat, SawClosed}
+use Rattle.delete_queue.specs.Seats.{the_view, own_of, seen_of, IsSeat}
 
 -- w has seen and knows all that v had seen and known; the number and the joined seats are the same
 pub record Follows (v w : View) : Type 0 where

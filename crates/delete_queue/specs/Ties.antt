@@ -1,5 +1,5 @@
 -- A table's seat that is one of a queue, and whose view the rule has told of.
-use Rattle.std.specs.Prelude.{◌≡◌, ℕ, true, []}
+use Rattle.std.specs.Prelude.{◌≡◌, true, []}
 use Rattle.atomic_table.specs.declared.shared.Seat.{Seat}
 use Rattle.queue_rule.specs.declared.view.View.{View}
 use Rattle.queue_rule.specs.Told.{Sound}

@@ -1,4 +1,4 @@
-use Rattle.std.proofs.Common.{◌≡◌, ◌+◌, ◌*◌, ◌∙◌, ap, length, get_or, arith, rules}
+use Rattle.std.proofs.Common.{◌+◌, ◌*◌, ◌∙◌, ap, length, get_or, arith, rules}
 use Rattle.std.proofs.lemmas.List.{length-replicate, get_or-replicate}
 use Rattle.queue_rule.proofs.Seating.{opens}
 use Rattle.delete_queue.proofs.make.new_table.Goals as goal

@@ -1,8 +1,4 @@
-use Rattle.std.proofs.Common.{◌≡◌, ◌<◌, ◌-◌, ℕ, length, take, drop, slice_index, sym, ap₂, ◌∙◌, arith}
-use mathlib.Core.Option.{some}
-use lib.ListN.{get_elem?}
-use Rattle.delete_queue.specs.Log.{entries_of}
-use Rattle.delete_queue.specs.declared.log.QueueLog.{QueueLog}
+use Rattle.std.proofs.Common.{arith}
 use Rattle.delete_queue.proofs.Cutting.{within, bounded}
 use Rattle.delete_queue.proofs.log.QueueLog.bounds.Goals as goal
 

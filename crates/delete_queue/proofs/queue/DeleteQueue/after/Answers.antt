@@ -1,12 +1,11 @@
-use Rattle.std.proofs.Common.{◌≡◌, ℕ, ◌+◌, ◌*◌, ◌<◌, ◌∙◌, ◌∷◌, List, length, ap, sym, refl, subst, arith}
+use Rattle.std.proofs.Common.{◌≡◌, ◌+◌, ◌∙◌, length, ap, sym, refl, subst, arith}
 use mathlib.Core.Option.{some}
 use lib.ListN.{get_elem?}
 use Rattle.queue_rule.specs.declared.view.View.{View}
-use Rattle.queue_rule.specs.Views.{Knows, knows}
+use Rattle.queue_rule.specs.Views.{Knows}
 use Rattle.delete_queue.specs.declared.seat.Place.{Place}
 use Rattle.delete_queue.specs.declared.seat.Seat.{Seat}
 use Rattle.delete_queue.specs.Seats.{the_view, KnowsHead, number_at}
-use Rattle.delete_queue.specs.Linking.{Rereads}
 use Rattle.delete_queue.proofs.Fields.{knows_it, reread, rereads_on, rereads_knows, rereads_follows}
 use Rattle.delete_queue.proofs.Growing.{learnt}
 use Rattle.delete_queue.proofs.Looking.{may_next, behind, may_first, found_is, at_place}

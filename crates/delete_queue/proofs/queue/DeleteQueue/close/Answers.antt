@@ -1,4 +1,4 @@
-use Rattle.std.proofs.Common.{◌+◌, sym, subst}
+use Rattle.std.proofs.Common.{sym, subst}
 use Rattle.ix_base.specs.Words.{IsEntryWords}
 use Rattle.delete_queue.proofs.Growing.{grown_by, grown_none}
 use Rattle.delete_queue.proofs.Words.{closes}

@@ -1,5 +1,4 @@
-use Rattle.std.proofs.Common.{◌≡◌, ◌+◌, ◌<◌, ◌≤◌, ◌∙◌, ◌∷◌, ◌++◌, [], length, ap, arith, ℕ}
-use Rattle.delete_queue.specs.Seats.{the_view, seen_of, seats_of}
+use Rattle.std.proofs.Common.{◌≡◌, ◌∙◌, ◌∷◌, ◌++◌, [], length, ap, arith, ℕ}
 use Rattle.delete_queue.proofs.Copying.{words_fit, place_within, copied_more}
 use Rattle.delete_queue.proofs.queue.DeleteQueue.copy.Goals as goal
 

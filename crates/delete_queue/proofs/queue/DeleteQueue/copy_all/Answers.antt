@@ -1,7 +1,6 @@
-use Rattle.std.proofs.Common.{◌≡◌, ℕ, ◌+◌, ◌-◌, ◌<◌, ◌≤◌, ◌∙◌, subst, sym, arith}
-use Rattle.delete_queue.specs.Seats.{the_view, seen_of, seats_of}
+use Rattle.std.proofs.Common.{ℕ, subst, arith}
 use Rattle.delete_queue.specs.Copying.{Copied}
-use Rattle.delete_queue.proofs.Copying.{copied_later, all_copied, place_within}
+use Rattle.delete_queue.proofs.Copying.{copied_later, all_copied}
 use Rattle.delete_queue.proofs.Learning.{learns_on, seen_later}
 use Rattle.delete_queue.proofs.queue.DeleteQueue.copy_all.Goals as goal
 

@@ -1,4 +1,4 @@
-use Rattle.std.proofs.Common.{◌≡◌, ℕ, ◌≤◌, ◌*◌, ◌-◌}
+use Rattle.std.proofs.Common.{◌≤◌, ◌-◌}
 use Rattle.delete_queue.specs.Seats.{IsSeatOf, HasSeen, Learns, seats_of, seen_of}
 use Rattle.delete_queue.specs.Copying.{HasSpace, Copied}
 use Rattle.delete_queue.proofs.queue.DeleteQueue.copy_all.Given as goal

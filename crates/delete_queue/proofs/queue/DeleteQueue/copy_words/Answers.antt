@@ -1,4 +1,4 @@
-use Rattle.std.proofs.Common.{◌≡◌, ◌+◌, ◌<◌, ◌∙◌, length, refl, arith, ap, subst, ℕ}
+use Rattle.std.proofs.Common.{◌≡◌, ◌+◌, ◌∙◌, length, refl, arith}
 use Rattle.delete_queue.specs.Seats.{the_view}
 use Rattle.delete_queue.proofs.Fields.{reread, rereads_on, rereads_knows}
 use Rattle.delete_queue.proofs.Looking.{may_word}

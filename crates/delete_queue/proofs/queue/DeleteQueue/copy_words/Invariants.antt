@@ -1,4 +1,4 @@
-use Rattle.std.proofs.Common.{◌≡◌, ℕ, ◌+◌, ◌<◌, length}
+use Rattle.std.proofs.Common.{◌≡◌, ◌+◌}
 use Rattle.std.specs.Vec.{vec_len, vec_capacity}
 use Rattle.delete_queue.specs.Ties.{IsTold}
 use Rattle.delete_queue.specs.Seats.{the_view}

@@ -1,4 +1,4 @@
-use Rattle.std.proofs.Common.{◌≡◌, ◌<◌, ℕ, arith}
+use Rattle.std.proofs.Common.{arith}
 use Rattle.queue_rule.proofs.Seating.{joins}
 use Rattle.delete_queue.proofs.queue.DeleteQueue.join.Goals as goal
 

@@ -1,4 +1,4 @@
-use Rattle.std.proofs.Common.{◌∙◌, ap, sym, subst, ◌≡◌}
+use Rattle.std.proofs.Common.{◌∙◌, ap, sym, subst}
 use Rattle.delete_queue.specs.declared.seat.Place.{Place}
 use Rattle.delete_queue.specs.Seats.{KnowsHead, number_at}
 use Rattle.delete_queue.proofs.Looking.{found_is, last_found}

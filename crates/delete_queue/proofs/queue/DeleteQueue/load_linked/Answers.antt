@@ -1,5 +1,4 @@
-use Rattle.std.proofs.Common.{◌≡◌, ◌<◌, ℕ, arith}
-use Rattle.queue_rule.specs.Chain.{start}
+use Rattle.std.proofs.Common.{arith}
 use Rattle.queue_rule.proofs.Telling.{may_read}
 use Rattle.delete_queue.proofs.queue.DeleteQueue.load_linked.Goals as goal
 

@@ -1,6 +1,4 @@
-use Rattle.std.proofs.Common.{◌≡◌, ◌<◌, ℕ, arith}
-use Rattle.queue_rule.specs.Lists.{last_or}
-use Rattle.queue_rule.specs.Chain.{start}
+use Rattle.std.proofs.Common.{arith}
 use Rattle.queue_rule.proofs.Telling.{may_look}
 use Rattle.delete_queue.proofs.Lists.{last_inside}
 use Rattle.delete_queue.proofs.queue.DeleteQueue.load_next.Goals as goal

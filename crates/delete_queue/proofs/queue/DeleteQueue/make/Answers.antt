@@ -1,7 +1,6 @@
-use Rattle.std.proofs.Common.{◌≡◌, ℕ, List, ◌+◌, ◌-◌, ◌<◌, ◌≤◌, ◌∙◌, [], ◌∷◌, length, length-append, ap, sym, refl, subst, arith}
+use Rattle.std.proofs.Common.{◌≡◌, ℕ, List, ◌+◌, ◌-◌, ◌≤◌, ◌∙◌, [], ◌∷◌, length, length-append, ap, sym, subst, arith}
 use Rattle.queue_rule.specs.declared.view.View.{View}
 use Rattle.queue_rule.specs.Views.{view_of, numbers_from, kept_back, split_off}
-use Rattle.delete_queue.specs.Seats.{seats_of}
 use Rattle.delete_queue.specs.Ties.{view}
 use Rattle.delete_queue.specs.Making.{AreNewFrom, IsNew}
 use Rattle.delete_queue.proofs.Making.{numbers_step, new_snoc}

@@ -1,4 +1,4 @@
-use Rattle.std.proofs.Common.{◌≡◌, ℕ, ◌+◌, ◌-◌, ◌≤◌, [], length}
+use Rattle.std.proofs.Common.{◌≡◌, ◌+◌, ◌-◌, ◌≤◌, [], length}
 use Rattle.std.specs.Vec.{vec_capacity}
 use Rattle.queue_rule.specs.Views.{view_of, numbers_from}
 use Rattle.delete_queue.specs.Ties.{IsLiveOf, view}

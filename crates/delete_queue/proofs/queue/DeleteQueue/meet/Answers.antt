@@ -1,5 +1,4 @@
-use Rattle.std.proofs.Common.{◌≡◌, refl, arith, ◌<◌}
-use Rattle.delete_queue.specs.declared.seat.Seat.{Seat}
+use Rattle.std.proofs.Common.{refl, arith}
 use Rattle.delete_queue.proofs.Meeting.{settled_loaded, settled_blank}
 use Rattle.delete_queue.proofs.queue.DeleteQueue.meet.Goals as goal
 

@@ -1,4 +1,4 @@
-use Rattle.std.proofs.Common.{◌≡◌, List, [], ◌∷◌, ◌++◌, append_assoc, ap, ◌∙◌, subst}
+use Rattle.std.proofs.Common.{List, [], ◌∷◌, ◌++◌, append_assoc, ap, ◌∙◌, subst}
 use Rattle.queue_rule.specs.Lists.{Each}
 use Rattle.queue_rule.proofs.Lists.{all_more}
 use Rattle.delete_queue.specs.declared.seat.Seat.{Seat}

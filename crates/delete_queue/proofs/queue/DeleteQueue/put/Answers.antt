@@ -1,9 +1,9 @@
-use Rattle.std.proofs.Common.{◌≡◌, ◌+◌, ◌∷◌, ◌∙◌, ap, sym, refl, subst, ne_eqb}
+use Rattle.std.proofs.Common.{◌≡◌, ◌+◌, ◌∙◌, ap, sym, refl, subst, ne_eqb}
 use Rattle.queue_rule.specs.declared.view.View.{View}
 use Rattle.queue_rule.specs.Chain.{filled}
-use Rattle.queue_rule.specs.Views.{front, links, sees, knows}
+use Rattle.queue_rule.specs.Views.{front, sees, knows}
 use Rattle.delete_queue.specs.Seats.{the_view, used_of}
-use Rattle.delete_queue.specs.Linking.{Follows, Came, GoesOn}
+use Rattle.delete_queue.specs.Linking.{Follows}
 use Rattle.delete_queue.proofs.Fields.{came_in, missed, followed_links, follows_on, follows_sees, follows_knows}
 use Rattle.delete_queue.proofs.queue.DeleteQueue.put.Goals as goal
 

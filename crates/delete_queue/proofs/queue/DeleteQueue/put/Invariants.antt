@@ -1,4 +1,4 @@
-use Rattle.std.proofs.Common.{◌≡◌, ℕ, ◌≤◌, ◌+◌, ◌-◌, ◌*◌, ◌∷◌, length}
+use Rattle.std.proofs.Common.{◌≡◌, ◌-◌, ◌*◌, ◌∷◌, length}
 use Rattle.queue_rule.specs.Views.{front}
 use Rattle.delete_queue.specs.Seats.{the_view, own_of, IsSeatOf}
 use Rattle.delete_queue.specs.Linking.{Follows}

@@ -1,9 +1,9 @@
-use Rattle.std.proofs.Common.{◌≡◌, ◌+◌, ◌<◌, ◌∙◌, length, refl, arith, subst, ℕ}
+use Rattle.std.proofs.Common.{◌+◌, ◌∙◌, refl, arith}
 use Rattle.std.proofs.lemmas.List.{length-set}
 use Rattle.delete_queue.specs.Seats.{the_view}
 use Rattle.delete_queue.proofs.Fields.{reread, rereads_on, rereads_knows}
 use Rattle.delete_queue.proofs.Looking.{may_word}
-use Rattle.delete_queue.proofs.Reading.{Filled, fills, knows_entry, head_stays}
+use Rattle.delete_queue.proofs.Reading.{fills, knows_entry, head_stays}
 use Rattle.delete_queue.proofs.queue.DeleteQueue.read.Goals as goal
 
 pub load_linked-requires-clause-place : goal.load_linked-requires-clause-place

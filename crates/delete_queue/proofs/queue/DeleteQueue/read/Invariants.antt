@@ -1,4 +1,4 @@
-use Rattle.std.proofs.Common.{◌≡◌, ℕ, ◌+◌, ◌<◌, length, slice_index}
+use Rattle.std.proofs.Common.{◌≡◌, ◌+◌, length}
 use Rattle.delete_queue.specs.Ties.{IsTold}
 use Rattle.delete_queue.specs.Seats.{the_view}
 use Rattle.delete_queue.specs.Linking.{Rereads}

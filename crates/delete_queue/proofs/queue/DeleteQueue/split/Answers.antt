@@ -1,4 +1,4 @@
-use Rattle.std.proofs.Common.{◌≡◌, ◌<◌, ℕ, arith}
+use Rattle.std.proofs.Common.{arith}
 use Rattle.queue_rule.proofs.Seating.{splits}
 use Rattle.delete_queue.proofs.Lists.{has_first}
 use Rattle.delete_queue.proofs.queue.DeleteQueue.split.Goals as goal

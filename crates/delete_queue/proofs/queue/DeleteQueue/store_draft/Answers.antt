@@ -1,5 +1,4 @@
-use Rattle.std.proofs.Common.{◌≡◌, ◌<◌, ℕ, arith}
-use Rattle.queue_rule.specs.Chain.{start}
+use Rattle.std.proofs.Common.{arith}
 use Rattle.queue_rule.proofs.Telling.{may_draft}
 use Rattle.delete_queue.proofs.queue.DeleteQueue.store_draft.Goals as goal
 

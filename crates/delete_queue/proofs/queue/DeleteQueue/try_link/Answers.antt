@@ -1,7 +1,4 @@
-use Rattle.std.proofs.Common.{◌≡◌, ◌<◌, ℕ, arith, drop}
-use Rattle.queue_rule.specs.Lists.{last_or}
-use Rattle.queue_rule.specs.Chain.{start}
-use Rattle.queue_rule.specs.Views.{front}
+use Rattle.std.proofs.Common.{arith, drop}
 use Rattle.queue_rule.proofs.Telling.{may_try}
 use Rattle.delete_queue.proofs.Lists.{last_inside}
 use Rattle.delete_queue.proofs.queue.DeleteQueue.try_link.Goals as goal
