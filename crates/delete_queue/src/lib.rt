@@ -28,5 +28,3 @@ pub use seat::{Closing, Found, Linked, Look, Place, Seat};
 
 #[cfg(test)]
 mod tests;
-#[cfg(test)]
-mod tests_race;
