@@ -16,7 +16,7 @@ fn add() -> [u64; 1]
 }
 
 /// The words of a delete of the field `key` by the term `abcde`.
-fn delete_of_five() -> [u64; 3]
+pub(crate) fn delete_of_five() -> [u64; 3]
     ensures { IsOperation result }
 {
     [0x3_0000_0010, 0x0000_0003_6b65_7900, 0x0000_0561_6263_6465]
