@@ -7,22 +7,25 @@ use Rattle.atomic_table.proofs.Lists.{at_longer}
 use Rattle.ix_base.specs.Words.{head_kind, IsEntryWords}
 use Rattle.queue_rule.specs.declared.view.Own.{Own}
 use Rattle.queue_rule.specs.declared.view.Old.{Old}
-use Rattle.queue_rule.specs.Lists.{Each}
+use Rattle.queue_rule.specs.Lists.{Each, last_or}
+use Rattle.queue_rule.specs.Views.{Knows as KnowsWord}
+use Rattle.ix_base.specs.EntryLaws.{IsEntryWords-not_empty}
 use Rattle.queue_rule.specs.Chain.{ChainEntry, own, own_from}
 use Rattle.queue_rule.specs.Told.{Whole}
 use Rattle.queue_rule.proofs.Lists.{all_more}
-use Rattle.queue_rule.proofs.Entries.{each_at}
+use Rattle.queue_rule.proofs.Entries.{each_at, at_of, last_entry}
 use Rattle.delete_queue.specs.declared.queue.DeleteQueue.{DeleteQueue}
 use Rattle.delete_queue.specs.declared.seat.Seat.{Seat}
 use Rattle.delete_queue.specs.declared.copy.Room.{Room}
 use Rattle.delete_queue.specs.declared.log.QueueLog.{QueueLog}
-use Rattle.delete_queue.specs.Seats.{IsSeatOf, Extends, Learns, Meets, Joined, Knows, joined_of, the_view, number_of, own_of, olds_of, seen_of, base_of, seats_of}
+use Rattle.delete_queue.specs.Seats.{IsSeatOf, Extends, Learns, Meets, Joined, Knows, joined_of, the_view, number_of, own_of, olds_of, seen_of, base_of, seats_of, last_of, number_at}
 use Rattle.delete_queue.specs.Copying.{CopiedAll}
-use Rattle.delete_queue.specs.Log.{Logged, own_in, HoldsList, TakesIn, HasAllOf, IsLogOf, entries_of}
+use Rattle.delete_queue.specs.Log.{Logged, own_in, HoldsList, TakesIn, HasAllOf, IsLogOf, entries_of, last_head_or, last_number}
 use Rattle.delete_queue.proofs.Copying.{knows_later, entry_words_are, seen_within}
 use Rattle.delete_queue.specs.Cuts.{pieces_from}
 use Rattle.delete_queue.proofs.Learning.{extends_on}
 use Rattle.delete_queue.proofs.Growing.{grown_same}
+use Rattle.delete_queue.proofs.Fields.{knows_none}
 
 pub each_from : {A : Type 0} (P : A → Type 0) (l : List A) → ((j : ℕ) (a : A) → get_elem? l j ≡ some a → P a) → Each P l
 each_from P [] h = tt
@@ -139,6 +142,36 @@ has_all t s w ps is h = record {
   agrees = λ place words k. agreed t w ps is place words (knows_later s t place words h.extends k);
 }
 
+last_head : (es : List ChainEntry) (j : ℕ) (e : ChainEntry) (h : ℕ) → get_elem? es j ≡ some e → j + 1 ≡ length es → last_head_or h (map (λ (x : ChainEntry). x.words) es) ≡ slice_index e.words 0
+last_head [] j e h got len = absurd (some-ne-none e (sym got))
+last_head (x ∷ []) zero e h got len = ap (λ (y : ChainEntry). slice_index y.words 0) (some-injective x e got)
+last_head (x ∷ (y ∷ es)) zero e h got len = absurd (omega (arith, len))
+last_head (x ∷ es) (suc j) e h got len = last_head es j e (slice_index x.words 0) got (omega (arith, len))
+
+-- the seat that has seen all knows the head of the last entry
+ends_at : (q : DeleteQueue) (u : Seat) (w : Whole (the_view u)) → IsSeatOf q u → u.progress.head ≡ last_head_or 0 (map (λ (x : ChainEntry). x.words) w.entries)
+ends_at q u w h =
+    let v = the_view u in
+    ⊎_elim
+    (λ (nothing : w.entries ≡ []). let unseen : v.seen ≡ [] = sym w.seen ∙ ap (map at_of) nothing in
+        ⊎_elim (λ (z : (v.seen ≡ []) × (u.progress.head ≡ 0)). z.1 ∙ ap (λ (l : List ChainEntry). last_head_or 0 (map (λ (x : ChainEntry). x.words) l)) (sym nothing))
+        (λ k. absurd (knows_none v (last_or 0 v.seen + 1) u.progress.head (h.table.1.blank (ap length unseen)) k)) h.shows.head)
+    (λ (t : (e : ChainEntry) × (j : ℕ) × (get_elem? w.entries j ≡ some e) × (j + 1 ≡ length w.entries) × (last_or 0 (map at_of w.entries) ≡ e.at)).
+        let e = t.0 in
+        let last : last_or 0 v.seen ≡ e.at = ap (last_or 0) (sym w.seen) ∙ t.4 in
+        let some_seen : length w.entries ≡ length v.seen = sym (length-map w.entries at_of) ∙ ap length w.seen in
+        let many = t.3 in
+        let lt = IsEntryWords-not_empty e.words (w.grammar t.1 e t.2) in
+        ⊎_elim (λ (z : (v.seen ≡ []) × (u.progress.head ≡ 0)). let none_seen : length v.seen ≡ 0 = ap length z.0 in absurd (omega (arith, many, some_seen, none_seen)))
+        (λ k. w.words t.1 e 0 u.progress.head t.2 lt (subst (λ (a : ℕ). KnowsWord v a u.progress.head) (let r : last_or 0 v.seen + 1 ≡ e.at + 1 + 0 = omega (arith, last) in r) k) ∙ sym (last_head w.entries t.1 e 0 t.2 t.3)) h.shows.head)
+    (last_entry w.entries 0)
+
+last_is_last : (q : DeleteQueue) (u : Seat) (w : Whole (the_view u)) (ps : List (List ℕ)) → IsSeatOf q u → ps ≡ map (λ (e : ChainEntry). e.words) w.entries → last_of u ≡ last_number (base_of q) ps
+last_is_last q u w ps h is =
+    let count : seen_of u ≡ length ps = ap length (sym w.seen) ∙ (length-map w.entries at_of ∙ (sym (length-map w.entries (λ (e : ChainEntry). e.words)) ∙ ap length (sym is))) in
+    let head : u.progress.head ≡ last_head_or 0 ps = ends_at q u w h ∙ ap (last_head_or 0) (sym is) in
+    ap (λ (b : ℕ). number_at b (seen_of u) u.progress.head) h.base ∙ ap₂ (λ (n x : ℕ). number_at q.base n x) count head
+
 -- the seat that took all others over has copied the list
 pub is_log : (q : DeleteQueue) (t u : Seat) (seats : List Seat) (room : Room) (log : QueueLog) → IsSeatOf q u → Each (TakesIn t) seats → Learns t u → CopiedAll u room
     → log.base ≡ base_of q → log.ends.items ≡ room.ends.items → log.words.items ≡ room.words.items → IsLogOf q seats log
@@ -156,6 +189,8 @@ is_log q t u seats room log h taken up all base ends words =
       grammar = each_from (λ (e : Logged). IsEntryWords e.words) list (λ i x got. let e = logged_at w.entries i x got in subst (λ (y : Logged). IsEntryWords y.words) e.2 (w.grammar i e.0 e.1));
       closes = λ i x got more. let e = logged_at w.entries i x got in let len = length-map w.entries logged in
           subst (λ (y : Logged). head_kind (slice_index y.words 0) < 6) e.2 (w.opens i e.0 e.1 (omega (arith, more, len)));
+      lasts = let end = last_is_last q u w (entries_of log) h pieces in all_more (TakesIn t) (λ (s : Seat). last_of s ≤ last_number (base_of q) (entries_of log)) seats
+          (λ s k. subst (λ (n : ℕ). last_of s ≤ n) end (takes_later s t u up k).extends.last) taken;
       seats = all_more (TakesIn t) (HasAllOf (entries_of log) list) seats (λ s k. has_all u s w (entries_of log) pieces (takes_later s t u up k)) taken;
     }
 

@@ -9,7 +9,7 @@ use Rattle.queue_rule.specs.Chain.{own}
 use Rattle.delete_queue.specs.declared.queue.DeleteQueue.{DeleteQueue}
 use Rattle.delete_queue.specs.declared.seat.Seat.{Seat}
 use Rattle.delete_queue.specs.declared.log.QueueLog.{QueueLog}
-use Rattle.delete_queue.specs.Seats.{Joined, Extends, Knows, base_of, seats_of, number_of, own_of, seen_of, olds_of}
+use Rattle.delete_queue.specs.Seats.{Joined, Extends, Knows, base_of, seats_of, number_of, own_of, seen_of, olds_of, last_of, number_at}
 use Rattle.delete_queue.specs.Cuts.{pieces_from}
 
 -- the words of each entry of the log, in order
@@ -43,6 +43,15 @@ pub record HasAllOf (entries : List (List ℕ)) (list : List Logged) (s : Seat) 
   pub seen : seen_of s ≤ length list
   pub agrees : (place : ℕ) (words : List ℕ) → Knows s place words → get_elem? entries (place - 1) ≡ some words
 
+-- the head of the last entry, or h where there is none
+abbrev pub last_head_or : ℕ → List (List ℕ) → ℕ
+last_head_or h [] = h
+last_head_or h (words ∷ rest) = last_head_or (slice_index words 0) rest
+
+-- the number of the last numbered entry, the base where there is none
+abbrev pub last_number : ℕ → List (List ℕ) → ℕ
+last_number base entries = number_at base (length entries) (last_head_or 0 entries)
+
 -- the log is the whole list of the queue
 pub record IsLogOf (q : DeleteQueue) (all : List Seat) (log : QueueLog) : Type 0 where
   pub base : log.base ≡ base_of q
@@ -53,3 +62,5 @@ pub record IsLogOf (q : DeleteQueue) (all : List Seat) (log : QueueLog) : Type 0
   -- nothing follows an entry that closes the queue
   pub closes : (i : ℕ) (e : Logged) → get_elem? list i ≡ some e → i + 1 < length list → head_kind (slice_index e.words 0) < 6
   pub seats : Each (HasAllOf (entries_of log) list) all
+  -- no seat has seen a numbered entry behind the last one
+  pub lasts : Each (λ (s : Seat). last_of s ≤ last_number (base_of q) (entries_of log)) all
