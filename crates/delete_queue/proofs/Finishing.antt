@@ -154,16 +154,16 @@ ends_at q u w h =
     let v = the_view u in
     ⊎_elim
     (λ (nothing : w.entries ≡ []). let unseen : v.seen ≡ [] = sym w.seen ∙ ap (map at_of) nothing in
-        ⊎_elim (λ (z : (v.seen ≡ []) × (u.progress.head ≡ 0)). z.1 ∙ ap (λ (l : List ChainEntry). last_head_or 0 (map (λ (x : ChainEntry). x.words) l)) (sym nothing))
-        (λ k. absurd (knows_none v (last_or 0 v.seen + 1) u.progress.head (h.table.1.blank (ap length unseen)) k)) h.shows.head)
+    ⊎_elim (λ (z : (v.seen ≡ []) × (u.progress.head ≡ 0)). z.1 ∙ ap (λ (l : List ChainEntry). last_head_or 0 (map (λ (x : ChainEntry). x.words) l)) (sym nothing))
+    (λ k. absurd (knows_none v (last_or 0 v.seen + 1) u.progress.head (h.table.1.blank (ap length unseen)) k)) h.shows.head)
     (λ (t : (e : ChainEntry) × (j : ℕ) × (get_elem? w.entries j ≡ some e) × (j + 1 ≡ length w.entries) × (last_or 0 (map at_of w.entries) ≡ e.at)).
-        let e = t.0 in
-        let last : last_or 0 v.seen ≡ e.at = ap (last_or 0) (sym w.seen) ∙ t.4 in
-        let some_seen : length w.entries ≡ length v.seen = sym (length-map w.entries at_of) ∙ ap length w.seen in
-        let many = t.3 in
-        let lt = IsEntryWords-not_empty e.words (w.grammar t.1 e t.2) in
-        ⊎_elim (λ (z : (v.seen ≡ []) × (u.progress.head ≡ 0)). let none_seen : length v.seen ≡ 0 = ap length z.0 in absurd (omega (arith, many, some_seen, none_seen)))
-        (λ k. w.words t.1 e 0 u.progress.head t.2 lt (subst (λ (a : ℕ). KnowsWord v a u.progress.head) (let r : last_or 0 v.seen + 1 ≡ e.at + 1 + 0 = omega (arith, last) in r) k) ∙ sym (last_head w.entries t.1 e 0 t.2 t.3)) h.shows.head)
+    let e = t.0 in
+    let last : last_or 0 v.seen ≡ e.at = ap (last_or 0) (sym w.seen) ∙ t.4 in
+    let some_seen : length w.entries ≡ length v.seen = sym (length-map w.entries at_of) ∙ ap length w.seen in
+    let many = t.3 in
+    let lt = IsEntryWords-not_empty e.words (w.grammar t.1 e t.2) in
+    ⊎_elim (λ (z : (v.seen ≡ []) × (u.progress.head ≡ 0)). let none_seen : length v.seen ≡ 0 = ap length z.0 in absurd (omega (arith, many, some_seen, none_seen)))
+    (λ k. w.words t.1 e 0 u.progress.head t.2 lt (subst (λ (a : ℕ). KnowsWord v a u.progress.head) (let r : last_or 0 v.seen + 1 ≡ e.at + 1 + 0 = omega (arith, last) in r) k) ∙ sym (last_head w.entries t.1 e 0 t.2 t.3)) h.shows.head)
     (last_entry w.entries 0)
 
 last_is_last : (q : DeleteQueue) (u : Seat) (w : Whole (the_view u)) (ps : List (List ℕ)) → IsSeatOf q u → ps ≡ map (λ (e : ChainEntry). e.words) w.entries → last_of u ≡ last_number (base_of q) ps
