@@ -1,0 +1,78 @@
+// Finishing a queue.
+ghost use Rattle.std.specs.Prelude.{◌≡◌, ℕ, ◌<◌, ◌≤◌, [], length, IfOk, IfErr, IfSome, IfNone};
+ghost use Rattle.queue_rule.specs.Lists.{Each};
+ghost use Rattle.delete_queue.specs.Seats.{IsSeatOf, seats_of};
+ghost use Rattle.delete_queue.specs.Copying.{HasSpace};
+ghost use Rattle.delete_queue.specs.Log.{TakesIn, IsLogOf};
+
+use crate::copy::Room;
+use crate::log::QueueLog;
+use crate::queue::DeleteQueue;
+use crate::seat::Seat;
+use ix_base::NoMemory;
+
+/// There was no memory for the log. The queue and its seats are as they were.
+#[derive(Drop)]
+pub struct FinishRefused {
+    /// The queue.
+    pub queue: DeleteQueue,
+    /// The seats that were to be finished with it.
+    pub seats: Vec<Seat>,
+}
+
+impl DeleteQueue {
+    // Room for a log of all that the table can hold.
+    fn room(&self) -> Result<Room, NoMemory>
+        ensures empty { IfOk result (λ r. (r.ends.items ≡ []) × (r.words.items ≡ [])) }
+        ensures space { IfOk result (λ r. HasSpace r (seats_of self.now)) }
+    {
+        let seats = self.seats as usize;
+        let ends = Vec::with_capacity(self.alloc, 8321 * seats)?;
+        let words = Vec::with_capacity(self.alloc, 16642 * seats)?;
+        Ok(Room { ends, words })
+    }
+
+    // One of the seats takes the others over.
+    fn meet_all(&self, seats: Vec<Seat>) -> Option<Seat>
+        requires seats { Each (IsSeatOf self.now) seats.items }
+        ensures some { IfNone result (seats.items ≡ []) }
+        ensures seat { IfSome result (λ r. IsSeatOf self.now r) }
+        ensures taken { IfSome result (λ r. Each (TakesIn r) seats.items) }
+    {
+        let mut seats = seats;
+        let mut first = seats.pop()?;
+        loop {
+            let Some(other) = seats.pop() else {
+                return Some(first);
+            };
+            self.meet(&mut first, other);
+        }
+    }
+
+    /// Ends the queue, and returns all its entries. It asks for its seats: one at least, and all
+    /// whose entries and knowledge the log is to be tied to.
+    ///
+    /// The log is the whole list: each seat's entries in it are those that it linked, at their
+    /// places; what a seat knows of an entry's words is what the log has; nothing follows an entry
+    /// that closes the queue. Where there is no memory for the log, the queue and the seats are
+    /// given back as they were.
+    pub fn finish(self, seats: Vec<Seat>) -> Result<QueueLog, FinishRefused>
+        requires some { 0 < length seats.items }
+        requires seats { Each (IsSeatOf self) seats.items }
+        ensures log { IfOk result (λ log. IsLogOf self seats.items log) }
+        ensures refused { IfErr result (λ r. (r.queue ≡ self) × (r.seats ≡ seats)) }
+    {
+        let Ok(mut room) = self.room() else {
+            return Err(FinishRefused { queue: self, seats });
+        };
+        let Some(mut seat) = self.meet_all(seats) else {
+            unreachable!()
+        };
+        self.copy_all(&mut seat, &mut room);
+        Ok(QueueLog {
+            base: self.base,
+            ends: room.ends,
+            words: room.words,
+        })
+    }
+}

@@ -1,0 +1,25 @@
+// The queue: a table of words, and the number that its first entry follows.
+ghost use Rattle.std.specs.Prelude.{◌≡◌, ◌≤◌, ◌<◌, ◌^◌};
+ghost use Rattle.queue_rule.specs.Chain.{start};
+
+use atomic_table::Table;
+use queue_rule::{QueueRule, View};
+use std::alloc::Global;
+
+/// A list of entries that several threads share: each links entries behind all that are there,
+/// and all see one order. No call on it waits for another.
+///
+/// The entry at place p of the list, from 1, has the number base + p. An entry of kind 6 (a
+/// commit) or 7 (a turn) closes the queue: nothing is linked behind it. A turn has no number of
+/// its own, but that of the numbered entry before it.
+#[derive(Drop)]
+pub struct DeleteQueue {
+    pub(crate) table: Table<(), View, u64, QueueRule, Global>,
+    pub(crate) base: u64,
+    pub(crate) seats: u64,
+    pub(crate) alloc: Global,
+    ghost low: { base ≤ 2 ^ 62 },
+    ghost few: { (0 < seats) × (seats ≤ 32) },
+    ghost many: { seats ≡ table.shared.key },
+    ghost wide: { table.shared.table_id.words ≡ start table.shared.key },
+}
