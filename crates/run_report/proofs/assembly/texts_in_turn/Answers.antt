@@ -65,8 +65,7 @@ pub returns-in-Err-line_text-clause-damaged : goal.returns-in-Err-line_text-clau
 returns-in-Err-line_text-clause-damaged g c = λ damaged is.
     let some : Turn = record { commit = 0; at = 0 } in
     let lt = turn_in_range (length c.args.outcomes.now) c.args.turns.now c.loop-turn.turn-index some c.requires c.loop-turn-test.true in
-    let outcome = c.index-outcomes-turn.result in
-    (
+    let outcome = c.index-outcomes-turn.result in (
       outcome,
       (_, lt, sym c.index-outcomes-turn.is),
       subst (λ (told : Option Files). SearchesDamaged told outcome.answer damaged) (ap told_files c.loop-turn.invariant.reads) (c.in-Err-line_text.ensures.damaged damaged cc),
