@@ -28,3 +28,5 @@ pub use seat::{Closing, Found, Linked, Look, Place, Seat};
 
 #[cfg(test)]
 mod tests;
+#[cfg(test)]
+mod tests_race;
