@@ -35,4 +35,3 @@ refused_first xs ys rename fault refused a b is first =
   where
     differ : false ≡ true → ⊥
     differ e = cc
-

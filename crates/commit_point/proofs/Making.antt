@@ -253,9 +253,9 @@ unfolding before_rename
 tells_rename s id rows None b refused refuses old now told absent told_now no_memory = absurd cc
 tells_rename s id rows (Some x) None refused refuses old now told absent told_now no_memory = absurd refuses
 tells_rename s id rows (Some x) (Some y) refused refuses old now told absent told_now no_memory = (
-      (λ was. is_there (files y) now (Commit s) (commit_file (head_of s id rows)) told_now (renamed_there s id rows x y (refuses.done was))),
-      (λ there. by_flag refused.renamed refl there),
-    )
+  (λ was. is_there (files y) now (Commit s) (commit_file (head_of s id rows)) told_now (renamed_there s id rows x y (refuses.done was))),
+  (λ there. by_flag refused.renamed refl there),
+)
   where
     none : files x (Commit s) ≡ None
     none = let is : files x ≡ old = cc in ap (λ (f : Files). f (Commit s)) is ∙ absent
@@ -267,9 +267,9 @@ tells_rename s id rows (Some x) (Some y) refused refuses old now told absent tol
 -- nothing was called
 pub tells_nothing : (s : ℕ) (a : Option Disk) (refused : CommitRefused) → refused.renamed ≡ false → TellsRename s a a refused
 tells_nothing s a refused not old now told absent told_now no_memory = (
-      (λ was. absurd (differ (sym not ∙ was))),
-      (λ there. absurd (not_there old now (Commit s) (sym told ∙ told_now) absent there)),
-    )
+  (λ was. absurd (differ (sym not ∙ was))),
+  (λ there. absurd (not_there old now (Commit s) (sym told ∙ told_now) absent there)),
+)
   where
     differ : false ≡ true → ⊥
     differ e = cc

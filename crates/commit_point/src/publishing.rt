@@ -46,7 +46,11 @@ pub(crate) fn not_renamed(fault: StoreFault) -> CommitRefused
 }
 
 /// Gives the pending file its name, and puts that on the disk.
-fn name_file<S: Store>(store: &mut S, pending: FileName, last: FileName) -> Result<(), CommitRefused>
+fn name_file<S: Store>(
+    store: &mut S,
+    pending: FileName,
+    last: FileName,
+) -> Result<(), CommitRefused>
     requires name { IsName last }
     requires apart { pending ≢ last }
     ensures disk { Does (RenamedStep pending last ∷ SettledStep ∷ []) (S.disk store.old) (S.disk store.new) result }

@@ -74,12 +74,7 @@ fn segment_files(
 }
 
 /// The bytes of the commit file of these rows.
-fn commit_bytes(
-    alloc: Global,
-    number: u64,
-    next_id: u64,
-    rows: &[Row],
-) -> Result<Vec<u8>, NoMemory>
+fn commit_bytes(alloc: Global, number: u64, next_id: u64, rows: &[Row]) -> Result<Vec<u8>, NoMemory>
     requires room { next_id < 2 ^ 63 }
     requires count { length rows.now < 2 ^ 32 }
     ensures { IfOk result (λ bytes. bytes.items ≡ commit_file (head_of number next_id rows.now)) }

@@ -1,5 +1,5 @@
 -- What a writer keeps, so that it can go on.
-use Rattle.std.specs.Prelude.{◌≡◌, ◌+◌, ◌<◌, ◌≤◌, ◌^◌, true, All}
+use Rattle.std.specs.Prelude.{◌≡◌, ◌<◌, ◌≤◌, ◌^◌, true, All}
 use Rattle.commit_point.specs.Fits.{BirthsRise}
 use Rattle.ix_base.specs.Documents.{is_apart}
 use Rattle.index_run.specs.declared.writer.Writer.{Writer}

@@ -8,7 +8,7 @@ use Rattle.ix_outside.specs.Files.{Files}
 use Rattle.ix_outside.specs.Disk.{Disk, is_same, with_at, moved, files as files_of}
 use Rattle.ix_memory.specs.History.{outcome_of, leaves_step}
 use Rattle.ix_memory.proofs.Looks.{newest}
-use Rattle.ix_outside.specs.CrashLaws.{is_same-true, reads_are_image}
+use Rattle.ix_outside.specs.CrashLaws.{is_same-true}
 use Rattle.ix_memory.specs.HistoryLaws.{whole_is_read}
 use Rattle.ix_memory.specs.Settled.{AreDurable, AllSynced, Fills, no_files, with_pairs, are_made, taken_at, file_made}
 use Rattle.ix_memory.specs.declared.outcome.StepsLeft.{StepsLeft}
@@ -24,7 +24,7 @@ differ e = cc
 pub durable : (old new : Disk) → new ≡ Settled ∷ old → AllSynced old → AreDurable (files_of new) new
 durable old new is synced = subst (λ (disk : Disk). AreDurable (files_of disk) disk) (sym is) (record {
   read = refl;
-  nothing_else = λ c image name. image.2.kept name (λ e. differ (sym (synced name) ∙ e)) ;
+  nothing_else = λ c image name. image.2.kept name (λ e. differ (sym (synced name) ∙ e));
   synced = synced;
 })
 

@@ -1,9 +1,7 @@
 -- What a crash of a chosen outcome leaves of a store that was empty at first. The steps stand the newest first.
 use Rattle.std.specs.Prelude.{ℕ, List, [], ◌∷◌, length, Option, Some, None, Bool, true, false, ◌==◌, ◌/◌, ◌%◌, take, option_and_then, if◌then◌else◌}
-use Rattle.ix_base.specs.declared.file_name.FileName.{FileName}
 use Rattle.ix_outside.specs.Files.{Files}
 use Rattle.ix_outside.specs.Disk.{Disk, with_at, moved, files as files_of}
-use Rattle.ix_outside.specs.declared.step.Step.{Step}
 use Rattle.ix_outside.specs.declared.step.Step.TheVariants.{Wrote, Synced, Renamed, Deleted, Settled, Spoilt, HalfRenamed, HalfDeleted}
 use Rattle.ix_memory.specs.declared.outcome.StepsLeft.{StepsLeft}
 use Rattle.ix_memory.specs.declared.outcome.StepsLeft.TheVariants.{Every, Nothing, Even, Odd}

@@ -1,5 +1,5 @@
 -- What a call of a store in memory does to the list of its steps.
-use Rattle.std.specs.Prelude.{◌≡◌, ◌∷◌, Result, OnOk, IsErrOf}
+use Rattle.std.specs.Prelude.{Result, IsErrOf}
 use Rattle.ix_outside.specs.Disk.{Disk, TakesOn}
 use Rattle.ix_outside.specs.declared.step.Step.{Step}
 use Rattle.ix_outside.specs.declared.store.StoreFault.{StoreFault}

@@ -6,7 +6,7 @@ use Rattle.ix_outside.specs.Disk.{Disk, Stops, Told, files, told_files}
 use Rattle.ix_outside.specs.declared.step.Step.{Step}
 use Rattle.ix_outside.specs.Crash.{Extends, IsImage, MayHold, MayLeave}
 use Rattle.ix_outside.specs.CrashLaws.{last_is_now, now_is_left, leave_then, left_by_stops, extends_stops, reads_are_image}
-use Rattle.ix_outside.specs.Calls.{OnlyLeaves, LeavesOnly}
+use Rattle.ix_outside.specs.Calls.{LeavesOnly}
 
 extends_then : (a b c : Disk) → Extends a b → Extends b c → Extends a c
 extends_then a b c first second = record {
@@ -31,9 +31,9 @@ leaves_then None (Some y) c P Q R first second p q = absurd first
 leaves_then (Some x) None c P Q R first second p q = absurd first
 leaves_then (Some x) (Some y) None P Q R first second p q = absurd second
 leaves_then (Some x) (Some y) (Some z) P Q R first second p q = (
-      extends_then x y z first.0 second.0,
-      λ c left. either c (leave_then x y z c second.0 left),
-    )
+  extends_then x y z first.0 second.0,
+  λ c left. either c (leave_then x y z c second.0 left),
+)
   where
     either : (c : Files) → MayLeave x y c ⊎ MayLeave y z c → R c
     either c (inl before) = p c (first.1 c before)

@@ -1,8 +1,5 @@
-use Rattle.std.proofs.Common.{◌≡◌, List, arith, ◌∙◌, ℕ}
-use Rattle.commit_point.specs.Publishing.{File}
-use Rattle.commit_point.specs.Spelling.{commit_file}
-use Rattle.commit_point.specs.Writing.{head_of, segment_list}
-use Rattle.commit_point.proofs.Making.{Did, Stopped, did_at, stopped_at, did_stop, makes, leaves_others, images_have, images_elsewhere, crash_leaves, crash_before, durable_commit, durable_segment, tells_rename}
+use Rattle.std.proofs.Common.{arith, ◌∙◌}
+use Rattle.commit_point.proofs.Making.{did_at, stopped_at, did_stop, makes, leaves_others, images_have, images_elsewhere, crash_leaves, crash_before, durable_commit, durable_segment}
 use Rattle.commit_point.proofs.write.write_commit.Goals as goal
 
 pub returns-then-rows-gt-MOST_ROWS-clause-crash : goal.returns-then-rows-gt-MOST_ROWS-clause-crash
