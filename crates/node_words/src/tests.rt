@@ -171,8 +171,9 @@ fn query_limit(rt: HostRuntime) -> Result<(), Fail> {
 }
 
 /// Whether these bytes are those of an entry of this kind.
-fn is_entry(alloc: Global, kind: u64, bytes: &[u8]) -> Result<bool, Fail> {
-    let words = pack(alloc, kind * (1 << 32) + bytes.len() as u64, bytes)?;
+fn is_entry(alloc: Global, kind: u8, bytes: &[u8]) -> Result<bool, Fail> {
+    let head = kind as u64 * (1 << 32) + bytes.len() as u64;
+    let words = pack(alloc, head, bytes)?;
     match decode(alloc, &words) {
         Ok(entry) => Ok(entry.is_some()),
         Err(NoMemory) => Err("memory".into()),
