@@ -273,13 +273,13 @@ fn again(alloc: Global, words: &[u64]) -> Result<Vec<u64>, Fail> {
     }
 }
 
-/// A query of 2,500 bools, each in the next.
+/// A query of 1,000 bools, each in the next.
 #[test]
 fn deep_query(rt: HostRuntime) -> Result<(), Fail> {
     let alloc = rt.alloc();
-    let delete = nested(alloc, 2500)?;
+    let delete = nested(alloc, 1000)?;
     let words = encode(alloc, &delete).ok().ok_or("words")?;
-    assert_eq!(rt; words.len(), 4064);
+    assert_eq!(rt; words.len(), 1627);
     let same = again(alloc, &words)?;
     assert!(rt; words.as_slice() == same.as_slice());
     Ok(())
