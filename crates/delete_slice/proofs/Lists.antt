@@ -1,10 +1,10 @@
 -- Entries behind a place, in two parts.
-use Rattle.std.proofs.Common.{◌≡◌, ℕ, ◌+◌, ◌<◌, ◌≤◌, List, [], ◌∷◌, ◌++◌, length, sym, ap, ◌∙◌, subst, arith, append_assoc}
+use Rattle.std.proofs.Common.{◌≡◌, ℕ, ◌+◌, ◌≤◌, List, [], ◌∷◌, ◌++◌, length, sym, ap, ◌∙◌, subst, arith, append_assoc}
 use Rattle.std.specs.List.{AllByRecursion}
 use Rattle.node_words.specs.declared.entry.Entry.{Entry}
 use Rattle.row_fates.specs.Fate.{Numbered}
 use Rattle.frozen_packet.specs.Updates.{entry_operation, NumberedUpTo}
-use Rattle.delete_slice.specs.Entries.{Standing, HasEntry, HasEntries, operations_behind, own_number, numbers_behind}
+use Rattle.delete_slice.specs.Entries.{Standing, HasEntries, operations_behind, own_number, numbers_behind}
 
 pub all_first : {A : Type 0} (P : A → Type 0) (xs ys : List A) → AllByRecursion P (xs ++ ys) → AllByRecursion P xs
 all_first P [] ys h = tt

@@ -5,11 +5,10 @@ use Rattle.row_fates.specs.Fate.{Numbered, SameFates}
 use Rattle.row_fates.proofs.Same.{same-append, same-same, same-trans}
 use Rattle.frozen_packet.specs.declared.updates.Updates.{Updates}
 use Rattle.frozen_packet.specs.Updates.{as_operations, entry_operation}
-use Rattle.delete_queue.specs.declared.seat.Seat.{Seat}
-use Rattle.delete_queue.specs.Seats.{Knows, Extends}
+use Rattle.delete_queue.specs.Seats.{Knows}
 use Rattle.delete_queue.proofs.Laws.{knows_stays, seen_stays}
 use Rattle.delete_slice.specs.Entries.{Standing, HasEntry, HasEntries, operations_behind, own_number, numbers_behind}
-use Rattle.delete_slice.specs.Taken.{AreWithin, KeepsBoundsOf, HaveUpTo, TakesPart, TakesEntry}
+use Rattle.delete_slice.specs.Taken.{KeepsBoundsOf, HaveUpTo, TakesPart, TakesEntry}
 use Rattle.delete_slice.specs.Laws.{PartsChain, PartsStay, SlicesStay}
 use Rattle.delete_slice.proofs.Lists.{all_first, all_second, operations-append, numbers-append, entries-append, entries_stand}
 

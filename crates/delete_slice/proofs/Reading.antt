@@ -1,7 +1,6 @@
 -- An entry that a seat found and read.
-use Rattle.std.proofs.Common.{◌≡◌, ℕ, ◌+◌, ◌-◌, ◌==◌, if◌then◌else◌, List, get_or, sym, ap, ◌∙◌, subst, arith, refl, append-nil, [], ◌++◌, length, take}
+use Rattle.std.proofs.Common.{◌≡◌, ℕ, ◌+◌, ◌-◌, ◌==◌, if◌then◌else◌, List, get_or, sym, ap, ◌∙◌, subst, refl, append-nil, [], ◌++◌, length, take}
 use Rattle.std.proofs.Math.Seq.{take-append_seam}
-use Rattle.ix_base.specs.Words.{IsEntryWords}
 use Rattle.frozen_packet.specs.declared.updates.Updates.{Updates}
 use Rattle.delete_queue.specs.declared.queue.DeleteQueue.{DeleteQueue}
 use Rattle.delete_queue.specs.declared.seat.Seat.{Seat}

@@ -1,9 +1,9 @@
 -- The number and the words of an entry that is taken.
-use Rattle.std.proofs.Common.{◌≡◌, ℕ, ◌+◌, ◌-◌, ◌<◌, ◌≤◌, ◌^◌, List, [], ◌∷◌, ◌++◌, length, slice_index, sym, ap, ◌∙◌, subst, refl, arith, append-nil, Result, Ok, Err, OnOk, OnErr}
+use Rattle.std.proofs.Common.{◌≡◌, ℕ, ◌+◌, ◌<◌, ◌≤◌, List, [], ◌∷◌, ◌++◌, length, slice_index, sym, ap, ◌∙◌, subst, refl, arith, append-nil, Result, Ok, Err, OnOk, OnErr}
 use mathlib.Core.Logic.{dite}
 use native.Mathlib.Decide.{ℕ_discrete}
 use Rattle.ix_base.specs.Entry as value
-use Rattle.ix_base.specs.Words.{head, head_kind, entry_words, Spells, IsEntryWords}
+use Rattle.ix_base.specs.Words.{head_kind, Spells, IsEntryWords}
 use Rattle.ix_base.specs.EntryLaws.{head_again, most_bytes, IsEntryWords-kind}
 use Rattle.node_words.specs.Entry.{value_of}
 use Rattle.node_words.specs.declared.entry.Entry.{Entry}

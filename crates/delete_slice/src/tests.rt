@@ -1,7 +1,6 @@
 //! Slices of a small queue. What the updates then are is worked out by hand.
-ghost use Rattle.std.specs.Prelude.{◌≡◌, ◌≤◌, [], ◌∷◌, length};
+ghost use Rattle.std.specs.Prelude.{◌≤◌, [], ◌∷◌, IfOk};
 ghost use Rattle.delete_queue.specs.Answers.{IsOperation};
-ghost use Rattle.delete_queue.specs.Log.{entries_of};
 ghost use Rattle.delete_queue.specs.Seats.{IsSeatOf, Extends, Learns};
 ghost use Rattle.delete_slice.specs.Laws.{IsInGrammar};
 ghost use Rattle.delete_slice.specs.Slices.{IsSliceOf};
@@ -69,15 +68,30 @@ fn by_seat(
     shown(alloc, &updates)
 }
 
-/// The updates that took a slice by the log, as `shown` shows them.
+/// The updates that took a slice by the log, as `shown` shows them. It must end inside the log.
 fn by_log(alloc: Global, log: &QueueLog, slice: Slice) -> Result<String, NoMemory>
-    requires slice { slice.from.at ≤ slice.to.at }
-    requires inside { slice.to.at ≤ length (entries_of log.now) }
     requires grammar { IsInGrammar log.now }
+    requires order { slice.from.at ≤ slice.to.at }
 {
     let mut updates = Updates::new(alloc);
+    if slice.to.at > log.len() {
+        return Err(NoMemory);
+    }
     slice.apply_log(alloc, log, &mut updates)?;
     shown(alloc, &updates)
+}
+
+/// The log of a queue with one seat.
+fn log_of(alloc: Global, queue: DeleteQueue, seat: Seat) -> Result<QueueLog, NoMemory>
+    requires { IsSeatOf queue seat }
+    ensures { IfOk result (λ log. IsInGrammar log) }
+{
+    let mut seats = Vec::new(alloc);
+    seats.push(seat)?;
+    match queue.finish(seats) {
+        Ok(log) => Ok(log),
+        Err(_) => Err(NoMemory),
+    }
 }
 
 /// Each deleted term with its number, then each setting's value with its number.
@@ -139,7 +153,7 @@ fn slices_of_a_queue(rt: HostRuntime) -> Result<(), Fail> {
     assert!(rt; of_first.as_str() == "abcde5n6");
     assert!(rt; of_rest.as_str() == "abcde8abcdef7");
     assert!(rt; of_whole.as_str() == "abcde8abcdef7n6");
-    let log = queue.finish(vec![in alloc; seat]?).ok().ok_or("memory")?;
+    let log = log_of(alloc, queue, seat)?;
     assert!(rt; log.len() == 5);
     assert!(rt; by_log(alloc, &log, first)?.as_str() == "abcde5n6");
     assert!(rt; by_log(alloc, &log, rest)?.as_str() == "abcde8abcdef7");

@@ -1,9 +1,7 @@
-use Rattle.std.proofs.Common.{◌≡◌}
 use Rattle.delete_queue.specs.Log.{entries_of}
 use Rattle.delete_slice.specs.Entries.{Has}
 use Rattle.delete_slice.proofs.Words.{before_it, taken_there, on_ok}
 use Rattle.delete_slice.proofs.Logs.{entry_in_grammar, has_entry}
-use Rattle.frozen_packet.specs.declared.updates.Updates.{Updates}
 use Rattle.delete_slice.specs.Taken.{HaveUpTo, TakesWords, TakesLoggedEntry}
 use Rattle.std.proofs.Common.{ℕ, sym, subst}
 use Rattle.delete_slice.proofs.apply.take_logged.Goals as goal

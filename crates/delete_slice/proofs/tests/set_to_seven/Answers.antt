@@ -1,7 +1,7 @@
-use Rattle.std.proofs.Common.{List, ℕ, [], ◌∷◌, pos, codes, refl, arith, rules}
+use Rattle.std.proofs.Common.{[], ◌∷◌, pos, codes, refl, arith, rules}
 use Rattle.std.proofs.lemmas.Str.{IsUtf8-from_ascii}
 use Rattle.ix_base.specs.Entry as e
-use Rattle.ix_base.specs.Spelling.{IsText, IsName, be32, signed64}
+use Rattle.ix_base.specs.Spelling.{be32, signed64}
 use Rattle.ix_base.specs.Words.{IsEntryWords, first_word}
 use Rattle.delete_queue.specs.Answers.{IsOperation}
 use Rattle.delete_slice.proofs.tests.set_to_seven.Goals as goal
