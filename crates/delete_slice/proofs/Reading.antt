@@ -8,7 +8,7 @@ use Rattle.delete_queue.specs.declared.seat.Found.{Found}
 use Rattle.delete_queue.specs.Seats.{IsSeatOf, IsFound, Extends, Learns, Knows, base_of, number_at, own_of}
 use Rattle.delete_queue.proofs.Laws.{extends_same, head_known_stays, knows_grammar}
 use Rattle.delete_queue.proofs.Numbers.{found_words}
-use Rattle.delete_slice.specs.Taken.{HaveUpTo, TakesKnownEntry, TakesWords}
+use Rattle.delete_slice.specs.Taken.{HaveUpTo, TakesNext, TakesWords}
 use Rattle.delete_slice.proofs.Words.{before_it, taken_there}
 
 pub learns_same : (s : Seat) → Learns s s
@@ -41,7 +41,7 @@ known_upto q s f from words u h is next k held =
     (before_it (base_of q) from words u (knows_grammar q s f.place.at words h k) held)
 
 pub known_taken : (q : DeleteQueue) (s : Seat) (f : Found) (from : ℕ) (words : List ℕ) (old new : Updates) → IsSeatOf q s → IsFound s f → f.place.at ≡ from + 1
-    → Knows s f.place.at words → TakesWords f.number words old new → TakesKnownEntry q s from old new
+    → Knows s f.place.at words → TakesWords f.number words old new → TakesNext q s from old new
 known_taken q s f from words old new h is next k taken =
     taken_there (Knows s) (base_of q) from f.number words old new (subst (λ (p : ℕ). Knows s p words) next k) (knows_grammar q s f.place.at words h k)
     (number_found q s f from words h is next k) taken

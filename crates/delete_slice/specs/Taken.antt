@@ -41,29 +41,29 @@ pub record TakesPart (Stands : Standing) (base from to : ℕ) (old new : Updates
 abbrev pub TakesEntry : Standing → ℕ → ℕ → Updates → Updates → Type 0
 TakesEntry Stands base from old new = TakesPart Stands base from (from + 1) old new
 
-abbrev pub TakesKnownEntry : DeleteQueue → Seat → ℕ → Updates → Updates → Type 0
-TakesKnownEntry q s from old new = TakesEntry (Knows s) (base_of q) from old new
+abbrev pub TakesNext : DeleteQueue → Seat → ℕ → Updates → Updates → Type 0
+TakesNext q s from old new = TakesEntry (Knows s) (base_of q) from old new
 
-abbrev pub TakesLoggedEntry : QueueLog → ℕ → Updates → Updates → Type 0
-TakesLoggedEntry log from old new = TakesEntry (Has log) log.base from old new
+abbrev pub TakesNextLogged : QueueLog → ℕ → Updates → Updates → Type 0
+TakesNextLogged log from old new = TakesEntry (Has log) log.base from old new
 
 -- the updates took the first of these entries, up to some place
-abbrev pub TakesFirstPart : Standing → ℕ → ℕ → ℕ → Updates → Updates → Type 0
-TakesFirstPart Stands base from to old new = (reached : ℕ) × (reached ≤ to) × TakesPart Stands base from reached old new
+abbrev pub TakesSomePart : Standing → ℕ → ℕ → ℕ → Updates → Updates → Type 0
+TakesSomePart Stands base from to old new = (reached : ℕ) × (reached ≤ to) × TakesPart Stands base from reached old new
 
 -- the updates took the slice's entries, or the first of them, whose words the seat knows
 abbrev pub TakesSlice : DeleteQueue → Seat → Slice → Updates → Updates → Type 0
 TakesSlice q s slice old new = TakesPart (Knows s) (base_of q) slice.from.at slice.to.at old new
 
-abbrev pub TakesFront : DeleteQueue → Seat → Slice → Updates → Updates → Type 0
-TakesFront q s slice old new = TakesFirstPart (Knows s) (base_of q) slice.from.at slice.to.at old new
+abbrev pub TakesSome : DeleteQueue → Seat → Slice → Updates → Updates → Type 0
+TakesSome q s slice old new = TakesSomePart (Knows s) (base_of q) slice.from.at slice.to.at old new
 
 -- the updates took the slice's entries, or the first of them, as the log has them
 abbrev pub TakesLogged : QueueLog → Slice → Updates → Updates → Type 0
 TakesLogged log slice old new = TakesPart (Has log) log.base slice.from.at slice.to.at old new
 
-abbrev pub TakesLoggedFront : QueueLog → Slice → Updates → Updates → Type 0
-TakesLoggedFront log slice old new = TakesFirstPart (Has log) log.base slice.from.at slice.to.at old new
+abbrev pub TakesSomeLogged : QueueLog → Slice → Updates → Updates → Type 0
+TakesSomeLogged log slice old new = TakesSomePart (Has log) log.base slice.from.at slice.to.at old new
 
 -- the updates took the entry that these words spell, with this number
 pub record TakesWords (number : ℕ) (words : List ℕ) (old new : Updates) : Type 0 where

@@ -1,10 +1,10 @@
 //! Taking a slice's entries into updates.
-ghost use Rattle.std.specs.Prelude.{◌≡◌, ◌+◌, ◌<◌, ◌≤◌, length, OnOk, OnErr, IfOk, IfErr};
+ghost use Rattle.std.specs.Prelude.{◌≡◌, ◌+◌, ◌<◌, ◌≤◌, length, OnOk, OnErr, IfOk};
 ghost use Rattle.ix_base.specs.Words.{IsEntryWords};
 ghost use Rattle.delete_queue.specs.Seats.{IsSeatOf, HasSeen, Learns, base_of, seen_of};
 ghost use Rattle.delete_queue.specs.Log.{entries_of};
 ghost use Rattle.delete_slice.specs.Slices.{IsSliceOf};
-ghost use Rattle.delete_slice.specs.Taken.{HaveUpTo, TakesSlice, TakesFront, TakesLogged, TakesLoggedFront, TakesKnownEntry, TakesLoggedEntry, TakesWords};
+ghost use Rattle.delete_slice.specs.Taken.{HaveUpTo, TakesSlice, TakesSome, TakesLogged, TakesSomeLogged, TakesNext, TakesNextLogged, TakesWords};
 ghost use Rattle.delete_slice.specs.Laws.{IsInGrammar};
 
 use crate::slice::Slice;
@@ -36,7 +36,7 @@ impl Slice {
         ensures learns { Learns seat.old seat.new }
         ensures seen { seen_of seat.new ≡ seen_of seat.old }
         ensures ok { OnOk result (TakesSlice queue.now seat.new self.now updates.old updates.new) }
-        ensures err { OnErr result (TakesFront queue.now seat.new self.now updates.old updates.new) }
+        ensures err { OnErr result (TakesSome queue.now seat.new self.now updates.old updates.new) }
     {
         let mut place = self.from;
         while place.at < self.to.at {
@@ -59,7 +59,7 @@ impl Slice {
         requires grammar { IsInGrammar log.now }
         requires updates { HaveUpTo (log.now.base + self.now.from.at) updates.old }
         ensures ok { OnOk result (TakesLogged log.now self.now updates.old updates.new) }
-        ensures err { OnErr result (TakesLoggedFront log.now self.now updates.old updates.new) }
+        ensures err { OnErr result (TakesSomeLogged log.now self.now updates.old updates.new) }
     {
         for index in self.from.at..self.to.at {
             take_logged(alloc, log, index, updates)?;
@@ -83,8 +83,8 @@ fn take_next(
     ensures learns { Learns seat.old seat.new }
     ensures seen { seen_of seat.new ≡ seen_of seat.old }
     ensures next { IfOk result (λ next. HasSeen seat.new next × (next.at ≡ place.at + 1)) }
-    ensures taken { IfOk result (λ _. TakesKnownEntry queue.now seat.new place.at updates.old updates.new) }
-    ensures err { IfErr result (λ _. updates.new ≡ updates.old) }
+    ensures taken { OnOk result (TakesNext queue.now seat.new place.at updates.old updates.new) }
+    ensures err { OnErr result (updates.new ≡ updates.old) }
 {
     let found = queue.after(seat, place);
     let mut words = Vec::from_elem(alloc, 0u64, found.words as usize)?;
@@ -103,7 +103,7 @@ fn take_logged(
     requires inside { index < length (entries_of log.now) }
     requires grammar { IsInGrammar log.now }
     requires updates { HaveUpTo (log.now.base + index) updates.old }
-    ensures taken { OnOk result (TakesLoggedEntry log.now index updates.old updates.new) }
+    ensures taken { OnOk result (TakesNextLogged log.now index updates.old updates.new) }
     ensures err { OnErr result (updates.new ≡ updates.old) }
 {
     let (number, _, words) = log.entry(index);
