@@ -1,9 +1,11 @@
 -- Entries behind a place, in two parts.
-use Rattle.std.proofs.Common.{◌≡◌, ℕ, ◌+◌, ◌≤◌, List, [], ◌∷◌, ◌++◌, length, sym, ap, ◌∙◌, subst, arith, append_assoc}
+use Rattle.std.proofs.Common.{◌≡◌, ℕ, ◌+◌, ◌<◌, ◌≤◌, List, [], ◌∷◌, ◌++◌, length, sym, ap, ◌∙◌, subst, arith, append_assoc}
 use Rattle.std.specs.List.{AllByRecursion}
 use Rattle.node_words.specs.declared.entry.Entry.{Entry}
+use Rattle.node_words.specs.declared.entry.Entry.TheVariants as e
 use Rattle.row_fates.specs.Fate.{Numbered}
 use Rattle.frozen_packet.specs.Updates.{entry_operation, NumberedUpTo}
+use Rattle.delete_slice.specs.Taken.{AreWithin}
 use Rattle.delete_slice.specs.Entries.{Standing, HasEntries, operations_behind, own_number, numbers_behind}
 
 pub all_first : {A : Type 0} (P : A → Type 0) (xs ys : List A) → AllByRecursion P (xs ++ ys) → AllByRecursion P xs
@@ -44,3 +46,25 @@ pub entries_stand : (Stands Others : Standing) → ((place : ℕ) (words : List 
 entries_stand Stands Others on from [] h = tt
 entries_stand Stands Others on from (e ∷ es) h =
     (record { words = h.0.words; stand = on (from + 1) h.0.words h.0.stand; spell = h.0.spell }, entries_stand Stands Others on (from + 1) es h.1)
+
+all_join : {A : Type 0} (P : A → Type 0) (xs ys : List A) → AllByRecursion P xs → AllByRecursion P ys → AllByRecursion P (xs ++ ys)
+all_join P [] ys h k = k
+all_join P (x ∷ xs) ys h k = (h.0, all_join P xs ys h.1 k)
+
+own_within : (after upto n : ℕ) (entry : Entry) → after < n → n ≤ upto → AreWithin after upto (own_number n entry)
+own_within after upto n e.Add low high = ((low, high), tt)
+own_within after upto n (e.Update term) low high = ((low, high), tt)
+own_within after upto n (e.DeleteTerm term) low high = ((low, high), tt)
+own_within after upto n (e.DeleteQuery query) low high = ((low, high), tt)
+own_within after upto n (e.SetNumber term num x) low high = ((low, high), tt)
+own_within after upto n e.Commit low high = ((low, high), tt)
+own_within after upto n e.Turn low high = tt
+
+-- the numbers of entries are those of their places
+pub numbers_within : (base from after upto : ℕ) (entries : List Entry) → after ≤ base + from → base + (from + length entries) ≤ upto
+    → AreWithin after upto (numbers_behind base from entries)
+numbers_within base from after upto [] low high = tt
+numbers_within base from after upto (entry ∷ rest) low high =
+    all_join (λ (n : ℕ). (after < n) × (n ≤ upto)) (own_number (base + (from + 1)) entry) (numbers_behind base (from + 1) rest)
+    (own_within after upto (base + (from + 1)) entry (omega (arith, low)) (omega (arith, high)))
+    (numbers_within base (from + 1) after upto rest (omega (arith, low)) (omega (arith, high)))

@@ -9,8 +9,8 @@ use Rattle.delete_queue.specs.Seats.{Knows}
 use Rattle.delete_queue.proofs.Laws.{knows_stays, seen_stays}
 use Rattle.delete_slice.specs.Entries.{Standing, HasEntry, HasEntries, operations_behind, own_number, numbers_behind}
 use Rattle.delete_slice.specs.Taken.{KeepsBoundsOf, HaveUpTo, TakesPart, TakesEntry}
-use Rattle.delete_slice.specs.Laws.{PartsChain, PartsStay, SlicesStay}
-use Rattle.delete_slice.proofs.Lists.{all_first, all_second, operations-append, numbers-append, entries-append, entries_stand}
+use Rattle.delete_slice.specs.Laws.{PartsChain, PartsStay, PartsStayWithin, SlicesStay}
+use Rattle.delete_slice.proofs.Lists.{all_first, all_second, operations-append, numbers-append, numbers_within, entries-append, entries_stand}
 
 -- no entry was taken yet
 pub takes_none : (Stands : Standing) (base from : ℕ) (u : Updates) → HaveUpTo (base + from) u → TakesPart Stands base from from u u
@@ -82,3 +82,7 @@ takes_entry Stands base from e old new stand fates bounds upto = record {
   bounds = subst (λ (ns : List ℕ). KeepsBoundsOf ns old new) (sym (append-nil (own_number (base + (from + 1)) e))) bounds;
   upto = upto;
 }
+
+pub parts_stay_within : (Stands : Standing) → PartsStayWithin Stands
+parts_stay_within Stands base from to after upto old new f held low high =
+    let ends = f.ends in f.bounds after upto held (numbers_within base from after upto f.entries low (omega (arith, ends, high)))

@@ -1,5 +1,5 @@
 -- What the layers above use of slices.
-use Rattle.std.specs.Prelude.{ℕ, List}
+use Rattle.std.specs.Prelude.{ℕ, ◌+◌, ◌≤◌, List}
 use Rattle.ix_base.specs.Words.{IsEntryWords}
 use Rattle.queue_rule.specs.Lists.{Each}
 use Rattle.delete_queue.specs.declared.queue.DeleteQueue.{DeleteQueue}
@@ -8,6 +8,7 @@ use Rattle.delete_queue.specs.declared.log.QueueLog.{QueueLog}
 use Rattle.delete_queue.specs.Seats.{Knows, Extends}
 use Rattle.delete_queue.specs.Log.{entries_of, IsLogOf, HasAllOf, Logged}
 use Rattle.frozen_packet.specs.declared.updates.Updates.{Updates}
+use Rattle.frozen_packet.specs.Updates.{as_operations, NumberedWithin}
 use Rattle.delete_slice.specs.declared.slice.Slice.{Slice}
 use Rattle.delete_slice.specs.Slices.{IsSliceOf}
 use Rattle.delete_slice.specs.Entries.{Standing, Has}
@@ -25,6 +26,11 @@ LogsAreInGrammar = (q : DeleteQueue) (all : List Seat) (log : QueueLog) → IsLo
 abbrev pub PartsChain : Standing → Type 0
 PartsChain Stands = (base from mid to : ℕ) (old between new : Updates)
     → TakesPart Stands base from mid old between → TakesPart Stands base mid to between new → TakesPart Stands base from to old new
+
+-- Bounds of the numbers before that hold a part's places hold the numbers after it.
+abbrev pub PartsStayWithin : Standing → Type 0
+PartsStayWithin Stands = (base from to after upto : ℕ) (old new : Updates) → TakesPart Stands base from to old new
+    → NumberedWithin after upto (as_operations old) → after ≤ base + from → base + to ≤ upto → NumberedWithin after upto (as_operations new)
 
 -- A slice of what a seat has seen stays one.
 abbrev pub SlicesStay : Type 0

@@ -9,5 +9,7 @@ mod slice;
 #[cfg(test)]
 mod tests;
 
-pub use laws::{logs_are_in_grammar, parts_are_logged, parts_chain, parts_stay, slices_stay};
+pub use laws::{
+    logs_are_in_grammar, parts_are_logged, parts_chain, parts_stay, parts_stay_within, slices_stay,
+};
 pub use slice::Slice;
