@@ -1,0 +1,5 @@
+pub mod Lists
+pub mod Parts
+pub mod Words
+pub mod Reading
+pub mod Logs

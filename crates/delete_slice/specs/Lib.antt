@@ -1,0 +1,4 @@
+pub mod Slices
+pub mod Entries
+pub mod Taken
+pub mod Laws
