@@ -273,15 +273,18 @@ fn again(alloc: Global, words: &[u64]) -> Result<Vec<u64>, Fail> {
     }
 }
 
+/// Whether the operation has so many words, and is read back from them to the same words.
+fn keeps_words(alloc: Global, operation: &Operation, count: usize) -> Result<bool, Fail> {
+    let words = encode(alloc, operation).ok().ok_or("words")?;
+    let same = again(alloc, &words)?;
+    Ok(words.len() == count && words.as_slice() == same.as_slice())
+}
+
 /// A query of 1,000 bools, each in the next.
 #[test]
 fn deep_query(rt: HostRuntime) -> Result<(), Fail> {
-    let alloc = rt.alloc();
-    let delete = nested(alloc, 1000)?;
-    let words = encode(alloc, &delete).ok().ok_or("words")?;
-    assert_eq!(rt; words.len(), 1627);
-    let same = again(alloc, &words)?;
-    assert!(rt; words.as_slice() == same.as_slice());
+    let delete = nested(rt.alloc(), 1000)?;
+    assert!(rt; keeps_words(rt.alloc(), &delete, 1627)?);
     Ok(())
 }
 
@@ -298,16 +301,18 @@ fn wide(alloc: Global, count: usize) -> Result<Operation, Fail> {
     }))
 }
 
-/// The largest query that has words, and one of a byte more.
+/// The largest query that has words.
 #[test]
 fn wide_query(rt: HostRuntime) -> Result<(), Fail> {
-    let alloc = rt.alloc();
-    let delete = wide(alloc, 131_059)?;
-    let words = encode(alloc, &delete).ok().ok_or("words")?;
-    assert_eq!(rt; words.len(), 16385);
-    let same = again(alloc, &words)?;
-    assert!(rt; words.as_slice() == same.as_slice());
-    let wider = wide(alloc, 131_060)?;
-    assert!(rt; outcome(alloc, &wider) == (2, 131_073));
+    let delete = wide(rt.alloc(), 131_059)?;
+    assert!(rt; keeps_words(rt.alloc(), &delete, 16385)?);
+    Ok(())
+}
+
+/// A query of a byte more.
+#[test]
+fn wider_query(rt: HostRuntime) -> Result<(), Fail> {
+    let delete = wide(rt.alloc(), 131_060)?;
+    assert!(rt; outcome(rt.alloc(), &delete) == (2, 131_073));
     Ok(())
 }
