@@ -9,7 +9,7 @@ use Rattle.std.proofs.lemmas.Bool.{eq-eqb, ne_eqb}
 use Rattle.ix_base.specs.Terms.{Place, terms}
 use Rattle.ix_base.specs.Matches.{is_term, stands_at}
 use Rattle.ix_base.specs.Inversion.{stands_in_row, IsInversion}
-use Rattle.ix_base.specs.declared.document.Document.{Document}
+use Rattle.ix_base.specs.Documents.{Document}
 use Rattle.ix_base.specs.declared.document.Row.{Row}
 use Rattle.ix_base.specs.declared.postings.Postings.{Postings}
 use Rattle.ix_base.specs.declared.postings.TermPostings.{TermPostings}

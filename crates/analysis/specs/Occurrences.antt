@@ -5,7 +5,7 @@ use Rattle.std.specs.Ordering.{nat_cmp, ordering_then}
 use Rattle.std.specs.declared.cmp.Ordering.{Ordering}
 use Rattle.ix_base.specs.Terms.{Place, terms}
 use Rattle.ix_base.specs.Inversion.{term_cmp}
-use Rattle.ix_base.specs.declared.document.Document.{Document}
+use Rattle.ix_base.specs.Documents.{Document}
 use Rattle.analysis.specs.declared.occurrence.Occurrence.{Occurrence}
 
 -- a term's place in a row

@@ -8,7 +8,7 @@ use Rattle.std.specs.List.{flat_map, AllByRecursion, list_any}
 use Rattle.std.specs.Str.{bytes_eq}
 use Rattle.std.proofs.lemmas.Slice.Eq.{bytes_eq-Decides}
 use Rattle.ix_base.specs.Limits.{text_lt, rise_after, names_rise, is_among, share_name, names_are_apart}
-use Rattle.ix_base.specs.declared.document.Document.{Document}
+use Rattle.ix_base.specs.Documents.{Document}
 use Rattle.commit_point.specs.Spelling.{be32, be64, signed64, text, field, fields, number, numbers, document}
 use Rattle.commit_point.specs.Fits.{FieldFits, NumberFits, DocumentFits}
 use Rattle.commit_point.specs.Fields.{◌>>=◌, number_at, signed_at, text_at, name_at, name_where, items_at, comes_after, is_key, is_free_name, may_name, field_at, fields_at, numbered_at, numbers_at, document_at}

@@ -4,7 +4,7 @@ use Rattle.std.specs.Prelude.{◌≡◌, ℕ, zero, suc, ℤ, List, [], ◌∷�
 use Rattle.std.specs.Int.{Width, w32, w64, byte_len, from_be_bytes, cast_signed}
 use Rattle.std.specs.Str.{bytes_eq, is_utf8}
 use Rattle.ix_base.specs.Limits.{is_name, text_lt, is_among}
-use Rattle.ix_base.specs.declared.document.Document.{Document}
+use Rattle.ix_base.specs.Documents.{Document}
 use Rattle.commit_point.specs.declared.broken.BrokenField.{BrokenField}
 use Rattle.commit_point.specs.declared.broken.Broken.{Broken}
 use Rattle.commit_point.specs.declared.broken.Broken.TheVariants.{At, NoMemory}

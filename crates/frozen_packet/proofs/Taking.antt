@@ -11,7 +11,7 @@ use Rattle.ix_base.specs.Matches.{matches, holds_term}
 use Rattle.ix_base.specs.Query.{tree_of}
 use Rattle.ix_base.specs.Steps.{Named}
 use Rattle.ix_base.specs.declared.document.Term.{Term}
-use Rattle.ix_base.specs.declared.document.Document.{Document}
+use Rattle.ix_base.specs.Documents.{Document}
 use Rattle.ix_base.specs.declared.document.Row.{Row}
 use Rattle.ix_base.specs.declared.document.Operation.TheVariants as o
 use Rattle.ix_base.specs.declared.query.Query.{Query}

@@ -6,7 +6,7 @@ use Rattle.ix_base.specs.Terms.{Place, terms}
 use Rattle.ix_base.specs.Tree.{all, term, phrase, bool, no_trees, tree}
 use Rattle.ix_base.specs.Matches.{matches}
 use Rattle.ix_base.specs.Steps.{Named, after}
-use Rattle.ix_base.specs.declared.document.Document.{Document}
+use Rattle.ix_base.specs.Documents.{Document}
 use Rattle.ix_base.specs.declared.document.Term.{Term}
 use Rattle.ix_base.specs.declared.document.Row.{Row}
 use Rattle.ix_base.specs.declared.document.Operation.TheVariants.{Add, Update, DeleteTerm, DeleteQuery, SetNumber, Commit}

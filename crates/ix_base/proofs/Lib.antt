@@ -1,3 +1,4 @@
 pub mod TermOrder
 mod Examples
 pub mod FileSpelling
+mod NameSearch

@@ -4,7 +4,7 @@ use Rattle.std.specs.List.{list_any}
 use Rattle.std.specs.Str.{bytes_eq}
 use Rattle.ix_base.specs.Terms.{Place, terms, folded_words}
 use Rattle.ix_base.specs.Tree.{Tree, all, term, phrase, bool, Trees, no_trees, tree}
-use Rattle.ix_base.specs.declared.document.Document.{Document}
+use Rattle.ix_base.specs.Documents.{Document}
 
 abbrev pub is_term : List ℕ → List ℕ → Place → Bool
 is_term field bytes place = bytes_eq place.field field && bytes_eq place.bytes bytes

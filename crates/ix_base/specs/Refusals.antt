@@ -1,30 +1,28 @@
 -- Which operations are refused because their own term or their query is too long.
-use Rattle.std.specs.Prelude.{ℕ, ◌-◌, ◌^◌, min, length, Option, Some, None, option_map, nat_lt, if◌then◌else◌}
+use Rattle.std.specs.Prelude.{◌≡◌, ℕ, ◌-◌, ◌^◌, min, length, Option, Some, None, option_map, nat_lt, if◌then◌else◌}
 use Rattle.ix_base.specs.Entry.{most_query_bytes}
 use Rattle.ix_base.specs.Query.{tree_of}
 use Rattle.ix_base.specs.QueryBytes.{query_bytes}
-use Rattle.ix_base.specs.Terms.{most_term_bytes, terms}
-use Rattle.ix_base.specs.Terms as place
+use Rattle.ix_base.specs.Terms.{most_term_bytes, terms, long_term}
 use Rattle.ix_base.specs.Tree.{Tree}
-use Rattle.ix_base.specs.declared.document.Document.{Document}
-use Rattle.ix_base.specs.declared.document.Term.{Term}
+use Rattle.ix_base.specs.Documents.{Document}
+use Rattle.ix_base.specs.declared.document.Term as own
 use Rattle.ix_base.specs.declared.document.Operation.{Operation}
 use Rattle.ix_base.specs.declared.document.Operation.TheVariants.{Add, Update, DeleteTerm, DeleteQuery, SetNumber, Commit}
-
--- why, with the size in bytes
-pub data Refusal : Type 0 where
-  long_term : ℕ → Refusal
-  long_query : ℕ → Refusal
+use Rattle.ix_base.specs.declared.refusal.Refusal.{Refusal}
+use Rattle.ix_base.specs.declared.refusal.Refusal.TheVariants.{Term, Query}
+use Rattle.ix_base.specs.declared.refusal.Refused.{Refused}
+use Rattle.ix_base.specs.declared.refusal.Refused.TheVariants.{For, NoMemory}
 
 -- the size of an encoded query, or the greatest 64-bit number where it is more
 abbrev pub query_size : Tree → ℕ
 query_size query = min (length (query_bytes query)) (2 ^ 64 - 1)
 
-abbrev pub term_refusal : Term → Option Refusal
-term_refusal term = if nat_lt most_term_bytes (length term.bytes) then Some (long_term (length term.bytes)) else None
+abbrev pub term_refusal : own.Term → Option Refusal
+term_refusal term = if nat_lt most_term_bytes (length term.bytes) then Some (Term (length term.bytes)) else None
 
 abbrev pub query_refusal : Tree → Option Refusal
-query_refusal query = if nat_lt most_query_bytes (query_size query) then Some (long_query (query_size query)) else None
+query_refusal query = if nat_lt most_query_bytes (query_size query) then Some (Query (query_size query)) else None
 
 -- the refusal of an operation for what it names itself, apart from its document
 abbrev pub own_refusal : Operation → Option Refusal
@@ -37,7 +35,7 @@ own_refusal Commit = None
 
 -- the refusal of a document: for its first term that is too long
 abbrev pub document_refusal : Document → Option Refusal
-document_refusal doc = option_map long_term (place.long_term (terms doc))
+document_refusal doc = option_map Term (long_term (terms doc))
 
 abbrev pub first_refusal : Option Refusal → Option Refusal → Option Refusal
 first_refusal (Some refusal) later = Some refusal
@@ -51,3 +49,9 @@ refusal (DeleteTerm term) = own_refusal (DeleteTerm term)
 refusal (DeleteQuery query) = own_refusal (DeleteQuery query)
 refusal (SetNumber term num value) = own_refusal (SetNumber term num value)
 refusal Commit = None
+
+-- What a call that is refused says: the refusal, or that memory ran out, which comes only where
+-- there is none.
+abbrev pub Refuses : Refused → Option Refusal → Type 0
+Refuses (For refusal) found = found ≡ Some refusal
+Refuses NoMemory found = found ≡ None

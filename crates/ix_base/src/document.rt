@@ -1,11 +1,14 @@
 //! Documents, the rows of an index, and the operations on it.
-ghost use Rattle.std.specs.Prelude.{◌≡◌, [], IfOk};
+ghost use Rattle.std.specs.Prelude.{◌≡◌, ◌↔◌, [], map, IfOk, IfSome, IsSome, IsTrue};
+ghost use Rattle.ix_base.specs.Documents.{is_apart};
+ghost use Rattle.ix_base.specs.Limits.{share_name};
 
 use crate::fields::{Fields, Numbers};
 use crate::memory::NoMemory;
 use crate::query::Query;
 use crate::text::{Name, Text};
 use std::alloc::Global;
+use std::marker::Model;
 
 /// A term: a whole text of a field, or one word of it.
 #[derive(Drop)]
@@ -16,13 +19,24 @@ pub struct Term {
 
 /// A document. Its key is found as a term of the field `key`, each text of `exact` as one term,
 /// each text of `text` by its folded words; `num` holds its numbers. No name of `text` or `exact`
-/// is `key`, and none stands in both: `is_apart` says so wherever it matters.
+/// is `key`, and none stands in both.
 #[derive(Drop)]
 pub struct Document {
     pub key: Text,
     pub text: Fields,
     pub exact: Fields,
     pub num: Numbers,
+}
+
+impl Model for Document {
+    ghost use Rattle.std.specs.Prelude.{◌≡◌, true};
+    ghost use Rattle.ix_base.specs.Documents.{Document, is_apart};
+
+    ghost Value = { Document };
+
+    ghost view = { λ doc. record { key = doc.key; text = doc.text; exact = doc.exact; num = doc.num } };
+
+    ghost invariant = { λ doc. is_apart (record { key = doc.key; text = doc.text; exact = doc.exact; num = doc.num }) ≡ true };
 }
 
 /// A document in an index, with the number of the operation that added it.
@@ -74,6 +88,23 @@ impl Document {
         }
     }
 
+    /// A document of these parts: `Some` exactly where no name of `text` or `exact` is `key` and
+    /// none stands in both. It takes no memory.
+    pub fn new(key: Text, text: Fields, exact: Fields, num: Numbers) -> Option<Document>
+        ensures apart { IsSome result ↔ IsTrue (is_apart (record { key = key; text = text; exact = exact; num = num })) }
+        ensures doc { IfSome result (λ doc. doc ≡ record { key = key; text = text; exact = exact; num = num }) }
+    {
+        if text.has_name("key") || exact.has_name("key") || share_name(&text, &exact) {
+            return None;
+        }
+        Some(Document {
+            key,
+            text,
+            exact,
+            num,
+        })
+    }
+
     /// A copy of this document.
     pub fn clone_in(&self, alloc: Global) -> Result<Document, NoMemory>
         ensures { IfOk result (λ doc. doc ≡ self.now) }
@@ -85,6 +116,18 @@ impl Document {
             num: self.num.clone_in(alloc)?,
         })
     }
+}
+
+/// Whether some name stands in both of these.
+fn share_name(text: &Fields, exact: &Fields) -> bool
+    ensures { result ≡ share_name (map (λ pair. pair.0) text.now) (map (λ pair. pair.0) exact.now) }
+{
+    for pair in text.as_slice() {
+        if exact.has_name(pair.0.as_str()) {
+            return true;
+        }
+    }
+    false
 }
 
 impl Row {

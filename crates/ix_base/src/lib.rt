@@ -14,6 +14,7 @@ mod list;
 mod memory;
 mod postings;
 mod query;
+mod refusal;
 mod text;
 
 pub use damaged::Damaged;
@@ -24,6 +25,7 @@ pub use list::List;
 pub use memory::NoMemory;
 pub use postings::{Analysed, Posting, Postings, TermPostings};
 pub use query::{Queries, Query};
+pub use refusal::{Refusal, Refused};
 pub use text::{Name, PhraseText, Text};
 
 #[cfg(test)]

@@ -34,12 +34,13 @@ fn fields_of(alloc: Global, name: &str, text: &str) -> Result<Fields, Fail> {
 /// A document with each part filled.
 fn letter(alloc: Global) -> Result<Document, Fail> {
     let pair = (name_of(alloc, "price")?, -7);
-    Ok(Document {
-        key: text_of(alloc, "a1")?,
-        text: fields_of(alloc, "body", "Quick FOX")?,
-        exact: fields_of(alloc, "tag", "x")?,
-        num: Numbers::from_vec(vec![in alloc; pair]?),
-    })
+    let doc = Document::new(
+        text_of(alloc, "a1")?,
+        fields_of(alloc, "body", "Quick FOX")?,
+        fields_of(alloc, "tag", "x")?,
+        Numbers::from_vec(vec![in alloc; pair]?),
+    );
+    Ok(doc.ok_or("names aren't apart")?)
 }
 
 /// The term `key:a1` in row 3 at the positions 0 and 2.

@@ -1,7 +1,7 @@
 -- What is tested before it is copied.
 use Rattle.std.proofs.Common.{◌≡◌, ℕ, List, Bool, true, false, ◌&&◌, if◌then◌else◌, codes, Option, Some, None, is_some, Ok, IsOk, refl}
 use Rattle.serde_json.specs.Data.{Data}
-use Rattle.ix_base.specs.declared.document.Document.{Document}
+use Rattle.ix_base.specs.Documents.{Document}
 use Rattle.ix_base.specs.declared.document.Operation.TheVariants as operation
 use Rattle.op_script.specs.Arguments.{name_at, text_at, document_at, given}
 use Rattle.op_script.specs.Documents.{document_of, document_names, are_apart}

@@ -6,7 +6,7 @@ use Rattle.std.proofs.lemmas.List.Splits.{length-slice_split}
 use Rattle.std.proofs.lemmas.List.Sums.{count_by-le-length}
 use Rattle.serde_json.specs.Data.{Data, null, boolean, number, string, array, object, Members}
 use Rattle.serde_json.specs.Find.{get, as_number, as_u64}
-use Rattle.ix_base.specs.declared.document.Document.{Document}
+use Rattle.ix_base.specs.Documents.{Document}
 use Rattle.op_script.specs.Values.{value_of, has_exactly, has_only, names_of, member_names}
 use Rattle.op_script.specs.Lines.{lines_of, is_blank}
 use Rattle.op_script.specs.Verbs.{members_of}

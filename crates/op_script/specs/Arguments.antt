@@ -3,7 +3,7 @@ use Rattle.std.specs.Prelude.{ℕ, ℤ, List, if◌then◌else◌, Option, Some,
 use Rattle.serde_json.specs.Data.{Data}
 use Rattle.serde_json.specs.Find.{get, as_number, as_i64, as_str}
 use Rattle.ix_base.specs.Limits.{is_name}
-use Rattle.ix_base.specs.declared.document.Document.{Document}
+use Rattle.ix_base.specs.Documents.{Document}
 use Rattle.ix_base.specs.declared.query.Query.{Query}
 use Rattle.op_script.specs.Documents.{document_of}
 use Rattle.op_script.specs.Queries.{query_of}

@@ -4,7 +4,7 @@ use Rattle.std.specs.Option.{option_map_or}
 use Rattle.serde_json.specs.Data.{Data, null, boolean, number, string, array, object, Members, no_members, member}
 use Rattle.serde_json.specs.Find.{get, as_str, as_number, as_i64}
 use Rattle.ix_base.specs.Limits.{is_name, names_are_apart}
-use Rattle.ix_base.specs.declared.document.Document.{Document}
+use Rattle.ix_base.specs.Documents.{Document}
 use Rattle.op_script.specs.Values.{member_names, names_of, has_only}
 
 abbrev pub named_text : List ℕ → Data → Option (List ℕ)

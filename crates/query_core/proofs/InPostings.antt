@@ -13,7 +13,7 @@ use Rattle.ix_base.specs.Terms.{Place, terms}
 use Rattle.ix_base.specs.Matches.{is_term, holds_term}
 use Rattle.ix_base.specs.Inversion.{term_cmp, has_number, at_row, stands_in_row, posted, posted_at, IsInversion, IsPostings, IsTermPostings, IsPosting, rows_where}
 use Rattle.ix_base.proofs.TermOrder.{term_total}
-use Rattle.ix_base.specs.declared.document.Document.{Document}
+use Rattle.ix_base.specs.Documents.{Document}
 use Rattle.ix_base.specs.declared.document.Term.{Term}
 use Rattle.ix_base.specs.declared.postings.Posting.{Posting}
 use Rattle.ix_base.specs.declared.postings.Postings.{Postings}

@@ -9,7 +9,7 @@ use Rattle.ix_base.specs.Matches.{is_term, holds_term, stands_at, words_stand_at
 use Rattle.ix_base.specs.Inversion.{has_number, at_row, rows_where}
 use Rattle.ix_base.specs.Query.{tree_of, trees_of}
 use Rattle.ix_base.specs.Tree.{Trees, bool, tree_count, trees_count}
-use Rattle.ix_base.specs.declared.document.Document.{Document}
+use Rattle.ix_base.specs.Documents.{Document}
 use Rattle.ix_base.specs.declared.document.Term.{Term}
 use Rattle.ix_base.specs.declared.query.Query.{Query}
 use Rattle.query_core.specs.Answers.{IsRising, term_of, holds_all, terms_stand_at, terms_stand, ArePositions}

@@ -4,7 +4,7 @@ use Rattle.std.specs.List.{list_any, list_all}
 use Rattle.ix_base.specs.Terms.{Place, terms}
 use Rattle.ix_base.specs.Matches.{holds_term, stands_at}
 use Rattle.ix_base.specs.Inversion.{has_number, stands_in_row, rows_where}
-use Rattle.ix_base.specs.declared.document.Document.{Document}
+use Rattle.ix_base.specs.Documents.{Document}
 use Rattle.ix_base.specs.declared.document.Term.{Term}
 
 -- numbers that rise

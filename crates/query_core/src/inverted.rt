@@ -1,7 +1,7 @@
 //! Inverted indexes.
 ghost use Rattle.std.specs.Prelude.{◌≡◌, List, length, IfOk};
 ghost use Rattle.ix_base.specs.Matches.{holds_term};
-ghost use Rattle.ix_base.specs.declared.document.Document.{Document};
+ghost use Rattle.ix_base.specs.Documents.{Document};
 ghost use Rattle.query_core.specs.Answers.{AreRowsWhere, ArePositions};
 
 use ix_base::{NoMemory, Term};

@@ -7,7 +7,7 @@ use Rattle.ix_base.specs.Matches.{matches}
 use Rattle.ix_base.specs.Query.{tree_of}
 use Rattle.ix_base.specs.Steps.{step, with_value}
 use Rattle.ix_base.specs.Tree.{Tree}
-use Rattle.ix_base.specs.declared.document.Document.{Document}
+use Rattle.ix_base.specs.Documents.{Document}
 use Rattle.ix_base.specs.declared.document.Row.{Row}
 use Rattle.ix_base.specs.declared.document.Term.{Term}
 use Rattle.ix_base.specs.declared.document.Operation.TheVariants as operation

@@ -1,7 +1,7 @@
 -- Fates that are written out.
 use Rattle.std.proofs.Common.{◌≡◌, ℕ, pos, List, [], ◌∷◌, codes, Some, None, refl}
 use Rattle.ix_base.specs.Steps.{Named}
-use Rattle.ix_base.specs.declared.document.Document.{Document}
+use Rattle.ix_base.specs.Documents.{Document}
 use Rattle.ix_base.specs.declared.document.Term.{Term}
 use Rattle.ix_base.specs.declared.document.Row.{Row}
 use Rattle.ix_base.specs.declared.document.Operation.TheVariants.{Update, DeleteTerm, SetNumber}

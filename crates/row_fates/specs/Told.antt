@@ -4,7 +4,7 @@ use Rattle.std.specs.List.{list_any}
 use Rattle.ix_base.specs.Matches.{matches, holds_term}
 use Rattle.ix_base.specs.Query.{tree_of}
 use Rattle.ix_base.specs.Steps.{Named, with_number}
-use Rattle.ix_base.specs.declared.document.Document.{Document}
+use Rattle.ix_base.specs.Documents.{Document}
 use Rattle.ix_base.specs.declared.document.Row.{Row}
 use Rattle.ix_base.specs.declared.document.Operation.{Operation}
 use Rattle.ix_base.specs.declared.document.Operation.TheVariants.{Add, Update, DeleteTerm, DeleteQuery, SetNumber, Commit}

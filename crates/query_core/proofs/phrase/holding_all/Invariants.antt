@@ -1,6 +1,6 @@
 use Rattle.std.proofs.Common.{◌≡◌, List, take}
 use Rattle.ix_base.specs.Inversion.{rows_where}
-use Rattle.ix_base.specs.declared.document.Document.{Document}
+use Rattle.ix_base.specs.Documents.{Document}
 use Rattle.query_core.specs.Answers.{holds_all}
 use Rattle.query_core.proofs.phrase.holding_all.Given as goal
 

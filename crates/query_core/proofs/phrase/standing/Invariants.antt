@@ -1,7 +1,7 @@
 use Rattle.std.proofs.Common.{◌≡◌, List, take}
 use Rattle.std.specs.List.{filter}
 use Rattle.ix_base.specs.Inversion.{at_row}
-use Rattle.ix_base.specs.declared.document.Document.{Document}
+use Rattle.ix_base.specs.Documents.{Document}
 use Rattle.query_core.specs.Answers.{terms_stand}
 use Rattle.query_core.proofs.phrase.standing.Given as goal
 

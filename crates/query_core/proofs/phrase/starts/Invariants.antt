@@ -1,7 +1,7 @@
 use Rattle.std.proofs.Common.{◌≡◌, ℕ, List, take}
 use Rattle.ix_base.specs.Terms.{terms}
 use Rattle.ix_base.specs.Inversion.{has_number, at_row}
-use Rattle.ix_base.specs.declared.document.Document.{Document}
+use Rattle.ix_base.specs.Documents.{Document}
 use Rattle.query_core.specs.Answers.{terms_stand_at}
 use Rattle.query_core.proofs.phrase.starts.Given as goal
 

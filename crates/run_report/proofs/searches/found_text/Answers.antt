@@ -5,7 +5,7 @@ use Rattle.std.proofs.lemmas.Result.{IfOk-weaker}
 use Rattle.ix_base.specs.Matches.{matches}
 use Rattle.ix_base.specs.Query.{tree_of}
 use Rattle.ix_base.specs.declared.document.Row.{Row}
-use Rattle.ix_base.specs.declared.document.Document.{Document}
+use Rattle.ix_base.specs.Documents.{Document}
 use Rattle.report_text.specs.Lines.{text_line, search_value}
 use Rattle.run_report.proofs.Hits.{rows_taken, rows_in_range, length_docs}
 use Rattle.run_report.proofs.searches.found_text.Goals as goal

@@ -1,7 +1,7 @@
 use Rattle.std.proofs.Common.{◌≡◌, List, length}
 use Rattle.std.proofs.lemmas.Result.{IfOk-weaker}
 use Rattle.ix_base.specs.Inversion.{IsInversion}
-use Rattle.ix_base.specs.declared.document.Document.{Document}
+use Rattle.ix_base.specs.Documents.{Document}
 use Rattle.query_core.specs.Answers.{ArePositions}
 use Rattle.query_core.proofs.index.PostingsIndexInverted.places.Goals as goal
 

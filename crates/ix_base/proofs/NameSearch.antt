@@ -1,6 +1,7 @@
 -- A binary search among pairs whose names rise tells whether a name stands there.
-use Rattle.std.proofs.Common.{◌≡◌, ◌≢◌, ◌∙◌, ℕ, zero, suc, ◌+◌, ◌<◌, ◌≤◌, Bool, true, false, ◌||◌, List, [], ◌∷◌, length, get_or, map, Result, Ok, Err, ◌⊎◌, inl, inr, refl, sym, ap, subst, arith}
+use Rattle.std.proofs.Common.{◌≡◌, ◌≢◌, ◌∙◌, ℕ, zero, suc, ◌+◌, ◌<◌, ◌≤◌, Bool, true, false, ◌&&◌, ◌||◌, List, [], ◌∷◌, length, get_or, map, Result, Ok, Err, ◌⊎◌, inl, inr, refl, sym, ap, subst, arith}
 use Rattle.std.specs.Cmp.Lexicographic.{slice_cmp, texts_ties}
+use Rattle.std.specs.List.{list_any}
 use Rattle.std.specs.List.Sorted.{IsBinarySearchResult, IsSearchInRange, IsNonDecreasingBy, IsPartitionPoint, IsSortedBy}
 use Rattle.std.specs.Ordering.{nat_cmp, is_lt, is_eq, ordering_index, ordering_reverse}
 use Rattle.std.specs.Result.{is_ok}
@@ -10,8 +11,12 @@ use Rattle.std.specs.declared.cmp.Ordering.TheVariants.{Less, Equal, Greater}
 use Rattle.std.proofs.lemmas.Bool.{cases_lt}
 use Rattle.std.proofs.lemmas.Cmp.{nat_list_cmp_total}
 use Rattle.std.proofs.lemmas.List.Sorted.{searchable_from_sorted}
-use Rattle.ix_base.specs.Limits.{text_lt, rise_after, names_rise, is_among}
-use Rattle.commit_point.proofs.NumberLaws.{and_parts}
+use Rattle.ix_base.specs.Limits.{text_lt, rise_after, names_rise, is_among, share_name}
+
+and_parts : (a b : Bool) → (a && b) ≡ true → (a ≡ true) × (b ≡ true)
+and_parts true true e = (refl, refl)
+and_parts true false e = absurd cc
+and_parts false b e = absurd cc
 
 abbrev Pair : Type 0
 Pair = List ℕ × List ℕ
@@ -77,3 +82,9 @@ searched pairs name (Err i) rise in' parted = sym (nowhere pairs name (apart (pa
         go : (k < i) ⊎ (i ≤ k) → ⊥
         go (inl l) = let s : slice_cmp nat_cmp (get_or pairs k d).0 name ≡ Less = p.0 k d (omega arith) l in let q : Less ≡ Equal = sym s ∙ e in cc
         go (inr g) = let s : slice_cmp nat_cmp (get_or pairs k d).0 name ≡ Greater = p.1 k d g lt in let q : Greater ≡ Equal = sym s ∙ e in cc
+
+-- ---- names that stand in both of two lists
+
+pub shared : (pairs : List Pair) (others : List (List ℕ)) → list_any (λ pair. is_among others pair.0) pairs ≡ share_name (names pairs) others
+shared [] others = refl
+shared (p ∷ ps) others = ap (λ (b : Bool). is_among others p.0 || b) (shared ps others)
