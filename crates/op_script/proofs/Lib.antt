@@ -3,6 +3,7 @@ mod Names
 mod Pairs
 mod Lines
 mod Shapes
+mod Apart
 mod Scripts
 mod Examples
 mod Trees
