@@ -1,6 +1,6 @@
 //! Documents inverted.
 ghost use Rattle.std.specs.Prelude.{◌≡◌, ◌<◌, ◌^◌, ◌∷◌, [], map, length, IfOk};
-ghost use Rattle.ix_base.specs.Terms.{terms, long_term};
+ghost use Rattle.ix_base.specs.Refusals.{document_refusal};
 ghost use Rattle.ix_base.specs.Inversion.{IsInversion};
 ghost use Rattle.analysis.specs.Occurrences.{occurrences_from};
 ghost use Rattle.analysis.specs.Grouping.{Groups};
@@ -9,28 +9,8 @@ use crate::grouping::group;
 use crate::occurrence::{Occurrence, compare};
 use crate::sizes::long_term;
 use crate::words::add_terms;
-use ix_base::{Analysed, Document, List, NoMemory, Postings, Row};
+use ix_base::{Analysed, Document, List, NoMemory, Postings, Refusal, Refused, Row};
 use std::alloc::Global;
-
-/// Why a document isn't analysed.
-#[derive(Clone, Copy, Debug, PartialEq, Eq)]
-pub enum Refused {
-    /// A term has more than 32,766 bytes; `size` is that of the first such term.
-    Term { size: u64 },
-    /// Memory ran out.
-    NoMemory,
-}
-
-impl From<NoMemory> for Refused {
-    ghost use Rattle.std.specs.Prelude.{◌≡◌};
-    ghost use Rattle.analysis.specs.declared.inverse.Refused.TheVariants as refused;
-
-    ghost from_gives = { λ _ r. r ≡ refused.NoMemory };
-
-    fn from(_error: NoMemory) -> Refused {
-        Refused::NoMemory
-    }
-}
 
 /// Sorts places and groups them.
 fn sorted_groups(alloc: Global, mut found: Vec<Occurrence>) -> Result<Postings, NoMemory>
@@ -72,16 +52,16 @@ fn invert_one(alloc: Global, doc: &Document) -> Result<Postings, NoMemory>
     sorted_groups(alloc, found)
 }
 
-/// The document with the inversion of it alone. It is refused with `Term` exactly where a term of
-/// it has more than 32,766 bytes, unless memory runs out.
+/// The document with the inversion of it alone. It is refused exactly where a term of it has more
+/// than 32,766 bytes, unless memory runs out: for the first such term.
 pub fn analyse(alloc: Global, doc: Document) -> Result<Analysed, Refused>
     ensures doc { IfOk result (λ analysed. analysed.doc ≡ doc) }
     ensures inversion { IfOk result (λ analysed. IsInversion (doc ∷ []) analysed.postings) }
-    ensures fits { IfOk result (λ _. long_term (terms doc) ≡ None) }
-    ensures long { (size : _) → result ≡ Err (Refused.Term size) → long_term (terms doc) ≡ Some size }
+    ensures fits { IfOk result (λ _. document_refusal doc ≡ None) }
+    ensures refusal { (refusal : _) → result ≡ Err (Refused.For refusal) → document_refusal doc ≡ Some refusal }
 {
     if let Some(size) = long_term(alloc, &doc)? {
-        return Err(Refused::Term { size });
+        return Err(Refused::For(Refusal::Term { size }));
     }
     let postings = invert_one(alloc, &doc)?;
     Ok(Analysed { doc, postings })

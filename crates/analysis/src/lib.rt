@@ -11,7 +11,7 @@ mod occurrence;
 mod sizes;
 mod words;
 
-pub use inverse::{Refused, analyse, invert};
+pub use inverse::{analyse, invert};
 pub use occurrence::compare_terms;
 pub use sizes::long_term;
 pub use words::phrase_terms;

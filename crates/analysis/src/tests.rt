@@ -1,5 +1,7 @@
-use crate::{Refused, analyse, invert, long_term, phrase_terms};
-use ix_base::{Document, Fields, Name, PhraseText, Postings, Row, Text};
+use crate::{analyse, invert, long_term, phrase_terms};
+use ix_base::{
+    Document, Fields, Name, Numbers, PhraseText, Postings, Refusal, Refused, Row, Text,
+};
 use std::alloc::Global;
 use std::fmt::Write;
 use std::test::Fail;
@@ -11,6 +13,11 @@ fn text_of(alloc: Global, text: &str) -> Result<Text, Fail> {
 fn field_of(alloc: Global, name: &str, text: Text) -> Result<Fields, Fail> {
     let name = Name::new(text_of(alloc, name)?).ok_or("name")?;
     Ok(Fields::from_vec(vec![in alloc; (name, text)]?))
+}
+
+fn document_of(alloc: Global, key: &str, text: Fields, exact: Fields) -> Result<Document, Fail> {
+    let doc = Document::new(text_of(alloc, key)?, text, exact, Numbers::none(alloc));
+    Ok(doc.ok_or("names aren't apart")?)
 }
 
 fn words_of(alloc: Global, text: &str) -> Result<String, Fail> {
@@ -78,9 +85,12 @@ fn words_and_their_foldings(rt: HostRuntime) -> Result<(), Fail> {
 #[test]
 fn terms_of_documents(rt: HostRuntime) -> Result<(), Fail> {
     let alloc = rt.alloc();
-    let mut first = Document::of_key(alloc, text_of(alloc, "k1")?);
-    first.text = field_of(alloc, "body", text_of(alloc, "To be, or NOT to Be")?)?;
-    first.exact = field_of(alloc, "tag", text_of(alloc, "To Be")?)?;
+    let first = document_of(
+        alloc,
+        "k1",
+        field_of(alloc, "body", text_of(alloc, "To be, or NOT to Be")?)?,
+        field_of(alloc, "tag", text_of(alloc, "To Be")?)?,
+    )?;
     let analysed = analyse(alloc, first.clone_in(alloc)?)?;
     let terms = shown(alloc, &analysed.postings)?;
     let want =
@@ -88,8 +98,8 @@ fn terms_of_documents(rt: HostRuntime) -> Result<(), Fail> {
     assert_eq!(rt; terms.as_str(), want);
     assert_eq!(rt; analysed.doc.key.as_str(), "k1");
 
-    let mut second = Document::of_key(alloc, text_of(alloc, "k1")?);
-    second.text = field_of(alloc, "body", text_of(alloc, "be")?)?;
+    let body = field_of(alloc, "body", text_of(alloc, "be")?)?;
+    let second = document_of(alloc, "k1", body, Fields::none(alloc))?;
     let rows = vec![in alloc;
         Row {
             birth: 1,
@@ -119,22 +129,19 @@ fn sizes_of_terms(rt: HostRuntime) -> Result<(), Fail> {
         ("\u{390}", 5_462, "b", 1, Some(32_772)),
     ];
     for (word, times, exact, exact_times, want) in cases {
-        let mut doc = Document::of_key(alloc, text_of(alloc, "k")?);
-        doc.text = field_of(
+        let body = text_of(alloc, word.repeat(alloc, times)?.as_str())?;
+        let tag = text_of(alloc, exact.repeat(alloc, exact_times)?.as_str())?;
+        let doc = document_of(
             alloc,
-            "body",
-            text_of(alloc, word.repeat(alloc, times)?.as_str())?,
-        )?;
-        doc.exact = field_of(
-            alloc,
-            "tag",
-            text_of(alloc, exact.repeat(alloc, exact_times)?.as_str())?,
+            "k",
+            field_of(alloc, "body", body)?,
+            field_of(alloc, "tag", tag)?,
         )?;
         assert_eq!(rt; long_term(alloc, &doc)?, want);
         let refused = match analyse(alloc, doc) {
             Ok(_) => None,
-            Err(Refused::Term { size }) => Some(size),
-            Err(Refused::NoMemory) => Some(0),
+            Err(Refused::For(Refusal::Term { size })) => Some(size),
+            Err(Refused::For(Refusal::Query { .. }) | Refused::NoMemory) => Some(0),
         };
         assert_eq!(rt; refused, want);
     }

@@ -1,5 +1,5 @@
 use crate::{Inverted, PostingsIndex, answer, index_rows};
-use ix_base::{Document, Fields, Name, PhraseText, Queries, Query, Row, Term, Text};
+use ix_base::{Document, Fields, Name, Numbers, PhraseText, Queries, Query, Row, Term, Text};
 use std::alloc::Global;
 use std::fmt::Write;
 use std::test::Fail;
@@ -32,9 +32,11 @@ fn words(alloc: Global, words: &[&str]) -> Result<Queries, Fail> {
 }
 
 fn row_of(alloc: Global, key: &str, body: &str) -> Result<Row, Fail> {
-    let mut doc = Document::of_key(alloc, text_of(alloc, key)?);
     let body = text_of(alloc, body)?;
-    doc.text = Fields::from_vec(vec![in alloc; (name_of(alloc, "body")?, body)]?);
+    let text = Fields::from_vec(vec![in alloc; (name_of(alloc, "body")?, body)]?);
+    let key = text_of(alloc, key)?;
+    let doc = Document::new(key, text, Fields::none(alloc), Numbers::none(alloc));
+    let doc = doc.ok_or("names aren't apart")?;
     Ok(Row { birth: 1, doc })
 }
 

@@ -8,7 +8,9 @@ use Rattle.serde_json.specs.Find.{is_float, of_integer}
 use Rattle.serde_json.specs.View.{items_of}
 use Rattle.serde_json.specs.Written.{has_float, items_have_float, members_have_float}
 use Rattle.ix_base.specs.declared.document.Row.{Row}
-use Rattle.report_text.specs.Lines.{hit_value, search_value, with_number, write_value, commit_value, shown_refusal}
+use Rattle.report_text.specs.Lines.{hit_value, search_value, with_number, write_value, commit_value, refused_value}
+use Rattle.ix_base.specs.declared.refusal.Refusal.{Refusal}
+use Rattle.ix_base.specs.declared.refusal.Refusal.TheVariants.{Term, Query}
 
 is_float-of_integer : (z : ℤ) → is_float (of_integer z) ≡ false
 is_float-of_integer (pos n) = refl
@@ -50,5 +52,6 @@ write_plain line s = refl
 pub commit_plain : (docs line s : ℕ) → has_float (commit_value docs line s) ≡ false
 commit_plain docs line s = refl
 
-pub refusal_plain : (line : ℕ) (what : List ℕ) (size : ℕ) → has_float (shown_refusal line what size) ≡ false
-refusal_plain line what size = refl
+pub refusal_plain : (line : ℕ) (refusal : Refusal) → has_float (refused_value line refusal) ≡ false
+refusal_plain line (Term size) = refl
+refusal_plain line (Query size) = refl

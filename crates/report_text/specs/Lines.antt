@@ -5,7 +5,8 @@ use Rattle.serde_json.specs.Find.{of_integer}
 use Rattle.serde_json.specs.View.{items_of}
 use Rattle.serde_json.specs.Written.{compact_text}
 use Rattle.ix_base.specs.declared.document.Row.{Row}
-use Rattle.ix_base.specs.Refusals.{Refusal, long_term, long_query}
+use Rattle.ix_base.specs.declared.refusal.Refusal.{Refusal}
+use Rattle.ix_base.specs.declared.refusal.Refusal.TheVariants.{Term, Query}
 
 abbrev pub natural : ℕ → Data
 natural n = number (unsigned n)
@@ -27,8 +28,8 @@ abbrev pub shown_refusal : ℕ → List ℕ → ℕ → Data
 shown_refusal line what size = object (member (codes "line") (natural line) (member (codes "refused") (string what) (member (codes "size") (natural size) no_members)))
 
 abbrev pub refused_value : ℕ → Refusal → Data
-refused_value line (long_term size) = shown_refusal line (codes "term") size
-refused_value line (long_query size) = shown_refusal line (codes "query") size
+refused_value line (Term size) = shown_refusal line (codes "term") size
+refused_value line (Query size) = shown_refusal line (codes "query") size
 
 -- numbers by name
 abbrev pub with_number : Members → List ℕ × ℤ → Members

@@ -6,7 +6,7 @@ mod fault;
 mod texts;
 
 pub use fault::Fault;
-pub use texts::{commit_text, long_query_text, long_term_text, search_text, write_text};
+pub use texts::{commit_text, refused_text, search_text, write_text};
 
 #[cfg(test)]
 mod tests;

@@ -1,5 +1,5 @@
 use super::*;
-use ix_base::{Damaged, FileName, Operation, Row};
+use ix_base::{Damaged, FileName, Operation, Refusal, Row};
 use op_script::{Act, BadLine, Why, read_script};
 use std::alloc::Global;
 use std::test::*;
@@ -108,12 +108,12 @@ fn numbered_and_refused(rt: HostRuntime) -> Result<(), Fail> {
         commit.as_slice(),
         b"{\"docs\":1,\"line\":2,\"seq\":4}\n".as_slice()
     );
-    let term = long_term_text(alloc, 2, 32767).ok().ok_or("memory")?;
+    let term = refused_text(alloc, 2, Refusal::Term { size: 32767 }).ok().ok_or("memory")?;
     assert_eq!(rt;
         term.as_slice(),
         b"{\"line\":2,\"refused\":\"term\",\"size\":32767}\n".as_slice()
     );
-    let query = long_query_text(alloc, 7, 65536).ok().ok_or("memory")?;
+    let query = refused_text(alloc, 7, Refusal::Query { size: 65536 }).ok().ok_or("memory")?;
     assert_eq!(rt;
         query.as_slice(),
         b"{\"line\":7,\"refused\":\"query\",\"size\":65536}\n".as_slice()

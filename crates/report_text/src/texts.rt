@@ -4,11 +4,10 @@ ghost use Rattle.std.specs.List.{filter_map};
 ghost use Rattle.serde_json.specs.Data.{no_members};
 ghost use Rattle.serde_json.specs.View.{view, members_view};
 ghost use Rattle.serde_json.specs.Written.{has_float};
-ghost use Rattle.ix_base.specs.Refusals.{long_term, long_query};
 ghost use Rattle.report_text.specs.Lines.{text_line, write_value, commit_value, refused_value, search_value, hit_value, with_number};
 ghost use Rattle.report_text.specs.Lines.{shown_refusal};
 
-use ix_base::{Name, NoMemory, Row};
+use ix_base::{Name, NoMemory, Refusal, Row};
 use serde_json::{Map, Value, json};
 use std::alloc::{AllocError, Global};
 
@@ -54,28 +53,29 @@ pub fn commit_text(alloc: Global, docs: u64, line: u32, number: u64) -> Result<V
     text_of(alloc, &value)
 }
 
-/// The value of a line that was refused.
-fn refused_data(alloc: Global, line: u32, what: &str, size: u64) -> Result<Value, AllocError>
+/// The value of a line that was refused for what is too long.
+fn long_data(alloc: Global, line: u32, what: &str, size: u64) -> Result<Value, AllocError>
     ensures { IfOk result (λ value. view value ≡ shown_refusal line what.now size) }
 {
     json!(in alloc; {"line": line, "refused": what, "size": size})
 }
 
-/// The text of a line that was refused for a term of this size in bytes, as
-/// `{"line":2,"refused":"term","size":32767}`, and a line feed.
-pub fn long_term_text(alloc: Global, line: u32, size: u64) -> Result<Vec<u8>, NoMemory>
-    ensures { IfOk result (λ text. text.items ≡ text_line (refused_value line (long_term size))) }
+/// The value of a line that was refused.
+fn refused_data(alloc: Global, line: u32, refusal: Refusal) -> Result<Value, AllocError>
+    ensures { IfOk result (λ value. view value ≡ refused_value line refusal) }
 {
-    let value = refused_data(alloc, line, "term", size)?;
-    text_of(alloc, &value)
+    match refusal {
+        Refusal::Term { size } => long_data(alloc, line, "term", size),
+        Refusal::Query { size } => long_data(alloc, line, "query", size),
+    }
 }
 
-/// The text of a line that was refused for a query of this size, as
-/// `{"line":2,"refused":"query","size":Z}`, and a line feed.
-pub fn long_query_text(alloc: Global, line: u32, size: u64) -> Result<Vec<u8>, NoMemory>
-    ensures { IfOk result (λ text. text.items ≡ text_line (refused_value line (long_query size))) }
+/// The text of a line that was refused, as `{"line":2,"refused":"term","size":32767}` or with
+/// `query`, and a line feed. The size is in bytes.
+pub fn refused_text(alloc: Global, line: u32, refusal: Refusal) -> Result<Vec<u8>, NoMemory>
+    ensures { IfOk result (λ text. text.items ≡ text_line (refused_value line refusal)) }
 {
-    let value = refused_data(alloc, line, "query", size)?;
+    let value = refused_data(alloc, line, refusal)?;
     text_of(alloc, &value)
 }
 

@@ -8,8 +8,8 @@ use Rattle.ix_base.specs.declared.query.Query.{Query}
 use Rattle.report_text.specs.Lines.{text_line, search_value}
 use Rattle.run_report.specs.declared.outcome.Outcome.{Outcome}
 use Rattle.run_report.specs.declared.outcome.Answer.{Answer}
-use Rattle.run_report.specs.declared.outcome.Answer.TheVariants.{Numbered, Committed, RefusedTerm, RefusedQuery, Searched}
-use Rattle.run_report.specs.declared.stop.Stop.{Stop}
+use Rattle.run_report.specs.declared.outcome.Answer.TheVariants.{Numbered, Committed, Refused, Searched}
+use Rattle.commit_point.specs.declared.fault.OpenFault.{OpenFault}
 use Rattle.run_report.specs.Texts.{outcome_text, answer_text}
 use Rattle.run_report.specs.Texts.{matching}
 use Rattle.run_report.specs.Searching.{is_search}
@@ -17,15 +17,14 @@ use Rattle.run_report.specs.Searching.{is_search}
 pub not_search : (a : Answer) → ((s : ℕ) (q : Query) → a ≡ Searched s q → ⊥) → is_search a ≡ false
 not_search (Numbered s) none = refl
 not_search (Committed s docs) none = refl
-not_search (RefusedTerm size) none = refl
-not_search (RefusedQuery size) none = refl
+not_search (Refused refusal) none = refl
 not_search (Searched s q) none = absurd (none s q refl)
 
 abbrev Bytes : Type 0
 Bytes = Vec ℕ Global
 
 -- what holds of a text holds of it when want of memory is told otherwise
-pub same_text : (P : Bytes → Type 0) (found : Result Bytes NoMemory) (told : Result Bytes Stop) → IfOk told (λ bytes. found ≡ Ok bytes) → IfOk found P → IfOk told P
+pub same_text : (P : Bytes → Type 0) (found : Result Bytes NoMemory) (told : Result Bytes OpenFault) → IfOk told (λ bytes. found ≡ Ok bytes) → IfOk found P → IfOk told P
 same_text P found (Ok bytes) is holds = let Q : Result Bytes NoMemory → Type 0 = λ r. IfOk r P in subst Q is holds
 same_text P found (Err stop) is holds = tt
 

@@ -6,6 +6,8 @@ use Rattle.ix_outside.specs.Files.{Files, Was}
 use Rattle.commit_point.specs.Holds.{Holds}
 use Rattle.commit_point.specs.Reading.{reading}
 use Rattle.ix_base.specs.declared.damaged.Damaged.{Damaged}
+use Rattle.commit_point.specs.declared.fault.OpenFault.{OpenFault}
+use Rattle.commit_point.specs.declared.fault.OpenFault.TheVariants as opening
 use Rattle.ix_base.specs.declared.query.Query.{Query}
 use Rattle.run_report.specs.declared.outcome.Outcome.{Outcome}
 use Rattle.run_report.specs.declared.outcome.Answer.{Answer}
@@ -38,6 +40,14 @@ pub record CanSearch (files : Files) (rows_of : ℕ → List Row) (outcomes : Li
 -- the commit of this number is first broken at this place
 abbrev pub IsDamagedIn : Option Files → ℕ → Damaged → Type 0
 IsDamagedIn told number damaged = (files : Files) × Was told files × (reading files number ≡ Err damaged)
+
+-- a fault that no file's bytes caused: of the store, or out of memory
+abbrev pub IsOutsideFault : OpenFault → Type 0
+IsOutsideFault fault = (fault ≡ opening.Store) ⊎ (fault ≡ opening.NoMemory)
+
+-- a fault of reading a commit that is known to be there
+abbrev pub IsReadFault : OpenFault → Type 0
+IsReadFault fault = (fault ≡ opening.Store) ⊎ ((fault ≡ opening.NoMemory) ⊎ ((damaged : Damaged) × (fault ≡ opening.Damaged damaged)))
 
 -- The commit that the answer searches is first broken at this place. The number 0 stands for no commit.
 pub record SearchesDamaged (told : Option Files) (answer : Answer) (damaged : Damaged) : Type 0 where

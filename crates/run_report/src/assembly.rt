@@ -1,5 +1,5 @@
 //! The report: one text for each line, in the order of the script.
-ghost use Rattle.std.specs.Prelude.{◌≡◌, ◌⊎◌, ◌<◌, ◌≤◌, ℕ, List, [], length, map, OnOk, IfOk, IfErr, Err, Some, All, Contains, replicate};
+ghost use Rattle.std.specs.Prelude.{◌≡◌, ◌<◌, ◌≤◌, ℕ, List, [], length, map, OnOk, IfOk, IfErr, Err, Some, All, Contains, replicate};
 ghost use Rattle.ix_outside.specs.Disk.{told_files};
 ghost use Rattle.std.specs.List.{concat};
 ghost use Rattle.ix_base.specs.declared.document.Row.{Row};
@@ -8,15 +8,14 @@ ghost use Rattle.ix_outside.specs.Files.{Files};
 ghost use Rattle.ix_base.specs.declared.damaged.Damaged.{Damaged};
 ghost use Rattle.run_report.specs.declared.outcome.Outcome.{Outcome};
 ghost use Rattle.run_report.specs.Texts.{outcome_text, texts};
-ghost use Rattle.run_report.specs.Searching.{CanSearch, SearchesDamaged};
+ghost use Rattle.run_report.specs.Searching.{CanSearch, SearchesDamaged, IsOutsideFault, IsReadFault};
 ghost use Rattle.run_report.specs.Assembling.{IsOrderOf};
 
 use crate::outcome::{Answer, Outcome};
 use crate::searches::{SearchedCommit, line_text};
-use crate::stop::Stop;
+use commit_point::OpenFault;
 use ix_base::NoMemory;
 use ix_outside::Store;
-use report_text::Fault;
 use std::alloc::Global;
 
 /// A line by the commit that it searches, and then by its place, so that a commit that several
@@ -65,32 +64,32 @@ fn texts_in_turn<S: Store>(
     store: &mut S,
     outcomes: &[Outcome],
     turns: &[Turn],
-) -> Result<Vec<Vec<u8>>, Stop>
+) -> Result<Vec<Vec<u8>>, OpenFault>
     requires { IsOrderOf (length outcomes.now) turns.now }
     ensures texts { (files : Files) (rows_of : ℕ → List Row) → told_files (S.disk store.old) ≡ Some files → CanSearch files rows_of outcomes.now
         → IfOk result (λ made. map (λ text. text.items) made.items ≡ map (outcome_text rows_of) outcomes.now) }
     ensures whole { (files : Files) (rows_of : ℕ → List Row) → told_files (S.disk store.old) ≡ Some files → CanSearch files rows_of outcomes.now
-        → IfErr result (λ stop. (stop ≡ Stop.Fault Fault.Store) ⊎ (stop ≡ Stop.NoMemory)) }
-    ensures damaged { (damaged : Damaged) → result ≡ Err (Stop.Fault (Fault.Damaged damaged))
+        → IfErr result IsOutsideFault }
+    ensures damaged { (damaged : Damaged) → result ≡ Err (OpenFault.Damaged damaged)
         → (outcome : Outcome) × Contains outcomes.now outcome × SearchesDamaged (told_files (S.disk store.old)) outcome.answer damaged }
     ensures reads { S.disk store.new ≡ S.disk store.old }
     ensures later { S.fault_count store.old ≤ S.fault_count store.new }
-    ensures failed { result ≡ Err (Stop.Fault Fault.Store) → Rose (S.fault_count store.old) (S.fault_count store.new) }
-    ensures others { IfErr result (λ stop. (stop ≡ Stop.Fault Fault.Store) ⊎ ((stop ≡ Stop.NoMemory) ⊎ ((damaged : Damaged) × (stop ≡ Stop.Fault (Fault.Damaged damaged))))) }
+    ensures failed { result ≡ Err OpenFault.Store → Rose (S.fault_count store.old) (S.fault_count store.new) }
+    ensures others { IfErr result IsReadFault }
 {
     let mut commit = match SearchedCommit::none(alloc) {
         Ok(commit) => commit,
-        Err(NoMemory) => return Err(Stop::NoMemory),
+        Err(NoMemory) => return Err(OpenFault::NoMemory),
     };
     let mut made = match empty_texts(alloc, outcomes.len()) {
         Ok(made) => made,
-        Err(NoMemory) => return Err(Stop::NoMemory),
+        Err(NoMemory) => return Err(OpenFault::NoMemory),
     };
     for turn in turns {
         prove!(turn.at < outcomes.len());
         match line_text(alloc, store, &mut commit, &outcomes[turn.at]) {
             Ok(text) => made[turn.at] = text,
-            Err(stop) => return Err(stop),
+            Err(fault) => return Err(fault),
         }
     }
     Ok(made)
@@ -109,27 +108,27 @@ fn joined(alloc: Global, made: &[Vec<u8>]) -> Result<Vec<u8>, NoMemory>
 
 /// The whole report, for a script with these outcomes. Search lines read their commits from the
 /// store.
-pub fn report<S: Store>(alloc: Global, store: &mut S, outcomes: &[Outcome]) -> Result<Vec<u8>, Stop>
+pub fn report<S: Store>(alloc: Global, store: &mut S, outcomes: &[Outcome]) -> Result<Vec<u8>, OpenFault>
     ensures text { (files : Files) (rows_of : ℕ → List Row) → told_files (S.disk store.old) ≡ Some files → CanSearch files rows_of outcomes.now
         → IfOk result (λ bytes. bytes.items ≡ texts rows_of outcomes.now) }
     ensures whole { (files : Files) (rows_of : ℕ → List Row) → told_files (S.disk store.old) ≡ Some files → CanSearch files rows_of outcomes.now
-        → IfErr result (λ stop. (stop ≡ Stop.Fault Fault.Store) ⊎ (stop ≡ Stop.NoMemory)) }
-    ensures damaged { (damaged : Damaged) → result ≡ Err (Stop.Fault (Fault.Damaged damaged))
+        → IfErr result IsOutsideFault }
+    ensures damaged { (damaged : Damaged) → result ≡ Err (OpenFault.Damaged damaged)
         → (outcome : Outcome) × Contains outcomes.now outcome × SearchesDamaged (told_files (S.disk store.old)) outcome.answer damaged }
     ensures reads { S.disk store.new ≡ S.disk store.old }
     ensures later { S.fault_count store.old ≤ S.fault_count store.new }
-    ensures failed { result ≡ Err (Stop.Fault Fault.Store) → Rose (S.fault_count store.old) (S.fault_count store.new) }
-    ensures others { IfErr result (λ stop. (stop ≡ Stop.Fault Fault.Store) ⊎ ((stop ≡ Stop.NoMemory) ⊎ ((damaged : Damaged) × (stop ≡ Stop.Fault (Fault.Damaged damaged))))) }
+    ensures failed { result ≡ Err OpenFault.Store → Rose (S.fault_count store.old) (S.fault_count store.new) }
+    ensures others { IfErr result IsReadFault }
 {
     let turns = match turns_of(alloc, outcomes) {
         Ok(turns) => turns,
-        Err(NoMemory) => return Err(Stop::NoMemory),
+        Err(NoMemory) => return Err(OpenFault::NoMemory),
     };
     match texts_in_turn(alloc, store, outcomes, turns.as_slice()) {
         Ok(made) => match joined(alloc, made.as_slice()) {
             Ok(bytes) => Ok(bytes),
-            Err(NoMemory) => Err(Stop::NoMemory),
+            Err(NoMemory) => Err(OpenFault::NoMemory),
         },
-        Err(stop) => Err(stop),
+        Err(fault) => Err(fault),
     }
 }

@@ -5,10 +5,8 @@
 mod assembly;
 mod outcome;
 mod searches;
-mod stop;
 #[cfg(test)]
 mod tests;
 
 pub use assembly::report;
 pub use outcome::{Answer, Outcome};
-pub use stop::Stop;

@@ -1,6 +1,6 @@
 //! What became of a line.
 
-use ix_base::Query;
+use ix_base::{Query, Refusal};
 
 /// What became of a line.
 #[derive(Drop)]
@@ -9,10 +9,8 @@ pub enum Answer {
     Numbered(u64),
     /// It got this number, and its commit has so many documents.
     Committed(u64, u64),
-    /// It was refused: a term of so many bytes is too long.
-    RefusedTerm(u64),
-    /// It was refused: its query of so many encoded bytes is too long.
-    RefusedQuery(u64),
+    /// It was refused.
+    Refused(Refusal),
     /// It searches the commit of this number, or nothing where that is 0.
     Searched(u64, Query),
 }

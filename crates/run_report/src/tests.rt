@@ -1,7 +1,7 @@
 //! Reports of lines that search nothing, of a search before any commit, and of one with many hits.
 use crate::assembly::report;
 use crate::outcome::{Answer, Outcome};
-use ix_base::{FileName, NoMemory, Query};
+use ix_base::{FileName, NoMemory, Query, Refusal};
 use ix_memory::MemoryStore;
 use ix_outside::{Store, StoreFault};
 use std::alloc::Global;
@@ -12,9 +12,9 @@ fn six_outcomes(alloc: Global) -> Result<Vec<Outcome>, NoMemory> {
     let answers = [
         (1, Answer::Numbered(1)),
         (2, Answer::Searched(0, Query::All)),
-        (3, Answer::RefusedTerm(32_767)),
+        (3, Answer::Refused(Refusal::Term { size: 32_767 })),
         (4, Answer::Committed(2, 1)),
-        (5, Answer::RefusedQuery(131_073)),
+        (5, Answer::Refused(Refusal::Query { size: 131_073 })),
         (6, Answer::Searched(0, Query::All)),
     ];
     for (line, answer) in answers {
