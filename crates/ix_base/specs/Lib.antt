@@ -8,6 +8,8 @@ pub mod Terms
 pub mod Matches
 pub mod Steps
 pub mod Spelling
+pub mod Codec
+pub mod CodecLaws
 pub mod QueryBytes
 pub mod Entry
 pub mod Words

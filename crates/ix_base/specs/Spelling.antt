@@ -1,8 +1,12 @@
 -- How numbers and texts stand in bytes, the highest byte of a number first.
-use Rattle.std.specs.Prelude.{◌≡◌, ℕ, ℤ, ◌<◌, ◌^◌, List, ◌++◌, true, length}
+use Rattle.std.specs.Prelude.{◌≡◌, ℕ, ℤ, ◌<◌, ◌^◌, List, ◌++◌, true, length, get_or}
 use Rattle.std.specs.Int.{w32, w64, to_be_bytes, cast_unsigned}
 use Rattle.std.specs.Str.{IsUtf8}
 use Rattle.ix_base.specs.Limits.{is_name}
+
+-- what a list of bytes holds: numbers below 256
+abbrev pub AreBytes : List ℕ → Type 0
+AreBytes bytes = (i : ℕ) → get_or bytes i 0 < 256
 
 -- a number in four bytes
 unfoldable pub be32 : ℕ → List ℕ

@@ -1,11 +1,12 @@
 //! What every layer of the index speaks of: texts, names, documents, rows, queries and operations,
-//! and the names of a store's files.
+//! the names of a store's files, and how numbers, texts and names stand in bytes.
 //!
 //! Contracts see each of these types as plain mathematics: a `Text` as its list of bytes, `Fields`
 //! as a list of pairs, a list of queries as a tree. So two values are equal in a clause exactly
 //! where a user would call them equal.
 #![tactic(auto)]
 
+pub mod codec;
 mod damaged;
 mod document;
 mod fields;

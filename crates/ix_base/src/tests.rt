@@ -1,5 +1,9 @@
 //! What no clause says: that each call which may want memory succeeds where there is enough, and
 //! which names of files are read.
+use crate::codec::{
+    BrokenField, byte_at, i64_at, name_at, put_i64, put_name, put_text, put_u32, put_u64, text_at,
+    u32_at, u64_at,
+};
 use crate::{
     Analysed, Document, Fields, FileName, List, Name, Numbers, Operation, PhraseText, Posting,
     Postings, Queries, Query, Row, Term, TermPostings, Text,
@@ -332,4 +336,54 @@ fn foreign_names(rt: HostRuntime) {
     for text in cases {
         assert_eq!(rt; FileName::parse(text), None, "{text}");
     }
+}
+
+#[test]
+fn written_numbers(rt: HostRuntime) -> Result<(), Fail> {
+    let mut out = Vec::new(rt.alloc());
+    put_u32(&mut out, 258)?;
+    put_u64(&mut out, 258)?;
+    put_i64(&mut out, -2)?;
+    let want = b"\0\0\x01\x02\0\0\0\0\0\0\x01\x02\xff\xff\xff\xff\xff\xff\xff\xfe";
+    assert_eq!(rt; out.as_slice(), want.as_slice());
+    Ok(())
+}
+
+#[test]
+fn written_texts(rt: HostRuntime) -> Result<(), Fail> {
+    let alloc = rt.alloc();
+    let mut out = Vec::new(alloc);
+    put_text(&mut out, "a b")?;
+    put_name(&mut out, &name_of(alloc, "n")?)?;
+    assert_eq!(rt; out.as_slice(), b"\0\0\0\x03a b\0\0\0\x01n".as_slice());
+    Ok(())
+}
+
+#[test]
+fn numbers_that_are_read(rt: HostRuntime) {
+    let bytes = b"\xff\xff\xff\xff\xff\xff\xff\xfe!";
+    assert_eq!(rt; byte_at(bytes), Ok((255, &bytes[1..])));
+    assert_eq!(rt; u32_at(bytes), Ok((4294967295, &bytes[4..])));
+    assert_eq!(rt; u64_at(bytes), Ok((18446744073709551614, &bytes[8..])));
+    assert_eq!(rt; i64_at(bytes), Ok((-2, &bytes[8..])));
+}
+
+#[test]
+fn numbers_cut_short(rt: HostRuntime) {
+    let bytes = b"\0\0\0";
+    assert_eq!(rt; byte_at(b""), Err(BrokenField { left: 0 }));
+    assert_eq!(rt; u32_at(bytes), Err(BrokenField { left: 3 }));
+    assert_eq!(rt; u64_at(bytes), Err(BrokenField { left: 3 }));
+    assert_eq!(rt; i64_at(bytes), Err(BrokenField { left: 3 }));
+}
+
+/// The last name is empty: a text that is no name.
+#[test]
+fn texts_that_are_read(rt: HostRuntime) {
+    let bytes = b"\0\0\0\x03a b!";
+    assert_eq!(rt; text_at(bytes), Ok(("a b", &bytes[7..])));
+    assert_eq!(rt; name_at(bytes), Ok(("a b", &bytes[7..])));
+    assert_eq!(rt; text_at(&bytes[..6]), Err(BrokenField { left: 6 }));
+    assert_eq!(rt; text_at(b"\0\0\0\x01\xff"), Err(BrokenField { left: 5 }));
+    assert_eq!(rt; name_at(b"\0\0\0\0!"), Err(BrokenField { left: 5 }));
 }

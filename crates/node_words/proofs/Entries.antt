@@ -1,9 +1,9 @@
 -- Reading the entry of one kind.
-use Rattle.std.proofs.Common.{◌≡◌, ℕ, ◌<◌, ◌≤◌, ℤ, List, [], ◌++◌, length, refl, sym, ap, ◌∙◌, arith, length-append}
+use Rattle.std.proofs.Common.{◌≡◌, ℕ, ◌<◌, ◌≤◌, ℤ, List, [], ◌++◌, length, refl, sym, ap, ◌∙◌, arith}
 use Rattle.std.specs.Int.{w64}
 use Rattle.std.specs.Prelude.{FitsSigned}
 use Rattle.std.proofs.lemmas.List.{append-nil, nil_from_length}
-use Rattle.ix_base.specs.Entry.{Entry, add, update, delete_term, delete_query, set_number, commit, turn, entry_bytes, term_bytes, IsOwnTerm}
+use Rattle.ix_base.specs.Entry.{add, update, delete_term, delete_query, set_number, commit, turn, entry_bytes, term_bytes, IsOwnTerm}
 use Rattle.ix_base.specs.QueryBytes.{query_bytes, IsQuery}
 use Rattle.ix_base.specs.Spelling.{signed64, text_bytes, IsName}
 use Rattle.ix_base.specs.Tree.{Tree}

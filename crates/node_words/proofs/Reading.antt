@@ -10,7 +10,7 @@ use Rattle.node_words.proofs.Forms.{one_number}
 use Rattle.node_words.proofs.Both.{first_fails, second_fails}
 use Rattle.node_words.proofs.QueryForms.{goes_on, one_list}
 use Rattle.node_words.proofs.Sizes.{queries_bytes-push, count_of-push, AreQueries-push}
-use Rattle.node_words.specs.Reads.{Begins, NoneBegins, IsSpelling, IsNoSpelling, Fails, byte_alone, IsPair, pair_bytes, Lists, AreLists, lists_bytes}
+use Rattle.node_words.specs.Reads.{Begins, Fails, byte_alone, IsPair, pair_bytes, Lists, AreLists, lists_bytes}
 use Rattle.node_words.specs.declared.fault.ReadError.{ReadError}
 use Rattle.node_words.specs.declared.fault.ReadError.TheVariants.{Memory, Foreign}
 

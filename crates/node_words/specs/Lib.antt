@@ -1,4 +1,3 @@
 pub mod Entry
-pub mod Refused
 pub mod Reads
 pub mod Packed

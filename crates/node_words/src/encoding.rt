@@ -1,17 +1,15 @@
 //! An operation as words.
-ghost use Rattle.std.specs.Prelude.{◌≡◌, ◌++◌, IfOk, OnOk, None, MatchResult, option_map};
+ghost use Rattle.std.specs.Prelude.{◌≡◌, ◌++◌, IfOk, OnOk, None, MatchResult};
 ghost use Rattle.ix_base.specs.Entry.{entry_of, kind_of, entry_bytes, IsEntry};
-ghost use Rattle.ix_base.specs.Refusals.{own_refusal, term_refusal};
+ghost use Rattle.ix_base.specs.Refusals.{own_refusal, term_refusal, Refuses};
 ghost use Rattle.ix_base.specs.Words.{Spells};
-ghost use Rattle.node_words.specs.Refused.{refused_as, Answers};
 
 use crate::pack::pack;
 use crate::query_size::query_size;
 use crate::query_write::put_query;
-use crate::refused::Refused;
 use crate::write::{put_name, put_signed, put_term};
 use crate::{MOST_QUERY_BYTES, MOST_TERM_BYTES};
-use ix_base::{Operation, Term};
+use ix_base::{Operation, Refusal, Refused, Term};
 use std::alloc::{AllocError, Global};
 
 /// The words that spell the operation: one head word and its bytes, without its document.
@@ -19,10 +17,10 @@ use std::alloc::{AllocError, Global};
 /// `Query` exactly where it deletes by a query of more than 131,072 bytes; no memory is taken then.
 pub fn encode(alloc: Global, operation: &Operation) -> Result<Vec<u64>, Refused>
     ensures words { IfOk result (λ words. Spells words.items (entry_of operation.now)) }
-    ensures refusal { MatchResult result (λ _. own_refusal operation.now ≡ None) (λ refused. Answers refused (own_refusal operation.now)) }
+    ensures refusal { MatchResult result (λ _. own_refusal operation.now ≡ None) (λ refused. Refuses refused (own_refusal operation.now)) }
 {
-    if let Some(refused) = refusal(operation) {
-        return Err(refused);
+    if let Some(refusal) = refusal(operation) {
+        return Err(Refused::For(refusal));
     }
     Ok(words_of(alloc, operation)?)
 }
@@ -38,8 +36,8 @@ fn words_of(alloc: Global, operation: &Operation) -> Result<Vec<u64>, AllocError
 }
 
 /// Why the operation is refused for the size of its own term or of its query.
-fn refusal(operation: &Operation) -> Option<Refused>
-    ensures { result ≡ option_map refused_as (own_refusal operation.now) }
+fn refusal(operation: &Operation) -> Option<Refusal>
+    ensures { result ≡ own_refusal operation.now }
 {
     match operation {
         Operation::Add(_) | Operation::Commit => None,
@@ -47,16 +45,16 @@ fn refusal(operation: &Operation) -> Option<Refused>
         Operation::SetNumber { term, .. } => term_refusal(term),
         Operation::DeleteQuery(query) => {
             let size = query_size(query);
-            (size > MOST_QUERY_BYTES as u64).then_some(Refused::Query { size })
+            (size > MOST_QUERY_BYTES as u64).then_some(Refusal::Query { size })
         }
     }
 }
 
-fn term_refusal(term: &Term) -> Option<Refused>
-    ensures { result ≡ option_map refused_as (term_refusal term.now) }
+fn term_refusal(term: &Term) -> Option<Refusal>
+    ensures { result ≡ term_refusal term.now }
 {
     let size = term.bytes.as_str().len();
-    (size > MOST_TERM_BYTES).then_some(Refused::Term { size: size as u64 })
+    (size > MOST_TERM_BYTES).then_some(Refusal::Term { size: size as u64 })
 }
 
 fn kind_of(operation: &Operation) -> u64

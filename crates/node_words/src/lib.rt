@@ -17,7 +17,6 @@ mod query_read;
 mod query_size;
 mod query_write;
 mod reader;
-mod refused;
 mod unpack;
 mod write;
 
@@ -29,7 +28,6 @@ const MOST_QUERY_BYTES: usize = 131072;
 pub use decoding::decode;
 pub use encoding::encode;
 pub use entry::Entry;
-pub use refused::Refused;
 
 #[cfg(test)]
 mod tests;

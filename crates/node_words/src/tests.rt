@@ -1,6 +1,8 @@
 use super::*;
 use crate::pack::pack;
-use ix_base::{Name, NoMemory, Operation, PhraseText, Queries, Query, Term, Text};
+use ix_base::{
+    Name, NoMemory, Operation, PhraseText, Queries, Query, Refusal, Refused, Term, Text,
+};
 use std::alloc::Global;
 use std::fmt::Write;
 use std::test::*;
@@ -50,8 +52,8 @@ fn delete_phrase(field: Name, text: Text) -> Result<Operation, Fail> {
 fn outcome(alloc: Global, operation: &Operation) -> (u64, u64) {
     match encode(alloc, operation) {
         Ok(words) => (words.len() as u64, 0),
-        Err(Refused::Term { size }) => (1, size),
-        Err(Refused::Query { size }) => (2, size),
+        Err(Refused::For(Refusal::Term { size })) => (1, size),
+        Err(Refused::For(Refusal::Query { size })) => (2, size),
         Err(Refused::NoMemory) => (3, 0),
     }
 }

@@ -1,6 +1,5 @@
-use Rattle.std.proofs.Common.{◌++◌, refl, arith}
+use Rattle.std.proofs.Common.{refl, arith}
 use Rattle.std.proofs.lemmas.Result.{err_from_is_err_and}
-use Rattle.ix_base.specs.QueryBytes.{queries_bytes}
 use Rattle.ix_base.specs.Tree.{no_trees}
 use Rattle.node_words.proofs.Passing.{one_passed, all_passed, term_passed, phrase_passed, bool_passed}
 use Rattle.node_words.proofs.Reading.{byte_fails, term_fails, phrase_fails, bool_fails, must_fails, should_fails, must_not_fails, other_fails, list_fails}

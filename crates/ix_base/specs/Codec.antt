@@ -1,0 +1,46 @@
+-- Reading a number, a text or a name at the start of bytes: the value and the bytes after it. A
+-- field is broken where it is cut short or breaks a rule; it is told by how many bytes are left
+-- from its first byte on.
+use Rattle.std.specs.Prelude.{◌≡◌, ℕ, ℤ, List, [], ◌∷◌, length, take, drop, Result, Ok, Err, nat_lt, if◌then◌else◌}
+use Rattle.std.specs.Int.{Width, w32, w64, byte_len, from_be_bytes, cast_signed}
+use Rattle.std.specs.Str.{is_utf8}
+use Rattle.ix_base.specs.Limits.{is_name}
+use Rattle.ix_base.specs.declared.codec.BrokenField.{BrokenField}
+
+-- one field after another: the second is read where the first stands
+infixl 10 ◌>>=◌
+abbrev pub ◌>>=◌ : {A B : Type 0} → Result A ℕ → (A → Result B ℕ) → Result B ℕ
+(Ok x) >>= f = f x
+(Err left) >>= f = Err left
+
+-- what a function that takes no memory returned, seen by view, is what reading gives
+abbrev pub GivesExactly : {X Y : Type 0} → (X → Y) → Result X BrokenField → Result Y ℕ → Type 0
+GivesExactly view (Ok x) read = read ≡ Ok (view x)
+GivesExactly view (Err field) read = read ≡ Err field.left
+
+-- one byte
+abbrev pub byte_at : List ℕ → Result (ℕ × List ℕ) ℕ
+byte_at [] = Err 0
+byte_at (byte ∷ rest) = Ok (byte, rest)
+
+-- a number in as many bytes as the width has
+abbrev pub number_at : Width → List ℕ → Result (ℕ × List ℕ) ℕ
+number_at w bytes = if nat_lt (length bytes) (byte_len w) then Err (length bytes) else Ok (from_be_bytes w (take (byte_len w) bytes), drop (byte_len w) bytes)
+
+-- a signed number in eight bytes, in two's complement
+unfoldable pub signed_at : List ℕ → Result (ℤ × List ℕ) ℕ
+signed_at bytes = do
+  n ← number_at w64 bytes
+  Ok (cast_signed w64 n.0, n.1)
+
+-- a length in four bytes and that many bytes of UTF-8
+unfoldable pub text_at : List ℕ → Result (List ℕ × List ℕ) ℕ
+text_at bytes = do
+  n ← number_at w32 bytes
+  if nat_lt (length n.1) n.0 then Err (length bytes) else (if is_utf8 (take n.0 n.1) then Ok (take n.0 n.1, drop n.0 n.1) else Err (length bytes))
+
+-- a text of 1 to 255 bytes
+unfoldable pub name_at : List ℕ → Result (List ℕ × List ℕ) ℕ
+name_at bytes = do
+  name ← text_at bytes
+  if is_name name.0 then Ok name else Err (length bytes)
