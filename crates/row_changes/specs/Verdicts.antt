@@ -1,7 +1,7 @@
 -- What is decided of each row before any row changes.
-use Rattle.std.specs.Prelude.{ℕ, ℤ, List, [], ◌∷◌, ◌++◌, Bool, true, false, if◌then◌else◌}
+use Rattle.std.specs.Prelude.{List, [], ◌∷◌, ◌++◌, if◌then◌else◌}
 use Rattle.ix_base.specs.Matches.{matches}
-use Rattle.ix_base.specs.Steps.{Named, with_number}
+use Rattle.ix_base.specs.Steps.{with_number}
 use Rattle.ix_base.specs.Tree.{Tree}
 use Rattle.ix_base.specs.declared.document.Row.{Row}
 use Rattle.row_changes.specs.declared.verdicts.Change.{Change}
@@ -34,8 +34,3 @@ rows_left (row ∷ rows) (verdict ∷ verdicts) = in_place_of row verdict ++ row
 abbrev pub rows_changed : Tree → Change → List Row → List Row
 rows_changed query change [] = []
 rows_changed query change (row ∷ rows) = in_place_of row (verdict_by query change row) ++ rows_changed query change rows
-
--- the numbers that are still to be written, where the new one was placed among those before or wasn't
-abbrev pub numbers_left : Bool → List ℕ → ℤ → List Named → List Named
-numbers_left true name value rest = rest
-numbers_left false name value rest = with_number name value rest

@@ -3,11 +3,10 @@
 #![tactic(auto)]
 
 mod effect;
-mod numbers;
 mod refusal;
 #[cfg(test)]
 mod tests;
 mod verdicts;
 
 pub use effect::take_effect;
-pub use refusal::{Refusal, refusal_of};
+pub use refusal::refusal_of;

@@ -1,6 +1,6 @@
 //! What each operation does to three rows, and which operations are refused, worked out by hand.
 use crate::effect::take_effect;
-use crate::refusal::{Refusal, refusal_of};
+use crate::refusal::refusal_of;
 use ix_base::{Document, List, Name, NoMemory, Operation, Query, Row, Term, Text};
 use std::alloc::Global;
 
@@ -106,6 +106,6 @@ fn refusals(rt: HostRuntime) {
     assert_eq!(rt; refusal_of_delete(alloc, 32_766), Ok(None));
     assert_eq!(rt;
         refusal_of_delete(alloc, 32_767),
-        Ok(Some(Refusal::Term(32_767)))
+        Ok(Some(Refusal::Term { size: 32_767 }))
     );
 }

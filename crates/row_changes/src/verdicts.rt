@@ -1,12 +1,12 @@
-//! What is decided of each row before any row changes, so that nothing changes for want of memory.
+//! What is decided of each row before any row changes, so that nothing has changed where memory runs out.
 ghost use Rattle.std.specs.Prelude.{◌≡◌, ◌<◌, [], map, IfOk};
 ghost use Rattle.std.specs.Vec.{vec_len, vec_capacity};
 ghost use Rattle.ix_base.specs.Matches.{matches};
 ghost use Rattle.ix_base.specs.Query.{tree_of};
 ghost use Rattle.row_changes.specs.Verdicts.{verdict_by, rows_left};
 
-use crate::numbers::with_number;
 use ix_base::{Document, Name, NoMemory, Numbers, Query, Row};
+use live_docs::with_number;
 use query_core::{answer, index_rows};
 use std::alloc::Global;
 use std::slice;
