@@ -5,7 +5,8 @@ use Rattle.ix_base.specs.declared.document.Operation.{Operation}
 use Rattle.ix_base.specs.declared.document.Operation.TheVariants.{Add, Update, DeleteTerm, DeleteQuery, SetNumber, Commit}
 use Rattle.ix_base.specs.declared.document.Row.{Row}
 use Rattle.ix_base.specs.declared.query.Query.{Query}
-use Rattle.ix_base.specs.Refusals.{Refusal, long_term, long_query, refusal}
+use Rattle.ix_base.specs.Refusals.{refusal}
+use Rattle.ix_base.specs.declared.refusal.Refusal.{Refusal}
 use Rattle.op_script.specs.Shape.{LinesRise}
 use Rattle.op_script.specs.declared.script.Act.{Act}
 use Rattle.op_script.specs.declared.script.Act.TheVariants.{Do, Search}
@@ -19,8 +20,7 @@ use Rattle.index_run.specs.Report.{last_commit}
 use Rattle.index_run.proofs.Told.{last_is}
 
 no_search : (r : Option Refusal) (s docs number : ℕ) (op : Operation) (query : Query) → told_answer r (done_answer s docs op) ≡ Searched number query → ⊥
-no_search (Some (long_term size)) s docs number op query is = cc
-no_search (Some (long_query size)) s docs number op query is = cc
+no_search (Some refused) s docs number op query is = cc
 no_search None s docs number (Add doc) query is = cc
 no_search None s docs number (Update t doc) query is = cc
 no_search None s docs number (DeleteTerm t) query is = cc

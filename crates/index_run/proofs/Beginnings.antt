@@ -14,7 +14,6 @@ use Rattle.commit_point.specs.declared.heads.Head.{Head}
 use Rattle.commit_point.specs.Fits.{DocumentFits, IdsRise}
 use Rattle.commit_point.specs.Holds.{Holds, HaveRows, HasHead, ListsId, IsLawful}
 use Rattle.commit_point.specs.Laws.{one_head}
-use Rattle.ix_base.specs.Documents.{is_apart}
 use Rattle.index_run.specs.declared.writer.Writer.{Writer}
 use Rattle.index_run.specs.Headline.{IsLast, Begins, Starts}
 use Rattle.index_run.specs.Beginning.{last_or_zero, IsOn}
@@ -104,29 +103,12 @@ last_one files a b p q = elim (nat_or a b) [
         let none : IsSome {T = List ℕ} None = subst (λ (o : Option (List ℕ)). IsSome o) gone (k.there (λ e. absurd (omega (arith, e, lt)))) in
         cc
 
-apart_documents : (rows : List Row) → AllByRecursion (λ (r : Row). DocumentFits r.doc) rows → AllByRecursion (λ (r : Row). is_apart r.doc ≡ true) rows
-apart_documents [] h = tt
-apart_documents (r ∷ rows) h = (h.0.apart, apart_documents rows h.1)
-
-apart_parts : (files : Files) (s : ℕ) (segments : List HeadSegment) (parts : List (List Row)) → HaveRows files s segments parts
-    → All (λ (r : Row). is_apart r.doc ≡ true) (flat_map (λ (part : List Row). part) parts)
-apart_parts files s [] [] have = λ k d lt. absurd (omega (arith, lt))
-apart_parts files s [] (p ∷ ps) have = absurd have
-apart_parts files s (e ∷ es) [] have = absurd have
-apart_parts files s (e ∷ es) (p ∷ ps) have =
-    All-append (λ (r : Row). is_apart r.doc ≡ true) p (flat_map (λ (part : List Row). part) ps)
-    (All-from_recursion (λ (r : Row). is_apart r.doc ≡ true) p (apart_documents p have.2.documents)) (apart_parts files s es ps have.3)
-
-pub holds_apart : (files : Files) (s next : ℕ) (rows : List Row) → Holds files s next rows → All (λ (r : Row). is_apart r.doc ≡ true) rows
-holds_apart files s next rows h = All-permutation (λ (r : Row). is_apart r.doc ≡ true) (flat_map (λ (part : List Row). part) h.parts) rows h.merged (apart_parts files s h.head.segments h.parts h.each)
-
 pub can_begin : (files : Files) (s next : ℕ) (rows : List Row) → s ≤ 2 ^ 61 → Holds files s next rows → CanBegin (record { rows = rows; number = s; next_id = next })
 can_begin files s next rows low h = record {
   number = low;
   some_id = omega (arith, h.has_head.fits.next_some, h.next_id);
   next_id = omega (arith, h.has_head.fits.next, h.next_id);
   births = h.births;
-  apart = holds_apart files s next rows h;
 }
 
 pub same_writer : (rows rows' : List Row) (base base' next next' : ℕ) → rows ≡ rows' → base ≡ base' → next ≡ next'

@@ -7,27 +7,27 @@ use Rattle.std.proofs.lemmas.Bool.Decides.{eqb_tells}
 use Rattle.ix_base.specs.declared.document.Operation.{Operation}
 use Rattle.ix_base.specs.declared.document.Operation.TheVariants.{Add, Update, DeleteTerm, DeleteQuery, SetNumber, Commit}
 use Rattle.ix_base.specs.declared.document.Row.{Row}
-use Rattle.ix_base.specs.Refusals.{Refusal, long_term, long_query, refusal}
+use Rattle.ix_base.specs.Refusals.{refusal}
+use Rattle.ix_base.specs.declared.refusal.Refusal.{Refusal}
 use Rattle.ix_base.specs.Steps.{step, after}
 use Rattle.ix_outside.specs.Files.{Files, Changes, onto, stays}
 use Rattle.commit_point.specs.Fits.{BirthsRise}
 use Rattle.commit_point.specs.Holds.{KeepsCommits}
 use Rattle.commit_point.specs.Writing.{Commits, SameElsewhere, next_after}
-use Rattle.op_script.specs.Shape.{is_read_act, is_read_operation, AreReadActs}
-use Rattle.ix_base.specs.Documents.{is_apart}
+use Rattle.op_script.specs.Shape.{AreScriptLines}
 use Rattle.op_script.specs.declared.script.Line.{Line}
 use Rattle.op_script.specs.declared.script.Act.{Act}
 use Rattle.op_script.specs.declared.script.Act.TheVariants.{Do, Search}
 use Rattle.run_report.specs.declared.outcome.Outcome.{Outcome}
 use Rattle.run_report.specs.declared.outcome.Answer.{Answer}
-use Rattle.run_report.specs.declared.outcome.Answer.TheVariants.{Numbered, Committed, RefusedTerm, RefusedQuery, Searched}
+use Rattle.run_report.specs.declared.outcome.Answer.TheVariants.{Numbered, Committed, Refused, Searched}
 use Rattle.index_run.specs.declared.writer.Writer.{Writer}
 use Rattle.index_run.specs.Numbering.{is_numbered, is_commit, numbered, operations, commit_numbers, rows_at}
 use Rattle.index_run.specs.Outcomes.{number_after, rows_after, commit_after, outcome_of, answer_of, told_answer, done_answer, outcomes_from}
 use Rattle.index_run.specs.Doing.{writer_after, writer_by, next_id_after, answer_by, lasts_after, FilesAfter}
 use Rattle.index_run.specs.Headline.{HasCommits, Starts}
 use Rattle.index_run.specs.Writer.{CanGoOn}
-use Rattle.index_run.proofs.Going.{births-step, apart-step}
+use Rattle.index_run.proofs.Going.{births-step}
 use Rattle.index_run.proofs.Log.{numbered-same, numbered-push, rows_after-push, number_after-push, number_after-le, commit_after-push, outcomes_from-push, commit_numbers-push, rows_at-front}
 use Rattle.index_run.proofs.Kept.{AllBelow, Made, below-push, below-widen, commits_more, commits_none, kept_more, keeps_itself}
 
@@ -38,7 +38,6 @@ pub record Far (base next : ℕ) (rows : List Row) (done : List Line) (w : Write
   pub low : next ≤ w.next_id
   pub high : w.next_id ≤ next + length (numbered done)
   pub births : BirthsRise 1 w.number w.rows
-  pub apart : All (λ row. is_apart row.doc ≡ true) w.rows
   pub callers : length lasts ≡ 256
   pub lasts_are : (caller : ℕ) → caller < 256 → get_or lasts caller 0 ≡ commit_after base caller base done
   pub outcomes_are : outcomes ≡ outcomes_from base rows [] done
@@ -56,7 +55,6 @@ far_same base next rows done l a w lasts outcomes none answer far =
       low = far.low;
       high = omega (arith, far.high, count);
       births = far.births;
-      apart = far.apart;
       callers = far.callers;
       lasts_are = λ k lt. far.lasts_are k lt ∙ sym (commit_after-push base k base done l ∙ rw none refl);
       outcomes_are = ap (λ (x : Answer). outcomes ++ record { line = l.line; answer = x } ∷ []) answer
@@ -65,11 +63,11 @@ far_same base next rows done l a w lasts outcomes none answer far =
     }
 
 -- a line that gets a number and is no commit
-far_write : (base next : ℕ) (rows : List Row) (done : List Line) (l : Line) (op : Operation) (w : Writer) (lasts : List ℕ) (outcomes : List Outcome) → l.act ≡ Do op → is_numbered l.act ≡ true → is_read_operation op ≡ true
+far_write : (base next : ℕ) (rows : List Row) (done : List Line) (l : Line) (op : Operation) (w : Writer) (lasts : List ℕ) (outcomes : List Outcome) → l.act ≡ Do op → is_numbered l.act ≡ true
     → is_commit (Do op) ≡ false → Numbered (number_after base done + 1) ≡ answer_of base rows done l (Do op)
     → Far base next rows done w lasts outcomes
     → Far base next rows (done ++ l ∷ []) (record { rows = step w.rows (w.number + 1) op; number = w.number + 1; next_id = w.next_id }) lasts (outcomes ++ record { line = l.line; answer = Numbered (w.number + 1) } ∷ [])
-far_write base next rows done l op w lasts outcomes e one known other answers far =
+far_write base next rows done l op w lasts outcomes e one other answers far =
     let log : numbered (done ++ l ∷ []) ≡ numbered done ++ l ∷ [] = numbered-push done l one in
     let count : length (numbered (done ++ l ∷ [])) ≡ length (numbered done) + 1 = ap (λ (ls : List Line). length ls) log ∙ length-append (numbered done) (l ∷ []) in
     let number : w.number + 1 ≡ number_after base done + 1 = ap (λ (n : ℕ). n + 1) far.number in
@@ -83,7 +81,6 @@ far_write base next rows done l op w lasts outcomes e one known other answers fa
       low = far.low;
       high = omega (arith, far.high, count);
       births = births-step w.number w.rows op far.births;
-      apart = apart-step w.rows (w.number + 1) op known far.apart;
       callers = far.callers;
       lasts_are = λ k lt. far.lasts_are k lt ∙ sym (commit_after-push base k base done l ∙ rw (one, commits) (same (eqb l.caller k) _ _));
       outcomes_are = ap (λ (a : Answer). outcomes ++ record { line = l.line; answer = a } ∷ []) answer
@@ -121,7 +118,6 @@ far_commit base next rows done l w lasts outcomes e caller far =
       low = omega (arith, far.low, steps.0);
       high = omega (arith, far.high, count, steps.1);
       births = births-step w.number w.rows Commit far.births;
-      apart = far.apart;
       callers = omega (arith, length-set lasts l.caller (w.number + 1), far.callers);
       lasts_are = λ k lt. by_caller k lt (eqb_tells l.caller k) ∙ sym (commit_after-push base k base done l ∙ rw e (ap (λ (n : ℕ). cond (eqb l.caller k && true) n (commit_after base k base done)) at));
       outcomes_are = ap (λ (a : Answer). outcomes ++ record { line = l.line; answer = a } ∷ []) answer
@@ -136,36 +132,33 @@ far_commit base next rows done l w lasts outcomes e caller far =
 
 -- an operation that is no commit, refused or not
 far_op : (base next : ℕ) (rows : List Row) (done : List Line) (l : Line) (op : Operation) (r : Option Refusal) (w : Writer) (lasts : List ℕ) (outcomes : List Outcome)
-    → l.act ≡ Do op → refusal op ≡ r → is_read_operation op ≡ true → is_commit (Do op) ≡ false → next_id_after w op ≡ w.next_id → ((s docs : ℕ) → done_answer s docs op ≡ Numbered s)
+    → l.act ≡ Do op → refusal op ≡ r → is_commit (Do op) ≡ false → next_id_after w op ≡ w.next_id → ((s docs : ℕ) → done_answer s docs op ≡ Numbered s)
     → Far base next rows done w lasts outcomes
     → Far base next rows (done ++ l ∷ []) (writer_by r w op) lasts (outcomes ++ record { line = l.line; answer = told_answer r (done_answer (w.number + 1) (length w.rows) op) } ∷ [])
-far_op base next rows done l op None w lasts outcomes e is known other same_id plain far =
+far_op base next rows done l op None w lasts outcomes e is other same_id plain far =
     let told = ap (λ (r : Option Refusal). told_answer r (done_answer (number_after base done + 1) (length (rows_after base rows done)) op)) is ∙ plain (number_after base done + 1) (length (rows_after base rows done)) in
-    let written = far_write base next rows done l op w lasts outcomes e (ap is_numbered e ∙ ap is_none is) known other (sym told) far in
+    let written = far_write base next rows done l op w lasts outcomes e (ap is_numbered e ∙ ap is_none is) other (sym told) far in
     let answered = subst (λ (a : Answer). Far base next rows (done ++ l ∷ []) (record { rows = step w.rows (w.number + 1) op; number = w.number + 1; next_id = w.next_id }) lasts (outcomes ++ record { line = l.line; answer = a } ∷ []))
     (sym (plain (w.number + 1) (length w.rows))) written in
     subst (λ (id : ℕ). Far base next rows (done ++ l ∷ []) (record { rows = step w.rows (w.number + 1) op; number = w.number + 1; next_id = id }) lasts (outcomes ++ record { line = l.line; answer = done_answer (w.number + 1) (length w.rows) op } ∷ []))
     (sym same_id) answered
-far_op base next rows done l op (Some (long_term size)) w lasts outcomes e is known other same_id plain far =
-    far_same base next rows done l (RefusedTerm size) w lasts outcomes (ap is_numbered e ∙ ap is_none is)
-    (sym (ap (λ (a : Act). answer_of base rows done l a) e ∙ ap (λ (r : Option Refusal). told_answer r (done_answer (number_after base done + 1) (length (rows_after base rows done)) op)) is)) far
-far_op base next rows done l op (Some (long_query size)) w lasts outcomes e is known other same_id plain far =
-    far_same base next rows done l (RefusedQuery size) w lasts outcomes (ap is_numbered e ∙ ap is_none is)
+far_op base next rows done l op (Some refused) w lasts outcomes e is other same_id plain far =
+    far_same base next rows done l (Refused refused) w lasts outcomes (ap is_numbered e ∙ ap is_none is)
     (sym (ap (λ (a : Act). answer_of base rows done l a) e ∙ ap (λ (r : Option Refusal). told_answer r (done_answer (number_after base done + 1) (length (rows_after base rows done)) op)) is)) far
 
 -- one line more
-pub far_line : (base next : ℕ) (rows : List Row) (done : List Line) (l : Line) (a : Act) (w : Writer) (lasts : List ℕ) (outcomes : List Outcome) → l.act ≡ a → is_read_act a ≡ true → l.caller < 256
+pub far_line : (base next : ℕ) (rows : List Row) (done : List Line) (l : Line) (a : Act) (w : Writer) (lasts : List ℕ) (outcomes : List Outcome) → l.act ≡ a → l.caller < 256
     → Far base next rows done w lasts outcomes
     → Far base next rows (done ++ l ∷ []) (writer_after w a) (lasts_after w l.caller a lasts) (outcomes ++ record { line = l.line; answer = answer_by w (get_or lasts l.caller 0) a } ∷ [])
-far_line base next rows done l (Search q) w lasts outcomes e known caller far =
+far_line base next rows done l (Search q) w lasts outcomes e caller far =
     far_same base next rows done l (Searched (get_or lasts l.caller 0) q) w lasts outcomes (ap is_numbered e)
     (ap (λ (s : ℕ). Searched s q) (far.lasts_are l.caller caller) ∙ ap (λ (a : Act). answer_of base rows done l a) (sym e)) far
-far_line base next rows done l (Do (Add doc)) w lasts outcomes e known caller far = far_op base next rows done l (Add doc) (refusal (Add doc)) w lasts outcomes e refl known refl refl (λ s docs. refl) far
-far_line base next rows done l (Do (Update t doc)) w lasts outcomes e known caller far = far_op base next rows done l (Update t doc) (refusal (Update t doc)) w lasts outcomes e refl known refl refl (λ s docs. refl) far
-far_line base next rows done l (Do (DeleteTerm t)) w lasts outcomes e known caller far = far_op base next rows done l (DeleteTerm t) (refusal (DeleteTerm t)) w lasts outcomes e refl known refl refl (λ s docs. refl) far
-far_line base next rows done l (Do (DeleteQuery q)) w lasts outcomes e known caller far = far_op base next rows done l (DeleteQuery q) (refusal (DeleteQuery q)) w lasts outcomes e refl known refl refl (λ s docs. refl) far
-far_line base next rows done l (Do (SetNumber t n v)) w lasts outcomes e known caller far = far_op base next rows done l (SetNumber t n v) (refusal (SetNumber t n v)) w lasts outcomes e refl known refl refl (λ s docs. refl) far
-far_line base next rows done l (Do Commit) w lasts outcomes e known caller far = far_commit base next rows done l w lasts outcomes e caller far
+far_line base next rows done l (Do (Add doc)) w lasts outcomes e caller far = far_op base next rows done l (Add doc) (refusal (Add doc)) w lasts outcomes e refl refl refl (λ s docs. refl) far
+far_line base next rows done l (Do (Update t doc)) w lasts outcomes e caller far = far_op base next rows done l (Update t doc) (refusal (Update t doc)) w lasts outcomes e refl refl refl (λ s docs. refl) far
+far_line base next rows done l (Do (DeleteTerm t)) w lasts outcomes e caller far = far_op base next rows done l (DeleteTerm t) (refusal (DeleteTerm t)) w lasts outcomes e refl refl refl (λ s docs. refl) far
+far_line base next rows done l (Do (DeleteQuery q)) w lasts outcomes e caller far = far_op base next rows done l (DeleteQuery q) (refusal (DeleteQuery q)) w lasts outcomes e refl refl refl (λ s docs. refl) far
+far_line base next rows done l (Do (SetNumber t n v)) w lasts outcomes e caller far = far_op base next rows done l (SetNumber t n v) (refusal (SetNumber t n v)) w lasts outcomes e refl refl refl (λ s docs. refl) far
+far_line base next rows done l (Do Commit) w lasts outcomes e caller far = far_commit base next rows done l w lasts outcomes e caller far
 
 -- the commits so far, in the whole log
 abbrev pub SoFar : ℕ → ℕ → List Row → List Line → List Line → ℕ → Files → Files → Type 0
@@ -208,17 +201,17 @@ files_op base next rows lines done l op (Some r) w start mid now e is other same
 
 -- the files after one line more
 pub files_line : (base next : ℕ) (rows : List Row) (lines done rest : List Line) (l : Line) (a : Act) (w : Writer) (lasts : List ℕ) (outcomes : List Outcome) (start mid now : Option Files)
-    → lines ≡ done ++ l ∷ rest → l.act ≡ a → is_read_act a ≡ true → w.next_id < 2 ^ 62 → Far base next rows done w lasts outcomes
+    → lines ≡ done ++ l ∷ rest → l.act ≡ a → w.next_id < 2 ^ 62 → Far base next rows done w lasts outcomes
     → FilesAfter w a mid now → Changes (SoFar base next rows lines done w.next_id) start mid
     → Changes (SoFar base next rows lines (done ++ l ∷ []) (writer_after w a).next_id) start now
-files_line base next rows lines done rest l (Search q) w lasts outcomes start mid now is e known room far same has =
+files_line base next rows lines done rest l (Search q) w lasts outcomes start mid now is e room far same has =
     moved base next rows lines done l w.next_id start mid now same (ap (λ (ls : List Line). commit_numbers base ls) (numbered-same done l (rw e refl))) has
-files_line base next rows lines done rest l (Do (Add doc)) w lasts outcomes start mid now is e known room far same has = files_op base next rows lines done l (Add doc) (refusal (Add doc)) w start mid now e refl refl refl same has
-files_line base next rows lines done rest l (Do (Update t doc)) w lasts outcomes start mid now is e known room far same has = files_op base next rows lines done l (Update t doc) (refusal (Update t doc)) w start mid now e refl refl refl same has
-files_line base next rows lines done rest l (Do (DeleteTerm t)) w lasts outcomes start mid now is e known room far same has = files_op base next rows lines done l (DeleteTerm t) (refusal (DeleteTerm t)) w start mid now e refl refl refl same has
-files_line base next rows lines done rest l (Do (DeleteQuery q)) w lasts outcomes start mid now is e known room far same has = files_op base next rows lines done l (DeleteQuery q) (refusal (DeleteQuery q)) w start mid now e refl refl refl same has
-files_line base next rows lines done rest l (Do (SetNumber t n v)) w lasts outcomes start mid now is e known room far same has = files_op base next rows lines done l (SetNumber t n v) (refusal (SetNumber t n v)) w start mid now e refl refl refl same has
-files_line base next rows lines done rest l (Do Commit) w lasts outcomes start mid now is e known room far made has =
+files_line base next rows lines done rest l (Do (Add doc)) w lasts outcomes start mid now is e room far same has = files_op base next rows lines done l (Add doc) (refusal (Add doc)) w start mid now e refl refl refl same has
+files_line base next rows lines done rest l (Do (Update t doc)) w lasts outcomes start mid now is e room far same has = files_op base next rows lines done l (Update t doc) (refusal (Update t doc)) w start mid now e refl refl refl same has
+files_line base next rows lines done rest l (Do (DeleteTerm t)) w lasts outcomes start mid now is e room far same has = files_op base next rows lines done l (DeleteTerm t) (refusal (DeleteTerm t)) w start mid now e refl refl refl same has
+files_line base next rows lines done rest l (Do (DeleteQuery q)) w lasts outcomes start mid now is e room far same has = files_op base next rows lines done l (DeleteQuery q) (refusal (DeleteQuery q)) w start mid now e refl refl refl same has
+files_line base next rows lines done rest l (Do (SetNumber t n v)) w lasts outcomes start mid now is e room far same has = files_op base next rows lines done l (SetNumber t n v) (refusal (SetNumber t n v)) w start mid now e refl refl refl same has
+files_line base next rows lines done rest l (Do Commit) w lasts outcomes start mid now is e room far made has =
     by_store start mid now has (made room)
   where
     by_store : (start mid now : Option Files) → Changes (SoFar base next rows lines done w.next_id) start mid → Changes (Commits (w.number + 1) w.next_id w.rows) mid now
@@ -259,7 +252,6 @@ far_start w can = record {
   low = omega arith;
   high = omega arith;
   births = can.births;
-  apart = can.apart;
   callers = length-replicate 256 w.number;
   lasts_are = λ caller lt. get_or-replicate 256 caller w.number 0 lt;
   outcomes_are = refl;
@@ -272,13 +264,13 @@ made_start base next rows lines start = stays (SoFar base next rows lines [] nex
 pub kept_start : (start : Option Files) → Changes KeepsCommits start start
 kept_start start = stays KeepsCommits start start (λ files. keeps_itself files) refl
 
--- the line that comes next is one that was read
-pub act_known : (lines done rest : List Line) (l : Line) → lines ≡ done ++ l ∷ rest → AreReadActs lines → (is_read_act l.act ≡ true) × (l.caller < 256)
-act_known lines done rest l is acts = at done (subst (λ (ls : List Line). AreReadActs ls) is acts)
+-- the line that comes next is of a caller below 256
+pub caller_known : (lines done rest : List Line) (l : Line) → lines ≡ done ++ l ∷ rest → AllByRecursion (λ (x : Line). x.caller < 256) lines → l.caller < 256
+caller_known lines done rest l is callers = at done (subst (λ (ls : List Line). AllByRecursion (λ (x : Line). x.caller < 256) ls) is callers)
   where
-    at : (done : List Line) → AreReadActs (done ++ l ∷ rest) → (is_read_act l.act ≡ true) × (l.caller < 256)
-    at [] h = (h.0, h.1)
-    at (x ∷ done) h = at done h.2
+    at : (done : List Line) → AllByRecursion (λ (x : Line). x.caller < 256) (done ++ l ∷ rest) → l.caller < 256
+    at [] h = h.0
+    at (x ∷ done) h = at done h.1
 
 -- the numbers stay small
 pub can_go_on : (base next : ℕ) (rows : List Row) (lines done rest : List Line) (w : Writer) (lasts : List ℕ) (outcomes : List Outcome) → lines ≡ done ++ rest → length lines < 2 ^ 27
@@ -290,7 +282,6 @@ can_go_on base next rows lines done rest w lasts outcomes is few low some high f
       some_id = omega (arith, far.low);
       room = omega (arith, far.high, number_after-le 0 done, count, few);
       births = far.births;
-      apart = far.apart;
     }
 
 pub room_left : (base next : ℕ) (rows : List Row) (lines done rest : List Line) (w : Writer) (lasts : List ℕ) (outcomes : List Outcome) → lines ≡ done ++ rest → length lines < 2 ^ 27

@@ -8,8 +8,8 @@ use Rattle.commit_point.specs.Holds.{KeepsCommits}
 use Rattle.op_script.specs.Shape.{LinesRise}
 use Rattle.op_script.specs.declared.script.Line.{Line}
 use Rattle.run_report.specs.declared.outcome.Outcome.{Outcome}
-use Rattle.run_report.specs.declared.stop.Stop.{Stop}
-use Rattle.run_report.specs.declared.stop.Stop.TheVariants as stop
+use Rattle.index_run.specs.declared.stop.Stop.{Stop}
+use Rattle.index_run.specs.declared.stop.Stop.TheVariants as stop
 use Rattle.report_text.specs.declared.fault.Fault.{Fault}
 use Rattle.report_text.specs.declared.fault.Fault.TheVariants as fault
 use Rattle.report_text.specs.Faults.{status_of}

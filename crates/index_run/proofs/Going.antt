@@ -1,8 +1,6 @@
 -- A writer can go on after each line.
 use Rattle.std.proofs.Common.{◌≡◌, ℕ, ℤ, ◌+◌, ◌≤◌, Bool, true, false, cond, if◌then◌else◌, List, [], ◌∷◌, ◌++◌, map, refl, sym, subst, arith}
-use Rattle.std.specs.Prelude.{All}
 use Rattle.std.specs.List.{filter}
-use Rattle.std.proofs.lemmas.List.Elements.{All-push, All-filter, All-map, All-weaker}
 use Rattle.ix_base.specs.Matches.{holds_term}
 use Rattle.ix_base.specs.declared.document.Term.{Term}
 use Rattle.ix_base.specs.Documents.{Document}
@@ -11,8 +9,6 @@ use Rattle.ix_base.specs.declared.document.Operation.TheVariants.{Add, Update, D
 use Rattle.ix_base.specs.declared.document.Row.{Row}
 use Rattle.ix_base.specs.Steps.{step, without, with_value}
 use Rattle.commit_point.specs.Fits.{BirthsRise}
-use Rattle.op_script.specs.Shape.{is_read_operation}
-use Rattle.ix_base.specs.Documents.{is_apart}
 use Rattle.index_run.specs.declared.writer.Writer.{Writer}
 use Rattle.index_run.specs.Writer.{CanGoOn, CanCommit}
 
@@ -55,13 +51,6 @@ set-birth term name value row = by_test (holds_term term.field term.bytes row.do
     by_test true = refl
     by_test false = refl
 
-set-apart : (term : Term) (name : List ℕ) (value : ℤ) (row : Row) → is_apart row.doc ≡ true → is_apart (set_by term name value row).doc ≡ true
-set-apart term name value row is = by_test (holds_term term.field term.bytes row.doc)
-  where
-    by_test : (b : Bool) → is_apart (if b then with_value name value row else row).doc ≡ true
-    by_test true = is
-    by_test false = is
-
 pub births-step : (last : ℕ) (rows : List Row) (op : Operation) → BirthsRise 1 last rows → BirthsRise 1 (last + 1) (step rows (last + 1) op)
 births-step last rows (Add doc) h = births-push 1 last rows doc (omega arith) h
 births-step last rows (Update t doc) h = births-push 1 last (without t rows) doc (omega arith) (births-filter _ 1 last rows h)
@@ -70,21 +59,10 @@ births-step last rows (DeleteQuery q) h = births-widen 1 last (last + 1) (step r
 births-step last rows (SetNumber t n v) h = births-widen 1 last (last + 1) (step rows (last + 1) (SetNumber t n v)) (omega arith) (births-same (set_by t n v) (set-birth t n v) 1 last rows h)
 births-step last rows Commit h = births-widen 1 last (last + 1) rows (omega arith) h
 
-pub apart-step : (rows : List Row) (n : ℕ) (op : Operation) → is_read_operation op ≡ true → All (λ row. is_apart row.doc ≡ true) rows → All (λ row. is_apart row.doc ≡ true) (step rows n op)
-apart-step rows n (Add doc) e h = All-push (λ (row : Row). is_apart row.doc ≡ true) rows (record { birth = n; doc = doc }) h e
-apart-step rows n (Update t doc) e h = All-push (λ (row : Row). is_apart row.doc ≡ true) (without t rows) (record { birth = n; doc = doc }) (All-filter _ (λ (row : Row). is_apart row.doc ≡ true) rows h) e
-apart-step rows n (DeleteTerm t) e h = All-filter _ (λ (row : Row). is_apart row.doc ≡ true) rows h
-apart-step rows n (DeleteQuery q) e h = All-filter _ (λ (row : Row). is_apart row.doc ≡ true) rows h
-apart-step rows n (SetNumber t m v) e h =
-    All-map (λ (row : Row). is_apart row.doc ≡ true) (set_by t m v) rows
-    (All-weaker (λ (row : Row). is_apart row.doc ≡ true) (λ (row : Row). is_apart (set_by t m v row).doc ≡ true) (set-apart t m v) rows h)
-apart-step rows n Commit e h = h
-
-pub can_commit : (w : Writer) (op : Operation) → is_read_operation op ≡ true → CanGoOn w → CanCommit (record { rows = step w.rows (w.number + 1) op; number = w.number + 1; next_id = w.next_id })
-can_commit w op e can = record {
+pub can_commit : (w : Writer) (op : Operation) → CanGoOn w → CanCommit (record { rows = step w.rows (w.number + 1) op; number = w.number + 1; next_id = w.next_id })
+can_commit w op can = record {
   some = omega arith;
   some_id = can.some_id;
   room = can.room;
   births = births-step w.number w.rows op can.births;
-  apart = apart-step w.rows (w.number + 1) op e can.apart;
 }

@@ -11,7 +11,8 @@ use Rattle.ix_base.specs.declared.document.Operation.{Operation}
 use Rattle.ix_base.specs.declared.document.Operation.TheVariants.{Add, Update, DeleteTerm, DeleteQuery, SetNumber, Commit as CommitOperation}
 use Rattle.ix_base.specs.declared.document.Row.{Row}
 use Rattle.ix_base.specs.declared.file_name.FileName.TheVariants.{Commit}
-use Rattle.ix_base.specs.Refusals.{Refusal, refusal}
+use Rattle.ix_base.specs.Refusals.{refusal}
+use Rattle.ix_base.specs.declared.refusal.Refusal.{Refusal}
 use Rattle.ix_outside.specs.Calls.{LeavesOnly}
 use Rattle.ix_outside.specs.CallLaws.{leaves_none, leaves_then}
 use Rattle.ix_outside.specs.Files.{Files, Changes}
@@ -20,7 +21,6 @@ use Rattle.commit_point.specs.Holds.{KeepsCommits}
 use Rattle.commit_point.specs.Laws.{holds_kept, other_commit}
 use Rattle.ix_outside.specs.Images.{Reaches}
 use Rattle.commit_point.specs.Writing.{Commits, SameElsewhere, MayCommit, next_after}
-use Rattle.op_script.specs.Shape.{is_read_act}
 use Rattle.op_script.specs.declared.script.Line.{Line}
 use Rattle.op_script.specs.declared.script.Act.{Act}
 use Rattle.op_script.specs.declared.script.Act.TheVariants.{Do, Search}
@@ -88,12 +88,12 @@ image_stays w (SetNumber t n v) r is c = refl
 image_stays w CommitOperation r is c = absurd cc
 
 stands_line : (base next : ℕ) (rows : List Row) (lines done rest : List Line) (l : Line) (a : Act) (w : Writer) (lasts : List ℕ) (outcomes : List Outcome) (d e c : Files)
-    → lines ≡ done ++ l ∷ rest → l.act ≡ a → is_read_act a ≡ true → w.next_id < 2 ^ 62 → Far base next rows done w lasts outcomes → Starts d base next
+    → lines ≡ done ++ l ∷ rest → l.act ≡ a → w.next_id < 2 ^ 62 → Far base next rows done w lasts outcomes → Starts d base next
     → Stands base next rows lines done w.next_id d e → ImageAfter w a e c → Stands base next rows lines (done ++ l ∷ []) (writer_after w a).next_id d c
-stands_line base next rows lines done rest l a w lasts outcomes d e c is act known room far starts stands image =
+stands_line base next rows lines done rest l a w lasts outcomes d e c is act room far starts stands image =
     let after = after_of w a e c image in
     record {
-      commits = files_line base next rows lines done rest l a w lasts outcomes (Some d) (Some e) (Some c) is act known room far after stands.commits;
+      commits = files_line base next rows lines done rest l a w lasts outcomes (Some d) (Some e) (Some c) is act room far after stands.commits;
       kept = kept_line base next (w.number + 1) w.next_id d (Some d) (Some e) (Some c) refl starts (omega (arith, far.number)) far.low (elsewhere_of w a (Some e) (Some c) room after) stands.kept;
     }
 
@@ -178,13 +178,13 @@ crash_start store base next rows lines =
     (λ c image. (c, image, front_of base next rows lines [] lines next c c refl (omega arith) (record { commits = commits_none base next rows (numbered lines) c; kept = keeps_itself c })))
 
 pub stands_more : (base next : ℕ) (rows : List Row) (lines done rest : List Line) (l : Line) (a : Act) (w : Writer) (lasts : List ℕ) (outcomes : List Outcome) (start mid now : Files → Type 0)
-    → lines ≡ done ++ l ∷ rest → l.act ≡ a → is_read_act a ≡ true → w.next_id < 2 ^ 62 → Far base next rows done w lasts outcomes → ((d : Files) → start d → Starts d base next)
+    → lines ≡ done ++ l ∷ rest → l.act ≡ a → w.next_id < 2 ^ 62 → Far base next rows done w lasts outcomes → ((d : Files) → start d → Starts d base next)
     → Follows (Stands base next rows lines done w.next_id) start mid → Follows (ImageAfter w a) mid now
     → Follows (Stands base next rows lines (done ++ l ∷ []) (writer_after w a).next_id) start now
-stands_more base next rows lines done rest l a w lasts outcomes start mid now is act known room far starts stands after c image =
+stands_more base next rows lines done rest l a w lasts outcomes start mid now is act room far starts stands after c image =
     let e = after c image in
     let d = stands e.0 e.1 in
-    (d.0, d.1, stands_line base next rows lines done rest l a w lasts outcomes d.0 e.0 c is act known room far (starts d.0 d.1) d.2 e.2)
+    (d.0, d.1, stands_line base next rows lines done rest l a w lasts outcomes d.0 e.0 c is act room far (starts d.0 d.1) d.2 e.2)
 
 pub crash_more : (start mid now : Option Disk) (base next : ℕ) (rows : List Row) (lines done rest : List Line) (l : Line) (a : Act) (w : Writer) (lasts : List ℕ) (outcomes : List Outcome)
     → lines ≡ done ++ l ∷ rest → l.act ≡ a → w.next_id < 2 ^ 62 → Far base next rows done w lasts outcomes → ((d : Files) → MayHold start d → Starts d base next)

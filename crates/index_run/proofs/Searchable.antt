@@ -6,7 +6,8 @@ use Rattle.std.proofs.lemmas.List.Elements.{filter-append, All-from_recursion}
 use Rattle.ix_base.specs.declared.document.Operation.{Operation}
 use Rattle.ix_base.specs.declared.document.Operation.TheVariants.{Add, Update, DeleteTerm, DeleteQuery, SetNumber, Commit}
 use Rattle.ix_base.specs.declared.document.Row.{Row}
-use Rattle.ix_base.specs.Refusals.{Refusal, long_term, long_query, refusal}
+use Rattle.ix_base.specs.Refusals.{refusal}
+use Rattle.ix_base.specs.declared.refusal.Refusal.{Refusal}
 use Rattle.ix_base.specs.Steps.{after}
 use Rattle.ix_outside.specs.Files.{Files}
 use Rattle.commit_point.specs.Holds.{Holds}
@@ -100,8 +101,7 @@ searched base next rows lines front rest caller limit old new is on has s (inr a
     inr (omega (arith, above), (made.0, subst (λ (rs : List Row). Holds new s made.0 rs) (sym rows_are) made.3))
 
 no_search : (files : Files) (rows_by : ℕ → List Row) (r : Option Refusal) (s docs : ℕ) (op : Operation) → AnswerHolds files rows_by (told_answer r (done_answer s docs op))
-no_search files rows_by (Some (long_term size)) s docs op = tt
-no_search files rows_by (Some (long_query size)) s docs op = tt
+no_search files rows_by (Some refused) s docs op = tt
 no_search files rows_by None s docs (Add doc) = tt
 no_search files rows_by None s docs (Update t doc) = tt
 no_search files rows_by None s docs (DeleteTerm t) = tt

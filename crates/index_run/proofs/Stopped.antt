@@ -15,7 +15,7 @@ use Rattle.commit_point.specs.declared.heads.HeadSegment.{HeadSegment}
 use Rattle.commit_point.specs.Holds.{Holds, HaveRows, IsFileOf, KeepsCommits}
 use Rattle.ix_outside.specs.Images.{Reaches}
 use Rattle.op_script.specs.declared.script.Line.{Line}
-use Rattle.run_report.specs.declared.stop.Stop.{Stop}
+use Rattle.index_run.specs.declared.stop.Stop.{Stop}
 use Rattle.index_run.specs.Numbering.{numbered, commit_numbers}
 use Rattle.index_run.specs.Report.{report}
 use Rattle.index_run.specs.Headline.{HasCommits, Starts}

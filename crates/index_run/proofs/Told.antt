@@ -9,7 +9,8 @@ use Rattle.ix_base.specs.declared.document.Operation.{Operation}
 use Rattle.ix_base.specs.declared.document.Operation.TheVariants.{Add, Update, DeleteTerm, DeleteQuery, SetNumber, Commit}
 use Rattle.ix_base.specs.declared.document.Row.{Row}
 use Rattle.ix_base.specs.Steps.{after}
-use Rattle.ix_base.specs.Refusals.{Refusal, long_term, long_query, refusal}
+use Rattle.ix_base.specs.Refusals.{refusal}
+use Rattle.ix_base.specs.declared.refusal.Refusal.{Refusal}
 use Rattle.op_script.specs.Shape.{LinesRise}
 use Rattle.op_script.specs.declared.script.Line.{Line}
 use Rattle.op_script.specs.declared.script.Act.{Act}
@@ -155,8 +156,7 @@ line_told base rows lines front rest l (Do op) rise is none e = by_refusal (refu
     by_refusal : (r : Option Refusal) → refusal op ≡ r
         → told_text r l.line (done_text base rows (numbered lines) l.line op) ≡ answer_text (rows_of base rows (numbered lines)) l.line (told_answer r (done_answer (number_after base front + 1) (length (rows_after base rows front)) op))
     by_refusal None free = done op e free
-    by_refusal (Some (long_term size)) some = refl
-    by_refusal (Some (long_query size)) some = refl
+    by_refusal (Some refused) some = refl
 
 report_told : (base : ℕ) (rows : List Row) (lines front ls : List Line) → LinesRise 1 lines → lines ≡ front ++ ls → (base ≡ 0 → rows ≡ [])
     → report_from base rows (numbered lines) front ls ≡ texts (rows_of base rows (numbered lines)) (outcomes_from base rows front ls)

@@ -1,7 +1,6 @@
 -- What a writer keeps, so that it can go on.
-use Rattle.std.specs.Prelude.{◌≡◌, ◌<◌, ◌≤◌, ◌^◌, true, All}
+use Rattle.std.specs.Prelude.{◌<◌, ◌≤◌, ◌^◌}
 use Rattle.commit_point.specs.Fits.{BirthsRise}
-use Rattle.ix_base.specs.Documents.{is_apart}
 use Rattle.index_run.specs.declared.writer.Writer.{Writer}
 
 -- the next line can be done
@@ -10,7 +9,6 @@ pub record CanGoOn (w : Writer) : Type 0 where
   pub some_id : 1 ≤ w.next_id
   pub room : w.next_id < 2 ^ 63
   pub births : BirthsRise 1 w.number w.rows
-  pub apart : All (λ row. is_apart row.doc ≡ true) w.rows
 
 -- the rows can be written as a commit of the last number
 pub record CanCommit (w : Writer) : Type 0 where
@@ -18,7 +16,6 @@ pub record CanCommit (w : Writer) : Type 0 where
   pub some_id : 1 ≤ w.next_id
   pub room : w.next_id < 2 ^ 63
   pub births : BirthsRise 1 w.number w.rows
-  pub apart : All (λ row. is_apart row.doc ≡ true) w.rows
 
 -- a run can begin: the number and the next id leave room for a whole script
 pub record CanBegin (w : Writer) : Type 0 where
@@ -26,4 +23,3 @@ pub record CanBegin (w : Writer) : Type 0 where
   pub some_id : 1 ≤ w.next_id
   pub next_id : w.next_id ≤ 2 ^ 62
   pub births : BirthsRise 1 w.number w.rows
-  pub apart : All (λ row. is_apart row.doc ≡ true) w.rows

@@ -12,12 +12,12 @@ ghost use Rattle.run_report.specs.Searching.{IsDamagedIn};
 ghost use Rattle.index_run.specs.Beginning.{IsOn, IsBase, IsHighBase, IsDamagedBase, last_or_zero};
 ghost use Rattle.index_run.specs.Writer.{CanBegin};
 
+use crate::stop::Stop;
 use crate::writer::Writer;
 use commit_point::{OpenFault, list_commits, read_commit};
 use ix_base::List;
 use ix_outside::{Store, StoreFault};
 use report_text::Fault;
-use run_report::Stop;
 use std::alloc::Global;
 
 /// No run begins on a commit whose number is above this: 2^61.

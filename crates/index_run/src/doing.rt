@@ -1,5 +1,5 @@
 //! A script's lines done over a store, and their report made.
-ghost use Rattle.std.specs.Prelude.{◌≡◌, ◌⊎◌, ◌<◌, ◌≤◌, ◌+◌, ◌*◌, ◌^◌, ◌∷◌, [], ℕ, List, length, IfOk, IfErr, IsErrAnd, Err, Some};
+ghost use Rattle.std.specs.Prelude.{◌≡◌, ◌⊎◌, ◌<◌, ◌≤◌, ◌+◌, ◌*◌, ◌^◌, ◌∷◌, [], ℕ, List, length, IfOk, IfErr, IsErrAnd, Err, Some, Contains};
 ghost use Rattle.ix_outside.specs.Crash.{MayHold};
 ghost use Rattle.ix_outside.specs.Disk.{told_files};
 ghost use Rattle.ix_base.specs.declared.document.Row.{Row};
@@ -9,6 +9,9 @@ ghost use Rattle.ix_outside.specs.Files.{Files, Changes};
 ghost use Rattle.commit_point.specs.Holds.{KeepsCommits};
 ghost use Rattle.ix_base.specs.declared.damaged.Damaged.{Damaged};
 ghost use Rattle.op_script.specs.Shape.{AreScriptLines};
+ghost use Rattle.run_report.specs.declared.outcome.Outcome.{Outcome};
+ghost use Rattle.run_report.specs.Searching.{CanSearch, SearchesDamaged};
+ghost use Rattle.run_report.specs.Texts.{texts};
 ghost use Rattle.index_run.specs.Beginning.{IsOn, IsHighBase};
 ghost use Rattle.index_run.specs.Causes.{IsOneOf, stop_status};
 ghost use Rattle.index_run.specs.Crashes.{AreKept, HasFront};
@@ -19,11 +22,12 @@ ghost use Rattle.index_run.specs.Script.{DoesScript};
 
 use crate::begin::begin;
 use crate::lines::do_lines;
+use crate::stop::Stop;
 use ix_base::List;
 use ix_outside::{Gate, Store, StoreFault};
 use op_script::Line;
 use report_text::Fault;
-use run_report::{Stop, report};
+use run_report::{Outcome, report};
 use std::alloc::Global;
 
 /// Does the lines over the store's last commit, and answers their report, of which nothing is
@@ -64,5 +68,24 @@ pub fn do_script<S: Store, G: Gate>(
         Err(StoreFault::Failed) => return Err(Stop::Fault(Fault::Store)),
         Err(StoreFault::NoMemory) => return Err(Stop::NoMemory),
     };
-    report(alloc, store, outcomes.as_slice())
+    report_of(alloc, store, outcomes.as_slice())
+}
+
+/// The report of what became of the lines, or why the run stops.
+fn report_of<S: Store>(alloc: Global, store: &mut S, outcomes: &[Outcome]) -> Result<Vec<u8>, Stop>
+    ensures text { (files : Files) (rows_of : ℕ → List Row) → told_files (S.disk store.old) ≡ Some files
+        → CanSearch files rows_of outcomes.now → IfOk result (λ bytes. bytes.items ≡ texts rows_of outcomes.now) }
+    ensures whole { (files : Files) (rows_of : ℕ → List Row) → told_files (S.disk store.old) ≡ Some files
+        → CanSearch files rows_of outcomes.now → IfErr result (λ stop. (stop ≡ Stop.Fault Fault.Store) ⊎ (stop ≡ Stop.NoMemory)) }
+    ensures damaged { (damaged : Damaged) → result ≡ Err (Stop.Fault (Fault.Damaged damaged))
+        → (outcome : Outcome) × Contains outcomes.now outcome × SearchesDamaged (told_files (S.disk store.old)) outcome.answer damaged }
+    ensures reads { S.disk store.new ≡ S.disk store.old }
+    ensures later { S.fault_count store.old ≤ S.fault_count store.new }
+    ensures failed { result ≡ Err (Stop.Fault Fault.Store) → Rose (S.fault_count store.old) (S.fault_count store.new) }
+    ensures others { IfErr result (λ stop. (stop ≡ Stop.Fault Fault.Store) ⊎ ((stop ≡ Stop.NoMemory) ⊎ ((damaged : Damaged) × (stop ≡ Stop.Fault (Fault.Damaged damaged))))) }
+{
+    match report(alloc, store, outcomes) {
+        Ok(text) => Ok(text),
+        Err(fault) => Err(Stop::from(fault)),
+    }
 }

@@ -1,5 +1,5 @@
 //! The lines of a script, done in its order.
-ghost use Rattle.std.specs.Prelude.{◌≡◌, ◌<◌, ◌≤◌, ◌+◌, ◌^◌, ℕ, List, [], length, true, OnOk, OnErr, IfOk, Err, Some, slice_index, replicate};
+ghost use Rattle.std.specs.Prelude.{◌≡◌, ◌<◌, ◌≤◌, ◌+◌, ◌^◌, ℕ, List, [], length, OnOk, OnErr, IfOk, Err, Some, slice_index, replicate};
 ghost use Rattle.ix_outside.specs.Crash.{MayHold};
 ghost use Rattle.ix_outside.specs.Disk.{told_files};
 ghost use Rattle.ix_base.specs.declared.document.Row.{Row};
@@ -10,13 +10,11 @@ ghost use Rattle.ix_outside.specs.Images.{Follows};
 ghost use Rattle.ix_outside.specs.Images.{Reaches};
 ghost use Rattle.commit_point.specs.Writing.{SameElsewhere};
 ghost use Rattle.commit_point.specs.Holds.{KeepsCommits};
-ghost use Rattle.op_script.specs.Shape.{is_read_act, is_read_operation, AreScriptLines};
-ghost use Rattle.row_changes.specs.Refusing.{refusal_as};
-ghost use Rattle.run_report.specs.declared.outcome.Answer.{Answer};
+ghost use Rattle.op_script.specs.Shape.{AreScriptLines};
 ghost use Rattle.index_run.specs.Crashes.{HasAll, HasFront};
 ghost use Rattle.index_run.specs.Doing.{writer_after, answer_by, lasts_after, FilesAfter, ImageAfter, MayLeave};
 ghost use Rattle.index_run.specs.Numbering.{numbered, commit_numbers};
-ghost use Rattle.index_run.specs.Outcomes.{outcomes_from, told_answer};
+ghost use Rattle.index_run.specs.Outcomes.{outcomes_from};
 ghost use Rattle.index_run.specs.Headline.{HasCommits, Starts};
 ghost use Rattle.index_run.specs.Writer.{CanGoOn};
 
@@ -24,19 +22,9 @@ use crate::writer::Writer;
 use ix_base::{List, Operation};
 use ix_outside::{Gate, Store, StoreFault};
 use op_script::{Act, Line};
-use row_changes::{Refusal, refusal_of};
+use row_changes::refusal_of;
 use run_report::{Answer, Outcome};
 use std::alloc::Global;
-
-/// What becomes of a line that is refused so.
-fn refused(refusal: Refusal) -> Answer
-    ensures { (other : Answer) → result ≡ told_answer (Some (refusal_as refusal)) other }
-{
-    match refusal {
-        Refusal::Term(size) => Answer::RefusedTerm(size),
-        Refusal::Query(size) => Answer::RefusedQuery(size),
-    }
-}
 
 /// Does an operation under the next number, unless it is refused, and tells the gate.
 fn do_operation<S: Store, G: Gate>(
@@ -47,8 +35,7 @@ fn do_operation<S: Store, G: Gate>(
     line: u32,
     operation: Operation,
 ) -> Result<Answer, StoreFault>
-    requires ready { CanGoOn writer.old }
-    requires known { is_read_operation operation ≡ true }
+    requires { CanGoOn writer.old }
     ensures writer { OnOk result (writer.new ≡ writer_after writer.old (Act.Do operation)) }
     ensures answer { IfOk result (λ answer. answer ≡ answer_by writer.old 0 (Act.Do operation)) }
     ensures files { OnOk result (FilesAfter writer.old (Act.Do operation) (told_files (S.disk store.old)) (told_files (S.disk store.new))) }
@@ -62,7 +49,7 @@ fn do_operation<S: Store, G: Gate>(
 {
     gate.before(line);
     if let Some(refusal) = refusal_of(alloc, &operation)? {
-        return Ok(refused(refusal));
+        return Ok(Answer::Refused(refusal));
     }
     let commits = matches!(&operation, Operation::Commit);
     writer.apply(alloc, operation)?;
@@ -86,7 +73,6 @@ fn do_line<S: Store, G: Gate>(
     line: Line,
 ) -> Result<Outcome, StoreFault>
     requires ready { CanGoOn writer.old }
-    requires known { is_read_act line.act ≡ true }
     requires callers { length lasts.old ≡ 256 }
     ensures writer { OnOk result (writer.new ≡ writer_after writer.old line.act) }
     ensures lasts { OnOk result (lasts.new ≡ lasts_after writer.old line.caller line.act lasts.old) }

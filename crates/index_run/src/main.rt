@@ -16,6 +16,7 @@ mod lines;
 mod output;
 mod reading;
 mod run;
+mod stop;
 mod tell;
 #[cfg(test)]
 mod tests;
@@ -32,7 +33,7 @@ mod writer;
 
 pub use call::{Ended, top};
 
-/// The status for want of memory.
+/// The status where memory ran out.
 const NO_MEMORY: u8 = 4;
 
 /// The status for words that are no command.

@@ -10,12 +10,12 @@ ghost use Rattle.index_run.specs.Causes.{IsScript, IsBadIn, IsOneOf, TakesUpTo, 
 ghost use Rattle.index_run.specs.Words.{IsAccepted};
 
 use crate::input::read_input;
+use crate::stop::Stop;
 use crate::words::is_run;
 use ix_base::List;
 use ix_outside::Source;
 use op_script::{Line, ScriptFault, read_script};
 use report_text::Fault;
-use run_report::Stop;
 use std::alloc::Global;
 
 /// Reads the words and then the script.

@@ -23,9 +23,9 @@ ghost use Rattle.index_run.specs.Words.{IsAccepted};
 use crate::doing::do_script;
 use crate::output::write_all;
 use crate::reading::read_lines;
+use crate::stop::Stop;
 use ix_outside::{Gate, Sink, Source, Store};
 use report_text::Fault;
-use run_report::Stop;
 use std::alloc::Global;
 
 /// Does the run up to the last byte of its report. Of a fault nothing is written here.

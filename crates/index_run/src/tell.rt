@@ -22,9 +22,9 @@ ghost use Rattle.index_run.specs.Words.{IsAccepted};
 
 use crate::output::write_all;
 use crate::run::run;
+use crate::stop::Stop;
 use ix_outside::{Gate, Sink, Source, Store};
 use report_text::Fault;
-use run_report::Stop;
 use std::alloc::Global;
 
 /// Writes the line that tells a fault, and answers the fault's status. A sink that fails there

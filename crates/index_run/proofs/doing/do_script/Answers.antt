@@ -9,7 +9,7 @@ use Rattle.ix_outside.specs.Files.{Files, Changes}
 use Rattle.ix_outside.specs.Images.{Follows}
 use Rattle.ix_outside.specs.Images.{Reaches}
 use Rattle.index_run.specs.declared.writer.Writer.{Writer}
-use Rattle.run_report.specs.declared.stop.Stop.{Stop}
+use Rattle.index_run.specs.declared.stop.Stop.{Stop}
 use Rattle.index_run.specs.Causes.{IsOneOf, stop_status}
 use Rattle.index_run.specs.Numbering.{numbered, commit_numbers}
 use Rattle.index_run.specs.Outcomes.{outcomes_from}
@@ -49,7 +49,7 @@ returns-clause-kept g c = λ files base next rows told begins.
     let is = c.in-Ok.ensures.on files base next rows told begins.0 (begins_on files base next rows begins) in
     let starts : Starts files w.number w.next_id = subst (λ (v : Writer). Starts files v.number v.next_id) (sym is) (begins_starts files base next rows begins) in
     let room : w.next_id ≤ 2 ^ 61 = subst (λ (v : Writer). v.next_id ≤ 2 ^ 61) (sym is) (begins_room files base next rows begins) in
-    kept_in _ _ _ _ (ap told_files c.begin.ensures.reads) (ap told_files c.report.ensures.reads) (c.do_lines.ensures.kept files ((ap told_files c.begin.ensures.reads) ∙ told) starts room)
+    kept_in _ _ _ _ (ap told_files c.begin.ensures.reads) (ap told_files c.report_of.ensures.reads) (c.do_lines.ensures.kept files ((ap told_files c.begin.ensures.reads) ∙ told) starts room)
 
 pub returns-clause-done : goal.returns-clause-done
 returns-clause-done g c = λ files base next rows told begins.
@@ -62,8 +62,8 @@ returns-clause-done g c = λ files base next rows told begins.
     let room : w.next_id ≤ 2 ^ 61 = subst (λ (v : Writer). v.next_id ≤ 2 ^ 61) (sym is) (begins_room files base next rows begins) in
     let made = subst (λ (v : Writer). Changes (HasCommits v.number v.next_id v.rows (numbered lines) (commit_numbers v.number (numbered lines)) (v.next_id + length (numbered lines))) began did) is (c.in-Ok-do_lines.ensures.commits room) in
     let outcomes = subst (λ (v : Writer). c.as_slice.result.now ≡ outcomes_from v.number v.rows [] lines) is (c.as_slice.ensures.value ∙ c.in-Ok-do_lines.ensures.outcomes) in
-    done_in base next rows lines files _ began did _ c.as_slice.result.now c.report.result told (ap told_files c.begin.ensures.reads) (ap told_files c.report.ensures.reads) c.requires.rise (begins_on files base next rows begins) outcomes
-    made (c.do_lines.ensures.kept files ((ap told_files c.begin.ensures.reads) ∙ told) starts room) c.report.ensures.text
+    done_in base next rows lines files _ began did _ c.as_slice.result.now c.report_of.result told (ap told_files c.begin.ensures.reads) (ap told_files c.report_of.ensures.reads) c.requires.rise (begins_on files base next rows begins) outcomes
+    made (c.do_lines.ensures.kept files ((ap told_files c.begin.ensures.reads) ∙ told) starts room) c.report_of.ensures.text
 
 pub returns-clause-whole : goal.returns-clause-whole
 returns-clause-whole g c = λ files base next rows told last on low room.
@@ -75,7 +75,7 @@ returns-clause-whole g c = λ files base next rows told last on low room.
     let le : w.next_id ≤ 2 ^ 61 = subst (λ (v : Writer). v.next_id ≤ 2 ^ 61) (sym is) room in
     let made = subst (λ (v : Writer). Changes (HasCommits v.number v.next_id v.rows (numbered lines) (commit_numbers v.number (numbered lines)) (v.next_id + length (numbered lines))) began did) is (c.in-Ok-do_lines.ensures.commits le) in
     let outcomes = subst (λ (v : Writer). c.as_slice.result.now ≡ outcomes_from v.number v.rows [] lines) is (c.as_slice.ensures.value ∙ c.in-Ok-do_lines.ensures.outcomes) in
-    whole_in base next rows lines files _ began did c.as_slice.result.now c.report.result told (ap told_files c.begin.ensures.reads) on outcomes made c.report.ensures.whole
+    whole_in base next rows lines files _ began did c.as_slice.result.now c.report_of.result told (ap told_files c.begin.ensures.reads) on outcomes made c.report_of.ensures.whole
 
 pub returns-in-Err-clause-crash : goal.returns-in-Err-clause-crash
 returns-in-Err-clause-crash g c = λ files base next rows told begins are.
@@ -115,8 +115,8 @@ returns-clause-crash g c = λ files base next rows told begins are.
     let began = starts_all files w.number w.next_id (MayHold (g.S.Store.disk c.args.store.now)) (MayHold (g.S.Store.disk c.begin.new.store)) starts are (may_hold_still _ _ c.begin.ensures.reads) in
     let crash = subst (λ (v : Writer). LeavesOnly (g.S.Store.disk c.begin.new.store) (g.S.Store.disk c.do_lines.new.store) (Reaches (HasFront v.number v.next_id v.rows (numbered c.args.lines) (v.next_id + length (numbered c.args.lines))) (MayHold (g.S.Store.disk c.begin.new.store)))) is
     (c.do_lines.ensures.crash files ((ap told_files c.begin.ensures.reads) ∙ told) began room) in
-    script_crash (g.S.Store.disk c.args.store.now) (g.S.Store.disk c.begin.new.store) (g.S.Store.disk c.do_lines.new.store) (g.S.Store.disk c.report.new.store) base next rows c.args.lines files
-    are c.begin.ensures.reads crash c.report.ensures.reads
+    script_crash (g.S.Store.disk c.args.store.now) (g.S.Store.disk c.begin.new.store) (g.S.Store.disk c.do_lines.new.store) (g.S.Store.disk c.report_of.new.store) base next rows c.args.lines files
+    are c.begin.ensures.reads crash c.report_of.ensures.reads
 
 pub returns-clause-acknowledged : goal.returns-clause-acknowledged
 returns-clause-acknowledged g c = λ files base next rows told begins are.
@@ -127,8 +127,8 @@ returns-clause-acknowledged g c = λ files base next rows told begins are.
     let began = starts_all files w.number w.next_id (MayHold (g.S.Store.disk c.args.store.now)) (MayHold (g.S.Store.disk c.begin.new.store)) starts are (may_hold_still _ _ c.begin.ensures.reads) in
     let stands = subst (λ (v : Writer). Follows (HasAll v.number v.next_id v.rows c.args.lines) (MayHold (g.S.Store.disk c.begin.new.store)) (MayHold (g.S.Store.disk c.do_lines.new.store))) is
     (c.in-Ok-do_lines.ensures.acknowledged files ((ap told_files c.begin.ensures.reads) ∙ told) began room) in
-    script_stands base next rows c.args.lines files (told_files (g.S.Store.disk c.args.store.now)) (told_files (g.S.Store.disk c.report.new.store)) (MayHold (g.S.Store.disk c.args.store.now)) (MayHold (g.S.Store.disk c.begin.new.store)) (MayHold (g.S.Store.disk c.do_lines.new.store)) (MayHold (g.S.Store.disk c.report.new.store))
-    c.report.result told are (may_hold_still _ _ c.begin.ensures.reads) stands (may_hold_still _ _ c.report.ensures.reads) (returns-clause-done g c files base next rows told begins)
+    script_stands base next rows c.args.lines files (told_files (g.S.Store.disk c.args.store.now)) (told_files (g.S.Store.disk c.report_of.new.store)) (MayHold (g.S.Store.disk c.args.store.now)) (MayHold (g.S.Store.disk c.begin.new.store)) (MayHold (g.S.Store.disk c.do_lines.new.store)) (MayHold (g.S.Store.disk c.report_of.new.store))
+    c.report_of.result told are (may_hold_still _ _ c.begin.ensures.reads) stands (may_hold_still _ _ c.report_of.ensures.reads) (returns-clause-done g c files base next rows told begins)
 
 pub returns-in-Err-clause-damaged : goal.returns-in-Err-clause-damaged
 returns-in-Err-clause-damaged g c = λ damaged is.
@@ -145,7 +145,7 @@ returns-in-Err-clause-damaged g c = λ damaged is.
 pub returns-clause-damaged : goal.returns-clause-damaged
 returns-clause-damaged g c = λ damaged is.
     let w = c.in-Ok.writer in
-    let found = c.report.ensures.damaged damaged is in
+    let found = c.report_of.ensures.damaged damaged is in
     let outcomes = c.as_slice.ensures.value ∙ c.in-Ok-do_lines.ensures.outcomes in
     record {
       base = w.number;
@@ -153,5 +153,5 @@ returns-clause-damaged g c = λ damaged is.
       number = found.2.number;
       some = found.2.some;
       reads = inr (is_asked w.number w.rows c.args.lines c.as_slice.result.now found.0 found.2.number found.2.query c.requires.rise outcomes found.1 found.2.searches);
-      broken = subst (λ (told : Option Files). IsDamagedIn told found.2.number damaged) (sym (ap told_files c.report.ensures.reads)) found.2.broken;
+      broken = subst (λ (told : Option Files). IsDamagedIn told found.2.number damaged) (sym (ap told_files c.report_of.ensures.reads)) found.2.broken;
     }

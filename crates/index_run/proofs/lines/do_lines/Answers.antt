@@ -8,7 +8,7 @@ use Rattle.op_script.specs.declared.script.Line.{Line}
 use Rattle.index_run.specs.Doing.{writer_after, lasts_after, answer_by}
 use Rattle.index_run.specs.declared.writer.Writer.{Writer}
 use Rattle.run_report.specs.declared.outcome.Outcome.{Outcome}
-use Rattle.index_run.proofs.Far.{Far, SoFar, far_start, made_start, kept_start, act_known, can_go_on, room_left, far_line, files_line, kept_line, elsewhere_of, all_done, commits_done}
+use Rattle.index_run.proofs.Far.{Far, SoFar, far_start, made_start, kept_start, caller_known, can_go_on, room_left, far_line, files_line, kept_line, elsewhere_of, all_done, commits_done}
 use Rattle.index_run.proofs.Images.{Stands, stands_start, crash_start, stands_more, crash_more, all_stands, told_mid}
 use Rattle.index_run.proofs.lines.do_lines.Goals as goal
 
@@ -33,12 +33,6 @@ do_line-requires-clause-ready g c = λ κs outlives.
     let at = c.loop-line in
     can_go_on c.args.writer.number c.args.writer.next_id c.args.writer.rows c.args.lines at.yielded (into_iter_items at.line-iterator) at.writer at.lasts at.outcomes.items (sym at.invariant.items) c.requires.script.few c.requires.base.0 c.requires.ready.some_id c.requires.base.1 at.invariant.far
 
-pub do_line-requires-clause-known : goal.do_line-requires-clause-known
-do_line-requires-clause-known g c = λ κs outlives.
-    let at = c.loop-line in
-    let next : c.args.lines ≡ at.yielded ++ c.in-Some.line ∷ into_iter_items c.next.new.self = sym at.invariant.items ∙ ap (λ (ls : List Line). at.yielded ++ ls) c.in-Some.ensures.steps.0 in
-    (act_known c.args.lines at.yielded (into_iter_items c.next.new.self) c.in-Some.line next c.requires.script.acts).0
-
 pub loop-line-preserved : goal.loop-line-preserved
 loop-line-preserved g c =
     let at = c.loop-line in
@@ -47,8 +41,8 @@ loop-line-preserved g c =
     let rest = into_iter_items c.next.new.self in
     let start = told_files (g.S.Store.disk c.args.store.now) in
     let next : c.args.lines ≡ at.yielded ++ line ∷ rest = sym at.invariant.items ∙ ap (λ (ls : List Line). at.yielded ++ ls) c.in-Some.ensures.steps.0 in
-    let known = act_known c.args.lines at.yielded rest line next c.requires.script.acts in
-    let more = far_line w.number w.next_id w.rows at.yielded line line.act at.writer at.lasts at.outcomes.items refl known.0 known.1 at.invariant.far in
+    let caller = caller_known c.args.lines at.yielded rest line next c.requires.script.callers in
+    let more = far_line w.number w.next_id w.rows at.yielded line line.act at.writer at.lasts at.outcomes.items refl caller at.invariant.far in
     let answer = answer_by at.writer (get_or at.lasts line.caller 0) line.act in
     let pushed : c.push.new.self.items ≡ at.outcomes.items ++ record { line = line.line; answer = answer } ∷ [] =
     c.in_ok-push.ensures.items ∙ ap (λ (o : Outcome). at.outcomes.items ++ o ∷ []) c.in_ok-outcome.ensures.outcome in
@@ -66,14 +60,14 @@ loop-line-preserved g c =
           (subst (λ (v : Writer). Far w.number w.next_id w.rows (at.yielded ++ line ∷ []) v (lasts_after at.writer line.caller line.act at.lasts) (at.outcomes.items ++ record { line = line.line; answer = answer } ∷ [])) (sym writer) more));
       made = λ le. subst (λ (v : Writer). Changes (SoFar w.number w.next_id w.rows c.args.lines (at.yielded ++ line ∷ []) v.next_id) start (told_files (g.S.Store.disk c.do_line.new.store))) (sym writer)
           (files_line w.number w.next_id w.rows c.args.lines at.yielded rest line line.act at.writer at.lasts at.outcomes.items start (told_files (g.S.Store.disk at.store)) (told_files (g.S.Store.disk c.do_line.new.store))
-          next refl known.0 (room le) at.invariant.far c.in_ok-outcome.ensures.files (at.invariant.made le));
+          next refl (room le) at.invariant.far c.in_ok-outcome.ensures.files (at.invariant.made le));
       kept = λ files told starts le. kept_line w.number w.next_id (at.writer.number + 1) at.writer.next_id files start (told_files (g.S.Store.disk at.store)) (told_files (g.S.Store.disk c.do_line.new.store)) told starts (omega (arith, at.invariant.far.number)) at.invariant.far.low
           (elsewhere_of at.writer line.act (told_files (g.S.Store.disk at.store)) (told_files (g.S.Store.disk c.do_line.new.store)) (room le) c.in_ok-outcome.ensures.files) (at.invariant.kept files told starts le);
       stands = λ files told starts le.
           let mid = told_mid (SoFar w.number w.next_id w.rows c.args.lines at.yielded at.writer.next_id) files start (told_files (g.S.Store.disk at.store)) told (at.invariant.made le) in
           subst (λ (v : Writer). Follows (Stands w.number w.next_id w.rows c.args.lines (at.yielded ++ line ∷ []) v.next_id) (MayHold (g.S.Store.disk c.args.store.now)) (MayHold (g.S.Store.disk c.do_line.new.store))) (sym writer)
           (stands_more w.number w.next_id w.rows c.args.lines at.yielded rest line line.act at.writer at.lasts at.outcomes.items (MayHold (g.S.Store.disk c.args.store.now)) (MayHold (g.S.Store.disk at.store)) (MayHold (g.S.Store.disk c.do_line.new.store))
-          next refl known.0 (room le) at.invariant.far starts (at.invariant.stands files told starts le) (c.in_ok-outcome.ensures.acknowledged mid.0 mid.1 (room le)));
+          next refl (room le) at.invariant.far starts (at.invariant.stands files told starts le) (c.in_ok-outcome.ensures.acknowledged mid.0 mid.1 (room le)));
       crash = λ files told starts le.
           let mid = told_mid (SoFar w.number w.next_id w.rows c.args.lines at.yielded at.writer.next_id) files start (told_files (g.S.Store.disk at.store)) told (at.invariant.made le) in
           crash_more (g.S.Store.disk c.args.store.now) (g.S.Store.disk at.store) (g.S.Store.disk c.do_line.new.store) w.number w.next_id w.rows c.args.lines at.yielded rest line line.act at.writer at.lasts at.outcomes.items

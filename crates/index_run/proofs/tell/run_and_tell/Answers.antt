@@ -1,7 +1,7 @@
 use Rattle.std.proofs.Common.{◌∙◌, [], ◌∷◌, Err, ap, subst}
 use Rattle.report_text.specs.declared.fault.Fault.{Fault}
-use Rattle.run_report.specs.declared.stop.Stop.{Stop}
-use Rattle.run_report.specs.declared.stop.Stop.TheVariants as stop
+use Rattle.index_run.specs.declared.stop.Stop.{Stop}
+use Rattle.index_run.specs.declared.stop.Stop.TheVariants as stop
 use Rattle.index_run.specs.Causes.{IsOneOf, stop_status}
 use Rattle.index_run.proofs.Finish.{no_fault}
 use Rattle.index_run.proofs.tell.run_and_tell.Goals as goal

@@ -1,0 +1,56 @@
+//! Why a run stopped before its end.
+ghost use Rattle.std.specs.Prelude.{◌≡◌};
+ghost use Rattle.index_run.specs.Causes.{stop_of};
+ghost use Rattle.index_run.specs.declared.stop.Stop.TheVariants as stop;
+
+use commit_point::OpenFault;
+use ix_base::NoMemory;
+use report_text::Fault;
+use std::alloc::{AllocError, AllocFailed};
+
+/// Why a run stopped.
+#[derive(Clone, Copy, Debug, PartialEq, Eq)]
+pub enum Stop {
+    /// For a fault, which a line tells.
+    Fault(Fault),
+    /// Memory ran out, of which nothing is told.
+    NoMemory,
+    /// The sink failed.
+    Sink,
+}
+
+impl From<OpenFault> for Stop {
+    ghost from_gives = { λ fault reason. reason ≡ stop_of fault };
+
+    fn from(fault: OpenFault) -> Stop {
+        match fault {
+            OpenFault::Store => Stop::Fault(Fault::Store),
+            OpenFault::Damaged(damaged) => Stop::Fault(Fault::Damaged(damaged)),
+            OpenFault::NoSuch { number: _ } | OpenFault::NoMemory => Stop::NoMemory,
+        }
+    }
+}
+
+impl From<NoMemory> for Stop {
+    ghost from_gives = { λ _ reason. reason ≡ stop.NoMemory };
+
+    fn from(_error: NoMemory) -> Stop {
+        Stop::NoMemory
+    }
+}
+
+impl From<AllocError> for Stop {
+    ghost from_gives = { λ _ reason. reason ≡ stop.NoMemory };
+
+    fn from(_error: AllocError) -> Stop {
+        Stop::NoMemory
+    }
+}
+
+impl<T: Drop> From<AllocFailed<T>> for Stop {
+    ghost from_gives = { λ _ reason. reason ≡ stop.NoMemory };
+
+    fn from(_error: AllocFailed<T>) -> Stop {
+        Stop::NoMemory
+    }
+}
