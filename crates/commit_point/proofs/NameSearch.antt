@@ -11,7 +11,7 @@ use Rattle.std.proofs.lemmas.Bool.{cases_lt}
 use Rattle.std.proofs.lemmas.Cmp.{nat_list_cmp_total}
 use Rattle.std.proofs.lemmas.List.Sorted.{searchable_from_sorted}
 use Rattle.ix_base.specs.Limits.{text_lt, rise_after, names_rise, is_among}
-use Rattle.commit_point.proofs.NumberLaws.{and_parts}
+use Rattle.std.proofs.lemmas.Bool.{and_parts}
 
 abbrev Pair : Type 0
 Pair = List ℕ × List ℕ

@@ -6,14 +6,14 @@ ghost use Rattle.ix_base.specs.Documents.{is_apart};
 ghost use Rattle.commit_point.specs.Spelling.{field, fields, number, numbers, document, row};
 ghost use Rattle.commit_point.specs.Fits.{FieldFits, NumberFits, DocumentFits};
 
-use crate::bytes::{put_i64, put_text, put_u32, put_u64};
+use ix_base::codec::{put_i64, put_name, put_text, put_u32, put_u64};
 use ix_base::{Document, Fields, Name, NoMemory, Numbers, Row, Text};
 
 fn put_field(out: &mut Vec<u8>, pair: &(Name, Text)) -> Result<(), NoMemory>
     ensures bytes { OnOk result (out.new.items ≡ out.old.items ++ field pair.now) }
     ensures fits { OnOk result (FieldFits pair.now) }
 {
-    put_text(out, pair.0.as_str())?;
+    put_name(out, &pair.0)?;
     put_text(out, pair.1.as_str())?;
     Ok(())
 }
@@ -36,7 +36,7 @@ fn put_number(out: &mut Vec<u8>, pair: &(Name, i64)) -> Result<(), NoMemory>
     ensures bytes { OnOk result (out.new.items ≡ out.old.items ++ number pair.now) }
     ensures fits { OnOk result (NumberFits pair.now) }
 {
-    put_text(out, pair.0.as_str())?;
+    put_name(out, &pair.0)?;
     put_i64(out, pair.1)?;
     Ok(())
 }

@@ -5,9 +5,10 @@ ghost use Rattle.ix_base.specs.Documents.{is_apart};
 ghost use Rattle.commit_point.specs.Spelling.{rows_file, entry, commit_file};
 ghost use Rattle.commit_point.specs.Fits.{DocumentFits};
 
-use crate::bytes::{put_commit_mark, put_rows_mark, put_u32, put_u64};
 use crate::documents::put_row;
 use crate::heads::{Head, HeadSegment};
+use crate::marks::{put_commit_mark, put_rows_mark};
+use ix_base::codec::{put_u32, put_u64};
 use ix_base::{NoMemory, Row};
 use std::alloc::Global;
 
@@ -44,8 +45,8 @@ fn put_segment(out: &mut Vec<u8>, segment: &HeadSegment) -> Result<(), NoMemory>
     ensures { OnOk result (out.new.items ≡ out.old.items ++ entry segment.now) }
 {
     put_u64(out, segment.id)?;
-    put_u32(out, segment.n)?;
-    put_u64(out, segment.v)?;
+    put_u32(out, segment.rows)?;
+    put_u64(out, segment.written)?;
     Ok(())
 }
 

@@ -11,7 +11,7 @@ ghost use Rattle.ix_outside.specs.Calls.{LeavesOnly};
 ghost use Rattle.commit_point.specs.Fits.{BirthsRise, DocumentFits};
 ghost use Rattle.commit_point.specs.Publishing.{BlamesRefusal};
 ghost use Rattle.commit_point.specs.Spelling.{commit_file};
-ghost use Rattle.commit_point.specs.Writing.{Commits, MayCommit, SameElsewhere, commit_steps, head_of, segment_list};
+ghost use Rattle.commit_point.specs.Writing.{Commits, MayCommit, SameElsewhere, commit_steps, new_head, segment_list};
 
 use crate::encode::{encode_commit, encode_row};
 use crate::fault::CommitRefused;
@@ -28,7 +28,7 @@ const MOST_ROWS: usize = 2_147_483_647;
 fn new_head(alloc: Global, number: u64, next_id: u64, rows: &[Row]) -> Result<Head, NoMemory>
     requires room { next_id < 2 ^ 63 }
     requires count { length rows.now < 2 ^ 32 }
-    ensures { IfOk result (λ head. head ≡ head_of number next_id rows.now) }
+    ensures { IfOk result (λ head. head ≡ new_head number next_id rows.now) }
 {
     let docs = rows.len() as u64;
     if rows.is_empty() {
@@ -42,8 +42,8 @@ fn new_head(alloc: Global, number: u64, next_id: u64, rows: &[Row]) -> Result<He
     let mut segments = Vec::new(alloc);
     segments.push(HeadSegment {
         id: next_id,
-        n: rows.len() as u32,
-        v: number,
+        rows: rows.len() as u32,
+        written: number,
     })?;
     Ok(Head {
         number,
@@ -77,7 +77,7 @@ fn segment_files(
 fn commit_bytes(alloc: Global, number: u64, next_id: u64, rows: &[Row]) -> Result<Vec<u8>, NoMemory>
     requires room { next_id < 2 ^ 63 }
     requires count { length rows.now < 2 ^ 32 }
-    ensures { IfOk result (λ bytes. bytes.items ≡ commit_file (head_of number next_id rows.now)) }
+    ensures { IfOk result (λ bytes. bytes.items ≡ commit_file (new_head number next_id rows.now)) }
 {
     let head = new_head(alloc, number, next_id, rows)?;
     encode_commit(alloc, &head)
