@@ -14,32 +14,32 @@ use Rattle.ix_base.specs.FileNames.{IsName, IsCounted}
 use Rattle.ix_base.specs.declared.file_name.FileName.{FileName}
 use Rattle.ix_base.specs.declared.file_name.FileName.TheVariants.{Commit}
 use Rattle.ix_outside.specs.Files.{Files, Lists}
-use Rattle.commit_point.specs.Loading.{is_commit}
+use Rattle.commit_point.specs.Loading.{names_commit}
 
 by_bool : {A : Type 0} (b : Bool) → (b ≡ true → A) → (b ≡ false → A) → A
 by_bool true yes_ no_ = yes_ refl
 by_bool false yes_ no_ = no_ refl
 
-commit_is : (s : ℕ) (name : FileName) → is_commit s name ≡ true → name ≡ Commit s
+commit_is : (s : ℕ) (name : FileName) → names_commit s name ≡ true → name ≡ Commit s
 commit_is s (Commit t) e = ap Commit (sym (eqb-true _ _ e))
 commit_is s name e = absurd cc
 
-any_commit : (s : ℕ) (names : List FileName) → list_any (is_commit s) names ≡ true → Contains names (Commit s)
+any_commit : (s : ℕ) (names : List FileName) → list_any (names_commit s) names ≡ true → Contains names (Commit s)
 any_commit s [] e = absurd cc
 any_commit s (n ∷ ns) e =
-    by_bool (is_commit s n) (λ h. (0, omega arith, commit_is s n h)) (λ h. let rest : list_any (is_commit s) ns ≡ true = rw h at e in let c = any_commit s ns rest in (suc c.0, omega (arith, c.1), c.2))
+    by_bool (names_commit s n) (λ h. (0, omega arith, commit_is s n h)) (λ h. let rest : list_any (names_commit s) ns ≡ true = rw h at e in let c = any_commit s ns rest in (suc c.0, omega (arith, c.1), c.2))
 
 or_right : (a b : Bool) → b ≡ true → (a || b) ≡ true
 or_right true b e = refl
 or_right false b e = e
 
-commit_any : (s : ℕ) (names : List FileName) (k : ℕ) → k < length names → get_or names k (Commit s) ≡ Commit s → list_any (is_commit s) names ≡ true
+commit_any : (s : ℕ) (names : List FileName) (k : ℕ) → k < length names → get_or names k (Commit s) ≡ Commit s → list_any (names_commit s) names ≡ true
 commit_any s [] k lt e = absurd (omega arith)
 commit_any s (n ∷ ns) zero lt e =
-    let here : is_commit s n ≡ true = ap (is_commit s) e ∙ eq-eqb s s refl in rw here refl
-commit_any s (n ∷ ns) (suc k) lt e = or_right (is_commit s n) (list_any (is_commit s) ns) (commit_any s ns k (omega arith) e)
+    let here : names_commit s n ≡ true = ap (names_commit s) e ∙ eq-eqb s s refl in rw here refl
+commit_any s (n ∷ ns) (suc k) lt e = or_right (names_commit s n) (list_any (names_commit s) ns) (commit_any s ns k (omega arith) e)
 
-pub among : (numbers : BTreeSet ℕ) (items : List ℕ) (names : List FileName) → items ≡ numbers.keys → ((s : ℕ) → contains nat_cmp numbers s ≡ list_any (is_commit s) names) → (s : ℕ) → Contains items s ↔ Contains names (Commit s)
+pub among : (numbers : BTreeSet ℕ) (items : List ℕ) (names : List FileName) → items ≡ numbers.keys → ((s : ℕ) → contains nat_cmp numbers s ≡ list_any (names_commit s) names) → (s : ℕ) → Contains items s ↔ Contains names (Commit s)
 among numbers items names is same s =
     let iff = btree_set_contains_iff nat_cmp_total exact_unsigned numbers s in (
       (λ c. any_commit s names (sym (same s) ∙ iff.1 (subst (λ (xs : List ℕ). Contains xs s) is c))),

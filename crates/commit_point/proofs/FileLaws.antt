@@ -4,7 +4,7 @@ use Rattle.std.specs.Prelude.{◌&&◌, IfOk}
 use Rattle.std.specs.Cmp.Derive.{both_true}
 use Rattle.std.specs.Int.{w32, w64}
 use Rattle.std.specs.List.{flat_map, AllByRecursion}
-use Rattle.std.proofs.lemmas.Bool.{eqb-true, eq-eqb, leb-true, le-leb, ltb-true, lt-ltb}
+use Rattle.std.proofs.lemmas.Bool.{and_parts, not-true, eqb-true, eq-eqb, leb-true, le-leb, ltb-true, lt-ltb}
 use Rattle.std.proofs.lemmas.List.{append-nil, nil_from_length}
 use Rattle.ix_base.specs.declared.file_name.FileName.{FileName}
 use Rattle.ix_base.specs.declared.document.Row.{Row}
@@ -12,17 +12,16 @@ use Rattle.commit_point.specs.declared.heads.HeadSegment.{HeadSegment}
 use Rattle.commit_point.specs.declared.heads.Head.{Head}
 use Rattle.ix_base.specs.declared.damaged.Damaged.{Damaged}
 use Rattle.commit_point.specs.declared.fault.FileFault.{FileFault}
-use Rattle.commit_point.specs.Spelling.{be32, be64, rows_mark, commit_mark, document, row, rows_file, entry, commit_file}
+use Rattle.commit_point.specs.Spelling.{rows_mark, commit_mark, document, row, rows_file, entry, commit_file}
 use Rattle.commit_point.specs.Fits.{DocumentFits, BirthsRise, IdsRise, EntryFits, HeadFits, IsSegment}
-use Rattle.commit_point.specs.Fields.{◌>>=◌, number_at, number_where, mark_at, items_at, document_at}
+use Rattle.ix_base.specs.Codec.{◌>>=◌, number_at}
+use Rattle.ix_base.specs.CodecLaws.{bind_ok, ok_is, passes, Takes, Takes-then, u64_takes, u64_again}
+use Rattle.ix_base.specs.Spelling.{be32, be64, AreBytes}
+use Rattle.commit_point.specs.Fields.{number_where, mark_at, items_at, document_at}
 use Rattle.commit_point.specs.Reading.{ended, row_at, rows_in, entry_at, head_in, placed, GivesFile}
-use Rattle.commit_point.proofs.NumberLaws.{IsBytes, bind_ok, ok_is, passes, Takes, Takes-then, u32_where_takes, u32_where_again, u64_takes, u64_again, u64_where_takes, u64_where_again, mark_takes, mark_again, and_parts}
+use Rattle.commit_point.proofs.NumberLaws.{u32_where_takes, u32_where_again, u64_where_takes, u64_where_again, mark_takes, mark_again}
 use Rattle.commit_point.proofs.ItemLaws.{AllGood, TakesItem, GivesItem, items_take, items_again}
 use Rattle.commit_point.proofs.DocumentLaws.{good_each, document_takes, document_again}
-
-not_true : (b : Bool) → not b ≡ true → b ≡ false
-not_true true e = absurd cc
-not_true false e = refl
 
 ended_ok : {A : Type 0} (x : A) (rest : List ℕ) (y : A) → ended x rest ≡ Ok y → (rest ≡ []) × (x ≡ y)
 ended_ok x rest y e =
@@ -52,7 +51,7 @@ row_takes s known low bytes x fits e =
     let k = and_parts (leb a.0.0 s) (not (known a.0.0)) h.1 in
     let made : Row × List ℕ = (record { birth = a.0.0; doc = b.0.0 }, b.0.1) in
     subst (λ (y : Row × List ℕ). Takes bytes (row y.0) y.1 × RowGood s known low y.0) (ok_is made x b.2)
-    (both, record { low_is = leb-true _ _ h.0; not_later = leb-true _ _ k.0; unknown = not_true (known a.0.0) k.1; fits = t1.1 })
+    (both, record { low_is = leb-true _ _ h.0; not_later = leb-true _ _ k.0; unknown = not-true (known a.0.0) k.1; fits = t1.1 })
 
 row_again : (s : ℕ) (known : ℕ → Bool) → s < 2 ^ 64 → GivesItem (row_at s known) row (RowGood s known)
 unfolding row_at
@@ -78,7 +77,7 @@ rows_good s known low (r ∷ rs) births fits unknown =
 abbrev count_test : ℕ → ℕ → Bool
 count_test n x = eqb x n && leb 1 x
 
-pub rows_take : (id n s : ℕ) (known : ℕ → Bool) (bytes : List ℕ) (rows : List Row) → IsBytes bytes → rows_in id n s known bytes ≡ Ok rows → IsSegment s n known rows × (bytes ≡ rows_file id rows)
+pub rows_take : (id n s : ℕ) (known : ℕ → Bool) (bytes : List ℕ) (rows : List Row) → AreBytes bytes → rows_in id n s known bytes ≡ Ok rows → IsSegment s n known rows × (bytes ≡ rows_file id rows)
 unfolding rows_in rows_mark
 rows_take id n s known bytes rows fits e =
     let a = bind_ok (mark_at rows_mark bytes) (λ rest. number_where w64 (λ x. eqb x id) rest >>= λ own. number_where w32 (count_test n) own.1 >>= λ count. items_at (row_at s known) after_birth 1 n count.1 >>= λ found. ended found.0 found.1) rows e in
@@ -133,35 +132,35 @@ record EntryGood (s next low : ℕ) (e : HeadSegment) : Type 0 where
 abbrev id_test : ℕ → ℕ → ℕ → Bool
 id_test next low x = leb low x && ltb x next
 
-abbrev v_test : ℕ → ℕ → Bool
-v_test s x = leb 1 x && leb x s
+abbrev written_test : ℕ → ℕ → Bool
+written_test s x = leb 1 x && leb x s
 
 entry_takes : (s next : ℕ) → TakesItem (entry_at s next) entry (EntryGood s next)
 unfolding entry_at
 entry_takes s next low bytes x fits e =
-    let a = bind_ok (number_where w64 (id_test next low) bytes) (λ id. number_where w32 (λ x. leb 1 x) id.1 >>= λ n. number_where w64 (v_test s) n.1 >>= λ v. Ok (record { id = id.0; n = n.0; v = v.0 }, v.1)) x e in
-    let b = bind_ok (number_where w32 (λ x. leb 1 x) a.0.1) (λ n. number_where w64 (v_test s) n.1 >>= λ v. Ok (record { id = a.0.0; n = n.0; v = v.0 }, v.1)) x a.2 in
-    let c = bind_ok (number_where w64 (v_test s) b.0.1) (λ v. Ok (record { id = a.0.0; n = b.0.0; v = v.0 }, v.1)) x b.2 in
+    let a = bind_ok (number_where w64 (id_test next low) bytes) (λ id. number_where w32 (λ x. leb 1 x) id.1 >>= λ rows. number_where w64 (written_test s) rows.1 >>= λ written. Ok (record { id = id.0; rows = rows.0; written = written.0 }, written.1)) x e in
+    let b = bind_ok (number_where w32 (λ x. leb 1 x) a.0.1) (λ rows. number_where w64 (written_test s) rows.1 >>= λ written. Ok (record { id = a.0.0; rows = rows.0; written = written.0 }, written.1)) x a.2 in
+    let c = bind_ok (number_where w64 (written_test s) b.0.1) (λ written. Ok (record { id = a.0.0; rows = b.0.0; written = written.0 }, written.1)) x b.2 in
     let t0 = u64_where_takes (id_test next low) bytes a.0 fits a.1 in
     let t1 = u32_where_takes (λ x. leb 1 x) a.0.1 b.0 t0.0.rest_fits b.1 in
-    let t2 = u64_where_takes (v_test s) b.0.1 c.0 t1.0.rest_fits c.1 in
+    let t2 = u64_where_takes (written_test s) b.0.1 c.0 t1.0.rest_fits c.1 in
     let e12 = Takes-then a.0.1 (be32 b.0.0) b.0.1 (be64 c.0.0) c.0.1 t1.0 t2.0 in
     let e02 = Takes-then bytes (be64 a.0.0) a.0.1 (be32 b.0.0 ++ be64 c.0.0) c.0.1 t0.0 e12 in
     let h = and_parts (leb low a.0.0) (ltb a.0.0 next) t0.2 in
     let k = and_parts (leb 1 c.0.0) (leb c.0.0 s) t2.2 in
-    let made : HeadSegment × List ℕ = (record { id = a.0.0; n = b.0.0; v = c.0.0 }, c.0.1) in
+    let made : HeadSegment × List ℕ = (record { id = a.0.0; rows = b.0.0; written = c.0.0 }, c.0.1) in
     subst (λ (y : HeadSegment × List ℕ). Takes bytes (entry y.0) y.1 × EntryGood s next low y.0) (ok_is made x c.2)
     (e02, record { low_is = leb-true _ _ h.0; below = ltb-true _ _ h.1; short = t0.1; fits = record { rows = leb-true _ _ t1.2; count = t1.1; some = leb-true _ _ k.0; not_later = leb-true _ _ k.1 } })
 
 entry_again : (s next : ℕ) → s < 2 ^ 64 → GivesItem (entry_at s next) entry (EntryGood s next)
 unfolding entry_at
 entry_again s next lt low e rest good =
-    let regrouped : entry e ++ rest ≡ be64 e.id ++ (be32 e.n ++ (be64 e.v ++ rest)) = append_assoc (be64 e.id) (be32 e.n ++ be64 e.v) rest ∙ ap (λ (x : List ℕ). be64 e.id ++ x) (append_assoc (be32 e.n) (be64 e.v) rest) in
-    let v_short : e.v < 2 ^ 64 = omega (arith, good.fits.not_later) in
+    let regrouped : entry e ++ rest ≡ be64 e.id ++ (be32 e.rows ++ (be64 e.written ++ rest)) = append_assoc (be64 e.id) (be32 e.rows ++ be64 e.written) rest ∙ ap (λ (x : List ℕ). be64 e.id ++ x) (append_assoc (be32 e.rows) (be64 e.written) rest) in
+    let short : e.written < 2 ^ 64 = omega (arith, good.fits.not_later) in
     ap (entry_at s next low) regrouped ∙ rw (
-      u64_where_again (id_test next low) e.id (be32 e.n ++ (be64 e.v ++ rest)) good.short (both_true (le-leb _ _ good.low_is) (lt-ltb _ _ good.below)),
-      u32_where_again (λ x. leb 1 x) e.n (be64 e.v ++ rest) good.fits.count (le-leb _ _ good.fits.rows),
-      u64_where_again (v_test s) e.v rest v_short (both_true (le-leb _ _ good.fits.some) (le-leb _ _ good.fits.not_later)),
+      u64_where_again (id_test next low) e.id (be32 e.rows ++ (be64 e.written ++ rest)) good.short (both_true (le-leb _ _ good.low_is) (lt-ltb _ _ good.below)),
+      u32_where_again (λ x. leb 1 x) e.rows (be64 e.written ++ rest) good.fits.count (le-leb _ _ good.fits.rows),
+      u64_where_again (written_test s) e.written rest short (both_true (le-leb _ _ good.fits.some) (le-leb _ _ good.fits.not_later)),
     ) refl
 
 abbrev after_id : HeadSegment → ℕ
@@ -182,7 +181,7 @@ number_test s x = eqb x s && leb 1 x
 abbrev next_test : ℕ → Bool
 next_test x = leb 1 x && leb x (2 ^ 62)
 
-pub head_take : (s : ℕ) (bytes : List ℕ) (head : Head) → IsBytes bytes → head_in s bytes ≡ Ok head → (head.number ≡ s) × HeadFits head × (bytes ≡ commit_file head)
+pub head_take : (s : ℕ) (bytes : List ℕ) (head : Head) → AreBytes bytes → head_in s bytes ≡ Ok head → (head.number ≡ s) × HeadFits head × (bytes ≡ commit_file head)
 unfolding head_in commit_mark
 head_take s bytes head fits e =
     let made : ℕ → ℕ → ℕ → List HeadSegment → Head = λ number docs next segments. record { number = number; docs = docs; next_id = next; segments = segments } in
@@ -255,7 +254,7 @@ placed_ok name bytes (Ok y) x e = ap again e
     again (Err d) = Err 0
 placed_ok name bytes (Err left) x e = absurd cc
 
-pub rows_found : (id n s : ℕ) (known : ℕ → Bool) (bytes : List ℕ) (name : FileName) (r : Result (List Row) FileFault) → IsBytes bytes
+pub rows_found : (id n s : ℕ) (known : ℕ → Bool) (bytes : List ℕ) (name : FileName) (r : Result (List Row) FileFault) → AreBytes bytes
     → GivesFile (λ x. x) r (placed name bytes (rows_in id n s known bytes)) → IfOk r (λ rows. IsSegment s n known rows × (bytes ≡ rows_file id rows))
 rows_found id n s known bytes name (Ok rows) fits given = rows_take id n s known bytes rows fits (placed_ok name bytes (rows_in id n s known bytes) rows given)
 rows_found id n s known bytes name (Err f) fits given = tt
@@ -266,7 +265,7 @@ rows_only id n s known bytes name r id_fits s_fits given rows segment is =
     let read : rows_in id n s known bytes ≡ Ok rows = ap (rows_in id n s known) is ∙ rows_again id n s known rows id_fits s_fits segment in
     subst (λ (x : Result (List Row) ℕ). GivesFile (λ y. y) r (placed name bytes x)) read given
 
-pub head_found : (s : ℕ) (bytes : List ℕ) (name : FileName) (r : Result Head FileFault) → IsBytes bytes
+pub head_found : (s : ℕ) (bytes : List ℕ) (name : FileName) (r : Result Head FileFault) → AreBytes bytes
     → GivesFile (λ x. x) r (placed name bytes (head_in s bytes)) → IfOk r (λ head. (head.number ≡ s) × HeadFits head × (bytes ≡ commit_file head))
 head_found s bytes name (Ok head) fits given = head_take s bytes head fits (placed_ok name bytes (head_in s bytes) head given)
 head_found s bytes name (Err f) fits given = tt

@@ -3,8 +3,10 @@ use Rattle.std.proofs.Common.{◌≡◌, ℕ, zero, suc, List, [], ◌∷◌, �
 use Rattle.std.specs.Prelude.{⊤}
 use Rattle.std.specs.List.{flat_map}
 use Rattle.std.proofs.lemmas.List.Concat.{flat_map-cons}
-use Rattle.commit_point.specs.Fields.{◌>>=◌, items_at}
-use Rattle.commit_point.proofs.NumberLaws.{IsBytes, bind_ok, ok_is, Takes, Takes-then}
+use Rattle.commit_point.specs.Fields.{items_at}
+use Rattle.ix_base.specs.Codec.{◌>>=◌}
+use Rattle.ix_base.specs.CodecLaws.{bind_ok, ok_is, Takes, Takes-then}
+use Rattle.ix_base.specs.Spelling.{AreBytes}
 
 -- each item is good after what the one before it leaves
 abbrev pub AllGood : {X S : Type 0} → (S → X → Type 0) → (X → S) → S → List X → Type 0
@@ -13,13 +15,13 @@ AllGood good leaves state (x ∷ xs) = good state x × AllGood good leaves (leav
 
 -- what reading one item tells
 abbrev pub TakesItem : {X S : Type 0} → (S → List ℕ → Result (X × List ℕ) ℕ) → (X → List ℕ) → (S → X → Type 0) → Type 0
-TakesItem {X} {S} item spelled good = (state : S) (bytes : List ℕ) (x : X × List ℕ) → IsBytes bytes → item state bytes ≡ Ok x → Takes bytes (spelled x.0) x.1 × good state x.0
+TakesItem {X} {S} item spelled good = (state : S) (bytes : List ℕ) (x : X × List ℕ) → AreBytes bytes → item state bytes ≡ Ok x → Takes bytes (spelled x.0) x.1 × good state x.0
 
 abbrev pub GivesItem : {X S : Type 0} → (S → List ℕ → Result (X × List ℕ) ℕ) → (X → List ℕ) → (S → X → Type 0) → Type 0
 GivesItem {X} {S} item spelled good = (state : S) (x : X) (rest : List ℕ) → good state x → item state (spelled x ++ rest) ≡ Ok (x, rest)
 
 pub items_take : {X S : Type 0} (item : S → List ℕ → Result (X × List ℕ) ℕ) (leaves : X → S) (spelled : X → List ℕ) (good : S → X → Type 0) → TakesItem item spelled good
-    → (state : S) (n : ℕ) (bytes : List ℕ) (x : List X × List ℕ) → IsBytes bytes → items_at item leaves state n bytes ≡ Ok x
+    → (state : S) (n : ℕ) (bytes : List ℕ) (x : List X × List ℕ) → AreBytes bytes → items_at item leaves state n bytes ≡ Ok x
     → Takes bytes (flat_map spelled x.0) x.1 × (length x.0 ≡ n) × AllGood good leaves state x.0
 unfolding items_at
 items_take {X} {S} item leaves spelled good takes state zero bytes x fits e =

@@ -3,7 +3,6 @@ pub mod PutFiles
 pub mod Joined
 pub mod Making
 pub mod Readers
-pub mod NameSearch
 pub mod Loop
 pub mod NumberLaws
 pub mod ItemLaws

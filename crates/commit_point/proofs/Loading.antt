@@ -57,7 +57,7 @@ known_so_far : (told : Option Files) (head : Head) (before : Files) (i : ℕ) (e
 known_so_far told head before i earlier rows so b = so.known b ∙ ap (λ (rs : List Row). has_birth rs b) (sym so.all)
 
 pub one_more : (told : Option Files) (head : Head) (before : Files) (i : ℕ) (earlier now : ℕ → Bool) (rows : List Row) (e : HeadSegment) (part : List Row) → HeadFits head → i < length head.segments → e ≡ get_or head.segments i e
-    → SoFar told head before i earlier rows → Reads told (Rows e.id) (Some (rows_file e.id part)) → IsSegment head.number e.n earlier part → ((b : ℕ) → now b ≡ (earlier b || has_birth part b))
+    → SoFar told head before i earlier rows → Reads told (Rows e.id) (Some (rows_file e.id part)) → IsSegment head.number e.rows earlier part → ((b : ℕ) → now b ≡ (earlier b || has_birth part b))
     → SoFar told head before (i + 1) now (rows ++ part)
 one_more told head before i earlier now rows e part fits lt is so reads segment more =
     let see : Seen told (Rows e.id) (Some (rows_file e.id part)) so.files = sees told (Rows e.id) (Some (rows_file e.id part)) so.files so.was reads in
@@ -76,13 +76,13 @@ one_more told head before i earlier now rows e part fits lt is so reads segment 
     }
 
 pub breaks : (told : Option Files) (head : Head) (before : Files) (i : ℕ) (earlier : ℕ → Bool) (rows : List Row) (e : HeadSegment) (d : Damaged) → HeadFits head → i < length head.segments → e ≡ get_or head.segments i e
-    → SoFar told head before i earlier rows → IsBroken told (Rows e.id) (rows_in e.id e.n head.number earlier) d → BreakAt told head before d
+    → SoFar told head before i earlier rows → IsBroken told (Rows e.id) (rows_in e.id e.rows head.number earlier) d → BreakAt told head before d
 breaks told head before i earlier rows e d fits lt is so broken =
     let see : Seen told (Rows e.id) broken.found so.files = sees told (Rows e.id) broken.found so.files so.was broken.seen in
     let ids = ids_so_far head i e fits lt is in
     let kept = have_kept so.files see.files head.number 1 e.id (take i head.segments) so.parts see.others ids so.each in
     let same : earlier ≡ (λ b. has_birth (all_rows so.parts) b) = λ j b. known_so_far told head before i earlier rows so b j in
-    let at_e : segment_from see.files head.number earlier e ≡ Err d = ap (of_file (Rows e.id) (rows_in e.id e.n head.number earlier)) see.there ∙ broken.broken in
+    let at_e : segment_from see.files head.number earlier e ≡ Err d = ap (of_file (Rows e.id) (rows_in e.id e.rows head.number earlier)) see.there ∙ broken.broken in
     let at_e' : segment_from see.files head.number (λ b. has_birth (all_rows so.parts) b) e ≡ Err d = subst (λ (k : ℕ → Bool). segment_from see.files head.number k e ≡ Err d) same at_e in
     let below : e.id < head.next_id = subst (λ (x : HeadSegment). x.id < head.next_id) (sym is) (id_below 1 head.next_id head.segments i e lt fits.ids) in
     let whole : take i head.segments ++ e ∷ drop (i + 1) head.segments ≡ head.segments =
@@ -117,7 +117,7 @@ item_is : (es seen : List HeadSegment) (i : ℕ) (d : HeadSegment) → seen ≡ 
 item_is es seen i d is lt = same_default seen i d (get_or seen i d) lt ∙ ap (λ (xs : List HeadSegment). get_or xs i (get_or seen i d)) is
 
 pub one_more_seen : (told now_told : Option Files) (head : Head) (before : Files) (i : ℕ) (earlier now : ℕ → Bool) (rows rows' : List Row) (seen : List HeadSegment) (d : HeadSegment) (part : List Row) → HeadFits head → now_told ≡ told → seen ≡ head.segments
-    → i < length seen → SoFar told head before i earlier rows → Reads now_told (Rows (get_or seen i d).id) (Some (rows_file (get_or seen i d).id part)) → IsSegment head.number (get_or seen i d).n earlier part → ((b : ℕ) → now b ≡ (earlier b || has_birth part b))
+    → i < length seen → SoFar told head before i earlier rows → Reads now_told (Rows (get_or seen i d).id) (Some (rows_file (get_or seen i d).id part)) → IsSegment head.number (get_or seen i d).rows earlier part → ((b : ℕ) → now b ≡ (earlier b || has_birth part b))
     → rows' ≡ rows ++ part → SoFar told head before (i + 1) now rows'
 one_more_seen told now_told head before i earlier now rows rows' seen d part fits same is lt so reads segment more all =
     let lt' : i < length head.segments = subst (λ (xs : List HeadSegment). i < length xs) is lt in
@@ -126,8 +126,8 @@ one_more_seen told now_told head before i earlier now rows rows' seen d part fit
     (one_more told head before i earlier now rows e part fits lt' (item_is head.segments seen i d is lt) so (subst (λ (o : Option Files). Reads o (Rows e.id) (Some (rows_file e.id part))) same reads) segment more)
 
 pub breaks_seen : (told now_told : Option Files) (head : Head) (before : Files) (i : ℕ) (earlier : ℕ → Bool) (rows : List Row) (seen : List HeadSegment) (d : HeadSegment) (damaged : Damaged) → HeadFits head → now_told ≡ told → seen ≡ head.segments
-    → i < length seen → SoFar told head before i earlier rows → IsBroken now_told (Rows (get_or seen i d).id) (rows_in (get_or seen i d).id (get_or seen i d).n head.number earlier) damaged → BreakAt told head before damaged
+    → i < length seen → SoFar told head before i earlier rows → IsBroken now_told (Rows (get_or seen i d).id) (rows_in (get_or seen i d).id (get_or seen i d).rows head.number earlier) damaged → BreakAt told head before damaged
 breaks_seen told now_told head before i earlier rows seen d damaged fits same is lt so broken =
     let lt' : i < length head.segments = subst (λ (xs : List HeadSegment). i < length xs) is lt in
     let e = get_or seen i d in
-    breaks told head before i earlier rows e damaged fits lt' (item_is head.segments seen i d is lt) so (subst (λ (o : Option Files). IsBroken o (Rows e.id) (rows_in e.id e.n head.number earlier) damaged) same broken)
+    breaks told head before i earlier rows e damaged fits lt' (item_is head.segments seen i d is lt) so (subst (λ (o : Option Files). IsBroken o (Rows e.id) (rows_in e.id e.rows head.number earlier) damaged) same broken)

@@ -3,7 +3,8 @@ use Rattle.std.proofs.Common.{◌≡◌, ℕ, suc, ◌-◌, ◌+◌, ◌≤◌, 
 use Rattle.std.proofs.lemmas.List.{append-nil}
 use Rattle.commit_point.specs.declared.broken.Broken.{Broken}
 use Rattle.commit_point.specs.declared.broken.Broken.TheVariants.{At, NoMemory}
-use Rattle.commit_point.specs.Fields.{◌>>=◌, Fails, items_at, left_by}
+use Rattle.ix_base.specs.Codec.{◌>>=◌}
+use Rattle.commit_point.specs.Fields.{Fails, items_at, left_by}
 
 -- what was read before, and what is still read
 abbrev pub with_front : {X : Type 0} → List X → Result (List X × List ℕ) ℕ → Result (List X × List ℕ) ℕ

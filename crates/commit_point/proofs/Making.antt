@@ -24,7 +24,7 @@ use Rattle.commit_point.specs.Holds.{Holds}
 use Rattle.commit_point.specs.Publishing.{File, puts, puts_all, publishes, IsNoneOf, AreApart, AreThere, SameBesides, IsWhole, Publishes, MayPublish, CanPublish, Refuses}
 use Rattle.commit_point.specs.PublishLaws.{publish_stops, publish_early, image_of_publish, reads_of_publish, reads_of_stop}
 use Rattle.commit_point.specs.Spelling.{rows_file, commit_file}
-use Rattle.commit_point.specs.Writing.{Commits, MayCommit, SameElsewhere, commit_steps, next_after, head_of, segment_file, segment_list}
+use Rattle.commit_point.specs.Writing.{Commits, MayCommit, SameElsewhere, commit_steps, next_after, new_head, segment_file, segment_list}
 
 -- rows that may be written as a commit
 pub record AreNew (s id : ℕ) (rows : List Row) : Type 0 where
@@ -37,10 +37,10 @@ pub record AreNew (s id : ℕ) (rows : List Row) : Type 0 where
   pub documents : AllByRecursion (λ (r : Row). DocumentFits r.doc) rows
 
 -- files with the commit file of new rows and their segment hold the rows
-pub holds_new : (s id : ℕ) (rows : List Row) (files : Files) → AreNew s id rows → files (Commit s) ≡ Some (commit_file (head_of s id rows))
+pub holds_new : (s id : ℕ) (rows : List Row) (files : Files) → AreNew s id rows → files (Commit s) ≡ Some (commit_file (new_head s id rows))
     → (1 ≤ length rows → files (Rows id) ≡ Some (rows_file id rows)) → Holds files s (next_after id rows) rows
 holds_new s id [] files new commit file = record {
-  head = head_of s id [];
+  head = new_head s id [];
   parts = [];
   has_head = record { file = commit; number = refl; fits = record { some = new.number; number = new.fits; docs = omega arith; next_some = new.some_id; next = omega (arith, new.room); count = omega arith; ids = tt; entries = tt } };
   next_id = refl;
@@ -52,7 +52,7 @@ holds_new s id [] files new commit file = record {
 holds_new s id (r ∷ rs) files new commit file =
     let some : 1 ≤ length (r ∷ rs) = omega arith in
     record {
-      head = head_of s id (r ∷ rs);
+      head = new_head s id (r ∷ rs);
       parts = (r ∷ rs) ∷ [];
       has_head = record {
         file = commit;
@@ -111,7 +111,7 @@ rows_there id [] c there some = absurd (omega (arith, some))
 rows_there id (r ∷ rs) c there some = there.0
 
 -- all was published, so the commit was made
-pub made_of : (s id : ℕ) (rows : List Row) (a c : Files) → AreNew s id rows → Publishes (segment_list id rows) (Pending s) (Commit s) (commit_file (head_of s id rows)) a c → Commits s id rows a c
+pub made_of : (s id : ℕ) (rows : List Row) (a c : Files) → AreNew s id rows → Publishes (segment_list id rows) (Pending s) (Commit s) (commit_file (new_head s id rows)) a c → Commits s id rows a c
 made_of s id rows a c new all = record {
   holds = holds_new s id rows c new all.whole.last (rows_there id rows c all.whole.there);
   commit = all.whole.last;
@@ -121,10 +121,10 @@ made_of s id rows a c new all = record {
 }
 
 -- all was published, or the commit file is as before
-pub may_of : (s id : ℕ) (rows : List Row) (a c : Files) → AreNew s id rows → MayPublish (segment_list id rows) (Pending s) (Commit s) (commit_file (head_of s id rows)) a c → MayCommit s id rows a c
+pub may_of : (s id : ℕ) (rows : List Row) (a c : Files) → AreNew s id rows → MayPublish (segment_list id rows) (Pending s) (Commit s) (commit_file (new_head s id rows)) a c → MayCommit s id rows a c
 may_of s id rows a c new may = record { elsewhere = elsewhere_of s id rows a c may.elsewhere; whole = cases may.whole }
   where
-    cases : (c (Commit s) ≡ a (Commit s)) ⊎ IsWhole (segment_list id rows) (Pending s) (Commit s) (commit_file (head_of s id rows)) c → (c (Commit s) ≡ a (Commit s)) ⊎ Commits s id rows a c
+    cases : (c (Commit s) ≡ a (Commit s)) ⊎ IsWhole (segment_list id rows) (Pending s) (Commit s) (commit_file (new_head s id rows)) c → (c (Commit s) ≡ a (Commit s)) ⊎ Commits s id rows a c
     cases (inl same) = inl same
     cases (inr whole) = inr (made_of s id rows a c new (record { whole = whole; elsewhere = may.elsewhere }))
 
@@ -139,16 +139,16 @@ abbrev pub Stopped : ℕ → ℕ → List Row → Option Disk → Option Disk �
 Stopped s id rows = Told (λ old now. Stops (commit_steps s id rows) old now)
 
 -- what was published is the list of the rows and the commit file
-pub did_at : (s id : ℕ) (rows : List Row) (list : List File) (bytes : List ℕ) (a b : Option Disk) → list ≡ segment_list id rows → bytes ≡ commit_file (head_of s id rows)
+pub did_at : (s id : ℕ) (rows : List Row) (list : List File) (bytes : List ℕ) (a b : Option Disk) → list ≡ segment_list id rows → bytes ≡ commit_file (new_head s id rows)
     → Told (λ old now. now ≡ taken (publishes list (Pending s) (Commit s) bytes) old) a b → Did s id rows a b
 did_at s id rows list bytes a b is same did =
-    subst (λ (xs : List File). Told (λ old now. now ≡ taken (publishes xs (Pending s) (Commit s) (commit_file (head_of s id rows))) old) a b) is
+    subst (λ (xs : List File). Told (λ old now. now ≡ taken (publishes xs (Pending s) (Commit s) (commit_file (new_head s id rows))) old) a b) is
     (subst (λ (x : List ℕ). Told (λ old now. now ≡ taken (publishes list (Pending s) (Commit s) x) old) a b) same did)
 
-pub stopped_at : (s id : ℕ) (rows : List Row) (list : List File) (bytes : List ℕ) (a b : Option Disk) → list ≡ segment_list id rows → bytes ≡ commit_file (head_of s id rows)
+pub stopped_at : (s id : ℕ) (rows : List Row) (list : List File) (bytes : List ℕ) (a b : Option Disk) → list ≡ segment_list id rows → bytes ≡ commit_file (new_head s id rows)
     → Told (λ old now. Stops (publishes list (Pending s) (Commit s) bytes) old now) a b → Stopped s id rows a b
 stopped_at s id rows list bytes a b is same stopped =
-    subst (λ (xs : List File). Told (λ old now. Stops (publishes xs (Pending s) (Commit s) (commit_file (head_of s id rows))) old now) a b) is
+    subst (λ (xs : List File). Told (λ old now. Stops (publishes xs (Pending s) (Commit s) (commit_file (new_head s id rows))) old now) a b) is
     (subst (λ (x : List ℕ). Told (λ old now. Stops (publishes list (Pending s) (Commit s) x) old now) a b) same stopped)
 
 pub did_stop : (s id : ℕ) (rows : List Row) (a b : Option Disk) → Did s id rows a b → Stopped s id rows a b
@@ -163,7 +163,7 @@ pub leaves_others : (s id : ℕ) (rows : List Row) (a b : Option Disk) → Stopp
 leaves_others s id rows None b stopped = tt
 leaves_others s id rows (Some x) None stopped = absurd stopped
 leaves_others s id rows (Some x) (Some y) stopped =
-    elsewhere_of s id rows (files x) (files y) (reads_of_stop (segment_list id rows) (Pending s) (Commit s) (commit_file (head_of s id rows)) x y (can_publish s id rows) stopped).elsewhere
+    elsewhere_of s id rows (files x) (files y) (reads_of_stop (segment_list id rows) (Pending s) (Commit s) (commit_file (new_head s id rows)) x y (can_publish s id rows) stopped).elsewhere
 
 pub images_have : (s id : ℕ) (rows : List Row) (a b : Option Disk) → AreNew s id rows → Did s id rows a b → Follows (Commits s id rows) (MayHold a) (MayHold b)
 images_have s id rows a None new did c image = absurd image
@@ -174,8 +174,8 @@ images_have s id rows (Some x) (Some y) new did c image =
 
 -- what is seen of the images wherever the call stopped
 stopped_image : (s id : ℕ) (rows : List Row) (x y : Disk) → Stops (commit_steps s id rows) x y → (c : Files) → IsImage y c
-    → (d : Files) × IsImage x d × MayPublish (segment_list id rows) (Pending s) (Commit s) (commit_file (head_of s id rows)) d c
-stopped_image s id rows x y stops c image = publish_stops IsImage images_follow (segment_list id rows) (Pending s) (Commit s) (commit_file (head_of s id rows)) x y (can_publish s id rows) stops c image
+    → (d : Files) × IsImage x d × MayPublish (segment_list id rows) (Pending s) (Commit s) (commit_file (new_head s id rows)) d c
+stopped_image s id rows x y stops c image = publish_stops IsImage images_follow (segment_list id rows) (Pending s) (Commit s) (commit_file (new_head s id rows)) x y (can_publish s id rows) stops c image
 
 pub images_elsewhere : (s id : ℕ) (rows : List Row) (a b : Option Disk) → Stopped s id rows a b → Follows (SameElsewhere s id) (MayHold a) (MayHold b)
 images_elsewhere s id rows a None stopped c image = absurd image
@@ -202,7 +202,7 @@ pub durable_commit : (s id : ℕ) (rows : List Row) (a b : Option Disk) → Did 
 durable_commit s id rows a None did = tt
 durable_commit s id rows None (Some y) did = absurd did
 durable_commit s id rows (Some x) (Some y) did =
-    durable_at (Commit s) (Some (commit_file (head_of s id rows))) y (λ c image. (image_of_publish _ _ _ _ x y (can_publish s id rows) did c image).2.whole.last)
+    durable_at (Commit s) (Some (commit_file (new_head s id rows))) y (λ c image. (image_of_publish _ _ _ _ x y (can_publish s id rows) did c image).2.whole.last)
     (reads_of_publish _ _ _ _ x y (can_publish s id rows) did).whole.last
 
 pub durable_segment : (s id : ℕ) (rows : List Row) (a b : Option Disk) → Did s id rows a b → 1 ≤ length rows → IsDurable (Rows id) (MayHold b) (told_files b)
@@ -216,21 +216,21 @@ durable_segment s id rows (Some x) (Some y) did some =
 
 -- the steps before the rename
 before_rename : ℕ → ℕ → List Row → List Step
-before_rename s id rows = puts_all (segment_list id rows) ++ puts (Pending s) (commit_file (head_of s id rows))
+before_rename s id rows = puts_all (segment_list id rows) ++ puts (Pending s) (commit_file (new_head s id rows))
 
-renamed_there : (s id : ℕ) (rows : List Row) (x y : Disk) → y ≡ taken (before_rename s id rows ++ Renamed (Pending s) (Commit s) ∷ []) x → files y (Commit s) ≡ Some (commit_file (head_of s id rows))
+renamed_there : (s id : ℕ) (rows : List Row) (x y : Disk) → y ≡ taken (before_rename s id rows ++ Renamed (Pending s) (Commit s) ∷ []) x → files y (Commit s) ≡ Some (commit_file (new_head s id rows))
 unfolding before_rename
 renamed_there s id rows x y is =
     let split : taken (before_rename s id rows ++ Renamed (Pending s) (Commit s) ∷ []) x ≡ Renamed (Pending s) (Commit s) ∷ taken (before_rename s id rows) x = taken_then (before_rename s id rows) (Renamed (Pending s) (Commit s) ∷ []) x in
-    let put : taken (before_rename s id rows) x ≡ Synced (Pending s) ∷ Wrote (Pending s) (commit_file (head_of s id rows)) ∷ taken (puts_all (segment_list id rows)) x = taken_then (puts_all (segment_list id rows)) (puts (Pending s) (commit_file (head_of s id rows))) x in
+    let put : taken (before_rename s id rows) x ≡ Synced (Pending s) ∷ Wrote (Pending s) (commit_file (new_head s id rows)) ∷ taken (puts_all (segment_list id rows)) x = taken_then (puts_all (segment_list id rows)) (puts (Pending s) (commit_file (new_head s id rows))) x in
     ap (λ (d : Disk). files d (Commit s)) (is ∙ split ∙ ap (λ (d : Disk). Renamed (Pending s) (Commit s) ∷ d) put)
-    ∙ moved-to (Pending s) (Commit s) None (with_at (Pending s) (Some (commit_file (head_of s id rows))) (files (taken (puts_all (segment_list id rows)) x))) (λ e. cc)
-    ∙ with_at-same (Pending s) (Some (commit_file (head_of s id rows))) (files (taken (puts_all (segment_list id rows)) x))
+    ∙ moved-to (Pending s) (Commit s) None (with_at (Pending s) (Some (commit_file (new_head s id rows))) (files (taken (puts_all (segment_list id rows)) x))) (λ e. cc)
+    ∙ with_at-same (Pending s) (Some (commit_file (new_head s id rows))) (files (taken (puts_all (segment_list id rows)) x))
 
 stopped_before : (s id : ℕ) (rows : List Row) (x y : Disk) → Stops (before_rename s id rows) x y → files y (Commit s) ≡ files x (Commit s)
 unfolding before_rename
 stopped_before s id rows x y stops =
-    let found = publish_early IsRead reads_follow (segment_list id rows) (Pending s) (Commit s) (commit_file (head_of s id rows)) x y (can_publish s id rows) stops (files y) refl in
+    let found = publish_early IsRead reads_follow (segment_list id rows) (Pending s) (Commit s) (commit_file (new_head s id rows)) x y (can_publish s id rows) stops (files y) refl in
     found.2.last ∙ ap (λ (d : Files). d (Commit s)) found.1
 
 -- the commit is there exactly where the rename was done
@@ -247,13 +247,13 @@ not_there f g name same none there = let is : f ≡ g = cc in differ (sym (ap (�
     differ e = cc
 
 pub tells_rename : (s id : ℕ) (rows : List Row) (a b : Option Disk) (refused : CommitRefused)
-    → Told (λ old now. Refuses (puts_all (segment_list id rows) ++ puts (Pending s) (commit_file (head_of s id rows))) (Renamed (Pending s) (Commit s)) refused.fault refused.renamed old now) a b
+    → Told (λ old now. Refuses (puts_all (segment_list id rows) ++ puts (Pending s) (commit_file (new_head s id rows))) (Renamed (Pending s) (Commit s)) refused.fault refused.renamed old now) a b
     → TellsRename s a b refused
 unfolding before_rename
 tells_rename s id rows None b refused refuses old now told absent told_now no_memory = absurd cc
 tells_rename s id rows (Some x) None refused refuses old now told absent told_now no_memory = absurd refuses
 tells_rename s id rows (Some x) (Some y) refused refuses old now told absent told_now no_memory = (
-  (λ was. is_there (files y) now (Commit s) (commit_file (head_of s id rows)) told_now (renamed_there s id rows x y (refuses.done was))),
+  (λ was. is_there (files y) now (Commit s) (commit_file (new_head s id rows)) told_now (renamed_there s id rows x y (refuses.done was))),
   (λ there. by_flag refused.renamed refl there),
 )
   where

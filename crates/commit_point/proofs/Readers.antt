@@ -1,9 +1,8 @@
 -- What single readers give.
 use Rattle.std.proofs.Common.{◌≡◌, ℕ, Bool, true, false, List, length, take, drop, Ok, Err, refl, sym, ap, subst, ◌∙◌}
-use Rattle.std.specs.Prelude.{IsUtf8, not, codes}
+use Rattle.std.specs.Prelude.{not, codes}
 use Rattle.ix_base.specs.Limits.{is_among}
-use Rattle.std.specs.Str.{bytes_eq, is_utf8}
-use Rattle.std.proofs.lemmas.Str.{IsUtf8-from_is_utf8, is_utf8-from_IsUtf8}
+use Rattle.std.specs.Str.{bytes_eq}
 use Rattle.commit_point.specs.Fields.{mark_at, is_free_name}
 
 pub mark_found : (mark bytes rest : List ℕ) → length mark ≡ 8 → bytes_eq (take (length mark) bytes) mark ≡ true → rest ≡ drop (length mark) bytes → mark_at mark bytes ≡ Ok rest
@@ -17,16 +16,6 @@ unfolding mark_at
 mark_missing mark bytes len other =
     let eight : bytes_eq (take 8 bytes) mark ≡ false = ap (λ (n : ℕ). bytes_eq (take n bytes) mark) (sym len) ∙ other in
     rw eight refl
-
-pub not_text : (bytes : List ℕ) → ¬ (IsUtf8 bytes) → is_utf8 bytes ≡ false
-not_text bytes isnt = by_cases (is_utf8 bytes) (λ e. isnt (IsUtf8-from_is_utf8 bytes e))
-  where
-    by_cases : (b : Bool) → ¬ (b ≡ true) → b ≡ false
-    by_cases true h = absurd (h refl)
-    by_cases false h = refl
-
-pub is_text : (bytes : List ℕ) → IsUtf8 bytes → is_utf8 bytes ≡ true
-is_text bytes is = is_utf8-from_IsUtf8 bytes is
 
 pub free_from : (taken : List (List ℕ)) (name seen : List ℕ) (found : Bool) → seen ≡ name → not (bytes_eq seen (codes "key")) ≡ true → found ≡ is_among taken name → not found ≡ is_free_name taken name
 free_from taken name seen found same other is =

@@ -2,7 +2,8 @@
 use Rattle.std.proofs.Common.{◌≡◌, ◌≢◌, ℕ, ◌+◌, ◌^◌, ◌<◌, ◌≤◌, Bool, true, false, cond, eqb, List, [], ◌∷◌, ◌++◌, length, Option, Some, None, Ok, Err, refl, sym, ap, ◌∙◌, append_assoc, arith}
 use Rattle.std.specs.Prelude.{◌||◌, ◌&&◌}
 use Rattle.std.specs.List.{AllByRecursion}
-use Rattle.std.proofs.lemmas.Bool.{eqb-true, eq-eqb}
+use Rattle.std.proofs.lemmas.Bool.{and_parts, eqb-true, eq-eqb}
+use Rattle.std.proofs.Math.Bool.{or_assoc, or-false}
 use Rattle.std.proofs.lemmas.List.{append-nil}
 use Rattle.std.proofs.lemmas.List.Sorted.{length_permutation}
 use Rattle.ix_base.specs.declared.file_name.FileName.{FileName}
@@ -30,10 +31,6 @@ same_name (Posts a) (Posts b) = eqb a b
 same_name (Live a v) (Live b w) = eqb a b && eqb v w
 same_name (Values a v) (Values b w) = eqb a b && eqb v w
 same_name a b = false
-
-and_parts : (a b : Bool) → (a && b) ≡ true → (a ≡ true) × (b ≡ true)
-and_parts true b e = (refl, e)
-and_parts false b e = absurd cc
 
 name_is : (a b : FileName) → same_name a b ≡ true → a ≡ b
 unfolding same_name
@@ -101,7 +98,7 @@ each_rises files s (e ∷ es) (p ∷ ps) have = (have.2.births, each_rises files
 
 -- the segments so far with one more
 pub have_push : (files : Files) (s : ℕ) (es : List HeadSegment) (parts : List (List Row)) (e : HeadSegment) (rows : List Row) → HaveRows files s es parts
-    → files (Rows e.id) ≡ Some (rows_file e.id rows) → e.n ≡ length rows → RowsFit s rows → HaveRows files s (es ++ e ∷ []) (parts ++ rows ∷ [])
+    → files (Rows e.id) ≡ Some (rows_file e.id rows) → e.rows ≡ length rows → RowsFit s rows → HaveRows files s (es ++ e ∷ []) (parts ++ rows ∷ [])
 have_push files s [] [] e rows have file count fits = (file, count, fits, tt)
 have_push files s [] (p ∷ ps) e rows have file count fits = absurd have
 have_push files s (d ∷ ds) [] e rows have file count fits = absurd have
@@ -122,29 +119,17 @@ all_rows_push (p ∷ ps) rows = ap (λ (r : List Row). p ++ r) (all_rows_push ps
 pub has_append : (xs ys : List Row) (b : ℕ) → has_birth (xs ++ ys) b ≡ (has_birth xs b || has_birth ys b)
 has_append [] ys b = refl
 has_append (x ∷ xs) ys b = ap (λ (t : Bool). eqb x.birth b || t) (has_append xs ys b) ∙ sym (or_assoc (eqb x.birth b) (has_birth xs b) (has_birth ys b))
-  where
-    or_assoc : (p q r : Bool) → ((p || q) || r) ≡ (p || (q || r))
-    or_assoc true q r = refl
-    or_assoc false q r = refl
 
 -- what is known before a part and with it, together with what stands in the parts after it
 known_more : (known : ℕ → Bool) (p : List Row) (ps : List (List Row)) (b : ℕ) → ((known b || has_birth p b) || has_birth (all_rows ps) b) ≡ (known b || has_birth (all_rows (p ∷ ps)) b)
 known_more known p ps b = or_assoc (known b) (has_birth p b) (has_birth (all_rows ps) b) ∙ ap (λ (t : Bool). known b || t) (sym (has_append p (all_rows ps) b))
-  where
-    or_assoc : (p q r : Bool) → ((p || q) || r) ≡ (p || (q || r))
-    or_assoc true q r = refl
-    or_assoc false q r = refl
 
 pub all_congr : (f g : ℕ → Bool) (rows : List Row) → ((b : ℕ) → f b ≡ g b) → AllByRecursion (λ (r : Row). f r.birth ≡ false) rows → AllByRecursion (λ (r : Row). g r.birth ≡ false) rows
 all_congr f g [] same all = tt
 all_congr f g (r ∷ rs) same all = (sym (same r.birth) ∙ all.0, all_congr f g rs same all.1)
 
 pub unknown_push : (known : ℕ → Bool) (parts : List (List Row)) (rows : List Row) → Unknown known parts → AllByRecursion (λ (r : Row). (known r.birth || has_birth (all_rows parts) r.birth) ≡ false) rows → Unknown known (parts ++ rows ∷ [])
-unknown_push known [] rows unknown all = (all_congr (λ b. known b || false) known rows (λ b. or_false (known b)) all, tt)
-  where
-    or_false : (b : Bool) → (b || false) ≡ b
-    or_false true = refl
-    or_false false = refl
+unknown_push known [] rows unknown all = (all_congr (λ b. known b || false) known rows (λ b. or-false (known b)) all, tt)
 unknown_push known (p ∷ ps) rows unknown all = (
   unknown.0,
   unknown_push (λ b. known b || has_birth p b) ps rows unknown.1
@@ -152,11 +137,11 @@ unknown_push known (p ∷ ps) rows unknown all = (
 )
 
 -- one segment that is there is read
-segment_reads : (files : Files) (s : ℕ) (known : ℕ → Bool) (e : HeadSegment) (rows : List Row) → e.id < 2 ^ 64 → s < 2 ^ 64 → files (Rows e.id) ≡ Some (rows_file e.id rows) → e.n ≡ length rows → RowsFit s rows
+segment_reads : (files : Files) (s : ℕ) (known : ℕ → Bool) (e : HeadSegment) (rows : List Row) → e.id < 2 ^ 64 → s < 2 ^ 64 → files (Rows e.id) ≡ Some (rows_file e.id rows) → e.rows ≡ length rows → RowsFit s rows
     → AllByRecursion (λ (r : Row). known r.birth ≡ false) rows → segment_from files s known e ≡ Ok rows
 segment_reads files s known e rows id_fits s_fits file count fits unknown =
-    ap (of_file (Rows e.id) (rows_in e.id e.n s known)) file
-    ∙ ap (placed (Rows e.id) (rows_file e.id rows)) (rows_again e.id e.n s known rows id_fits s_fits (record { fits = fits; count = sym count; unknown = unknown }))
+    ap (of_file (Rows e.id) (rows_in e.id e.rows s known)) file
+    ∙ ap (placed (Rows e.id) (rows_file e.id rows)) (rows_again e.id e.rows s known rows id_fits s_fits (record { fits = fits; count = sym count; unknown = unknown }))
 
 -- segments that are there are read
 pub segments_read : (files : Files) (s low limit : ℕ) (known : ℕ → Bool) (es : List HeadSegment) (parts : List (List Row)) → s < 2 ^ 64 → limit ≤ 2 ^ 62 → IdsRise low limit es → HaveRows files s es parts → Unknown known parts
@@ -176,13 +161,9 @@ pub segments_break : (files : Files) (s low limit : ℕ) (known : ℕ → Bool) 
     → HaveRows files s es parts → Unknown known parts → segment_from files s (λ b. known b || has_birth (all_rows parts) b) e ≡ Err d → segments_from files s known (es ++ e ∷ rest) ≡ Err d
 unfolding segments_from
 segments_break files s low limit known [] [] e rest d s_fits room ids have unknown broken =
-    let same : (λ b. known b || false) ≡ known = λ i b. or_false (known b) i in
+    let same : (λ b. known b || false) ≡ known = λ i b. or-false (known b) i in
     let h : segment_from files s known e ≡ Err d = ap (λ (k : ℕ → Bool). segment_from files s k e) (sym same) ∙ broken in
     rw h refl
-  where
-    or_false : (b : Bool) → (b || false) ≡ b
-    or_false true = refl
-    or_false false = refl
 segments_break files s low limit known [] (p ∷ ps) e rest d s_fits room ids have unknown broken = absurd have
 segments_break files s low limit known (g ∷ gs) [] e rest d s_fits room ids have unknown broken = absurd have
 segments_break files s low limit known (g ∷ gs) (p ∷ ps) e rest d s_fits room ids have unknown broken =

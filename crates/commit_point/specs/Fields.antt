@@ -1,23 +1,13 @@
--- Reading fields from left to right. A field is broken where it is cut short or breaks a rule; the
--- first broken field is told by how many bytes are left from its first byte on.
-use Rattle.std.specs.Prelude.{◌≡◌, ℕ, zero, suc, ℤ, List, [], ◌∷◌, length, take, drop, Bool, true, not, ◌&&◌, Option, Some, None, Result, Ok, Err, map, codes, nat_lt, if◌then◌else◌, ⊤}
-use Rattle.std.specs.Int.{Width, w32, w64, byte_len, from_be_bytes, cast_signed}
-use Rattle.std.specs.Str.{bytes_eq, is_utf8}
-use Rattle.ix_base.specs.Limits.{is_name, text_lt, is_among}
+-- Reading the fields of a file from left to right. The first broken field is told by how many bytes
+-- are left from its first byte on.
+use Rattle.std.specs.Prelude.{◌≡◌, ℕ, zero, suc, ℤ, List, [], ◌∷◌, length, take, drop, Bool, true, not, ◌&&◌, Option, Some, None, Result, Ok, Err, map, codes, if◌then◌else◌, ⊤}
+use Rattle.std.specs.Int.{Width, w32, w64}
+use Rattle.std.specs.Str.{bytes_eq}
+use Rattle.ix_base.specs.Codec.{◌>>=◌, number_at, signed_at, text_at, name_at}
+use Rattle.ix_base.specs.Limits.{text_lt, is_among}
 use Rattle.ix_base.specs.Documents.{Document}
-use Rattle.commit_point.specs.declared.broken.BrokenField.{BrokenField}
 use Rattle.commit_point.specs.declared.broken.Broken.{Broken}
 use Rattle.commit_point.specs.declared.broken.Broken.TheVariants.{At, NoMemory}
-
-infixl 10 ◌>>=◌
-abbrev pub ◌>>=◌ : {A B : Type 0} → Result A ℕ → (A → Result B ℕ) → Result B ℕ
-(Ok x) >>= f = f x
-(Err left) >>= f = Err left
-
--- What a function that takes no memory returned, seen by view, is what reading gives.
-abbrev pub GivesExactly : {X Y : Type 0} → (X → Y) → Result X BrokenField → Result Y ℕ → Type 0
-GivesExactly view (Ok x) read = read ≡ Ok (view x)
-GivesExactly view (Err field) read = read ≡ Err field.left
 
 -- What a function returned, seen by view, is what reading gives, unless memory ran out.
 abbrev pub Fails : {Y : Type 0} → Broken → Result Y ℕ → Type 0
@@ -28,10 +18,7 @@ abbrev pub Gives : {X Y : Type 0} → (X → Y) → Result X Broken → Result Y
 Gives view (Ok x) read = read ≡ Ok (view x)
 Gives view (Err e) read = Fails e read
 
--- ---- a field is a value and the bytes after it
-
-abbrev pub number_at : Width → List ℕ → Result (ℕ × List ℕ) ℕ
-number_at w bytes = if nat_lt (length bytes) (byte_len w) then Err (length bytes) else Ok (from_be_bytes w (take (byte_len w) bytes), drop (byte_len w) bytes)
+-- ---- single fields
 
 -- a number that passes a test
 abbrev pub number_where : Width → (ℕ → Bool) → List ℕ → Result (ℕ × List ℕ) ℕ
@@ -39,26 +26,9 @@ number_where w test bytes = do
   n ← number_at w bytes
   if test n.0 then Ok n else Err (length bytes)
 
-unfoldable pub signed_at : List ℕ → Result (ℤ × List ℕ) ℕ
-signed_at bytes = do
-  n ← number_at w64 bytes
-  Ok (cast_signed w64 n.0, n.1)
-
--- the eight bytes at the front of a file; what is read is the bytes after them
+-- the eight bytes that a file begins with; what is read is the bytes after them
 unfoldable pub mark_at : List ℕ → List ℕ → Result (List ℕ) ℕ
 mark_at mark bytes = if bytes_eq (take 8 bytes) mark then Ok (drop 8 bytes) else Err (length bytes)
-
--- a length and that many bytes of UTF-8
-unfoldable pub text_at : List ℕ → Result (List ℕ × List ℕ) ℕ
-text_at bytes = do
-  n ← number_at w32 bytes
-  if nat_lt (length n.1) n.0 then Err (length bytes) else (if is_utf8 (take n.0 n.1) then Ok (take n.0 n.1, drop n.0 n.1) else Err (length bytes))
-
--- a text of 1 to 255 bytes
-unfoldable pub name_at : List ℕ → Result (List ℕ × List ℕ) ℕ
-name_at bytes = do
-  name ← text_at bytes
-  if is_name name.0 then Ok name else Err (length bytes)
 
 -- a name that passes a test
 abbrev pub name_where : (List ℕ → Bool) → List ℕ → Result (List ℕ × List ℕ) ℕ

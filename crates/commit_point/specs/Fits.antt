@@ -1,35 +1,26 @@
 -- Which values have a spelling: so that one file spells one value.
-use Rattle.std.specs.Prelude.{◌≡◌, ℕ, ℤ, ◌+◌, ◌<◌, ◌≤◌, ◌^◌, List, [], ◌∷◌, Bool, true, false, length, map, IsUtf8, FitsSigned, ⊤}
+use Rattle.std.specs.Prelude.{◌≡◌, ℕ, ℤ, ◌+◌, ◌<◌, ◌≤◌, ◌^◌, List, [], ◌∷◌, Bool, true, false, length, map, FitsSigned, ⊤}
 use Rattle.std.specs.Int.{w64}
 use Rattle.std.specs.List.{AllByRecursion}
-use Rattle.ix_base.specs.Limits.{is_name, names_rise}
+use Rattle.ix_base.specs.Limits.{names_rise}
+use Rattle.ix_base.specs.Spelling.{IsText, IsName}
 use Rattle.ix_base.specs.Documents.{is_apart}
 use Rattle.ix_base.specs.Documents.{Document}
 use Rattle.ix_base.specs.declared.document.Row.{Row}
 use Rattle.commit_point.specs.declared.heads.HeadSegment.{HeadSegment}
 use Rattle.commit_point.specs.declared.heads.Head.{Head}
 
--- a text of fewer than 2^32 bytes of UTF-8
-pub record TextFits (bytes : List ℕ) : Type 0 where
-  pub utf8 : IsUtf8 bytes
-  pub short : length bytes < 2 ^ 32
-
--- a text of 1 to 255 bytes
-pub record NameFits (bytes : List ℕ) : Type 0 where
-  pub utf8 : IsUtf8 bytes
-  pub size : is_name bytes ≡ true
-
 pub record FieldFits (pair : List ℕ × List ℕ) : Type 0 where
-  pub name : NameFits pair.0
-  pub text : TextFits pair.1
+  pub name : IsName pair.0
+  pub text : IsText pair.1
 
 pub record NumberFits (pair : List ℕ × ℤ) : Type 0 where
-  pub name : NameFits pair.0
+  pub name : IsName pair.0
   pub value : FitsSigned w64 pair.1
 
 -- names rise in each list; `key` names no field, and no name stands in both lists of texts
 pub record DocumentFits (doc : Document) : Type 0 where
-  pub key : TextFits doc.key
+  pub key : IsText doc.key
   pub text_count : length doc.text < 2 ^ 32
   pub text : AllByRecursion FieldFits doc.text
   pub text_rises : names_rise (map (λ pair. pair.0) doc.text) ≡ true
@@ -58,12 +49,12 @@ abbrev pub IdsRise : ℕ → ℕ → List HeadSegment → Type 0
 IdsRise low limit [] = ⊤
 IdsRise low limit (e ∷ es) = (low ≤ e.id) × (e.id < limit) × IdsRise (e.id + 1) limit es
 
--- a segment has at least one row, and was written with this commit or an earlier one
+-- a segment has at least one row, and its live bits and values were written with this commit or an earlier one
 pub record EntryFits (s : ℕ) (e : HeadSegment) : Type 0 where
-  pub rows : 1 ≤ e.n
-  pub count : e.n < 2 ^ 32
-  pub some : 1 ≤ e.v
-  pub not_later : e.v ≤ s
+  pub rows : 1 ≤ e.rows
+  pub count : e.rows < 2 ^ 32
+  pub some : 1 ≤ e.written
+  pub not_later : e.written ≤ s
 
 -- a commit file: ids rise below the next id, which is from 1 to 2^62
 pub record HeadFits (head : Head) : Type 0 where

@@ -1,51 +1,51 @@
 -- A commit file is the spelling of one head.
-use Rattle.std.specs.Prelude.{◌≡◌, ℕ, ◌+◌, ◌<◌, ◌≤◌, ◌^◌, List, [], ◌∷◌, ◌++◌, length}
-use Rattle.std.specs.Int.{w32, w64, from_be_bytes}
+use Rattle.std.specs.Prelude.{◌≡◌, ℕ, ◌+◌, ◌<◌, ◌≤◌, ◌^◌, List, [], ◌∷◌, ◌++◌, length, Result, Ok}
+use Rattle.std.specs.Int.{w32, w64}
 use Rattle.std.specs.List.{flat_map, AllByRecursion}
 use Rattle.std.proofs.Common.{◌∙◌, take, drop, refl, sym, ap, append_assoc, arith}
 use Rattle.std.proofs.lemmas.List.{take_at, drop_at}
-use Rattle.std.proofs.lemmas.Nat.{from_be_bytes-to_be_bytes_4, from_be_bytes-to_be_bytes_8}
+use Rattle.ix_base.specs.Codec.{number_at}
+use Rattle.ix_base.specs.CodecLaws.{ok_is, u32_again, u64_again}
+use Rattle.ix_base.specs.Spelling.{be64, be32}
 use Rattle.commit_point.specs.declared.heads.HeadSegment.{HeadSegment}
 use Rattle.commit_point.specs.declared.heads.Head.{Head}
 use Rattle.commit_point.specs.Fits.{IdsRise, EntryFits, HeadFits}
-use Rattle.commit_point.specs.Spelling.{be64, be32, commit_mark, entry, commit_file}
+use Rattle.commit_point.specs.Spelling.{commit_mark, entry, commit_file}
 
 -- where both begin with as many bytes, these are the same, and so is the rest
 parted : (xs ys us vs : List ℕ) (n : ℕ) → length xs ≡ n → length ys ≡ n → xs ++ us ≡ ys ++ vs → (xs ≡ ys) × (us ≡ vs)
 parted xs ys us vs n p q e = (sym (take_at xs us n p) ∙ ap (take n) e ∙ take_at ys vs n q, sym (drop_at xs us n p) ∙ ap (drop n) e ∙ drop_at ys vs n q)
 
+-- two numbers that are read from the same bytes are one
+one_read : (n m : ℕ) (us vs : List ℕ) (r : Result (ℕ × List ℕ) ℕ) → r ≡ Ok (n, us) → r ≡ Ok (m, vs) → (n ≡ m) × (us ≡ vs)
+one_read n m us vs r p q = let same = ok_is (n, us) (m, vs) (sym p ∙ q) in (ap (λ (x : ℕ × List ℕ). x.0) same, ap (λ (x : ℕ × List ℕ). x.1) same)
+
 same64 : (n m : ℕ) (us vs : List ℕ) → n < 2 ^ 64 → m < 2 ^ 64 → be64 n ++ us ≡ be64 m ++ vs → (n ≡ m) × (us ≡ vs)
-unfolding be64
-same64 n m us vs p q e =
-    let parts = parted (be64 n) (be64 m) us vs 8 refl refl e in
-    (sym (from_be_bytes-to_be_bytes_8 n p) ∙ ap (from_be_bytes w64) parts.0 ∙ from_be_bytes-to_be_bytes_8 m q, parts.1)
+same64 n m us vs p q e = one_read n m us vs (number_at w64 (be64 n ++ us)) (u64_again n us p) (ap (number_at w64) e ∙ u64_again m vs q)
 
 same32 : (n m : ℕ) (us vs : List ℕ) → n < 2 ^ 32 → m < 2 ^ 32 → be32 n ++ us ≡ be32 m ++ vs → (n ≡ m) × (us ≡ vs)
-unfolding be32
-same32 n m us vs p q e =
-    let parts = parted (be32 n) (be32 m) us vs 4 refl refl e in
-    (sym (from_be_bytes-to_be_bytes_4 n p) ∙ ap (from_be_bytes w32) parts.0 ∙ from_be_bytes-to_be_bytes_4 m q, parts.1)
+same32 n m us vs p q e = one_read n m us vs (number_at w32 (be32 n ++ us)) (u32_again n us p) (ap (number_at w32) e ∙ u32_again m vs q)
 
 -- the numbers of a segment fit their fields
 record IsShort (e : HeadSegment) : Type 0 where
   id : e.id < 2 ^ 64
-  n : e.n < 2 ^ 32
-  v : e.v < 2 ^ 64
+  rows : e.rows < 2 ^ 32
+  written : e.written < 2 ^ 64
 
 are_short : (s next low : ℕ) (es : List HeadSegment) → s < 2 ^ 64 → next ≤ 2 ^ 62 → IdsRise low next es → AllByRecursion (EntryFits s) es → AllByRecursion IsShort es
 are_short s next low [] number room ids fits = tt
 are_short s next low (e ∷ es) number room ids fits =
-    (record { id = omega (arith, ids.1); n = fits.0.count; v = omega (arith, fits.0.not_later) }, are_short s next (e.id + 1) es number room ids.2 fits.1)
+    (record { id = omega (arith, ids.1); rows = fits.0.count; written = omega (arith, fits.0.not_later) }, are_short s next (e.id + 1) es number room ids.2 fits.1)
 
-regrouped : (e : HeadSegment) (rest : List ℕ) → entry e ++ rest ≡ be64 e.id ++ (be32 e.n ++ (be64 e.v ++ rest))
-regrouped e rest = append_assoc (be64 e.id) (be32 e.n ++ be64 e.v) rest ∙ ap (λ (x : List ℕ). be64 e.id ++ x) (append_assoc (be32 e.n) (be64 e.v) rest)
+regrouped : (e : HeadSegment) (rest : List ℕ) → entry e ++ rest ≡ be64 e.id ++ (be32 e.rows ++ (be64 e.written ++ rest))
+regrouped e rest = append_assoc (be64 e.id) (be32 e.rows ++ be64 e.written) rest ∙ ap (λ (x : List ℕ). be64 e.id ++ x) (append_assoc (be32 e.rows) (be64 e.written) rest)
 
 same_entry : (e f : HeadSegment) (us vs : List ℕ) → IsShort e → IsShort f → entry e ++ us ≡ entry f ++ vs → (e ≡ f) × (us ≡ vs)
 same_entry e f us vs p q same =
-    let id = same64 e.id f.id (be32 e.n ++ (be64 e.v ++ us)) (be32 f.n ++ (be64 f.v ++ vs)) p.id q.id (sym (regrouped e us) ∙ same ∙ regrouped f vs) in
-    let n = same32 e.n f.n (be64 e.v ++ us) (be64 f.v ++ vs) p.n q.n id.1 in
-    let v = same64 e.v f.v us vs p.v q.v n.1 in
-    (λ i. record { id = id.0 i; n = n.0 i; v = v.0 i }, v.1)
+    let id = same64 e.id f.id (be32 e.rows ++ (be64 e.written ++ us)) (be32 f.rows ++ (be64 f.written ++ vs)) p.id q.id (sym (regrouped e us) ∙ same ∙ regrouped f vs) in
+    let rows = same32 e.rows f.rows (be64 e.written ++ us) (be64 f.written ++ vs) p.rows q.rows id.1 in
+    let written = same64 e.written f.written us vs p.written q.written rows.1 in
+    (λ i. record { id = id.0 i; rows = rows.0 i; written = written.0 i }, written.1)
 
 same_entries : (es fs : List HeadSegment) → AllByRecursion IsShort es → AllByRecursion IsShort fs → length es ≡ length fs → flat_map entry es ≡ flat_map entry fs → es ≡ fs
 same_entries [] [] p q len same = refl

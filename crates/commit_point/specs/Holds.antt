@@ -19,7 +19,7 @@ pub record HasHead (files : Files) (s : ℕ) (head : Head) : Type 0 where
 -- each segment has its rows in its file
 abbrev pub HaveRows : Files → ℕ → List HeadSegment → List (List Row) → Type 0
 HaveRows files s [] [] = ⊤
-HaveRows files s (e ∷ es) (rows ∷ more) = (files (Rows e.id) ≡ Some (rows_file e.id rows)) × (e.n ≡ length rows) × RowsFit s rows × HaveRows files s es more
+HaveRows files s (e ∷ es) (rows ∷ more) = (files (Rows e.id) ≡ Some (rows_file e.id rows)) × (e.rows ≡ length rows) × RowsFit s rows × HaveRows files s es more
 HaveRows files s es more = ⊥
 
 -- The files of commit s spell these rows, by birth, and this next id. Births are at most s, and none stands twice.

@@ -11,9 +11,9 @@ use Rattle.commit_point.specs.Holds.{HaveRows}
 use Rattle.commit_point.specs.Reading.{of_file, segments_from, has_birth, all_rows}
 
 -- the name is that of the commit s
-abbrev pub is_commit : ℕ → FileName → Bool
-is_commit s (Commit t) = s == t
-is_commit s name = false
+abbrev pub names_commit : ℕ → FileName → Bool
+names_commit s (Commit t) = s == t
+names_commit s name = false
 
 -- a read of this file gave what is broken here
 pub record IsBroken {A : Type 0} (told : Option Files) (name : FileName) (read : List ℕ → Result A ℕ) (damaged : Damaged) : Type 0 where

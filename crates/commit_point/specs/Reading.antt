@@ -12,7 +12,8 @@ use Rattle.commit_point.specs.declared.fault.FileFault.TheVariants as faults
 use Rattle.commit_point.specs.declared.heads.HeadSegment.{HeadSegment}
 use Rattle.commit_point.specs.declared.heads.Head.{Head}
 use Rattle.commit_point.specs.Spelling.{rows_mark, commit_mark}
-use Rattle.commit_point.specs.Fields.{◌>>=◌, number_at, number_where, mark_at, items_at, document_at}
+use Rattle.ix_base.specs.Codec.{◌>>=◌, number_at}
+use Rattle.commit_point.specs.Fields.{number_where, mark_at, items_at, document_at}
 
 -- a file ends right after its last field
 abbrev pub ended : {A : Type 0} → A → List ℕ → Result A ℕ
@@ -42,9 +43,9 @@ rows_in id n s known bytes = do
 unfoldable pub entry_at : ℕ → ℕ → ℕ → List ℕ → Result (HeadSegment × List ℕ) ℕ
 entry_at s next low bytes = do
   id ← number_where w64 (λ x. nat_le low x && nat_lt x next) bytes
-  n ← number_where w32 (λ x. nat_le 1 x) id.1
-  v ← number_where w64 (λ x. nat_le 1 x && nat_le x s) n.1
-  Ok (record { id = id.0; n = n.0; v = v.0 }, v.1)
+  rows ← number_where w32 (λ x. nat_le 1 x) id.1
+  written ← number_where w64 (λ x. nat_le 1 x && nat_le x s) rows.1
+  Ok (record { id = id.0; rows = rows.0; written = written.0 }, written.1)
 
 -- the commit file of s
 unfoldable pub head_in : ℕ → List ℕ → Result Head ℕ
@@ -92,7 +93,7 @@ abbrev pub has_birth : List Row → ℕ → Bool
 has_birth rows b = list_any (λ r. r.birth == b) rows
 
 abbrev pub segment_from : Files → ℕ → (ℕ → Bool) → HeadSegment → Result (List Row) Damaged
-segment_from files s known e = of_file (Rows e.id) (rows_in e.id e.n s known) (files (Rows e.id))
+segment_from files s known e = of_file (Rows e.id) (rows_in e.id e.rows s known) (files (Rows e.id))
 
 -- the rows of each segment, in the order of the commit file
 unfoldable pub segments_from : Files → ℕ → (ℕ → Bool) → List HeadSegment → Result (List (List Row)) Damaged

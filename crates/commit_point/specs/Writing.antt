@@ -19,11 +19,11 @@ next_after id (r ∷ rs) = id + 1
 -- the one segment of new rows, written with the commit s
 abbrev pub segments_of : ℕ → ℕ → List Row → List HeadSegment
 segments_of s id [] = []
-segments_of s id (r ∷ rs) = record { id = id; n = length (r ∷ rs); v = s } ∷ []
+segments_of s id (r ∷ rs) = record { id = id; rows = length (r ∷ rs); written = s } ∷ []
 
 -- what the commit file of new rows says
-abbrev pub head_of : ℕ → ℕ → List Row → Head
-head_of s id rows = record { number = s; docs = length rows; next_id = next_after id rows; segments = segments_of s id rows }
+abbrev pub new_head : ℕ → ℕ → List Row → Head
+new_head s id rows = record { number = s; docs = length rows; next_id = next_after id rows; segments = segments_of s id rows }
 
 -- the files that are written before the commit file: that of the segment, where there are rows
 abbrev pub segment_list : ℕ → List Row → List File
@@ -33,7 +33,7 @@ segment_list id (r ∷ rs) = (Rows id, rows_file id (r ∷ rs)) ∷ []
 -- What making the commit s does, step by step: the rows of its segment, the commit file under its pending name, and
 -- the rename, each on the disk before the next.
 abbrev pub commit_steps : ℕ → ℕ → List Row → List Step
-commit_steps s id rows = publishes (segment_list id rows) (Pending s) (Commit s) (commit_file (head_of s id rows))
+commit_steps s id rows = publishes (segment_list id rows) (Pending s) (Commit s) (commit_file (new_head s id rows))
 
 -- what the file of the segment of this id becomes: the rows, and without a row what it was
 abbrev pub segment_file : ℕ → List Row → Option (List ℕ) → Option (List ℕ)
@@ -48,7 +48,7 @@ SameElsewhere s id old new = (name : FileName) → name ≢ Rows id → name ≢
 -- was written is fixed: nothing is left under the pending name, and every other file is as it was.
 pub record Commits (s id : ℕ) (rows : List Row) (old new : Files) : Type 0 where
   pub holds : Holds new s (next_after id rows) rows
-  pub commit : new (Commit s) ≡ Some (commit_file (head_of s id rows))
+  pub commit : new (Commit s) ≡ Some (commit_file (new_head s id rows))
   pub segment : new (Rows id) ≡ segment_file id rows (old (Rows id))
   pub pending : new (Pending s) ≡ None
   pub elsewhere : SameElsewhere s id old new

@@ -2,13 +2,8 @@
 ghost use Rattle.std.specs.Prelude.{◌≡◌};
 ghost use Rattle.commit_point.specs.declared.broken.Broken.TheVariants.{NoMemory, At};
 
+use ix_base::codec::BrokenField;
 use std::alloc::{AllocError, AllocFailed};
-
-/// A field that is cut short or breaks a rule: how many bytes are left from its first byte on.
-#[derive(Clone, Copy, Debug, PartialEq, Eq)]
-pub(crate) struct BrokenField {
-    pub(crate) left: usize,
-}
 
 /// Why a field was not read, where reading it takes memory.
 #[derive(Clone, Copy, Debug, PartialEq, Eq)]

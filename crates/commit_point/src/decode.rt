@@ -5,16 +5,18 @@ ghost use Rattle.std.specs.Ordering.{nat_cmp};
 ghost use Rattle.ix_base.specs.declared.document.Row.{Row};
 ghost use Rattle.ix_base.specs.declared.file_name.FileName.TheVariants.{Commit, Rows};
 ghost use Rattle.commit_point.specs.declared.heads.Head.{Head};
-ghost use Rattle.commit_point.specs.Fields.{Gives, GivesExactly, Fails, items_at};
+ghost use Rattle.ix_base.specs.Codec.{GivesExactly};
+ghost use Rattle.commit_point.specs.Fields.{Gives, Fails, items_at};
 ghost use Rattle.commit_point.specs.Fits.{HeadFits, IsSegment};
 ghost use Rattle.commit_point.specs.Reading.{GivesFile, FailsFile, row_at, rows_in, entry_at, head_in, placed};
 ghost use Rattle.commit_point.specs.Spelling.{rows_file, commit_file};
 
-use crate::broken::{Broken, BrokenField};
+use crate::broken::Broken;
 use crate::fault::FileFault;
 use crate::heads::{Head, HeadSegment};
+use crate::marks::{commit_mark_at, rows_mark_at};
 use crate::read_documents::row_of;
-use crate::read_fields::{commit_mark_at, rows_mark_at, u32_at, u64_at};
+use ix_base::codec::{BrokenField, u32_at, u64_at};
 use ix_base::{Damaged, FileName, List, Row};
 use std::alloc::Global;
 use std::collections::BTreeSet;
@@ -134,19 +136,19 @@ fn entry_of(
     if id <= last || next_id <= id {
         return Err(BrokenField { left: bytes.len() });
     }
-    let (n, written) = u32_at(counted)?;
-    if n == 0 {
+    let (rows, last_written) = u32_at(counted)?;
+    if rows == 0 {
         return Err(BrokenField {
             left: counted.len(),
         });
     }
-    let (v, rest) = u64_at(written)?;
-    if v == 0 || number < v {
+    let (written, rest) = u64_at(last_written)?;
+    if written == 0 || number < written {
         return Err(BrokenField {
-            left: written.len(),
+            left: last_written.len(),
         });
     }
-    Ok((HeadSegment { id, n, v }, rest))
+    Ok((HeadSegment { id, rows, written }, rest))
 }
 
 fn entry_list(

@@ -2,18 +2,17 @@
 ghost use Rattle.std.specs.Prelude.{◌≡◌, ◌<◌, ◌^◌, ◌++◌, length, map, true, OnOk};
 ghost use Rattle.std.specs.List.{AllByRecursion};
 ghost use Rattle.ix_base.specs.Limits.{names_rise};
-ghost use Rattle.ix_base.specs.Documents.{is_apart};
 ghost use Rattle.commit_point.specs.Spelling.{field, fields, number, numbers, document, row};
 ghost use Rattle.commit_point.specs.Fits.{FieldFits, NumberFits, DocumentFits};
 
-use crate::bytes::{put_i64, put_text, put_u32, put_u64};
+use ix_base::codec::{put_i64, put_name, put_text, put_u32, put_u64};
 use ix_base::{Document, Fields, Name, NoMemory, Numbers, Row, Text};
 
 fn put_field(out: &mut Vec<u8>, pair: &(Name, Text)) -> Result<(), NoMemory>
     ensures bytes { OnOk result (out.new.items ≡ out.old.items ++ field pair.now) }
     ensures fits { OnOk result (FieldFits pair.now) }
 {
-    put_text(out, pair.0.as_str())?;
+    put_name(out, &pair.0)?;
     put_text(out, pair.1.as_str())?;
     Ok(())
 }
@@ -36,7 +35,7 @@ fn put_number(out: &mut Vec<u8>, pair: &(Name, i64)) -> Result<(), NoMemory>
     ensures bytes { OnOk result (out.new.items ≡ out.old.items ++ number pair.now) }
     ensures fits { OnOk result (NumberFits pair.now) }
 {
-    put_text(out, pair.0.as_str())?;
+    put_name(out, &pair.0)?;
     put_i64(out, pair.1)?;
     Ok(())
 }
@@ -56,7 +55,6 @@ fn put_numbers(out: &mut Vec<u8>, pairs: &Numbers) -> Result<(), NoMemory>
 }
 
 fn put_document(out: &mut Vec<u8>, doc: &Document) -> Result<(), NoMemory>
-    requires { is_apart doc.now ≡ true }
     ensures bytes { OnOk result (out.new.items ≡ out.old.items ++ document doc.now) }
     ensures fits { OnOk result (DocumentFits doc.now) }
 {
@@ -69,7 +67,6 @@ fn put_document(out: &mut Vec<u8>, doc: &Document) -> Result<(), NoMemory>
 
 /// A row, behind what stands there.
 pub(crate) fn put_row(out: &mut Vec<u8>, item: &Row) -> Result<(), NoMemory>
-    requires { is_apart item.now.doc ≡ true }
     ensures bytes { OnOk result (out.new.items ≡ out.old.items ++ row item.now) }
     ensures fits { OnOk result (DocumentFits item.now.doc) }
 {

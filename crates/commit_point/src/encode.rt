@@ -1,19 +1,18 @@
 //! The files of a commit as bytes.
 ghost use Rattle.std.specs.Prelude.{◌≡◌, ◌<◌, ◌^◌, ◌++◌, All, length, map, true, OnOk, IfOk};
 ghost use Rattle.std.specs.List.{AllByRecursion};
-ghost use Rattle.ix_base.specs.Documents.{is_apart};
 ghost use Rattle.commit_point.specs.Spelling.{rows_file, entry, commit_file};
 ghost use Rattle.commit_point.specs.Fits.{DocumentFits};
 
-use crate::bytes::{put_commit_mark, put_rows_mark, put_u32, put_u64};
 use crate::documents::put_row;
 use crate::heads::{Head, HeadSegment};
+use crate::marks::{put_commit_mark, put_rows_mark};
+use ix_base::codec::{put_u32, put_u64};
 use ix_base::{NoMemory, Row};
 use std::alloc::Global;
 
 fn put_rows(out: &mut Vec<u8>, id: u64, rows: &[Row]) -> Result<(), NoMemory>
     requires count { length rows.now < 2 ^ 32 }
-    requires documents { All (λ row. is_apart row.doc ≡ true) rows.now }
     ensures bytes { OnOk result (out.new.items ≡ out.old.items ++ rows_file id rows.now) }
     ensures fits { OnOk result (AllByRecursion (λ row. DocumentFits row.doc) rows.now) }
 {
@@ -26,12 +25,10 @@ fn put_rows(out: &mut Vec<u8>, id: u64, rows: &[Row]) -> Result<(), NoMemory>
     Ok(())
 }
 
-/// The file of a segment's rows, which are fewer than 2^32. Of each document is asked that `key` is
-/// no name of it and that no name stands in both lists of texts; what else a file asks of documents
-/// their types keep.
+/// The file of a segment's rows, which are fewer than 2^32. What else a file asks of documents their
+/// types keep.
 pub fn encode_row(alloc: Global, id: u64, rows: &[Row]) -> Result<Vec<u8>, NoMemory>
     requires count { length rows.now < 2 ^ 32 }
-    requires documents { All (λ row. is_apart row.doc ≡ true) rows.now }
     ensures file { IfOk result (λ bytes. bytes.items ≡ rows_file id rows.now) }
     ensures fits { OnOk result (AllByRecursion (λ row. DocumentFits row.doc) rows.now) }
 {
@@ -44,8 +41,8 @@ fn put_segment(out: &mut Vec<u8>, segment: &HeadSegment) -> Result<(), NoMemory>
     ensures { OnOk result (out.new.items ≡ out.old.items ++ entry segment.now) }
 {
     put_u64(out, segment.id)?;
-    put_u32(out, segment.n)?;
-    put_u64(out, segment.v)?;
+    put_u32(out, segment.rows)?;
+    put_u64(out, segment.written)?;
     Ok(())
 }
 

@@ -2,13 +2,14 @@
 
 use ix_base::List;
 
-/// A segment as a commit file names it: its id, how many rows it has, and the commit that its
-/// live bits were last written with.
+/// A segment, as a commit file names it.
 #[derive(Clone, Copy, Debug, PartialEq, Eq)]
 pub struct HeadSegment {
     pub id: u64,
-    pub n: u32,
-    pub v: u64,
+    /// How many rows it has, dead ones too.
+    pub rows: u32,
+    /// The number of the commit that wrote its live bits and values.
+    pub written: u64,
 }
 
 /// A commit file: its number, how many live rows it has, the next segment id, and its segments by

@@ -3,7 +3,6 @@
 #![tactic(auto)]
 
 mod broken;
-mod bytes;
 mod decode;
 mod documents;
 mod encode;
@@ -11,10 +10,10 @@ mod fault;
 mod heads;
 mod listing;
 mod load;
+mod marks;
 mod open;
 mod publishing;
 mod read_documents;
-mod read_fields;
 mod write;
 
 pub use decode::{decode_commit, decode_row};

@@ -7,7 +7,7 @@ ghost use Rattle.std.specs.Ordering.{nat_cmp};
 ghost use Rattle.ix_base.specs.FileNames.{IsCounted};
 ghost use Rattle.ix_base.specs.declared.file_name.FileName.TheVariants.{Commit};
 ghost use Rattle.ix_outside.specs.Causes.{Rose};
-ghost use Rattle.commit_point.specs.Loading.{is_commit};
+ghost use Rattle.commit_point.specs.Loading.{names_commit};
 
 use ix_base::{FileName, List, NoMemory};
 use ix_outside::{Store, StoreFault};
@@ -15,7 +15,7 @@ use std::alloc::Global;
 use std::collections::BTreeSet;
 
 fn add_commit(numbers: &mut BTreeSet<u64>, name: &FileName) -> Result<(), NoMemory>
-    ensures { OnOk result ((s : ℕ) → contains nat_cmp numbers.new s ≡ (contains nat_cmp numbers.old s || is_commit s name.now)) }
+    ensures { OnOk result ((s : ℕ) → contains nat_cmp numbers.new s ≡ (contains nat_cmp numbers.old s || names_commit s name.now)) }
 {
     if let FileName::Commit(number) = name {
         numbers.insert(*number)?;
@@ -24,7 +24,7 @@ fn add_commit(numbers: &mut BTreeSet<u64>, name: &FileName) -> Result<(), NoMemo
 }
 
 fn commits_among(alloc: Global, names: &[FileName]) -> Result<BTreeSet<u64>, NoMemory>
-    ensures { IfOk result (λ numbers. (s : ℕ) → contains nat_cmp numbers s ≡ list_any (is_commit s) names.now) }
+    ensures { IfOk result (λ numbers. (s : ℕ) → contains nat_cmp numbers s ≡ list_any (names_commit s) names.now) }
 {
     let mut numbers = BTreeSet::new(alloc);
     for name in names {

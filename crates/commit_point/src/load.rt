@@ -66,15 +66,15 @@ fn read_segment<S: Store>(
     segment: HeadSegment,
     earlier: &BTreeSet<u64>,
 ) -> Result<List<Row>, OpenFault>
-    ensures found { IfOk result (λ rows. Reads (told_files (S.disk store.old)) (Rows segment.id) (Some (rows_file segment.id rows)) × IsSegment number segment.n (contains nat_cmp earlier.now) rows) }
-    ensures damaged { (damaged : Damaged) → result ≡ Err (OpenFault.Damaged damaged) → IsBroken (told_files (S.disk store.old)) (Rows segment.id) (rows_in segment.id segment.n number (contains nat_cmp earlier.now)) damaged }
+    ensures found { IfOk result (λ rows. Reads (told_files (S.disk store.old)) (Rows segment.id) (Some (rows_file segment.id rows)) × IsSegment number segment.rows (contains nat_cmp earlier.now) rows) }
+    ensures damaged { (damaged : Damaged) → result ≡ Err (OpenFault.Damaged damaged) → IsBroken (told_files (S.disk store.old)) (Rows segment.id) (rows_in segment.id segment.rows number (contains nat_cmp earlier.now)) damaged }
     ensures listed { (other : ℕ) → result ≡ Err (OpenFault.NoSuch other) → ⊥ }
     ensures reads { S.disk store.new ≡ S.disk store.old }
     ensures later { S.fault_count store.old ≤ S.fault_count store.new }
     ensures failed { result ≡ Err OpenFault.Store → Rose (S.fault_count store.old) (S.fault_count store.new) }
 {
     let bytes = bytes_of(alloc, store, FileName::Rows(segment.id))?;
-    match decode_row(alloc, &bytes, segment.id, segment.n, number, earlier) {
+    match decode_row(alloc, &bytes, segment.id, segment.rows, number, earlier) {
         Ok(rows) => Ok(rows),
         Err(FileFault::Damaged(damaged)) => Err(OpenFault::Damaged(damaged)),
         Err(FileFault::NoMemory) => Err(OpenFault::NoMemory),

@@ -1,16 +1,35 @@
-//! Reading documents and rows from the front of bytes.
+//! Documents and rows from bytes: each reader returns the value and the bytes after it.
 ghost use Rattle.std.specs.Prelude.{◌≡◌, ◌+◌, map, length, true, Option, Some, None, IfOk};
 ghost use Rattle.std.specs.BTreeSet.{contains};
 ghost use Rattle.std.specs.Ordering.{nat_cmp};
-ghost use Rattle.ix_base.specs.Limits.{is_among};
+ghost use Rattle.ix_base.specs.Codec.{text_at, name_at};
 ghost use Rattle.commit_point.specs.Fields.{Gives, field_at, fields_at, numbered_at, numbers_at, document_at, items_at, left_by, comes_after, is_free_name, may_name};
 ghost use Rattle.commit_point.specs.Reading.{row_at};
 
 use crate::broken::Broken;
-use crate::read_fields::{i64_at, name_of, text_of, u32_at, u64_at};
+use ix_base::codec::{i64_at, name_at, text_at, u32_at, u64_at};
 use ix_base::{Document, Fields, Name, Numbers, Row, Text};
 use std::alloc::Global;
 use std::collections::BTreeSet;
+
+/// A copy of the text at the start of the bytes.
+fn text_of(alloc: Global, bytes: &[u8]) -> Result<(Text, &[u8]), Broken>
+    ensures { Gives (λ x. (x.0, x.1.now)) result (text_at bytes.now) }
+{
+    let (text, rest) = text_at(bytes)?;
+    Ok((Text::copy_of(alloc, text)?, rest))
+}
+
+/// A copy of the name at the start of the bytes.
+fn name_of(alloc: Global, bytes: &[u8]) -> Result<(Name, &[u8]), Broken>
+    ensures { Gives (λ x. (x.0, x.1.now)) result (name_at bytes.now) }
+{
+    let (name, rest) = name_at(bytes)?;
+    match Name::new(Text::copy_of(alloc, name)?) {
+        Some(name) => Ok((name, rest)),
+        None => Err(Broken::At(bytes.len())),
+    }
+}
 
 /// Whether the name comes after the last of these.
 fn comes_next<V>(pairs: &[(Name, V)], name: &Name) -> bool
@@ -22,21 +41,11 @@ fn comes_next<V>(pairs: &[(Name, V)], name: &Name) -> bool
     }
 }
 
-/// Whether the name stands among these.
-fn is_taken(taken: &Fields, name: &Name) -> bool
-    ensures { result ≡ is_among (map (λ pair. pair.0) taken.now) name.now }
-{
-    taken
-        .as_slice()
-        .binary_search_by(|pair| pair.0.as_str().cmp(name.as_str()))
-        .is_ok()
-}
-
 /// Whether a field may have this name, where these names are taken.
 fn is_free(taken: &Fields, name: &Name) -> bool
     ensures { result ≡ is_free_name (map (λ pair. pair.0) taken.now) name.now }
 {
-    name.as_str() != "key" && !is_taken(taken, name)
+    name.as_str() != "key" && !taken.has_name(name.as_str())
 }
 
 /// Whether a field of this name may come after these, where these names are taken.

@@ -65,7 +65,11 @@ fn spells_one_document(rt: HostRuntime) -> Result<(), Fail> {
     };
     let rows = encode_row(alloc, 1, &[row]).ok().ok_or("memory")?;
     assert_eq!(rt; rows.as_slice(), ROWS.as_slice());
-    let segment = HeadSegment { id: 1, n: 1, v: 2 };
+    let segment = HeadSegment {
+        id: 1,
+        rows: 1,
+        written: 2,
+    };
     let head = Head {
         number: 2,
         docs: 1,
@@ -87,7 +91,12 @@ fn reads_one_document(rt: HostRuntime) -> Result<(), Fail> {
     assert_eq!(rt; head.next_id, 2);
     assert_eq!(rt;
         head.segments.as_slice(),
-        [HeadSegment { id: 1, n: 1, v: 2 }].as_slice()
+        [HeadSegment {
+            id: 1,
+            rows: 1,
+            written: 2
+        }]
+        .as_slice()
     );
     let rows = decode_row(alloc, &ROWS, 1, 1, 2, &BTreeSet::new(alloc))
         .ok()
@@ -106,7 +115,11 @@ fn reads_many_segments(rt: HostRuntime) -> Result<(), Fail> {
     let alloc = rt.alloc();
     let mut segments = Vec::new(alloc);
     for id in 1..301u64 {
-        segments.push(HeadSegment { id, n: 7, v: 2 })?;
+        segments.push(HeadSegment {
+            id,
+            rows: 7,
+            written: 2,
+        })?;
     }
     let head = Head {
         number: 2,
@@ -143,7 +156,7 @@ fn cut_files_name_the_field(rt: HostRuntime) {
 #[test]
 fn changed_files_name_the_field(rt: HostRuntime) -> Result<(), Fail> {
     let alloc = rt.alloc();
-    // next id 1, next id above 2^62, v 3, and one more segment than there is
+    // next id 1, next id above 2^62, written with commit 3, and one more segment than there is
     for (at, to, place) in [(31, 1, 40), (24, 0x40, 24), (59, 3, 52), (39, 2, 60)] {
         assert_eq!(rt;
             commit_place(alloc, &changed(alloc, &COMMIT, at, to)?),

@@ -1,7 +1,6 @@
 //! Writing a commit.
 ghost use Rattle.std.specs.Prelude.{◌≡◌, ◌<◌, ◌≤◌, ◌^◌, ◌↔◌, length, true, All, IsTrue, IsSome, OnOk, OnErr, IfOk, IfErr, Some, None};
 ghost use Rattle.std.specs.List.{AllByRecursion};
-ghost use Rattle.ix_base.specs.Documents.{is_apart};
 ghost use Rattle.ix_base.specs.declared.file_name.FileName.TheVariants.{Commit, Rows};
 ghost use Rattle.ix_outside.specs.Files.{Files, Changes};
 ghost use Rattle.ix_outside.specs.Images.{Follows, IsDurable, Reaches};
@@ -11,7 +10,7 @@ ghost use Rattle.ix_outside.specs.Calls.{LeavesOnly};
 ghost use Rattle.commit_point.specs.Fits.{BirthsRise, DocumentFits};
 ghost use Rattle.commit_point.specs.Publishing.{BlamesRefusal};
 ghost use Rattle.commit_point.specs.Spelling.{commit_file};
-ghost use Rattle.commit_point.specs.Writing.{Commits, MayCommit, SameElsewhere, commit_steps, head_of, segment_list};
+ghost use Rattle.commit_point.specs.Writing.{Commits, MayCommit, SameElsewhere, commit_steps, new_head, segment_list};
 
 use crate::encode::{encode_commit, encode_row};
 use crate::fault::CommitRefused;
@@ -28,7 +27,7 @@ const MOST_ROWS: usize = 2_147_483_647;
 fn new_head(alloc: Global, number: u64, next_id: u64, rows: &[Row]) -> Result<Head, NoMemory>
     requires room { next_id < 2 ^ 63 }
     requires count { length rows.now < 2 ^ 32 }
-    ensures { IfOk result (λ head. head ≡ head_of number next_id rows.now) }
+    ensures { IfOk result (λ head. head ≡ new_head number next_id rows.now) }
 {
     let docs = rows.len() as u64;
     if rows.is_empty() {
@@ -42,8 +41,8 @@ fn new_head(alloc: Global, number: u64, next_id: u64, rows: &[Row]) -> Result<He
     let mut segments = Vec::new(alloc);
     segments.push(HeadSegment {
         id: next_id,
-        n: rows.len() as u32,
-        v: number,
+        rows: rows.len() as u32,
+        written: number,
     })?;
     Ok(Head {
         number,
@@ -60,7 +59,6 @@ fn segment_files(
     rows: &[Row],
 ) -> Result<Vec<(FileName, List<u8>)>, NoMemory>
     requires count { length rows.now < 2 ^ 32 }
-    requires documents { All (λ row. is_apart row.doc ≡ true) rows.now }
     ensures files { IfOk result (λ files. files.items ≡ segment_list id rows.now) }
     ensures fits { OnOk result (AllByRecursion (λ row. DocumentFits row.doc) rows.now) }
 {
@@ -77,7 +75,7 @@ fn segment_files(
 fn commit_bytes(alloc: Global, number: u64, next_id: u64, rows: &[Row]) -> Result<Vec<u8>, NoMemory>
     requires room { next_id < 2 ^ 63 }
     requires count { length rows.now < 2 ^ 32 }
-    ensures { IfOk result (λ bytes. bytes.items ≡ commit_file (head_of number next_id rows.now)) }
+    ensures { IfOk result (λ bytes. bytes.items ≡ commit_file (new_head number next_id rows.now)) }
 {
     let head = new_head(alloc, number, next_id, rows)?;
     encode_commit(alloc, &head)
@@ -100,7 +98,6 @@ pub fn write_commit<S: Store>(
     requires some_id { 1 ≤ next_id }
     requires room { next_id < 2 ^ 63 }
     requires births { BirthsRise 1 number rows.now }
-    requires documents { All (λ row. is_apart row.doc ≡ true) rows.now }
 
     ensures docs { IfOk result (λ docs. docs ≡ length rows.now) }
     // What the call does, success, error and crash alike. The clauses below read it out.

@@ -12,11 +12,7 @@ use Rattle.std.proofs.lemmas.Bool.{cases_lt}
 use Rattle.std.proofs.lemmas.Cmp.{nat_list_cmp_total}
 use Rattle.std.proofs.lemmas.List.Sorted.{searchable_from_sorted}
 use Rattle.ix_base.specs.Limits.{text_lt, rise_after, names_rise, is_among, share_name}
-
-and_parts : (a b : Bool) → (a && b) ≡ true → (a ≡ true) × (b ≡ true)
-and_parts true true e = (refl, refl)
-and_parts true false e = absurd cc
-and_parts false b e = absurd cc
+use Rattle.std.proofs.lemmas.Bool.{and_parts}
 
 abbrev Pair : Type 0
 Pair = List ℕ × List ℕ

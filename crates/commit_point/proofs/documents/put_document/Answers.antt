@@ -1,10 +1,11 @@
 use Rattle.std.proofs.Common.{subst}
-use Rattle.std.specs.Prelude.{IsUtf8}
+use Rattle.ix_base.specs.Spelling.{IsText}
+use Rattle.commit_point.specs.Fits.{DocumentFits}
 use Rattle.commit_point.proofs.documents.put_document.Goals as goal
 
 pub returns-clause-fits : goal.returns-clause-fits
-returns-clause-fits c = record {
-  key = record { utf8 = subst IsUtf8 c.as_str.ensures.bytes c.in_ok-put_text.ensures.utf8; short = c.as_str.ensures.short };
+returns-clause-fits c = subst DocumentFits c.doc.view_is (record {
+  key = subst IsText c.as_str.ensures.bytes c.in_ok-put_text.ensures.text;
   text_count = c.put_fields.ensures.count;
   text = c.in_ok-put_fields.ensures.fits;
   text_rises = c.put_fields.ensures.rise;
@@ -14,5 +15,5 @@ returns-clause-fits c = record {
   num_count = c.in_ok-put_numbers.ensures.count;
   num = c.in_ok-put_numbers.ensures.fits;
   num_rises = c.put_numbers.ensures.rise;
-  apart = c.requires;
-}
+  apart = c.doc.invariant;
+})

@@ -1,5 +1,6 @@
 use Rattle.std.proofs.Common.{length, rules}
-use Rattle.commit_point.specs.Spelling.{be32, field}
+use Rattle.ix_base.specs.Spelling.{be32}
+use Rattle.commit_point.specs.Spelling.{field}
 use Rattle.commit_point.specs.Fits.{FieldFits}
 use Rattle.commit_point.proofs.Loops.{one_more, all_done, all_more, all_over}
 use Rattle.commit_point.proofs.documents.put_fields.Goals as goal

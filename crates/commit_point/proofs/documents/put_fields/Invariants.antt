@@ -1,6 +1,7 @@
 use Rattle.std.proofs.Common.{◌≡◌, ◌++◌, length, take}
 use Rattle.std.specs.List.{flat_map, AllByRecursion}
-use Rattle.commit_point.specs.Spelling.{be32, field}
+use Rattle.ix_base.specs.Spelling.{be32}
+use Rattle.commit_point.specs.Spelling.{field}
 use Rattle.commit_point.specs.Fits.{FieldFits}
 use Rattle.commit_point.proofs.documents.put_fields.Given as goal
 

@@ -1,5 +1,6 @@
 use Rattle.std.proofs.Common.{length, rules}
-use Rattle.commit_point.specs.Spelling.{be64, number}
+use Rattle.ix_base.specs.Spelling.{be64}
+use Rattle.commit_point.specs.Spelling.{number}
 use Rattle.commit_point.specs.Fits.{NumberFits}
 use Rattle.commit_point.proofs.Loops.{one_more, all_done, all_more, all_over}
 use Rattle.commit_point.proofs.documents.put_numbers.Goals as goal

@@ -1,6 +1,7 @@
 use Rattle.std.proofs.Common.{◌≡◌, ◌++◌, length, take}
 use Rattle.std.specs.List.{flat_map, AllByRecursion}
-use Rattle.commit_point.specs.Spelling.{be64, number}
+use Rattle.ix_base.specs.Spelling.{be64}
+use Rattle.commit_point.specs.Spelling.{number}
 use Rattle.commit_point.specs.Fits.{NumberFits}
 use Rattle.commit_point.proofs.documents.put_numbers.Given as goal
 

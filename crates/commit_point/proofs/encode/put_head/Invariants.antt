@@ -1,6 +1,7 @@
 use Rattle.std.proofs.Common.{◌≡◌, ◌++◌, length, take}
 use Rattle.std.specs.List.{flat_map}
-use Rattle.commit_point.specs.Spelling.{be64, commit_mark, entry}
+use Rattle.ix_base.specs.Spelling.{be64}
+use Rattle.commit_point.specs.Spelling.{commit_mark, entry}
 use Rattle.commit_point.proofs.encode.put_head.Given as goal
 
 abbrev pub invariant-loop-segment : goal.invariant-loop-segment

@@ -1,7 +1,8 @@
 use Rattle.std.proofs.Common.{◌≡◌, ◌++◌, length, take}
 use Rattle.std.specs.List.{flat_map, AllByRecursion}
 use Rattle.ix_base.specs.declared.document.Row.{Row}
-use Rattle.commit_point.specs.Spelling.{be64, be32, rows_mark, row}
+use Rattle.ix_base.specs.Spelling.{be64, be32}
+use Rattle.commit_point.specs.Spelling.{rows_mark, row}
 use Rattle.commit_point.specs.Fits.{DocumentFits}
 use Rattle.commit_point.proofs.encode.put_rows.Given as goal
 
