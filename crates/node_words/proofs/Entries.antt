@@ -11,7 +11,7 @@ use Rattle.ix_base.specs.declared.document.Term.{Term}
 use Rattle.node_words.proofs.Both.{both_begin, both_one_form, first_fails, second_fails}
 use Rattle.node_words.proofs.Forms.{OneForm, one_name, one_signed}
 use Rattle.node_words.proofs.QueryForms.{one_pair, one_query}
-use Rattle.node_words.specs.Reads.{Begins, NoneBegins, IsSpelling, IsNoSpelling, FailsAll, Pair, IsPair, pair_bytes, Setting, IsSetting, setting_bytes, IsOfKind}
+use Rattle.node_words.specs.Reads.{StandsAtStart, NoneAtStart, IsSpelling, IsNoSpelling, FailsAll, Pair, IsPair, pair_bytes, Setting, IsSetting, setting_bytes, IsOfKind}
 use Rattle.node_words.specs.declared.fault.ReadError.{ReadError}
 use Rattle.node_words.specs.declared.fault.ReadError.TheVariants.{Memory, Foreign}
 
@@ -25,11 +25,11 @@ one_own_term t u x y p q e =
     let s = one_pair (t.field, t.bytes) (u.field, u.bytes) x y (as_pair t p) (as_pair u q) e in
     (ap (λ (pair : Pair). record { field = pair.0; bytes = pair.1 }) s.0, s.1)
 
-pub no_pair_begins : (bytes : List ℕ) → NoneBegins IsPair pair_bytes bytes → NoneBegins IsOwnTerm term_bytes bytes
+pub no_pair_begins : (bytes : List ℕ) → NoneAtStart IsPair pair_bytes bytes → NoneAtStart IsOwnTerm term_bytes bytes
 no_pair_begins bytes h term rest is e = h (term.field, term.bytes) rest (as_pair term is) e
 
-pub long_term : (pair : Pair) (bytes rest : List ℕ) → Begins IsPair pair_bytes pair bytes rest → 32766 < length pair.1 → NoneBegins IsOwnTerm term_bytes bytes
-long_term pair bytes rest p long own after is e =
+pub too_long_term : (pair : Pair) (bytes rest : List ℕ) → StandsAtStart IsPair pair_bytes pair bytes rest → 32766 < length pair.1 → NoneAtStart IsOwnTerm term_bytes bytes
+too_long_term pair bytes rest p long own after is e =
     let s = one_pair pair (own.field, own.bytes) rest after p.0 (as_pair own is) (sym p.1 ∙ e) in
     absurd (omega (arith, ap (λ (found : Pair). length found.1) s.0, is.short))
 
@@ -44,32 +44,32 @@ named_bytes n = text_bytes n.0 ++ signed64 n.1
 pub one_setting : OneForm IsSetting setting_bytes
 one_setting = both_one_form IsOwnTerm term_bytes IsNamed named_bytes one_own_term (both_one_form IsName text_bytes (FitsSigned w64) signed64 one_name one_signed)
 
-pub no_set_term : (bytes : List ℕ) → NoneBegins IsOwnTerm term_bytes bytes → NoneBegins IsSetting setting_bytes bytes
+pub no_set_term : (bytes : List ℕ) → NoneAtStart IsOwnTerm term_bytes bytes → NoneAtStart IsSetting setting_bytes bytes
 no_set_term bytes h = first_fails IsOwnTerm term_bytes IsNamed named_bytes (λ (s : Setting). s.0) (λ (s : Setting). s.1) Foreign bytes h
 
-pub no_set_name : (term : Term) (bytes mid : List ℕ) → Begins IsOwnTerm term_bytes term bytes mid → NoneBegins IsName text_bytes mid → NoneBegins IsSetting setting_bytes bytes
+pub no_set_name : (term : Term) (bytes mid : List ℕ) → StandsAtStart IsOwnTerm term_bytes term bytes mid → NoneAtStart IsName text_bytes mid → NoneAtStart IsSetting setting_bytes bytes
 no_set_name term bytes mid p h =
     second_fails IsOwnTerm term_bytes IsNamed named_bytes (λ (s : Setting). s.0) (λ (s : Setting). s.1) one_own_term Foreign term bytes mid p
     (first_fails IsName text_bytes (FitsSigned w64) signed64 (λ (n : List ℕ × ℤ). n.0) (λ (n : List ℕ × ℤ). n.1) Foreign mid h)
 
-pub no_set_value : (term : Term) (name bytes mid rest : List ℕ) → Begins IsOwnTerm term_bytes term bytes mid → Begins IsName text_bytes name mid rest → NoneBegins (FitsSigned w64) signed64 rest
-    → NoneBegins IsSetting setting_bytes bytes
+pub no_set_value : (term : Term) (name bytes mid rest : List ℕ) → StandsAtStart IsOwnTerm term_bytes term bytes mid → StandsAtStart IsName text_bytes name mid rest → NoneAtStart (FitsSigned w64) signed64 rest
+    → NoneAtStart IsSetting setting_bytes bytes
 no_set_value term name bytes mid rest p q h =
     second_fails IsOwnTerm term_bytes IsNamed named_bytes (λ (s : Setting). s.0) (λ (s : Setting). s.1) one_own_term Foreign term bytes mid p
     (second_fails IsName text_bytes (FitsSigned w64) signed64 (λ (n : List ℕ × ℤ). n.0) (λ (n : List ℕ × ℤ). n.1) one_name Foreign name mid rest q h)
 
-pub setting_begins : (term : Term) (name : List ℕ) (value : ℤ) (bytes mid late rest : List ℕ) → Begins IsOwnTerm term_bytes term bytes mid → Begins IsName text_bytes name mid late → Begins (FitsSigned w64) signed64 value late rest
-    → Begins IsSetting setting_bytes (term, (name, value)) bytes rest
+pub setting_begins : (term : Term) (name : List ℕ) (value : ℤ) (bytes mid late rest : List ℕ) → StandsAtStart IsOwnTerm term_bytes term bytes mid → StandsAtStart IsName text_bytes name mid late → StandsAtStart (FitsSigned w64) signed64 value late rest
+    → StandsAtStart IsSetting setting_bytes (term, (name, value)) bytes rest
 setting_begins term name value bytes mid late rest p q r =
     both_begin IsOwnTerm term_bytes IsNamed named_bytes term (name, value) bytes mid rest p (both_begin IsName text_bytes (FitsSigned w64) signed64 name value mid late rest q r)
 
 -- ---- all of the bytes
 
-pub no_spelling : {V : Type 0} (IsOne : V → Type 0) (spelling : V → List ℕ) (start bytes : List ℕ) → start ≡ bytes → NoneBegins IsOne spelling start → IsNoSpelling IsOne spelling bytes
+pub no_spelling : {V : Type 0} (IsOne : V → Type 0) (spelling : V → List ℕ) (start bytes : List ℕ) → start ≡ bytes → NoneAtStart IsOne spelling start → IsNoSpelling IsOne spelling bytes
 no_spelling IsOne spelling start bytes s h v is e = h v [] is (s ∙ e ∙ sym (append-nil (spelling v)))
 
 -- bytes with more behind a value spell none
-pub more_behind : {V : Type 0} (IsOne : V → Type 0) (spelling : V → List ℕ) → OneForm IsOne spelling → (v : V) (start bytes rest : List ℕ) → start ≡ bytes → Begins IsOne spelling v start rest → 0 < length rest
+pub more_behind : {V : Type 0} (IsOne : V → Type 0) (spelling : V → List ℕ) → OneForm IsOne spelling → (v : V) (start bytes rest : List ℕ) → start ≡ bytes → StandsAtStart IsOne spelling v start rest → 0 < length rest
     → IsNoSpelling IsOne spelling bytes
 more_behind IsOne spelling one v start bytes rest s p some w is e =
     let t = one v w rest [] p.0 is (sym p.1 ∙ s ∙ e ∙ sym (append-nil (spelling w))) in
@@ -172,10 +172,10 @@ one_entry kind _ _ x y p q e = absurd (omega (arith, p.1, q.1))
 
 -- ---- a query that is all of the bytes
 
-pub query_read : (q : Tree) (start bytes rest : List ℕ) → start ≡ bytes → IsSpelling IsQuery query_bytes bytes → Begins IsQuery query_bytes q start rest → IsQuery q × (bytes ≡ query_bytes q)
+pub query_read : (q : Tree) (start bytes rest : List ℕ) → start ≡ bytes → IsSpelling IsQuery query_bytes bytes → StandsAtStart IsQuery query_bytes q start rest → IsQuery q × (bytes ≡ query_bytes q)
 query_read q start bytes rest s is p =
     let t = one_query q is.0 rest [] p.0 is.1 (sym p.1 ∙ s ∙ is.2 ∙ sym (append-nil (query_bytes is.0))) in
     (p.0, is.2 ∙ ap query_bytes (sym t.0))
 
-pub query_there : (start bytes : List ℕ) → start ≡ bytes → IsSpelling IsQuery query_bytes bytes → NoneBegins IsQuery query_bytes start → ⊥
+pub query_there : (start bytes : List ℕ) → start ≡ bytes → IsSpelling IsQuery query_bytes bytes → NoneAtStart IsQuery query_bytes start → ⊥
 query_there start bytes s is none = none is.0 [] is.1 (s ∙ is.2 ∙ sym (append-nil (query_bytes is.0)))

@@ -13,12 +13,12 @@ use Rattle.node_words.specs.declared.parts.TextPair.{TextPair}
 use Rattle.node_words.specs.declared.parts.SetParts.{SetParts}
 
 -- The value has a spelling, which stands at the front, and these bytes are left.
-abbrev pub Begins : {V : Type 0} → (V → Type 0) → (V → List ℕ) → V → List ℕ → List ℕ → Type 0
-Begins IsOne spelling v bytes rest = IsOne v × (bytes ≡ spelling v ++ rest)
+abbrev pub StandsAtStart : {V : Type 0} → (V → Type 0) → (V → List ℕ) → V → List ℕ → List ℕ → Type 0
+StandsAtStart IsOne spelling v bytes rest = IsOne v × (bytes ≡ spelling v ++ rest)
 
 -- no value begins the bytes
-abbrev pub NoneBegins : {V : Type 0} → (V → Type 0) → (V → List ℕ) → List ℕ → Type 0
-NoneBegins {V} IsOne spelling bytes = (v : V) (rest : List ℕ) → IsOne v → bytes ≡ spelling v ++ rest → ⊥
+abbrev pub NoneAtStart : {V : Type 0} → (V → Type 0) → (V → List ℕ) → List ℕ → Type 0
+NoneAtStart {V} IsOne spelling bytes = (v : V) (rest : List ℕ) → IsOne v → bytes ≡ spelling v ++ rest → ⊥
 
 -- a value is spelled by all of the bytes
 abbrev pub IsSpelling : {V : Type 0} → (V → Type 0) → (V → List ℕ) → List ℕ → Type 0
@@ -32,13 +32,13 @@ IsNoSpelling {V} IsOne spelling bytes = (v : V) → IsOne v → bytes ≡ spelli
 
 -- what finding such a value answers, seen by view, with the bytes before and after
 abbrev pub Finds : {X V : Type 0} → (X → V) → (V → Type 0) → (V → List ℕ) → List ℕ → List ℕ → Result X WrongForm → Type 0
-Finds view IsOne spelling before after (Ok x) = Begins IsOne spelling (view x) before after
-Finds view IsOne spelling before after (Err e) = NoneBegins IsOne spelling before
+Finds view IsOne spelling before after (Ok x) = StandsAtStart IsOne spelling (view x) before after
+Finds view IsOne spelling before after (Err e) = NoneAtStart IsOne spelling before
 
 -- what passing over such a value answers
 abbrev pub Skips : {V : Type 0} → (V → Type 0) → (V → List ℕ) → List ℕ → List ℕ → Result ⊤ WrongForm → Type 0
-Skips {V} IsOne spelling before after (Ok u) = (v : V) × Begins IsOne spelling v before after
-Skips IsOne spelling before after (Err e) = NoneBegins IsOne spelling before
+Skips {V} IsOne spelling before after (Ok u) = (v : V) × StandsAtStart IsOne spelling v before after
+Skips IsOne spelling before after (Err e) = NoneAtStart IsOne spelling before
 
 -- what finding a value in all of the bytes answers
 abbrev pub FindsAll : {X V : Type 0} → (X → V) → (V → Type 0) → (V → List ℕ) → List ℕ → Result X WrongForm → Type 0
@@ -53,14 +53,14 @@ ChecksAll IsOne spelling bytes (Err e) = IsNoSpelling IsOne spelling bytes
 -- ---- with memory
 
 -- no value begins the bytes, unless memory ran out
-abbrev pub Fails : {V : Type 0} → (V → Type 0) → (V → List ℕ) → List ℕ → ReadError → Type 0
-Fails IsOne spelling bytes Memory = Unit {0}
-Fails IsOne spelling bytes Foreign = NoneBegins IsOne spelling bytes
+abbrev pub FailsAtStart : {V : Type 0} → (V → Type 0) → (V → List ℕ) → List ℕ → ReadError → Type 0
+FailsAtStart IsOne spelling bytes Memory = Unit {0}
+FailsAtStart IsOne spelling bytes Foreign = NoneAtStart IsOne spelling bytes
 
 -- what a reader of such a value answers, seen by view, with the bytes before and after
-abbrev pub Reads : {X V : Type 0} → (X → V) → (V → Type 0) → (V → List ℕ) → List ℕ → List ℕ → Result X ReadError → Type 0
-Reads view IsOne spelling before after (Ok x) = Begins IsOne spelling (view x) before after
-Reads view IsOne spelling before after (Err e) = Fails IsOne spelling before e
+abbrev pub ReadsAtStart : {X V : Type 0} → (X → V) → (V → Type 0) → (V → List ℕ) → List ℕ → List ℕ → Result X ReadError → Type 0
+ReadsAtStart view IsOne spelling before after (Ok x) = StandsAtStart IsOne spelling (view x) before after
+ReadsAtStart view IsOne spelling before after (Err e) = FailsAtStart IsOne spelling before e
 
 -- memory runs out only where all of the bytes spell a value
 abbrev pub FailsAll : {V : Type 0} → (V → Type 0) → (V → List ℕ) → List ℕ → ReadError → Type 0
@@ -106,13 +106,13 @@ abbrev pub setting_in : SetParts → Setting
 setting_in found = (term_in found.term, (found.num.now, found.value))
 
 -- the three lists of a bool query
-abbrev pub Lists : Type 0
-Lists = Trees × (Trees × Trees)
+abbrev pub ThreeLists : Type 0
+ThreeLists = Trees × (Trees × Trees)
 
-abbrev pub AreLists : Lists → Type 0
+abbrev pub AreLists : ThreeLists → Type 0
 AreLists lists = IsQueryList lists.0 × (IsQueryList lists.1.0 × IsQueryList lists.1.1)
 
-abbrev pub lists_bytes : Lists → List ℕ
+abbrev pub lists_bytes : ThreeLists → List ℕ
 lists_bytes lists = list_bytes lists.0 ++ (list_bytes lists.1.0 ++ list_bytes lists.1.1)
 
 -- an entry of this kind

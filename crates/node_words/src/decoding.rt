@@ -3,7 +3,7 @@ ghost use Rattle.std.specs.Prelude.{◌≡◌, ◌≤◌, ◌↔◌, length, Som
 ghost use Rattle.ix_base.specs.Entry.{Entry as Value, entry_bytes, term_bytes, most_query_bytes, IsOwnTerm};
 ghost use Rattle.ix_base.specs.Words.{Spells, IsEntryWords};
 ghost use Rattle.node_words.specs.Entry.{value_of};
-ghost use Rattle.node_words.specs.Packed.{ReadsEntry, IsCounted};
+ghost use Rattle.node_words.specs.Packed.{ReadsEntry, IsCountedByHead};
 ghost use Rattle.node_words.specs.Reads.{FindsAll, ReadsAll, IsOfKind, term_in, setting_in, IsSetting, setting_bytes};
 
 use crate::entry::Entry;
@@ -25,7 +25,7 @@ pub fn decode(alloc: Global, words: &[u64]) -> Result<Option<Entry>, NoMemory>
     ensures only { (e : Value) → Spells words.now e → IfOk result (λ found. option_map value_of found ≡ Some e) }
     ensures some { IfOk result (λ found. IsSome found ↔ IsEntryWords words.now) }
     // Memory is taken only where the number of words is right.
-    ensures memory { IfErr result (λ _. IsCounted words.now) }
+    ensures memory { IfErr result (λ _. IsCountedByHead words.now) }
 {
     match read_words(alloc, words) {
         Ok(entry) => Ok(Some(entry)),

@@ -7,10 +7,11 @@ ghost use Rattle.ix_base.specs.Words.{Spells};
 use crate::pack::pack;
 use crate::query_size::query_size;
 use crate::query_write::put_query;
-use crate::write::{put_name, put_signed, put_term};
+use crate::write::put_term;
 use crate::{MOST_QUERY_BYTES, MOST_TERM_BYTES};
-use ix_base::{Operation, Refusal, Refused, Term};
-use std::alloc::{AllocError, Global};
+use ix_base::codec::{put_i64, put_name};
+use ix_base::{NoMemory, Operation, Refusal, Refused, Term};
+use std::alloc::Global;
 
 /// The words that spell the operation: one head word and its bytes, without its document.
 /// An operation is refused by `Term` exactly where its own term has more than 32,766 bytes, and by
@@ -25,7 +26,7 @@ pub fn encode(alloc: Global, operation: &Operation) -> Result<Vec<u64>, Refused>
     Ok(words_of(alloc, operation)?)
 }
 
-fn words_of(alloc: Global, operation: &Operation) -> Result<Vec<u64>, AllocError>
+fn words_of(alloc: Global, operation: &Operation) -> Result<Vec<u64>, NoMemory>
     requires { own_refusal operation.now ≡ None }
     ensures { IfOk result (λ words. Spells words.items (entry_of operation.now)) }
 {
@@ -70,7 +71,7 @@ fn kind_of(operation: &Operation) -> u64
     }
 }
 
-fn put_operation(out: &mut Vec<u8>, operation: &Operation) -> Result<(), AllocError>
+fn put_operation(out: &mut Vec<u8>, operation: &Operation) -> Result<(), NoMemory>
     requires { own_refusal operation.now ≡ None }
     ensures bytes { OnOk result (out.new.items ≡ out.old.items ++ entry_bytes (entry_of operation.now)) }
     ensures entry { OnOk result (IsEntry (entry_of operation.now)) }
@@ -82,7 +83,7 @@ fn put_operation(out: &mut Vec<u8>, operation: &Operation) -> Result<(), AllocEr
         Operation::SetNumber { term, num, value } => {
             put_term(out, term)?;
             put_name(out, num)?;
-            put_signed(out, *value)
+            put_i64(out, *value)
         }
     }
 }

@@ -1,9 +1,10 @@
 //! Why nothing was read.
-ghost use Rattle.std.specs.Prelude.{◌≡◌};
+ghost use Rattle.std.specs.Prelude.{◌≡◌, ⊤};
 ghost use Rattle.node_words.specs.declared.fault.ReadError.TheVariants.{Memory, Foreign};
 
 use ix_base::NoMemory;
-use std::alloc::{AllocError, AllocFailed};
+use ix_base::codec::BrokenField;
+use std::alloc::AllocFailed;
 
 /// What stands there is not of the wanted form. A function that takes no memory answers this alone.
 #[derive(Clone, Copy, Debug, PartialEq, Eq)]
@@ -14,6 +15,14 @@ pub(crate) struct WrongForm;
 pub(crate) enum ReadError {
     Memory,
     Foreign,
+}
+
+impl From<BrokenField> for WrongForm {
+    ghost from_gives = { λ _ _. ⊤ };
+
+    fn from(_error: BrokenField) -> WrongForm {
+        WrongForm
+    }
 }
 
 impl From<WrongForm> for ReadError {
@@ -28,14 +37,6 @@ impl From<NoMemory> for ReadError {
     ghost from_gives = { λ _ e. e ≡ Memory };
 
     fn from(_error: NoMemory) -> ReadError {
-        ReadError::Memory
-    }
-}
-
-impl From<AllocError> for ReadError {
-    ghost from_gives = { λ _ e. e ≡ Memory };
-
-    fn from(_error: AllocError) -> ReadError {
         ReadError::Memory
     }
 }

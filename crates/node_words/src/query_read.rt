@@ -3,7 +3,7 @@ ghost use Rattle.std.specs.Prelude.{◌≤◌, length};
 ghost use Rattle.ix_base.specs.Entry.{most_query_bytes};
 ghost use Rattle.ix_base.specs.Query.{tree_of};
 ghost use Rattle.ix_base.specs.QueryBytes.{query_bytes, list_bytes, IsQuery, IsQueryList};
-ghost use Rattle.node_words.specs.Reads.{Reads, ReadsAll};
+ghost use Rattle.node_words.specs.Reads.{ReadsAtStart, ReadsAll};
 
 use crate::fault::ReadError;
 use crate::parts::{phrase_from, term_from};
@@ -31,7 +31,7 @@ pub(crate) fn read_whole_query(alloc: Global, bytes: &[u8]) -> Result<Query, Rea
 #[cycle(read_query)]
 fn read_query(alloc: Global, reader: &mut Reader<'_>) -> Result<Query, ReadError>
     requires { length reader.old ≤ most_query_bytes }
-    ensures { Reads tree_of IsQuery query_bytes reader.old reader.new result }
+    ensures { ReadsAtStart tree_of IsQuery query_bytes reader.old reader.new result }
 {
     match reader.byte()? {
         0 => Ok(Query::All),
@@ -61,7 +61,7 @@ fn read_query(alloc: Global, reader: &mut Reader<'_>) -> Result<Query, ReadError
 #[cycle(read_query)]
 fn read_list(alloc: Global, reader: &mut Reader<'_>) -> Result<Queries, ReadError>
     requires { length reader.old ≤ most_query_bytes }
-    ensures { Reads (λ found. found) IsQueryList list_bytes reader.old reader.new result }
+    ensures { ReadsAtStart (λ found. found) IsQueryList list_bytes reader.old reader.new result }
 {
     let count = reader.number()?;
     let mut items = Vec::new(alloc);
