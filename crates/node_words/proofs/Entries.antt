@@ -80,75 +80,48 @@ all_read spelling v start bytes rest s e len = sym s ∙ e ∙ ap (λ (t : List 
 
 -- ---- of one kind
 
+-- Bytes spell no entry of a kind where they don't spell the fields of its entries, or where these have
+-- no fields and there are bytes.
+no_entry : (kind : ℕ) (bytes : List ℕ) → (1 ≤ kind → kind ≤ 7 → length bytes ≡ 0 → (2 ≤ kind) × (kind ≤ 5))
+    → (2 ≤ kind → kind ≤ 3 → IsNoSpelling IsOwnTerm term_bytes bytes) → (kind ≡ 4 → IsNoSpelling IsQuery query_bytes bytes) → (kind ≡ 5 → IsNoSpelling IsSetting setting_bytes bytes)
+    → IsNoSpelling (IsOfKind kind) entry_bytes bytes
+no_entry kind bytes plain term query setting add is e = absurd (omega (arith, is.1, plain (omega (arith, is.1)) (omega (arith, is.1)) (ap length e)))
+no_entry kind bytes plain term query setting (update t) is e = term (omega (arith, is.1)) (omega (arith, is.1)) t is.0 e
+no_entry kind bytes plain term query setting (delete_term t) is e = term (omega (arith, is.1)) (omega (arith, is.1)) t is.0 e
+no_entry kind bytes plain term query setting (delete_query q) is e = query (sym is.1) q is.0.0 e
+no_entry kind bytes plain term query setting (set_number t n v) is e = setting (sym is.1) (t, (n, v)) (is.0.0, (is.0.1, is.0.2)) e
+no_entry kind bytes plain term query setting commit is e = absurd (omega (arith, is.1, plain (omega (arith, is.1)) (omega (arith, is.1)) (ap length e)))
+no_entry kind bytes plain term query setting turn is e = absurd (omega (arith, is.1, plain (omega (arith, is.1)) (omega (arith, is.1)) (ap length e)))
+
 -- an entry without fields has no bytes
 pub plain_fails : (kind : ℕ) (bytes : List ℕ) → (2 ≤ kind → kind ≤ 5 → ⊥) → 0 < length bytes → IsNoSpelling (IsOfKind kind) entry_bytes bytes
-plain_fails kind bytes not some add is e = absurd (omega (arith, ap length e))
-plain_fails kind bytes not some (update t) is e = not (omega (arith, is.1)) (omega (arith, is.1))
-plain_fails kind bytes not some (delete_term t) is e = not (omega (arith, is.1)) (omega (arith, is.1))
-plain_fails kind bytes not some (delete_query q) is e = not (omega (arith, is.1)) (omega (arith, is.1))
-plain_fails kind bytes not some (set_number t n v) is e = not (omega (arith, is.1)) (omega (arith, is.1))
-plain_fails kind bytes not some commit is e = absurd (omega (arith, ap length e))
-plain_fails kind bytes not some turn is e = absurd (omega (arith, ap length e))
+plain_fails kind bytes not some =
+    no_entry kind bytes (λ a b none. absurd (omega arith)) (λ a b. absurd (not a (omega arith))) (λ k. absurd (not (omega arith) (omega arith))) (λ k. absurd (not (omega arith) (omega arith)))
 
-no_update : (bytes : List ℕ) → IsNoSpelling IsOwnTerm term_bytes bytes → (kind : ℕ) → kind ≡ 2 → IsNoSpelling (IsOfKind kind) entry_bytes bytes
-no_update bytes h kind k add is e = absurd (omega (arith, is.1))
-no_update bytes h kind k (update t) is e = h t is.0 e
-no_update bytes h kind k (delete_term t) is e = absurd (omega (arith, is.1))
-no_update bytes h kind k (delete_query q) is e = absurd (omega (arith, is.1))
-no_update bytes h kind k (set_number t n v) is e = absurd (omega (arith, is.1))
-no_update bytes h kind k commit is e = absurd (omega (arith, is.1))
-no_update bytes h kind k turn is e = absurd (omega (arith, is.1))
+no_term_entry : (kind : ℕ) (bytes : List ℕ) → 2 ≤ kind → kind ≤ 3 → IsNoSpelling IsOwnTerm term_bytes bytes → IsNoSpelling (IsOfKind kind) entry_bytes bytes
+no_term_entry kind bytes low high h = no_entry kind bytes (λ a b none. (low, omega arith)) (λ a b. h) (λ k. absurd (omega arith)) (λ k. absurd (omega arith))
 
 pub update_fails : (e : ReadError) (bytes : List ℕ) (kind : ℕ) → kind ≡ 2 → FailsAll IsOwnTerm term_bytes bytes e → FailsAll (IsOfKind kind) entry_bytes bytes e
 update_fails Memory bytes kind k h = (update h.0, (h.1, sym k), h.2)
-update_fails Foreign bytes kind k h = no_update bytes h kind k
-
-no_delete : (bytes : List ℕ) → IsNoSpelling IsOwnTerm term_bytes bytes → (kind : ℕ) → kind ≡ 3 → IsNoSpelling (IsOfKind kind) entry_bytes bytes
-no_delete bytes h kind k add is e = absurd (omega (arith, is.1))
-no_delete bytes h kind k (update t) is e = absurd (omega (arith, is.1))
-no_delete bytes h kind k (delete_term t) is e = h t is.0 e
-no_delete bytes h kind k (delete_query q) is e = absurd (omega (arith, is.1))
-no_delete bytes h kind k (set_number t n v) is e = absurd (omega (arith, is.1))
-no_delete bytes h kind k commit is e = absurd (omega (arith, is.1))
-no_delete bytes h kind k turn is e = absurd (omega (arith, is.1))
+update_fails Foreign bytes kind k h = no_term_entry kind bytes (omega arith) (omega arith) h
 
 pub delete_fails : (e : ReadError) (bytes : List ℕ) (kind : ℕ) → kind ≡ 3 → FailsAll IsOwnTerm term_bytes bytes e → FailsAll (IsOfKind kind) entry_bytes bytes e
 delete_fails Memory bytes kind k h = (delete_term h.0, (h.1, sym k), h.2)
-delete_fails Foreign bytes kind k h = no_delete bytes h kind k
-
-no_query : (bytes : List ℕ) → IsNoSpelling IsQuery query_bytes bytes → (kind : ℕ) → kind ≡ 4 → IsNoSpelling (IsOfKind kind) entry_bytes bytes
-no_query bytes h kind k add is e = absurd (omega (arith, is.1))
-no_query bytes h kind k (update t) is e = absurd (omega (arith, is.1))
-no_query bytes h kind k (delete_term t) is e = absurd (omega (arith, is.1))
-no_query bytes h kind k (delete_query q) is e = h q is.0.0 e
-no_query bytes h kind k (set_number t n v) is e = absurd (omega (arith, is.1))
-no_query bytes h kind k commit is e = absurd (omega (arith, is.1))
-no_query bytes h kind k turn is e = absurd (omega (arith, is.1))
+delete_fails Foreign bytes kind k h = no_term_entry kind bytes (omega arith) (omega arith) h
 
 pub query_fails : (e : ReadError) (bytes : List ℕ) (kind : ℕ) → kind ≡ 4 → length bytes ≤ 131072 → FailsAll IsQuery query_bytes bytes e → FailsAll (IsOfKind kind) entry_bytes bytes e
 query_fails Memory bytes kind k le h = (delete_query h.0, ((h.1, omega (arith, ap length h.2)), sym k), h.2)
-query_fails Foreign bytes kind k le h = no_query bytes h kind k
+query_fails Foreign bytes kind k le h = no_entry kind bytes (λ a b none. (omega arith, omega arith)) (λ a b. absurd (omega arith)) (λ four. h) (λ five. absurd (omega arith))
 
 pub no_set_number : (bytes : List ℕ) → IsNoSpelling IsSetting setting_bytes bytes → IsNoSpelling (IsOfKind 5) entry_bytes bytes
-no_set_number bytes h add is e = absurd (omega (arith, is.1))
-no_set_number bytes h (update t) is e = absurd (omega (arith, is.1))
-no_set_number bytes h (delete_term t) is e = absurd (omega (arith, is.1))
-no_set_number bytes h (delete_query q) is e = absurd (omega (arith, is.1))
-no_set_number bytes h (set_number t n v) is e = h (t, (n, v)) (is.0.0, (is.0.1, is.0.2)) e
-no_set_number bytes h commit is e = absurd (omega (arith, is.1))
-no_set_number bytes h turn is e = absurd (omega (arith, is.1))
+no_set_number bytes h = no_entry 5 bytes (λ a b none. (omega arith, omega arith)) (λ a b. absurd (omega arith)) (λ four. absurd (omega arith)) (λ five. h)
 
 pub set_number_there : (s : Setting) (bytes : List ℕ) → IsSetting s → bytes ≡ setting_bytes s → IsSpelling (IsOfKind 5) entry_bytes bytes
 set_number_there s bytes is e = (set_number s.0 s.1.0 s.1.1, ((is.0, is.1.0, is.1.1), refl), e)
 
 pub no_kind : (bytes : List ℕ) (kind : ℕ) → (1 ≤ kind → kind ≤ 7 → ⊥) → IsNoSpelling (IsOfKind kind) entry_bytes bytes
-no_kind bytes kind not add is e = not (omega (arith, is.1)) (omega (arith, is.1))
-no_kind bytes kind not (update t) is e = not (omega (arith, is.1)) (omega (arith, is.1))
-no_kind bytes kind not (delete_term t) is e = not (omega (arith, is.1)) (omega (arith, is.1))
-no_kind bytes kind not (delete_query q) is e = not (omega (arith, is.1)) (omega (arith, is.1))
-no_kind bytes kind not (set_number t n v) is e = not (omega (arith, is.1)) (omega (arith, is.1))
-no_kind bytes kind not commit is e = not (omega (arith, is.1)) (omega (arith, is.1))
-no_kind bytes kind not turn is e = not (omega (arith, is.1)) (omega (arith, is.1))
+no_kind bytes kind not =
+    no_entry kind bytes (λ a b none. absurd (not a b)) (λ a b. absurd (not (omega arith) (omega arith))) (λ k. absurd (not (omega arith) (omega arith))) (λ k. absurd (not (omega arith) (omega arith)))
 
 -- ---- no entry's bytes begin another's of its kind
 

@@ -1,4 +1,4 @@
-//! Why nothing was read.
+//! Errors of reading.
 ghost use Rattle.std.specs.Prelude.{◌≡◌, ⊤};
 ghost use Rattle.node_words.specs.declared.fault.ReadError.TheVariants.{Memory, Foreign};
 
@@ -6,11 +6,11 @@ use ix_base::NoMemory;
 use ix_base::codec::BrokenField;
 use std::alloc::AllocFailed;
 
-/// What stands there is not of the wanted form. A function that takes no memory answers this alone.
+/// The bytes or words are not of the wanted form. Functions that take no memory return no other error.
 #[derive(Clone, Copy, Debug, PartialEq, Eq)]
 pub(crate) struct WrongForm;
 
-/// Why nothing was read: memory ran out, or what stands there is not of the wanted form.
+/// Why nothing was read: memory ran out, or the bytes or words are not of the wanted form.
 #[derive(Drop)]
 pub(crate) enum ReadError {
     Memory,

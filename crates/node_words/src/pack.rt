@@ -47,6 +47,7 @@ fn after_word(bytes: &[u8]) -> &[u8]
     }
 }
 
+/// The byte at this place, or 0 past the end.
 fn byte_at(bytes: &[u8], at: usize) -> u8
     ensures { result ≡ slice_index bytes.now at }
 {

@@ -1,4 +1,4 @@
-//! Reading a query from the front of bytes.
+//! Bytes as a query.
 ghost use Rattle.std.specs.Prelude.{◌≤◌, length};
 ghost use Rattle.ix_base.specs.Entry.{most_query_bytes};
 ghost use Rattle.ix_base.specs.Query.{tree_of};
@@ -26,8 +26,8 @@ pub(crate) fn read_whole_query(alloc: Global, bytes: &[u8]) -> Result<Query, Rea
     }
 }
 
-/// The query at the front. A query within a query has fewer bytes than it, so the bytes bound how
-/// deep this goes.
+/// The query at the start of the bytes that are left. A query within a query has fewer bytes than it,
+/// so the number of bytes bounds how deep the calls go.
 #[cycle(read_query)]
 fn read_query(alloc: Global, reader: &mut Reader<'_>) -> Result<Query, ReadError>
     requires { length reader.old ≤ most_query_bytes }
@@ -58,6 +58,7 @@ fn read_query(alloc: Global, reader: &mut Reader<'_>) -> Result<Query, ReadError
     }
 }
 
+/// The list of queries at the start of the bytes that are left.
 #[cycle(read_query)]
 fn read_list(alloc: Global, reader: &mut Reader<'_>) -> Result<Queries, ReadError>
     requires { length reader.old ≤ most_query_bytes }

@@ -11,8 +11,8 @@ use crate::parts::TextPair;
 use ix_base::codec;
 use std::marker::Model;
 
-/// Bytes that are read from their start on. Contracts see those that are left. After an error it is
-/// not said which are left.
+/// A cursor over bytes. Contracts see it as the bytes that are left. Which are left after an error is
+/// not specified.
 #[derive(Drop)]
 pub(crate) struct Reader<'a> {
     rest: &'a [u8],
@@ -84,7 +84,7 @@ impl<'a> Reader<'a> {
         Ok(name)
     }
 
-    /// A name, and a text behind it.
+    /// A name, and a text after it.
     pub(crate) fn pair(&mut self) -> Result<TextPair<'a>, WrongForm>
         ensures { Finds pair_in IsPair pair_bytes self.old self.new result }
     {

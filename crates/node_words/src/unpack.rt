@@ -1,4 +1,4 @@
-//! Words as bytes again.
+//! Words as a kind and bytes.
 ghost use Rattle.std.specs.Prelude.{◌≡◌, ◌↔◌, ◌≤◌, IfOk, IsTrue, drop, length, slice_index, EachIndex};
 ghost use Rattle.std.specs.List.{flat_map};
 ghost use Rattle.ix_base.specs.Spelling.{be64};
@@ -39,6 +39,7 @@ fn is_zero_from(bytes: &[u8], at: usize) -> bool
     rest.iter().all(|byte| *byte == 0)
 }
 
+/// The bytes of these words, eight of each, the highest first.
 fn bytes_of(alloc: Global, words: &[u64]) -> Result<Vec<u8>, NoMemory>
     ensures { IfOk result (λ bytes. bytes.items ≡ flat_map be64 words.now) }
 {
