@@ -88,6 +88,24 @@ removal_last d is ys row =
     by None = refl
     by (Some r) = sym (is.is r) ∙ sym (one (touched d r))
 
+-- ---- what holds of all numbers
+
+-- all numbers have a property
+abbrev pub Numbers : (ℕ → Type 0) → List Numbered → Type 0
+Numbers P ops = AllByRecursion (λ (x : Numbered). P x.0) ops
+
+pub numbers_join : (P : ℕ → Type 0) (xs ys : List Numbered) → Numbers P xs → Numbers P ys → Numbers P (xs ++ ys)
+numbers_join P [] ys x y = y
+numbers_join P (a ∷ xs) ys x y = (x.0, numbers_join P xs ys x.1 y)
+
+pub numbers_first : (P : ℕ → Type 0) (xs ys : List Numbered) → Numbers P (xs ++ ys) → Numbers P xs
+numbers_first P [] ys h = tt
+numbers_first P (x ∷ xs) ys h = (h.0, numbers_first P xs ys h.1)
+
+pub numbers_second : (P : ℕ → Type 0) (xs ys : List Numbered) → Numbers P (xs ++ ys) → Numbers P ys
+numbers_second P [] ys h = h
+numbers_second P (x ∷ xs) ys h = numbers_second P xs ys h.1
+
 -- ---- of the deletes by one term the last alone counts
 
 absorbed : (m n : ℕ) (t : Term) → m ≤ n → SameFates ((m, o.DeleteTerm t) ∷ (n, o.DeleteTerm t) ∷ []) ((n, o.DeleteTerm t) ∷ [])
@@ -131,16 +149,12 @@ taken_delete deleted others t n upto =
     let d : Numbered = (n, o.DeleteTerm t) in
     let D : List Numbered = map term_delete deleted in
     same-trans (map term_delete (insert_entry term_cmp deleted t n) ++ others) ((D ++ d ∷ []) ++ others) ((D ++ others) ++ d ∷ [])
-    (same-append _ (D ++ d ∷ []) others others (put_last deleted t n (first D upto)) (λ row. refl))
+    (same-append _ (D ++ d ∷ []) others others (put_last deleted t n (numbers_first (λ k. k ≤ n) D others upto)) (λ row. refl))
     (same-trans ((D ++ d ∷ []) ++ others) (D ++ (d ∷ others)) ((D ++ others) ++ d ∷ [])
     (same-same _ _ (append_assoc D (d ∷ []) others))
     (same-trans (D ++ (d ∷ others)) (D ++ (others ++ d ∷ [])) ((D ++ others) ++ d ∷ [])
     (same-append D D (d ∷ others) (others ++ d ∷ []) (λ row. refl) (removal_last d (by_term n t) others))
     (same-same _ _ (sym (append_assoc D others (d ∷ []))))))
-  where
-    first : (xs : List Numbered) → NumberedUpTo n (xs ++ others) → NumberedUpTo n xs
-    first [] h = tt
-    first (x ∷ xs) h = (h.0, first xs h.1)
 
 -- a delete by query, taken last, stands before the settings
 pub taken_query : (D Q S : List Numbered) (n : ℕ) (q : Query)
@@ -152,24 +166,6 @@ taken_query D Q S n q =
     (same-trans ((D ++ Q) ++ (d ∷ S)) ((D ++ Q) ++ (S ++ d ∷ [])) ((D ++ (Q ++ S)) ++ d ∷ [])
     (same-append (D ++ Q) (D ++ Q) (d ∷ S) (S ++ d ∷ []) (λ row. refl) (removal_last d (by_query n q) S))
     (same-same _ _ (sym (append_assoc (D ++ Q) S (d ∷ [])) ∙ ap (λ z. z ++ d ∷ []) (append_assoc D Q S))))
-
--- ---- what holds of all numbers
-
--- all numbers have a property
-abbrev pub Numbers : (ℕ → Type 0) → List Numbered → Type 0
-Numbers P ops = AllByRecursion (λ (x : Numbered). P x.0) ops
-
-pub numbers_join : (P : ℕ → Type 0) (xs ys : List Numbered) → Numbers P xs → Numbers P ys → Numbers P (xs ++ ys)
-numbers_join P [] ys x y = y
-numbers_join P (a ∷ xs) ys x y = (x.0, numbers_join P xs ys x.1 y)
-
-pub numbers_first : (P : ℕ → Type 0) (xs ys : List Numbered) → Numbers P (xs ++ ys) → Numbers P xs
-numbers_first P [] ys h = tt
-numbers_first P (x ∷ xs) ys h = (h.0, numbers_first P xs ys h.1)
-
-pub numbers_second : (P : ℕ → Type 0) (xs ys : List Numbered) → Numbers P (xs ++ ys) → Numbers P ys
-numbers_second P [] ys h = h
-numbers_second P (x ∷ xs) ys h = numbers_second P xs ys h.1
 
 numbers_put : (P : ℕ → Type 0) (deleted : List (Term × ℕ)) (t : Term) (n : ℕ) → P n
     → Numbers P (map term_delete deleted) → Numbers P (map term_delete (insert_entry term_cmp deleted t n))

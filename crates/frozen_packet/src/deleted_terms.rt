@@ -95,7 +95,7 @@ impl Model for DeletedTerms {
 }
 
 impl DeletedTerms {
-    /// No term. It takes no memory.
+    /// No terms. It takes no memory.
     pub fn new(alloc: Global) -> DeletedTerms
         ensures { result ≡ [] }
     {

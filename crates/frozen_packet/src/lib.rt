@@ -1,6 +1,6 @@
 //! What a list of operations does to the rows that stand when they come, coalesced: of each term
 //! its last delete, and the deletes by query and the settings. Updates grow by one entry at a time
-//! and are then frozen to a packet, which segments apply.
+//! and are then frozen into a packet, which segments apply.
 #![tactic(auto)]
 
 mod deleted_terms;

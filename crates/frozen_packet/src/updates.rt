@@ -36,7 +36,7 @@ pub struct Updates {
 }
 
 impl Updates {
-    /// No update. It takes no memory.
+    /// No updates. It takes no memory.
     pub fn new(alloc: Global) -> Updates
         ensures { as_operations result ≡ [] }
     {
@@ -75,9 +75,9 @@ impl Updates {
         self.settings.as_slice()
     }
 
-    /// Takes one more entry, whose number is not below those taken before: it makes of every row what
-    /// the earlier ones made of it and then this one. Adds, commits and turns change nothing. After
-    /// an error all is as before.
+    /// Takes one more entry, whose number is not below those taken before. The updates then make of
+    /// every row what they made of it before, and then what the entry makes of it. Adds, commits and
+    /// turns change nothing. After an error all is as before.
     pub fn take(&mut self, alloc: Global, number: u64, entry: &Entry) -> Result<(), NoMemory>
         requires { NumberedUpTo number (as_operations self.old) }
         ensures takes { OnOk result (Takes self.old number entry.now self.new) }

@@ -11,7 +11,7 @@ use Rattle.ix_base.specs.declared.document.Term.{Term}
 use Rattle.node_words.proofs.Both.{both_begin, both_one_form, first_fails, second_fails}
 use Rattle.node_words.proofs.Forms.{OneForm, one_name, one_signed}
 use Rattle.node_words.proofs.QueryForms.{one_pair, one_query}
-use Rattle.node_words.specs.Reads.{Begins, NoneBegins, IsSpelling, IsNoSpelling, FailsAll, Pair, IsPair, pair_bytes, Setting, IsSetting, setting_bytes, IsOfKind}
+use Rattle.node_words.specs.Reads.{StandsAtStart, NoneAtStart, IsSpelling, IsNoSpelling, FailsAll, Pair, IsPair, pair_bytes, Setting, IsSetting, setting_bytes, IsOfKind}
 use Rattle.node_words.specs.declared.fault.ReadError.{ReadError}
 use Rattle.node_words.specs.declared.fault.ReadError.TheVariants.{Memory, Foreign}
 
@@ -25,11 +25,11 @@ one_own_term t u x y p q e =
     let s = one_pair (t.field, t.bytes) (u.field, u.bytes) x y (as_pair t p) (as_pair u q) e in
     (ap (λ (pair : Pair). record { field = pair.0; bytes = pair.1 }) s.0, s.1)
 
-pub no_pair_begins : (bytes : List ℕ) → NoneBegins IsPair pair_bytes bytes → NoneBegins IsOwnTerm term_bytes bytes
+pub no_pair_begins : (bytes : List ℕ) → NoneAtStart IsPair pair_bytes bytes → NoneAtStart IsOwnTerm term_bytes bytes
 no_pair_begins bytes h term rest is e = h (term.field, term.bytes) rest (as_pair term is) e
 
-pub long_term : (pair : Pair) (bytes rest : List ℕ) → Begins IsPair pair_bytes pair bytes rest → 32766 < length pair.1 → NoneBegins IsOwnTerm term_bytes bytes
-long_term pair bytes rest p long own after is e =
+pub too_long_term : (pair : Pair) (bytes rest : List ℕ) → StandsAtStart IsPair pair_bytes pair bytes rest → 32766 < length pair.1 → NoneAtStart IsOwnTerm term_bytes bytes
+too_long_term pair bytes rest p long own after is e =
     let s = one_pair pair (own.field, own.bytes) rest after p.0 (as_pair own is) (sym p.1 ∙ e) in
     absurd (omega (arith, ap (λ (found : Pair). length found.1) s.0, is.short))
 
@@ -44,32 +44,32 @@ named_bytes n = text_bytes n.0 ++ signed64 n.1
 pub one_setting : OneForm IsSetting setting_bytes
 one_setting = both_one_form IsOwnTerm term_bytes IsNamed named_bytes one_own_term (both_one_form IsName text_bytes (FitsSigned w64) signed64 one_name one_signed)
 
-pub no_set_term : (bytes : List ℕ) → NoneBegins IsOwnTerm term_bytes bytes → NoneBegins IsSetting setting_bytes bytes
+pub no_set_term : (bytes : List ℕ) → NoneAtStart IsOwnTerm term_bytes bytes → NoneAtStart IsSetting setting_bytes bytes
 no_set_term bytes h = first_fails IsOwnTerm term_bytes IsNamed named_bytes (λ (s : Setting). s.0) (λ (s : Setting). s.1) Foreign bytes h
 
-pub no_set_name : (term : Term) (bytes mid : List ℕ) → Begins IsOwnTerm term_bytes term bytes mid → NoneBegins IsName text_bytes mid → NoneBegins IsSetting setting_bytes bytes
+pub no_set_name : (term : Term) (bytes mid : List ℕ) → StandsAtStart IsOwnTerm term_bytes term bytes mid → NoneAtStart IsName text_bytes mid → NoneAtStart IsSetting setting_bytes bytes
 no_set_name term bytes mid p h =
     second_fails IsOwnTerm term_bytes IsNamed named_bytes (λ (s : Setting). s.0) (λ (s : Setting). s.1) one_own_term Foreign term bytes mid p
     (first_fails IsName text_bytes (FitsSigned w64) signed64 (λ (n : List ℕ × ℤ). n.0) (λ (n : List ℕ × ℤ). n.1) Foreign mid h)
 
-pub no_set_value : (term : Term) (name bytes mid rest : List ℕ) → Begins IsOwnTerm term_bytes term bytes mid → Begins IsName text_bytes name mid rest → NoneBegins (FitsSigned w64) signed64 rest
-    → NoneBegins IsSetting setting_bytes bytes
+pub no_set_value : (term : Term) (name bytes mid rest : List ℕ) → StandsAtStart IsOwnTerm term_bytes term bytes mid → StandsAtStart IsName text_bytes name mid rest → NoneAtStart (FitsSigned w64) signed64 rest
+    → NoneAtStart IsSetting setting_bytes bytes
 no_set_value term name bytes mid rest p q h =
     second_fails IsOwnTerm term_bytes IsNamed named_bytes (λ (s : Setting). s.0) (λ (s : Setting). s.1) one_own_term Foreign term bytes mid p
     (second_fails IsName text_bytes (FitsSigned w64) signed64 (λ (n : List ℕ × ℤ). n.0) (λ (n : List ℕ × ℤ). n.1) one_name Foreign name mid rest q h)
 
-pub setting_begins : (term : Term) (name : List ℕ) (value : ℤ) (bytes mid late rest : List ℕ) → Begins IsOwnTerm term_bytes term bytes mid → Begins IsName text_bytes name mid late → Begins (FitsSigned w64) signed64 value late rest
-    → Begins IsSetting setting_bytes (term, (name, value)) bytes rest
+pub setting_begins : (term : Term) (name : List ℕ) (value : ℤ) (bytes mid late rest : List ℕ) → StandsAtStart IsOwnTerm term_bytes term bytes mid → StandsAtStart IsName text_bytes name mid late → StandsAtStart (FitsSigned w64) signed64 value late rest
+    → StandsAtStart IsSetting setting_bytes (term, (name, value)) bytes rest
 setting_begins term name value bytes mid late rest p q r =
     both_begin IsOwnTerm term_bytes IsNamed named_bytes term (name, value) bytes mid rest p (both_begin IsName text_bytes (FitsSigned w64) signed64 name value mid late rest q r)
 
 -- ---- all of the bytes
 
-pub no_spelling : {V : Type 0} (IsOne : V → Type 0) (spelling : V → List ℕ) (start bytes : List ℕ) → start ≡ bytes → NoneBegins IsOne spelling start → IsNoSpelling IsOne spelling bytes
+pub no_spelling : {V : Type 0} (IsOne : V → Type 0) (spelling : V → List ℕ) (start bytes : List ℕ) → start ≡ bytes → NoneAtStart IsOne spelling start → IsNoSpelling IsOne spelling bytes
 no_spelling IsOne spelling start bytes s h v is e = h v [] is (s ∙ e ∙ sym (append-nil (spelling v)))
 
 -- bytes with more behind a value spell none
-pub more_behind : {V : Type 0} (IsOne : V → Type 0) (spelling : V → List ℕ) → OneForm IsOne spelling → (v : V) (start bytes rest : List ℕ) → start ≡ bytes → Begins IsOne spelling v start rest → 0 < length rest
+pub more_behind : {V : Type 0} (IsOne : V → Type 0) (spelling : V → List ℕ) → OneForm IsOne spelling → (v : V) (start bytes rest : List ℕ) → start ≡ bytes → StandsAtStart IsOne spelling v start rest → 0 < length rest
     → IsNoSpelling IsOne spelling bytes
 more_behind IsOne spelling one v start bytes rest s p some w is e =
     let t = one v w rest [] p.0 is (sym p.1 ∙ s ∙ e ∙ sym (append-nil (spelling w))) in
@@ -80,75 +80,48 @@ all_read spelling v start bytes rest s e len = sym s ∙ e ∙ ap (λ (t : List 
 
 -- ---- of one kind
 
+-- Bytes spell no entry of a kind where they don't spell the fields of its entries, or where these have
+-- no fields and there are bytes.
+no_entry : (kind : ℕ) (bytes : List ℕ) → (1 ≤ kind → kind ≤ 7 → length bytes ≡ 0 → (2 ≤ kind) × (kind ≤ 5))
+    → (2 ≤ kind → kind ≤ 3 → IsNoSpelling IsOwnTerm term_bytes bytes) → (kind ≡ 4 → IsNoSpelling IsQuery query_bytes bytes) → (kind ≡ 5 → IsNoSpelling IsSetting setting_bytes bytes)
+    → IsNoSpelling (IsOfKind kind) entry_bytes bytes
+no_entry kind bytes plain term query setting add is e = absurd (omega (arith, is.1, plain (omega (arith, is.1)) (omega (arith, is.1)) (ap length e)))
+no_entry kind bytes plain term query setting (update t) is e = term (omega (arith, is.1)) (omega (arith, is.1)) t is.0 e
+no_entry kind bytes plain term query setting (delete_term t) is e = term (omega (arith, is.1)) (omega (arith, is.1)) t is.0 e
+no_entry kind bytes plain term query setting (delete_query q) is e = query (sym is.1) q is.0.0 e
+no_entry kind bytes plain term query setting (set_number t n v) is e = setting (sym is.1) (t, (n, v)) (is.0.0, (is.0.1, is.0.2)) e
+no_entry kind bytes plain term query setting commit is e = absurd (omega (arith, is.1, plain (omega (arith, is.1)) (omega (arith, is.1)) (ap length e)))
+no_entry kind bytes plain term query setting turn is e = absurd (omega (arith, is.1, plain (omega (arith, is.1)) (omega (arith, is.1)) (ap length e)))
+
 -- an entry without fields has no bytes
 pub plain_fails : (kind : ℕ) (bytes : List ℕ) → (2 ≤ kind → kind ≤ 5 → ⊥) → 0 < length bytes → IsNoSpelling (IsOfKind kind) entry_bytes bytes
-plain_fails kind bytes not some add is e = absurd (omega (arith, ap length e))
-plain_fails kind bytes not some (update t) is e = not (omega (arith, is.1)) (omega (arith, is.1))
-plain_fails kind bytes not some (delete_term t) is e = not (omega (arith, is.1)) (omega (arith, is.1))
-plain_fails kind bytes not some (delete_query q) is e = not (omega (arith, is.1)) (omega (arith, is.1))
-plain_fails kind bytes not some (set_number t n v) is e = not (omega (arith, is.1)) (omega (arith, is.1))
-plain_fails kind bytes not some commit is e = absurd (omega (arith, ap length e))
-plain_fails kind bytes not some turn is e = absurd (omega (arith, ap length e))
+plain_fails kind bytes not some =
+    no_entry kind bytes (λ a b none. absurd (omega arith)) (λ a b. absurd (not a (omega arith))) (λ k. absurd (not (omega arith) (omega arith))) (λ k. absurd (not (omega arith) (omega arith)))
 
-no_update : (bytes : List ℕ) → IsNoSpelling IsOwnTerm term_bytes bytes → (kind : ℕ) → kind ≡ 2 → IsNoSpelling (IsOfKind kind) entry_bytes bytes
-no_update bytes h kind k add is e = absurd (omega (arith, is.1))
-no_update bytes h kind k (update t) is e = h t is.0 e
-no_update bytes h kind k (delete_term t) is e = absurd (omega (arith, is.1))
-no_update bytes h kind k (delete_query q) is e = absurd (omega (arith, is.1))
-no_update bytes h kind k (set_number t n v) is e = absurd (omega (arith, is.1))
-no_update bytes h kind k commit is e = absurd (omega (arith, is.1))
-no_update bytes h kind k turn is e = absurd (omega (arith, is.1))
+no_term_entry : (kind : ℕ) (bytes : List ℕ) → 2 ≤ kind → kind ≤ 3 → IsNoSpelling IsOwnTerm term_bytes bytes → IsNoSpelling (IsOfKind kind) entry_bytes bytes
+no_term_entry kind bytes low high h = no_entry kind bytes (λ a b none. (low, omega arith)) (λ a b. h) (λ k. absurd (omega arith)) (λ k. absurd (omega arith))
 
 pub update_fails : (e : ReadError) (bytes : List ℕ) (kind : ℕ) → kind ≡ 2 → FailsAll IsOwnTerm term_bytes bytes e → FailsAll (IsOfKind kind) entry_bytes bytes e
 update_fails Memory bytes kind k h = (update h.0, (h.1, sym k), h.2)
-update_fails Foreign bytes kind k h = no_update bytes h kind k
-
-no_delete : (bytes : List ℕ) → IsNoSpelling IsOwnTerm term_bytes bytes → (kind : ℕ) → kind ≡ 3 → IsNoSpelling (IsOfKind kind) entry_bytes bytes
-no_delete bytes h kind k add is e = absurd (omega (arith, is.1))
-no_delete bytes h kind k (update t) is e = absurd (omega (arith, is.1))
-no_delete bytes h kind k (delete_term t) is e = h t is.0 e
-no_delete bytes h kind k (delete_query q) is e = absurd (omega (arith, is.1))
-no_delete bytes h kind k (set_number t n v) is e = absurd (omega (arith, is.1))
-no_delete bytes h kind k commit is e = absurd (omega (arith, is.1))
-no_delete bytes h kind k turn is e = absurd (omega (arith, is.1))
+update_fails Foreign bytes kind k h = no_term_entry kind bytes (omega arith) (omega arith) h
 
 pub delete_fails : (e : ReadError) (bytes : List ℕ) (kind : ℕ) → kind ≡ 3 → FailsAll IsOwnTerm term_bytes bytes e → FailsAll (IsOfKind kind) entry_bytes bytes e
 delete_fails Memory bytes kind k h = (delete_term h.0, (h.1, sym k), h.2)
-delete_fails Foreign bytes kind k h = no_delete bytes h kind k
-
-no_query : (bytes : List ℕ) → IsNoSpelling IsQuery query_bytes bytes → (kind : ℕ) → kind ≡ 4 → IsNoSpelling (IsOfKind kind) entry_bytes bytes
-no_query bytes h kind k add is e = absurd (omega (arith, is.1))
-no_query bytes h kind k (update t) is e = absurd (omega (arith, is.1))
-no_query bytes h kind k (delete_term t) is e = absurd (omega (arith, is.1))
-no_query bytes h kind k (delete_query q) is e = h q is.0.0 e
-no_query bytes h kind k (set_number t n v) is e = absurd (omega (arith, is.1))
-no_query bytes h kind k commit is e = absurd (omega (arith, is.1))
-no_query bytes h kind k turn is e = absurd (omega (arith, is.1))
+delete_fails Foreign bytes kind k h = no_term_entry kind bytes (omega arith) (omega arith) h
 
 pub query_fails : (e : ReadError) (bytes : List ℕ) (kind : ℕ) → kind ≡ 4 → length bytes ≤ 131072 → FailsAll IsQuery query_bytes bytes e → FailsAll (IsOfKind kind) entry_bytes bytes e
 query_fails Memory bytes kind k le h = (delete_query h.0, ((h.1, omega (arith, ap length h.2)), sym k), h.2)
-query_fails Foreign bytes kind k le h = no_query bytes h kind k
+query_fails Foreign bytes kind k le h = no_entry kind bytes (λ a b none. (omega arith, omega arith)) (λ a b. absurd (omega arith)) (λ four. h) (λ five. absurd (omega arith))
 
 pub no_set_number : (bytes : List ℕ) → IsNoSpelling IsSetting setting_bytes bytes → IsNoSpelling (IsOfKind 5) entry_bytes bytes
-no_set_number bytes h add is e = absurd (omega (arith, is.1))
-no_set_number bytes h (update t) is e = absurd (omega (arith, is.1))
-no_set_number bytes h (delete_term t) is e = absurd (omega (arith, is.1))
-no_set_number bytes h (delete_query q) is e = absurd (omega (arith, is.1))
-no_set_number bytes h (set_number t n v) is e = h (t, (n, v)) (is.0.0, (is.0.1, is.0.2)) e
-no_set_number bytes h commit is e = absurd (omega (arith, is.1))
-no_set_number bytes h turn is e = absurd (omega (arith, is.1))
+no_set_number bytes h = no_entry 5 bytes (λ a b none. (omega arith, omega arith)) (λ a b. absurd (omega arith)) (λ four. absurd (omega arith)) (λ five. h)
 
 pub set_number_there : (s : Setting) (bytes : List ℕ) → IsSetting s → bytes ≡ setting_bytes s → IsSpelling (IsOfKind 5) entry_bytes bytes
 set_number_there s bytes is e = (set_number s.0 s.1.0 s.1.1, ((is.0, is.1.0, is.1.1), refl), e)
 
 pub no_kind : (bytes : List ℕ) (kind : ℕ) → (1 ≤ kind → kind ≤ 7 → ⊥) → IsNoSpelling (IsOfKind kind) entry_bytes bytes
-no_kind bytes kind not add is e = not (omega (arith, is.1)) (omega (arith, is.1))
-no_kind bytes kind not (update t) is e = not (omega (arith, is.1)) (omega (arith, is.1))
-no_kind bytes kind not (delete_term t) is e = not (omega (arith, is.1)) (omega (arith, is.1))
-no_kind bytes kind not (delete_query q) is e = not (omega (arith, is.1)) (omega (arith, is.1))
-no_kind bytes kind not (set_number t n v) is e = not (omega (arith, is.1)) (omega (arith, is.1))
-no_kind bytes kind not commit is e = not (omega (arith, is.1)) (omega (arith, is.1))
-no_kind bytes kind not turn is e = not (omega (arith, is.1)) (omega (arith, is.1))
+no_kind bytes kind not =
+    no_entry kind bytes (λ a b none. absurd (not a b)) (λ a b. absurd (not (omega arith) (omega arith))) (λ k. absurd (not (omega arith) (omega arith))) (λ k. absurd (not (omega arith) (omega arith)))
 
 -- ---- no entry's bytes begin another's of its kind
 
@@ -172,10 +145,10 @@ one_entry kind _ _ x y p q e = absurd (omega (arith, p.1, q.1))
 
 -- ---- a query that is all of the bytes
 
-pub query_read : (q : Tree) (start bytes rest : List ℕ) → start ≡ bytes → IsSpelling IsQuery query_bytes bytes → Begins IsQuery query_bytes q start rest → IsQuery q × (bytes ≡ query_bytes q)
+pub query_read : (q : Tree) (start bytes rest : List ℕ) → start ≡ bytes → IsSpelling IsQuery query_bytes bytes → StandsAtStart IsQuery query_bytes q start rest → IsQuery q × (bytes ≡ query_bytes q)
 query_read q start bytes rest s is p =
     let t = one_query q is.0 rest [] p.0 is.1 (sym p.1 ∙ s ∙ is.2 ∙ sym (append-nil (query_bytes is.0))) in
     (p.0, is.2 ∙ ap query_bytes (sym t.0))
 
-pub query_there : (start bytes : List ℕ) → start ≡ bytes → IsSpelling IsQuery query_bytes bytes → NoneBegins IsQuery query_bytes start → ⊥
+pub query_there : (start bytes : List ℕ) → start ≡ bytes → IsSpelling IsQuery query_bytes bytes → NoneAtStart IsQuery query_bytes start → ⊥
 query_there start bytes s is none = none is.0 [] is.1 (s ∙ is.2 ∙ sym (append-nil (query_bytes is.0)))

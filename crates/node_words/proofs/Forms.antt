@@ -1,57 +1,77 @@
--- No spelling of a value begins another, so what is read from the front is the one value there.
-use Rattle.std.proofs.Common.{◌≡◌, ℕ, ◌<◌, ◌^◌, List, ◌++◌, length, take, drop, refl, sym, ap, ◌∙◌, append_assoc, arith}
-use Rattle.std.specs.Int.{w32, w64, from_be_bytes, cast_signed, cast_unsigned}
-use Rattle.std.specs.Prelude.{ℤ, FitsSigned}
-use Rattle.std.proofs.lemmas.Int.{ints, to_z-of_z}
+-- Values that the codec writes and reads: what is found at the start of bytes is the one value there.
+use Rattle.std.proofs.Common.{◌≡◌, ℕ, ◌<◌, ◌^◌, List, ◌++◌, length, take, drop, Result, Ok, Err, refl, sym, ap, ◌∙◌}
+use Rattle.std.specs.Int.{w32, w64}
+use Rattle.std.specs.Prelude.{FitsSigned}
 use Rattle.std.proofs.lemmas.List.{take_at, drop_at}
-use Rattle.std.proofs.lemmas.Nat.{from_be_bytes-to_be_bytes_4, from_be_bytes-to_be_bytes_8}
-use Rattle.ix_base.specs.EntryLaws.{length-be32, length-signed64, short_name}
-use Rattle.ix_base.specs.Spelling.{be32, be64, signed64, text_bytes, IsText, IsName}
+use Rattle.ix_base.specs.Codec.{byte_at, number_at, signed_at, text_at, name_at}
+use Rattle.ix_base.specs.CodecLaws.{Takes, ok_is, byte_takes, byte_again, u32_takes, u32_again, u64_takes, u64_again, signed_takes, signed_again, text_takes, text_again, name_takes, name_again}
+use Rattle.ix_base.specs.Spelling.{be32, be64, signed64, text_bytes, AreBytes, IsText, IsName}
+use Rattle.node_words.specs.Reads.{StandsAtStart, NoneAtStart, byte_alone}
 
+-- no spelling of a value is a prefix of another's
 abbrev pub OneForm : {V : Type 0} → (V → Type 0) → (V → List ℕ) → Type 0
 OneForm {V} IsOne spelling = (v w : V) (x y : List ℕ) → IsOne v → IsOne w → spelling v ++ x ≡ spelling w ++ y → (v ≡ w) × (x ≡ y)
 
--- two fronts of one length are one
+-- two prefixes of one length are one
 pub same_front : (a b x y : List ℕ) → length a ≡ length b → a ++ x ≡ b ++ y → (a ≡ b) × (x ≡ y)
 same_front a b x y len e = (
   sym (take_at a x (length b) len) ∙ ap (take (length b)) e ∙ take_at b y (length b) refl,
   sym (drop_at a x (length b) len) ∙ ap (drop (length b)) e ∙ drop_at b y (length b) refl,
 )
 
-be32-same : (m n : ℕ) → m < 2 ^ 32 → n < 2 ^ 32 → be32 m ≡ be32 n → m ≡ n
-unfolding be32
-be32-same m n p q e = sym (from_be_bytes-to_be_bytes_4 m p) ∙ ap (from_be_bytes w32) e ∙ from_be_bytes-to_be_bytes_4 n q
+-- the codec reads such values: the two laws
+pub record IsCodec {V : Type 0} (IsOne : V → Type 0) (spelling : V → List ℕ) (read : List ℕ → Result (V × List ℕ) ℕ) : Type 0 where
+  takes : (bytes : List ℕ) (x : V × List ℕ) → AreBytes bytes → read bytes ≡ Ok x → Takes bytes (spelling x.0) x.1 × IsOne x.0
+  again : (v : V) (rest : List ℕ) → IsOne v → read (spelling v ++ rest) ≡ Ok (v, rest)
 
-pub be64-same : (m n : ℕ) → m < 2 ^ 64 → n < 2 ^ 64 → be64 m ≡ be64 n → m ≡ n
-unfolding be64
-be64-same m n p q e = sym (from_be_bytes-to_be_bytes_8 m p) ∙ ap (from_be_bytes w64) e ∙ from_be_bytes-to_be_bytes_8 n q
+pub byte_codec : IsCodec (λ b. b < 256) byte_alone byte_at
+byte_codec = record { takes = byte_takes; again = λ b rest is. byte_again b rest }
 
-bits_fit : (z : ℤ) → FitsSigned w64 z → cast_unsigned w64 z < 2 ^ 64
-bits_fit z h = omega (arith, ints)
+pub number_codec : IsCodec (λ n. n < 2 ^ 32) be32 (number_at w32)
+number_codec = record { takes = u32_takes; again = u32_again }
 
-signed64-same : (m n : ℤ) → FitsSigned w64 m → FitsSigned w64 n → signed64 m ≡ signed64 n → m ≡ n
-unfolding signed64
-signed64-same m n p q e =
-    let bits : cast_unsigned w64 m ≡ cast_unsigned w64 n = sym (from_be_bytes-to_be_bytes_8 _ (bits_fit m p)) ∙ ap (from_be_bytes w64) e ∙ from_be_bytes-to_be_bytes_8 _ (bits_fit n q) in
-    sym (to_z-of_z w64 m p) ∙ ap (cast_signed w64) bits ∙ to_z-of_z w64 n q
+pub word_codec : IsCodec (λ n. n < 2 ^ 64) be64 (number_at w64)
+word_codec = record { takes = u64_takes; again = u64_again }
+
+pub signed_codec : IsCodec (FitsSigned w64) signed64 signed_at
+signed_codec = record { takes = signed_takes; again = signed_again }
+
+pub text_codec : IsCodec IsText text_bytes text_at
+text_codec = record { takes = text_takes; again = text_again }
+
+pub name_codec : IsCodec IsName text_bytes name_at
+name_codec = record { takes = name_takes; again = name_again }
+
+module _ {V : Type 0} (IsOne : V → Type 0) (spelling : V → List ℕ) (read : List ℕ → Result (V × List ℕ) ℕ) (codec : IsCodec IsOne spelling read) where
+  pub found : (start bytes : List ℕ) (v : V) (rest : List ℕ) → start ≡ bytes → AreBytes start → read start ≡ Ok (v, rest) → StandsAtStart IsOne spelling v bytes rest
+  found start bytes v rest same fits e =
+      let t = codec.takes start (v, rest) fits e in
+      (t.1, sym same ∙ t.0.parts)
+
+  pub rest_fits : (bytes : List ℕ) (v : V) (rest : List ℕ) → AreBytes bytes → read bytes ≡ Ok (v, rest) → AreBytes rest
+  rest_fits bytes v rest fits e = (codec.takes bytes (v, rest) fits e).0.rest_fits
+
+  pub not_found : (start bytes : List ℕ) (left : ℕ) → start ≡ bytes → read start ≡ Err left → NoneAtStart IsOne spelling bytes
+  not_found start bytes left same e v rest is s =
+      let both = sym e ∙ ap read (same ∙ s) ∙ codec.again v rest is in
+      absurd cc
+
+  one_form : OneForm IsOne spelling
+  one_form v w x y p q e =
+      let s = ok_is (v, x) (w, y) (sym (codec.again v x p) ∙ ap read e ∙ codec.again w y q) in
+      (ap (λ (t : V × List ℕ). t.0) s, ap (λ (t : V × List ℕ). t.1) s)
 
 pub one_number : OneForm (λ n. n < 2 ^ 32) be32
-one_number m n x y p q e =
-    let s = same_front (be32 m) (be32 n) x y (length-be32 m ∙ sym (length-be32 n)) e in
-    (be32-same m n p q s.0, s.1)
+one_number = one_form (λ n. n < 2 ^ 32) be32 (number_at w32) number_codec
+
+pub one_word : OneForm (λ n. n < 2 ^ 64) be64
+one_word = one_form (λ n. n < 2 ^ 64) be64 (number_at w64) word_codec
 
 pub one_signed : OneForm (FitsSigned w64) signed64
-one_signed m n x y p q e =
-    let s = same_front (signed64 m) (signed64 n) x y (length-signed64 m ∙ sym (length-signed64 n)) e in
-    (signed64-same m n p q s.0, s.1)
-
-one_counted : (t u x y : List ℕ) → length t < 2 ^ 32 → length u < 2 ^ 32 → text_bytes t ++ x ≡ text_bytes u ++ y → (t ≡ u) × (x ≡ y)
-one_counted t u x y p q e =
-    let s = one_number (length t) (length u) (t ++ x) (u ++ y) p q (sym (append_assoc (be32 (length t)) t x) ∙ e ∙ append_assoc (be32 (length u)) u y) in
-    same_front t u x y s.0 s.1
+one_signed = one_form (FitsSigned w64) signed64 signed_at signed_codec
 
 pub one_text : OneForm IsText text_bytes
-one_text t u x y p q e = one_counted t u x y p.short q.short e
+one_text = one_form IsText text_bytes text_at text_codec
 
 pub one_name : OneForm IsName text_bytes
-one_name t u x y p q e = one_counted t u x y (omega (arith, short_name t p)) (omega (arith, short_name u q)) e
+one_name = one_form IsName text_bytes name_at name_codec

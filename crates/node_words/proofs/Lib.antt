@@ -1,5 +1,4 @@
 pub mod Forms
-pub mod Fields
 pub mod Both
 pub mod QueryForms
 pub mod Packing

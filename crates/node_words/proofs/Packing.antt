@@ -2,16 +2,17 @@
 use Rattle.std.proofs.Common.{◌≡◌, ℕ, zero, suc, ◌+◌, ◌-◌, ◌*◌, ◌^◌, ◌<◌, ◌≤◌, List, [], ◌∷◌, ◌++◌, length, get_or, take, drop, replicate, refl, sym, ap, subst, ◌∙◌, append_assoc, arith, length-append, inl, inr}
 use Rattle.std.proofs.lemmas.Bool.{cases_lt}
 use Rattle.std.proofs.Math.Seq.{take-length}
-use Rattle.std.proofs.lemmas.List.{drop_at, take-append-drop, length-take, length-drop, get_or-drop, get_or-take, get_or_past, get_or-replicate, get_or_append_left, get_or-append_right, length-replicate, replicate-append-replicate, nil_from_length, ext_get_or}
+use Rattle.std.proofs.lemmas.List.{drop_at, take-append-drop, length-take, length-drop, get_or-take, get_or_past, get_or-replicate, get_or_append_left, get_or-append_right, length-replicate, replicate-append-replicate, nil_from_length, ext_get_or}
 use Rattle.std.proofs.lemmas.List.Concat.{flat_map-cons}
 use Rattle.std.proofs.lemmas.Nat.{be_bytes_8}
 use Rattle.std.specs.Int.{w64, from_be_bytes}
 use Rattle.std.specs.List.{flat_map}
 use Rattle.ix_base.specs.EntryLaws.{length-words_in, head_again}
-use Rattle.ix_base.specs.Spelling.{be64}
+use Rattle.ix_base.specs.CodecLaws.{AreBytes-take, AreBytes-drop}
+use Rattle.ix_base.specs.Spelling.{be64, AreBytes}
 use Rattle.ix_base.specs.Words.{first_word, words_in, words_for, packed, head, head_len, head_kind}
-use Rattle.node_words.proofs.Forms.{same_front, be64-same}
-use Rattle.node_words.specs.Packed.{AreBytes, Holds, IsCounted}
+use Rattle.node_words.proofs.Forms.{same_front, one_word}
+use Rattle.node_words.specs.Packed.{HoldsBytes, IsCountedByHead}
 
 -- ---- one word more
 
@@ -63,21 +64,11 @@ filled_at bytes n i =
 take_at_index : (bytes : List ℕ) (i : ℕ) → i < 8 → get_or bytes i 0 ≡ get_or (take 8 bytes) i 0
 take_at_index bytes i lt = sym (get_or-take 8 bytes i 0 lt)
 
-take_fits : (bytes : List ℕ) (n : ℕ) → AreBytes bytes → AreBytes (take n bytes)
-take_fits bytes n fits i =
-    elim (cases_lt i n) [
-      | inl lt ↦ rw (get_or-take n bytes i 0 lt) (fits i)
-      | inr le ↦ rw (get_or_past (take n bytes) i 0 (omega (arith, length-take n bytes))) (omega arith)
-    ]
-
-drop_fits : (bytes : List ℕ) (n : ℕ) → AreBytes bytes → AreBytes (drop n bytes)
-drop_fits bytes n fits i = rw (get_or-drop n bytes i 0) (fits (n + i))
-
 filled_fits : (bytes : List ℕ) (n : ℕ) → AreBytes bytes → AreBytes (bytes ++ zeros n)
 filled_fits bytes n fits i = rw (filled_at bytes n i) (fits i)
 
 whole_first : (bytes : List ℕ) → AreBytes bytes → 8 ≤ length bytes → be64 (first_word bytes) ≡ take 8 bytes
-whole_first bytes fits le = first_bytes bytes (take 8 bytes) (omega (arith, length-take 8 bytes)) (take_fits bytes 8 fits) (take_at_index bytes)
+whole_first bytes fits le = first_bytes bytes (take 8 bytes) (omega (arith, length-take 8 bytes)) (AreBytes-take 8 bytes fits) (take_at_index bytes)
 
 part_first : (bytes : List ℕ) → AreBytes bytes → length bytes < 8 → be64 (first_word bytes) ≡ bytes ++ zeros (8 - length bytes)
 part_first bytes fits lt =
@@ -96,7 +87,7 @@ bytes_packed zero bytes fits le =
     let none : bytes ≡ [] = nil_from_length bytes (omega arith) in
     subst (λ (bs : List ℕ). [] ≡ bs ++ zeros (8 * 0 - length bs)) (sym none) refl
 bytes_packed (suc n) bytes fits le =
-    let more = bytes_packed n (drop 8 bytes) (drop_fits bytes 8 fits) (omega (arith, length-drop 8 bytes)) in
+    let more = bytes_packed n (drop 8 bytes) (AreBytes-drop 8 bytes fits) (omega (arith, length-drop 8 bytes)) in
     flat_map-cons be64 (first_word bytes) (words_in n (drop 8 bytes)) ∙ ap (λ (t : List ℕ). be64 (first_word bytes) ++ t) more
     ∙ elim (cases_lt (length bytes) 8) [
       | inl lt ↦
@@ -127,15 +118,14 @@ first_word_fits bytes fits = omega (arith, fits 0, fits 1, fits 2, fits 3, fits 
 words_in_fit : (n : ℕ) (bytes : List ℕ) → AreBytes bytes → AreWords (words_in n bytes)
 words_in_fit zero bytes fits i = omega arith
 words_in_fit (suc n) bytes fits zero = first_word_fits bytes fits
-words_in_fit (suc n) bytes fits (suc i) = words_in_fit n (drop 8 bytes) (drop_fits bytes 8 fits) i
+words_in_fit (suc n) bytes fits (suc i) = words_in_fit n (drop 8 bytes) (AreBytes-drop 8 bytes fits) i
 
 pub words_same : (xs ys : List ℕ) → AreWords xs → AreWords ys → flat_map be64 xs ≡ flat_map be64 ys → xs ≡ ys
 words_same [] [] p q e = refl
 words_same [] (y ∷ ys) p q e = absurd (omega (arith, ap length (e ∙ flat_map-cons be64 y ys), length-append (be64 y) (flat_map be64 ys), length-be64 y))
 words_same (x ∷ xs) [] p q e = absurd (omega (arith, ap length (sym e ∙ flat_map-cons be64 x xs), length-append (be64 x) (flat_map be64 xs), length-be64 x))
 words_same (x ∷ xs) (y ∷ ys) p q e =
-    let s = same_front (be64 x) (be64 y) (flat_map be64 xs) (flat_map be64 ys) (length-be64 x ∙ sym (length-be64 y)) (sym (flat_map-cons be64 x xs) ∙ e ∙ flat_map-cons be64 y ys) in
-    let one = be64-same x y (p 0) (q 0) s.0 in
+    let s = one_word x y (flat_map be64 xs) (flat_map be64 ys) (p 0) (q 0) (sym (flat_map-cons be64 x xs) ∙ e ∙ flat_map-cons be64 y ys) in
     let rest = words_same xs ys (λ i. p (suc i)) (λ i. q (suc i)) s.1 in
     cc
 
@@ -152,7 +142,7 @@ same_words : (h k : ℕ) (xs ys : List ℕ) → h ∷ xs ≡ k ∷ ys → (h ≡
 same_words h k xs ys e = (cc, cc)
 
 -- a list of words holds one kind and one list of bytes
-pub held_once : (words : List ℕ) (kind kind' : ℕ) (bytes bytes' : List ℕ) → Holds words kind bytes → Holds words kind' bytes' → (kind ≡ kind') × (bytes ≡ bytes')
+pub held_once : (words : List ℕ) (kind kind' : ℕ) (bytes bytes' : List ℕ) → HoldsBytes words kind bytes → HoldsBytes words kind' bytes' → (kind ≡ kind') × (bytes ≡ bytes')
 held_once words kind kind' bytes bytes' p q =
     let s = same_words _ _ _ _ (sym p.spelled ∙ q.spelled) in
     let a = head_again kind (length bytes) (omega (arith, p.short)) in
@@ -162,14 +152,14 @@ held_once words kind kind' bytes bytes' p q =
     (sym a.0 ∙ ap head_kind s.0 ∙ b.0, (same_front bytes bytes' _ _ len filled).0)
 
 -- words that hold something are counted by their head
-pub held_counted : (words : List ℕ) (kind : ℕ) (bytes : List ℕ) → Holds words kind bytes → IsCounted words
+pub held_counted : (words : List ℕ) (kind : ℕ) (bytes : List ℕ) → HoldsBytes words kind bytes → IsCountedByHead words
 held_counted words kind bytes p =
     let len : head_len (get_or words 0 0) ≡ length bytes = ap (λ (ws : List ℕ). head_len (get_or ws 0 0)) p.spelled ∙ (head_again kind (length bytes) (omega (arith, p.short))).1 in
     let behind : length (packed bytes) ≡ words_for (head_len (get_or words 0 0)) = length-words_in (words_for (length bytes)) bytes ∙ ap words_for (sym len) in
     record { short = omega (arith, len, p.short); count = omega (arith, ap length p.spelled, behind) }
 
 -- words with another number of words, or of too many bytes, hold nothing
-pub none_held : (words : List ℕ) (h : ℕ) (rest : List ℕ) → words ≡ h ∷ rest → (head_len h ≤ 131072 → length rest ≡ words_for (head_len h) → ⊥) → (kind : ℕ) (bytes : List ℕ) → Holds words kind bytes → ⊥
+pub none_held : (words : List ℕ) (h : ℕ) (rest : List ℕ) → words ≡ h ∷ rest → (head_len h ≤ 131072 → length rest ≡ words_for (head_len h) → ⊥) → (kind : ℕ) (bytes : List ℕ) → HoldsBytes words kind bytes → ⊥
 none_held words h rest e not kind bytes p =
     let s = same_words _ _ _ _ (sym e ∙ p.spelled) in
     let a = head_again kind (length bytes) (omega (arith, p.short)) in
@@ -180,7 +170,7 @@ abbrev pub IsZero : List ℕ → Type 0
 IsZero bytes = (i : ℕ) → i < length bytes → get_or bytes i 0 ≡ 0
 
 -- words with something behind the bytes hold nothing
-pub not_filled : (words : List ℕ) (h : ℕ) (rest all : List ℕ) → words ≡ h ∷ rest → all ≡ flat_map be64 rest → (IsZero (drop (head_len h) all) → ⊥) → (kind : ℕ) (bytes : List ℕ) → Holds words kind bytes → ⊥
+pub not_filled : (words : List ℕ) (h : ℕ) (rest all : List ℕ) → words ≡ h ∷ rest → all ≡ flat_map be64 rest → (IsZero (drop (head_len h) all) → ⊥) → (kind : ℕ) (bytes : List ℕ) → HoldsBytes words kind bytes → ⊥
 not_filled words h rest all e a not kind bytes p =
     let s = same_words _ _ _ _ (sym e ∙ p.spelled) in
     let again = head_again kind (length bytes) (omega (arith, p.short)) in
@@ -192,7 +182,7 @@ not_filled words h rest all e a not kind bytes p =
 
 -- bytes with zeros behind them are held
 pub found_held : (words : List ℕ) (h : ℕ) (rest all : List ℕ) → words ≡ h ∷ rest → AreWords rest → AreBytes all → all ≡ flat_map be64 rest → head_len h ≤ 131072 → length rest ≡ words_for (head_len h)
-    → IsZero (drop (head_len h) all) → Holds words (head_kind h) (take (head_len h) all)
+    → IsZero (drop (head_len h) all) → HoldsBytes words (head_kind h) (take (head_len h) all)
 found_held words h rest all e fit small a short count empty =
     let len = head_len h in
     let size : length all ≡ 8 * length rest = ap length a ∙ length-words_bytes rest in
@@ -200,7 +190,7 @@ found_held words h rest all e fit small a short count empty =
     let behind : drop len all ≡ zeros (8 * words_for len - len) =
     ext_get_or 0 (drop len all) (zeros (8 * words_for len - len)) (omega (arith, length-drop len all, length-replicate {A = ℕ} (8 * words_for len - len) 0))
     (λ i lt. empty i lt ∙ sym (zero_at (8 * words_for len - len) i)) in
-    let fits = take_fits all len small in
+    let fits = AreBytes-take len all small in
     let filled : flat_map be64 (packed (take len all)) ≡ flat_map be64 rest =
     bytes_of-packed (take len all) fits ∙ ap (λ (k : ℕ). take len all ++ zeros (8 * words_for k - k)) front ∙ ap (λ (t : List ℕ). take len all ++ t) (sym behind) ∙ take-append-drop len all ∙ a in
     let same = words_same (packed (take len all)) rest (words_in_fit (words_for (length (take len all))) (take len all) fits) fit filled in
@@ -225,8 +215,9 @@ rest_fits words rest h fits e i = subst (λ (t : List ℕ). get_or t (suc i) 0 <
 pub enough : (rest all : List ℕ) (len : ℕ) → all ≡ flat_map be64 rest → length rest ≡ words_for len → len ≤ length all
 enough rest all len a count = omega (arith, ap length a, length-words_bytes rest)
 
--- the bytes of words fit
-be64_fits : (n : ℕ) → AreBytes (be64 n)
+-- ---- the bytes of words fit
+
+pub be64_fits : (n : ℕ) → AreBytes (be64 n)
 unfolding be64
 be64_fits n zero = omega arith
 be64_fits n (suc zero) = omega arith

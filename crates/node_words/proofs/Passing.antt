@@ -4,7 +4,7 @@ use Rattle.std.proofs.lemmas.List.{append-nil}
 use Rattle.ix_base.specs.QueryBytes.{count_of, query_bytes, queries_bytes, list_bytes, IsQuery, AreQueries, IsQueryList}
 use Rattle.ix_base.specs.Spelling.{be32}
 use Rattle.ix_base.specs.Tree.{Tree, all, term, phrase, bool, Trees, no_trees, tree}
-use Rattle.node_words.specs.Reads.{Begins, IsPair, pair_bytes, byte_alone, Pair}
+use Rattle.node_words.specs.Reads.{StandsAtStart, IsPair, pair_bytes, byte_alone, Pair}
 
 -- these queries, and one more behind them
 abbrev and_one : Trees → Tree → Trees
@@ -24,7 +24,7 @@ are-and_one no_trees q p is = (is, tt)
 are-and_one (tree r rs) q p is = (p.0, are-and_one rs q p.1 is)
 
 -- one query more was passed over
-pub one_passed : (n : ℕ) (mid rest after : List ℕ) → (qs : Trees) × AreQueries qs × (count_of qs ≡ n) × (mid ≡ queries_bytes qs ++ rest) → (q : Tree) × Begins IsQuery query_bytes q rest after
+pub one_passed : (n : ℕ) (mid rest after : List ℕ) → (qs : Trees) × AreQueries qs × (count_of qs ≡ n) × (mid ≡ queries_bytes qs ++ rest) → (q : Tree) × StandsAtStart IsQuery query_bytes q rest after
     → (qs : Trees) × AreQueries qs × (count_of qs ≡ n + 1) × (mid ≡ queries_bytes qs ++ after)
 one_passed n mid rest after p q = (
   and_one p.0 q.0,
@@ -35,8 +35,8 @@ one_passed n mid rest after p q = (
 )
 
 -- as many as the count says
-pub list_passed : (n counter : ℕ) (bytes mid rest : List ℕ) → Begins (λ n. n < 2 ^ 32) be32 n bytes mid → n ≡ counter → (qs : Trees) × AreQueries qs × (count_of qs ≡ counter) × (mid ≡ queries_bytes qs ++ rest)
-    → (qs : Trees) × Begins IsQueryList list_bytes qs bytes rest
+pub list_passed : (n counter : ℕ) (bytes mid rest : List ℕ) → StandsAtStart (λ n. n < 2 ^ 32) be32 n bytes mid → n ≡ counter → (qs : Trees) × AreQueries qs × (count_of qs ≡ counter) × (mid ≡ queries_bytes qs ++ rest)
+    → (qs : Trees) × StandsAtStart IsQueryList list_bytes qs bytes rest
 list_passed n counter bytes mid rest b k p =
     let count : n ≡ count_of p.0 = k ∙ sym p.2 in (
       p.0,
@@ -50,20 +50,20 @@ after_byte : (byte tag : ℕ) (bytes mid rest front : List ℕ) → byte ≡ tag
 after_byte byte tag bytes mid rest front t b m =
     b ∙ ap (λ (n : ℕ). byte_alone n ++ mid) t ∙ ap (λ (ts : List ℕ). byte_alone tag ++ ts) m
 
-pub all_passed : (byte : ℕ) (bytes rest : List ℕ) → byte ≡ 0 → bytes ≡ byte_alone byte ++ rest → (q : Tree) × Begins IsQuery query_bytes q bytes rest
+pub all_passed : (byte : ℕ) (bytes rest : List ℕ) → byte ≡ 0 → bytes ≡ byte_alone byte ++ rest → (q : Tree) × StandsAtStart IsQuery query_bytes q bytes rest
 all_passed byte bytes rest t b = (all, (tt, b ∙ ap (λ (n : ℕ). byte_alone n ++ rest) t))
 
-pub term_passed : (byte : ℕ) (pair : Pair) (bytes mid rest : List ℕ) → byte ≡ 1 → bytes ≡ byte_alone byte ++ mid → Begins IsPair pair_bytes pair mid rest → (q : Tree) × Begins IsQuery query_bytes q bytes rest
+pub term_passed : (byte : ℕ) (pair : Pair) (bytes mid rest : List ℕ) → byte ≡ 1 → bytes ≡ byte_alone byte ++ mid → StandsAtStart IsPair pair_bytes pair mid rest → (q : Tree) × StandsAtStart IsQuery query_bytes q bytes rest
 term_passed byte pair bytes mid rest t b p = (term pair.0 pair.1, (p.0, after_byte byte 1 bytes mid rest (pair_bytes pair) t b p.1))
 
-pub phrase_passed : (byte : ℕ) (pair : Pair) (bytes mid rest : List ℕ) → byte ≡ 2 → bytes ≡ byte_alone byte ++ mid → Begins IsPair pair_bytes pair mid rest → (q : Tree) × Begins IsQuery query_bytes q bytes rest
+pub phrase_passed : (byte : ℕ) (pair : Pair) (bytes mid rest : List ℕ) → byte ≡ 2 → bytes ≡ byte_alone byte ++ mid → StandsAtStart IsPair pair_bytes pair mid rest → (q : Tree) × StandsAtStart IsQuery query_bytes q bytes rest
 phrase_passed byte pair bytes mid rest t b p = (phrase pair.0 pair.1, (p.0, after_byte byte 2 bytes mid rest (pair_bytes pair) t b p.1))
 
 three_lists : (a b c rest : List ℕ) → a ++ (b ++ (c ++ rest)) ≡ (a ++ (b ++ c)) ++ rest
 three_lists a b c rest = simp append_assoc
 
-pub bool_passed : (byte : ℕ) (bytes mid should_at not_at rest : List ℕ) → byte ≡ 3 → bytes ≡ byte_alone byte ++ mid → (qs : Trees) × Begins IsQueryList list_bytes qs mid should_at
-    → (qs : Trees) × Begins IsQueryList list_bytes qs should_at not_at → (qs : Trees) × Begins IsQueryList list_bytes qs not_at rest → (q : Tree) × Begins IsQuery query_bytes q bytes rest
+pub bool_passed : (byte : ℕ) (bytes mid should_at not_at rest : List ℕ) → byte ≡ 3 → bytes ≡ byte_alone byte ++ mid → (qs : Trees) × StandsAtStart IsQueryList list_bytes qs mid should_at
+    → (qs : Trees) × StandsAtStart IsQueryList list_bytes qs should_at not_at → (qs : Trees) × StandsAtStart IsQueryList list_bytes qs not_at rest → (q : Tree) × StandsAtStart IsQuery query_bytes q bytes rest
 bool_passed byte bytes mid should_at not_at rest t b p q r =
     let joined : mid ≡ (list_bytes p.0 ++ (list_bytes q.0 ++ list_bytes r.0)) ++ rest =
     p.1.1 ∙ ap (λ (ts : List ℕ). list_bytes p.0 ++ ts) (q.1.1 ∙ ap (λ (ts : List ℕ). list_bytes q.0 ++ ts) r.1.1) ∙ three_lists (list_bytes p.0) (list_bytes q.0) (list_bytes r.0) rest in

@@ -2,17 +2,19 @@
 use Rattle.std.proofs.Common.{◌≡◌, ℕ, zero, suc, ◌+◌, ◌/◌, ◌<◌, Bool, true, false, ℤ, List, [], ◌∷◌, ◌++◌, length, refl, subst, arith, inl, inr}
 use mathlib.Core.Bool.{◌&&◌}
 use lib.Utf8.{scalar, scalars, next, encode, encodes, scalar_cases}
+use Rattle.std.specs.Int.{w64, cast_unsigned}
 use Rattle.std.specs.Str.{IsUtf8}
 use Rattle.std.proofs.lemmas.Bool.{cases_lt, lt-ltb, le-ltb}
 use Rattle.ix_base.specs.Entry.{Entry, add, update, delete_term, delete_query, set_number, commit, turn, kind_of, entry_bytes, term_bytes, IsOwnTerm, IsEntry}
 use Rattle.ix_base.specs.EntryLaws.{most_bytes}
 use Rattle.ix_base.specs.QueryBytes.{count_of, query_bytes, queries_bytes, list_bytes, IsQuery, AreQueries}
-use Rattle.ix_base.specs.Spelling.{be32, signed64, text_bytes, IsText, IsName}
+use Rattle.ix_base.specs.CodecLaws.{AreBytes-drop}
+use Rattle.ix_base.specs.Spelling.{be32, be64, signed64, text_bytes, AreBytes, IsText, IsName}
 use Rattle.ix_base.specs.Tree.{Tree, all, term, phrase, bool, Trees, no_trees, tree}
 use Rattle.ix_base.specs.Words.{Spells}
 use Rattle.ix_base.specs.declared.document.Term.{Term}
-use Rattle.node_words.proofs.Packing.{append_fits}
-use Rattle.node_words.specs.Packed.{AreBytes, Holds}
+use Rattle.node_words.proofs.Packing.{append_fits, be64_fits}
+use Rattle.node_words.specs.Packed.{HoldsBytes}
 
 cons_fits : (x : ℕ) (xs : List ℕ) → x < 256 → AreBytes xs → AreBytes (x ∷ xs)
 cons_fits x xs p q zero = p
@@ -21,25 +23,14 @@ cons_fits x xs p q (suc i) = q i
 nil_fits : AreBytes []
 nil_fits i = omega arith
 
+-- four bytes are the last of eight
 be32_fits : (n : ℕ) → AreBytes (be32 n)
-unfolding be32
-be32_fits n zero = omega arith
-be32_fits n (suc zero) = omega arith
-be32_fits n (suc (suc zero)) = omega arith
-be32_fits n (suc (suc (suc zero))) = omega arith
-be32_fits n (suc (suc (suc (suc i)))) = omega arith
+unfolding be32 be64
+be32_fits n = AreBytes-drop 4 (be64 n) (be64_fits n)
 
 signed64_fits : (z : ℤ) → AreBytes (signed64 z)
-unfolding signed64
-signed64_fits z zero = omega arith
-signed64_fits z (suc zero) = omega arith
-signed64_fits z (suc (suc zero)) = omega arith
-signed64_fits z (suc (suc (suc zero))) = omega arith
-signed64_fits z (suc (suc (suc (suc zero)))) = omega arith
-signed64_fits z (suc (suc (suc (suc (suc zero))))) = omega arith
-signed64_fits z (suc (suc (suc (suc (suc (suc zero)))))) = omega arith
-signed64_fits z (suc (suc (suc (suc (suc (suc (suc zero))))))) = omega arith
-signed64_fits z (suc (suc (suc (suc (suc (suc (suc (suc i)))))))) = omega arith
+unfolding signed64 be64
+signed64_fits z = be64_fits (cast_unsigned w64 z)
 
 below_top : (c : ℕ) → scalar c ≡ true → c < 1114112
 below_top c is = elim (scalar_cases c is) [ inl lt ↦ omega arith | inr both ↦ both.1 ]
@@ -109,5 +100,5 @@ entry_fits commit is = nil_fits
 entry_fits turn is = nil_fits
 
 -- words that spell an entry hold its kind and its bytes
-pub spelled_held : (words : List ℕ) (e : Entry) → Spells words e → Holds words (kind_of e) (entry_bytes e)
+pub spelled_held : (words : List ℕ) (e : Entry) → Spells words e → HoldsBytes words (kind_of e) (entry_bytes e)
 spelled_held words e s = record { bytes_fit = entry_fits e s.fits; short = most_bytes e s.fits; spelled = s.spelled }

@@ -6,7 +6,7 @@ use Rattle.node_words.proofs.Entries.{one_entry}
 use Rattle.node_words.proofs.Packing.{held_once, held_counted}
 use Rattle.node_words.proofs.Small.{spelled_held}
 use Rattle.node_words.specs.Entry.{value_of}
-use Rattle.node_words.specs.Packed.{Holds, Unpacks, ReadsEntry}
+use Rattle.node_words.specs.Packed.{HoldsBytes, Unpacks, ReadsEntry}
 use Rattle.node_words.specs.Reads.{ReadsAll, IsOfKind}
 use Rattle.node_words.specs.declared.entry.Entry as code
 use Rattle.node_words.specs.declared.fault.ReadError.{ReadError}
@@ -16,7 +16,7 @@ pub unpack_fails : (e : ReadError) (words : List ℕ) → Unpacks words (Err e) 
 unpack_fails Memory words h = h
 unpack_fails Foreign words h = λ v s. h (kind_of v) (entry_bytes v) (spelled_held words v s)
 
-pub entry_read : (words : List ℕ) (kind : ℕ) (bytes : List ℕ) (r : Result code.Entry ReadError) → Holds words kind bytes → ReadsAll value_of (IsOfKind kind) entry_bytes bytes r → ReadsEntry words r
+pub entry_read : (words : List ℕ) (kind : ℕ) (bytes : List ℕ) (r : Result code.Entry ReadError) → HoldsBytes words kind bytes → ReadsAll value_of (IsOfKind kind) entry_bytes bytes r → ReadsEntry words r
 entry_read words kind bytes (Ok entry) held p =
     let v = value_of entry in
     record {

@@ -1,4 +1,4 @@
--- An entry of the code as its value.
+-- The value of an entry: what contracts see it as.
 use Rattle.ix_base.specs.Entry as value
 use Rattle.ix_base.specs.Query.{tree_of}
 use Rattle.node_words.specs.declared.entry.Entry.{Entry}

@@ -1,4 +1,4 @@
--- Reading one value from the front of bytes, or from all of them.
+-- Reading one value from the start of bytes, or from all of them.
 use Rattle.std.specs.Prelude.{◌≡◌, ℕ, ℤ, ⊤, List, [], ◌∷◌, ◌++◌, Result, Ok, Err, FitsSigned}
 use Rattle.std.specs.Int.{w64}
 use Rattle.ix_base.specs.Entry.{Entry, kind_of, term_bytes, IsEntry, IsOwnTerm}
@@ -12,67 +12,69 @@ use Rattle.node_words.specs.declared.fault.WrongForm.{WrongForm}
 use Rattle.node_words.specs.declared.parts.TextPair.{TextPair}
 use Rattle.node_words.specs.declared.parts.SetParts.{SetParts}
 
--- The value has a spelling, which stands at the front, and these bytes are left.
-abbrev pub Begins : {V : Type 0} → (V → Type 0) → (V → List ℕ) → V → List ℕ → List ℕ → Type 0
-Begins IsOne spelling v bytes rest = IsOne v × (bytes ≡ spelling v ++ rest)
+-- The value has a spelling, the bytes begin with it, and these bytes are left.
+abbrev pub StandsAtStart : {V : Type 0} → (V → Type 0) → (V → List ℕ) → V → List ℕ → List ℕ → Type 0
+StandsAtStart IsOne spelling v bytes rest = IsOne v × (bytes ≡ spelling v ++ rest)
 
--- no value begins the bytes
-abbrev pub NoneBegins : {V : Type 0} → (V → Type 0) → (V → List ℕ) → List ℕ → Type 0
-NoneBegins {V} IsOne spelling bytes = (v : V) (rest : List ℕ) → IsOne v → bytes ≡ spelling v ++ rest → ⊥
+-- the bytes begin with no spelling of a value
+abbrev pub NoneAtStart : {V : Type 0} → (V → Type 0) → (V → List ℕ) → List ℕ → Type 0
+NoneAtStart {V} IsOne spelling bytes = (v : V) (rest : List ℕ) → IsOne v → bytes ≡ spelling v ++ rest → ⊥
 
--- a value is spelled by all of the bytes
+-- all of the bytes spell a value
 abbrev pub IsSpelling : {V : Type 0} → (V → Type 0) → (V → List ℕ) → List ℕ → Type 0
 IsSpelling {V} IsOne spelling bytes = (v : V) × IsOne v × (bytes ≡ spelling v)
 
--- no value is spelled by all of the bytes
+-- all of the bytes spell no value
 abbrev pub IsNoSpelling : {V : Type 0} → (V → Type 0) → (V → List ℕ) → List ℕ → Type 0
 IsNoSpelling {V} IsOne spelling bytes = (v : V) → IsOne v → bytes ≡ spelling v → ⊥
 
--- ---- without memory: what is answered is exact
+-- ---- functions that take no memory: they fail only where there is no such value
 
--- what finding such a value answers, seen by view, with the bytes before and after
+-- what finding such a value returns, seen by view, with the bytes before and after
 abbrev pub Finds : {X V : Type 0} → (X → V) → (V → Type 0) → (V → List ℕ) → List ℕ → List ℕ → Result X WrongForm → Type 0
-Finds view IsOne spelling before after (Ok x) = Begins IsOne spelling (view x) before after
-Finds view IsOne spelling before after (Err e) = NoneBegins IsOne spelling before
+Finds view IsOne spelling before after (Ok x) = StandsAtStart IsOne spelling (view x) before after
+Finds view IsOne spelling before after (Err e) = NoneAtStart IsOne spelling before
 
--- what passing over such a value answers
+-- what passing over such a value returns
 abbrev pub Skips : {V : Type 0} → (V → Type 0) → (V → List ℕ) → List ℕ → List ℕ → Result ⊤ WrongForm → Type 0
-Skips {V} IsOne spelling before after (Ok u) = (v : V) × Begins IsOne spelling v before after
-Skips IsOne spelling before after (Err e) = NoneBegins IsOne spelling before
+Skips {V} IsOne spelling before after (Ok u) = (v : V) × StandsAtStart IsOne spelling v before after
+Skips IsOne spelling before after (Err e) = NoneAtStart IsOne spelling before
 
--- what finding a value in all of the bytes answers
+-- what finding a value in all of the bytes returns
 abbrev pub FindsAll : {X V : Type 0} → (X → V) → (V → Type 0) → (V → List ℕ) → List ℕ → Result X WrongForm → Type 0
 FindsAll view IsOne spelling bytes (Ok x) = IsOne (view x) × (bytes ≡ spelling (view x))
 FindsAll view IsOne spelling bytes (Err e) = IsNoSpelling IsOne spelling bytes
 
--- whether all of the bytes spell a value
+-- what testing whether all of the bytes spell a value returns
 abbrev pub ChecksAll : {V : Type 0} → (V → Type 0) → (V → List ℕ) → List ℕ → Result ⊤ WrongForm → Type 0
 ChecksAll IsOne spelling bytes (Ok u) = IsSpelling IsOne spelling bytes
 ChecksAll IsOne spelling bytes (Err e) = IsNoSpelling IsOne spelling bytes
 
--- ---- with memory
+-- ---- functions that take memory
 
--- no value begins the bytes, unless memory ran out
-abbrev pub Fails : {V : Type 0} → (V → Type 0) → (V → List ℕ) → List ℕ → ReadError → Type 0
-Fails IsOne spelling bytes Memory = Unit {0}
-Fails IsOne spelling bytes Foreign = NoneBegins IsOne spelling bytes
+-- the bytes begin with no spelling of a value, unless memory ran out
+abbrev pub FailsAtStart : {V : Type 0} → (V → Type 0) → (V → List ℕ) → List ℕ → ReadError → Type 0
+FailsAtStart IsOne spelling bytes Memory = Unit {0}
+FailsAtStart IsOne spelling bytes Foreign = NoneAtStart IsOne spelling bytes
 
--- what a reader of such a value answers, seen by view, with the bytes before and after
-abbrev pub Reads : {X V : Type 0} → (X → V) → (V → Type 0) → (V → List ℕ) → List ℕ → List ℕ → Result X ReadError → Type 0
-Reads view IsOne spelling before after (Ok x) = Begins IsOne spelling (view x) before after
-Reads view IsOne spelling before after (Err e) = Fails IsOne spelling before e
+-- what reading such a value returns, seen by view, with the bytes before and after
+abbrev pub ReadsAtStart : {X V : Type 0} → (X → V) → (V → Type 0) → (V → List ℕ) → List ℕ → List ℕ → Result X ReadError → Type 0
+ReadsAtStart view IsOne spelling before after (Ok x) = StandsAtStart IsOne spelling (view x) before after
+ReadsAtStart view IsOne spelling before after (Err e) = FailsAtStart IsOne spelling before e
 
 -- memory runs out only where all of the bytes spell a value
 abbrev pub FailsAll : {V : Type 0} → (V → Type 0) → (V → List ℕ) → List ℕ → ReadError → Type 0
 FailsAll IsOne spelling bytes Memory = IsSpelling IsOne spelling bytes
 FailsAll IsOne spelling bytes Foreign = IsNoSpelling IsOne spelling bytes
 
+-- what reading a value from all of the bytes returns, seen by view
 abbrev pub ReadsAll : {X V : Type 0} → (X → V) → (V → Type 0) → (V → List ℕ) → List ℕ → Result X ReadError → Type 0
 ReadsAll view IsOne spelling bytes (Ok x) = IsOne (view x) × (bytes ≡ spelling (view x))
 ReadsAll view IsOne spelling bytes (Err e) = FailsAll IsOne spelling bytes e
 
 -- ---- the parts of an entry's bytes
 
+-- a byte as its own spelling
 abbrev pub byte_alone : ℕ → List ℕ
 byte_alone b = b ∷ []
 
@@ -106,13 +108,13 @@ abbrev pub setting_in : SetParts → Setting
 setting_in found = (term_in found.term, (found.num.now, found.value))
 
 -- the three lists of a bool query
-abbrev pub Lists : Type 0
-Lists = Trees × (Trees × Trees)
+abbrev pub ThreeLists : Type 0
+ThreeLists = Trees × (Trees × Trees)
 
-abbrev pub AreLists : Lists → Type 0
+abbrev pub AreLists : ThreeLists → Type 0
 AreLists lists = IsQueryList lists.0 × (IsQueryList lists.1.0 × IsQueryList lists.1.1)
 
-abbrev pub lists_bytes : Lists → List ℕ
+abbrev pub lists_bytes : ThreeLists → List ℕ
 lists_bytes lists = list_bytes lists.0 ++ (list_bytes lists.1.0 ++ list_bytes lists.1.1)
 
 -- an entry of this kind

@@ -1,9 +1,9 @@
-//! Words as an entry again.
+//! Words as an entry.
 ghost use Rattle.std.specs.Prelude.{◌≡◌, ◌≤◌, ◌↔◌, length, Some, IfOk, IfErr, IfSome, IsSome, option_map};
 ghost use Rattle.ix_base.specs.Entry.{Entry as Value, entry_bytes, term_bytes, most_query_bytes, IsOwnTerm};
 ghost use Rattle.ix_base.specs.Words.{Spells, IsEntryWords};
 ghost use Rattle.node_words.specs.Entry.{value_of};
-ghost use Rattle.node_words.specs.Packed.{ReadsEntry, IsCounted};
+ghost use Rattle.node_words.specs.Packed.{ReadsEntry, IsCountedByHead};
 ghost use Rattle.node_words.specs.Reads.{FindsAll, ReadsAll, IsOfKind, term_in, setting_in, IsSetting, setting_bytes};
 
 use crate::entry::Entry;
@@ -15,9 +15,9 @@ use crate::unpack::unpack;
 use ix_base::{NoMemory, Term};
 use std::alloc::Global;
 
-/// The entry that the words spell: `None` exactly where they spell none. `NoMemory` comes only
-/// where the head counts the words. Each level of a query takes a call within a call, and the
-/// longest query has 10,082 levels, so a thread that decodes any words needs some MB of stack.
+/// The entry that the words spell: `None` exactly where they spell none. `NoMemory` is returned only
+/// where the head word tells the right number of words. Each level of a query takes a nested call,
+/// and a query has 10,082 levels at most, so a thread that decodes any words needs some MB of stack.
 pub fn decode(alloc: Global, words: &[u64]) -> Result<Option<Entry>, NoMemory>
     // What is read is spelled so.
     ensures found { IfOk result (λ found. IfSome found (λ entry. Spells words.now (value_of entry))) }
@@ -25,7 +25,7 @@ pub fn decode(alloc: Global, words: &[u64]) -> Result<Option<Entry>, NoMemory>
     ensures only { (e : Value) → Spells words.now e → IfOk result (λ found. option_map value_of found ≡ Some e) }
     ensures some { IfOk result (λ found. IsSome found ↔ IsEntryWords words.now) }
     // Memory is taken only where the number of words is right.
-    ensures memory { IfErr result (λ _. IsCounted words.now) }
+    ensures memory { IfErr result (λ _. IsCountedByHead words.now) }
 {
     match read_words(alloc, words) {
         Ok(entry) => Ok(Some(entry)),
@@ -34,6 +34,7 @@ pub fn decode(alloc: Global, words: &[u64]) -> Result<Option<Entry>, NoMemory>
     }
 }
 
+/// The entry that the words spell.
 fn read_words(alloc: Global, words: &[u64]) -> Result<Entry, ReadError>
     ensures { ReadsEntry words.now result }
 {
@@ -68,6 +69,7 @@ fn read_entry(alloc: Global, kind: u64, bytes: &[u8]) -> Result<Entry, ReadError
     }
 }
 
+/// The term that the bytes, all of them, spell.
 fn read_own_term(alloc: Global, bytes: &[u8]) -> Result<Term, ReadError>
     ensures { ReadsAll (λ found. found) IsOwnTerm term_bytes bytes.now result }
 {
@@ -75,6 +77,7 @@ fn read_own_term(alloc: Global, bytes: &[u8]) -> Result<Term, ReadError>
     Ok(term_from(alloc, pair)?)
 }
 
+/// Where the parts of the term that the bytes, all of them, spell stand.
 fn own_term_in(bytes: &[u8]) -> Result<TextPair<'_>, WrongForm>
     ensures { FindsAll term_in IsOwnTerm term_bytes bytes.now result }
 {
@@ -84,6 +87,7 @@ fn own_term_in(bytes: &[u8]) -> Result<TextPair<'_>, WrongForm>
     Ok(pair)
 }
 
+/// The entry that sets a number whose bytes are these, all of them.
 fn read_set_number(alloc: Global, bytes: &[u8]) -> Result<Entry, ReadError>
     ensures { ReadsAll value_of (IsOfKind 5) entry_bytes bytes.now result }
 {
@@ -94,6 +98,7 @@ fn read_set_number(alloc: Global, bytes: &[u8]) -> Result<Entry, ReadError>
     Ok(Entry::SetNumber { term, num, value })
 }
 
+/// Where the fields of an entry that sets a number, whose bytes are these, stand.
 fn set_parts_in(bytes: &[u8]) -> Result<SetParts<'_>, WrongForm>
     ensures { FindsAll setting_in IsSetting setting_bytes bytes.now result }
 {

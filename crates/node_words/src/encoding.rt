@@ -7,14 +7,16 @@ ghost use Rattle.ix_base.specs.Words.{Spells};
 use crate::pack::pack;
 use crate::query_size::query_size;
 use crate::query_write::put_query;
-use crate::write::{put_name, put_signed, put_term};
+use crate::write::put_term;
 use crate::{MOST_QUERY_BYTES, MOST_TERM_BYTES};
-use ix_base::{Operation, Refusal, Refused, Term};
-use std::alloc::{AllocError, Global};
+use ix_base::codec::{put_i64, put_name};
+use ix_base::{NoMemory, Operation, Refusal, Refused, Term};
+use std::alloc::Global;
 
-/// The words that spell the operation: one head word and its bytes, without its document.
-/// An operation is refused by `Term` exactly where its own term has more than 32,766 bytes, and by
-/// `Query` exactly where it deletes by a query of more than 131,072 bytes; no memory is taken then.
+/// The words that spell the operation, without its document: one head word and the bytes of its
+/// fields. The operation is refused for `Refusal::Term` exactly where its own term has more than
+/// 32,766 bytes, and for `Refusal::Query` exactly where it deletes by a query of more than 131,072
+/// bytes; no memory is taken then. `NoMemory` is returned only where it is not refused.
 pub fn encode(alloc: Global, operation: &Operation) -> Result<Vec<u64>, Refused>
     ensures words { IfOk result (λ words. Spells words.items (entry_of operation.now)) }
     ensures refusal { MatchResult result (λ _. own_refusal operation.now ≡ None) (λ refused. Refuses refused (own_refusal operation.now)) }
@@ -25,7 +27,8 @@ pub fn encode(alloc: Global, operation: &Operation) -> Result<Vec<u64>, Refused>
     Ok(words_of(alloc, operation)?)
 }
 
-fn words_of(alloc: Global, operation: &Operation) -> Result<Vec<u64>, AllocError>
+/// The words of an operation that is not refused.
+fn words_of(alloc: Global, operation: &Operation) -> Result<Vec<u64>, NoMemory>
     requires { own_refusal operation.now ≡ None }
     ensures { IfOk result (λ words. Spells words.items (entry_of operation.now)) }
 {
@@ -50,6 +53,7 @@ fn refusal(operation: &Operation) -> Option<Refusal>
     }
 }
 
+/// Why an operation with this term as its own is refused.
 fn term_refusal(term: &Term) -> Option<Refusal>
     ensures { result ≡ term_refusal term.now }
 {
@@ -57,6 +61,7 @@ fn term_refusal(term: &Term) -> Option<Refusal>
     (size > MOST_TERM_BYTES).then_some(Refusal::Term { size: size as u64 })
 }
 
+/// The kind, as the head word has it.
 fn kind_of(operation: &Operation) -> u64
     ensures { result ≡ kind_of (entry_of operation.now) }
 {
@@ -70,7 +75,8 @@ fn kind_of(operation: &Operation) -> u64
     }
 }
 
-fn put_operation(out: &mut Vec<u8>, operation: &Operation) -> Result<(), AllocError>
+/// Appends the bytes of the operation's fields, without its document.
+fn put_operation(out: &mut Vec<u8>, operation: &Operation) -> Result<(), NoMemory>
     requires { own_refusal operation.now ≡ None }
     ensures bytes { OnOk result (out.new.items ≡ out.old.items ++ entry_bytes (entry_of operation.now)) }
     ensures entry { OnOk result (IsEntry (entry_of operation.now)) }
@@ -82,7 +88,7 @@ fn put_operation(out: &mut Vec<u8>, operation: &Operation) -> Result<(), AllocEr
         Operation::SetNumber { term, num, value } => {
             put_term(out, term)?;
             put_name(out, num)?;
-            put_signed(out, *value)
+            put_i64(out, *value)
         }
     }
 }

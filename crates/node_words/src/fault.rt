@@ -1,19 +1,28 @@
-//! Why nothing was read.
-ghost use Rattle.std.specs.Prelude.{◌≡◌};
+//! Errors of reading.
+ghost use Rattle.std.specs.Prelude.{◌≡◌, ⊤};
 ghost use Rattle.node_words.specs.declared.fault.ReadError.TheVariants.{Memory, Foreign};
 
 use ix_base::NoMemory;
-use std::alloc::{AllocError, AllocFailed};
+use ix_base::codec::BrokenField;
+use std::alloc::AllocFailed;
 
-/// What stands there is not of the wanted form. A function that takes no memory answers this alone.
+/// The bytes or words are not of the wanted form. Functions that take no memory return no other error.
 #[derive(Clone, Copy, Debug, PartialEq, Eq)]
 pub(crate) struct WrongForm;
 
-/// Why nothing was read: memory ran out, or what stands there is not of the wanted form.
+/// Why nothing was read: memory ran out, or the bytes or words are not of the wanted form.
 #[derive(Drop)]
 pub(crate) enum ReadError {
     Memory,
     Foreign,
+}
+
+impl From<BrokenField> for WrongForm {
+    ghost from_gives = { λ _ _. ⊤ };
+
+    fn from(_error: BrokenField) -> WrongForm {
+        WrongForm
+    }
 }
 
 impl From<WrongForm> for ReadError {
@@ -28,14 +37,6 @@ impl From<NoMemory> for ReadError {
     ghost from_gives = { λ _ e. e ≡ Memory };
 
     fn from(_error: NoMemory) -> ReadError {
-        ReadError::Memory
-    }
-}
-
-impl From<AllocError> for ReadError {
-    ghost from_gives = { λ _ e. e ≡ Memory };
-
-    fn from(_error: AllocError) -> ReadError {
         ReadError::Memory
     }
 }

@@ -2,10 +2,11 @@
 ghost use Rattle.std.specs.Prelude.{◌≡◌, ◌∷◌, IfOk, drop, slice_index};
 ghost use Rattle.ix_base.specs.Words.{first_word, packed};
 
-use std::alloc::{AllocError, Global};
+use ix_base::NoMemory;
+use std::alloc::Global;
 
 /// A head word and these bytes, eight in a word, the last word filled with zero bytes.
-pub(crate) fn pack(alloc: Global, head: u64, bytes: &[u8]) -> Result<Vec<u64>, AllocError>
+pub(crate) fn pack(alloc: Global, head: u64, bytes: &[u8]) -> Result<Vec<u64>, NoMemory>
     ensures { IfOk result (λ words. words.items ≡ head ∷ packed bytes.now) }
 {
     let mut words = Vec::new(alloc);
@@ -46,6 +47,7 @@ fn after_word(bytes: &[u8]) -> &[u8]
     }
 }
 
+/// The byte at this place, or 0 past the end.
 fn byte_at(bytes: &[u8], at: usize) -> u8
     ensures { result ≡ slice_index bytes.now at }
 {

@@ -6,14 +6,14 @@ ghost use Rattle.node_words.specs.Reads.{pair_in, term_in};
 use ix_base::{Name, NoMemory, PhraseText, Term, Text};
 use std::alloc::Global;
 
-/// A name and a text.
+/// A name and a text, where they stand in bytes.
 #[derive(Clone, Copy)]
 pub(crate) struct TextPair<'a> {
     pub(crate) name: &'a str,
     pub(crate) text: &'a str,
 }
 
-/// The fields of an entry that sets a number.
+/// The fields of an entry that sets a number, where they stand in bytes.
 #[derive(Clone, Copy)]
 pub(crate) struct SetParts<'a> {
     pub(crate) term: TextPair<'a>,
@@ -32,7 +32,7 @@ pub(crate) fn name_from(alloc: Global, name: &str) -> Result<Name, NoMemory>
     }
 }
 
-/// The term of a field of this name.
+/// A copy of a name and a text as a term.
 pub(crate) fn term_from(alloc: Global, pair: TextPair<'_>) -> Result<Term, NoMemory>
     requires name { is_name pair.name.now ≡ true }
     requires text { length pair.text.now < 2 ^ 32 }
@@ -43,7 +43,7 @@ pub(crate) fn term_from(alloc: Global, pair: TextPair<'_>) -> Result<Term, NoMem
     Ok(Term { field, bytes })
 }
 
-/// The phrase in a field of this name.
+/// A copy of a name and a text as a field and a phrase.
 pub(crate) fn phrase_from(alloc: Global, pair: TextPair<'_>) -> Result<(Name, PhraseText), NoMemory>
     requires name { is_name pair.name.now ≡ true }
     requires text { length pair.text.now < 2 ^ 28 }

@@ -1,4 +1,4 @@
-//! Whether bytes are a query. It takes no memory.
+//! Whether bytes are a query. No memory is taken.
 ghost use Rattle.ix_base.specs.QueryBytes.{query_bytes, list_bytes, IsQuery, IsQueryList};
 ghost use Rattle.node_words.specs.Reads.{Skips, ChecksAll};
 
@@ -15,8 +15,8 @@ pub(crate) fn check_query(bytes: &[u8]) -> Result<(), WrongForm>
     Ok(())
 }
 
-/// Passes over the query at the front. A query within a query has fewer bytes than it, so the
-/// bytes bound how deep this goes.
+/// Passes over the query at the start of the bytes that are left. A query within a query has fewer
+/// bytes than it, so the number of bytes bounds how deep the calls go.
 #[cycle(skip_query)]
 fn skip_query(reader: &mut Reader<'_>) -> Result<(), WrongForm>
     ensures { Skips IsQuery query_bytes reader.old reader.new result }
@@ -41,6 +41,7 @@ fn skip_query(reader: &mut Reader<'_>) -> Result<(), WrongForm>
     }
 }
 
+/// Passes over the list of queries at the start of the bytes that are left.
 #[cycle(skip_query)]
 fn skip_list(reader: &mut Reader<'_>) -> Result<(), WrongForm>
     ensures { Skips IsQueryList list_bytes reader.old reader.new result }

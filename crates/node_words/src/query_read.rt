@@ -1,9 +1,9 @@
-//! Reading a query from the front of bytes.
+//! Bytes as a query.
 ghost use Rattle.std.specs.Prelude.{◌≤◌, length};
 ghost use Rattle.ix_base.specs.Entry.{most_query_bytes};
 ghost use Rattle.ix_base.specs.Query.{tree_of};
 ghost use Rattle.ix_base.specs.QueryBytes.{query_bytes, list_bytes, IsQuery, IsQueryList};
-ghost use Rattle.node_words.specs.Reads.{Reads, ReadsAll};
+ghost use Rattle.node_words.specs.Reads.{ReadsAtStart, ReadsAll};
 
 use crate::fault::ReadError;
 use crate::parts::{phrase_from, term_from};
@@ -26,12 +26,12 @@ pub(crate) fn read_whole_query(alloc: Global, bytes: &[u8]) -> Result<Query, Rea
     }
 }
 
-/// The query at the front. A query within a query has fewer bytes than it, so the bytes bound how
-/// deep this goes.
+/// The query at the start of the bytes that are left. A query within a query has fewer bytes than it,
+/// so the number of bytes bounds how deep the calls go.
 #[cycle(read_query)]
 fn read_query(alloc: Global, reader: &mut Reader<'_>) -> Result<Query, ReadError>
     requires { length reader.old ≤ most_query_bytes }
-    ensures { Reads tree_of IsQuery query_bytes reader.old reader.new result }
+    ensures { ReadsAtStart tree_of IsQuery query_bytes reader.old reader.new result }
 {
     match reader.byte()? {
         0 => Ok(Query::All),
@@ -58,10 +58,11 @@ fn read_query(alloc: Global, reader: &mut Reader<'_>) -> Result<Query, ReadError
     }
 }
 
+/// The list of queries at the start of the bytes that are left.
 #[cycle(read_query)]
 fn read_list(alloc: Global, reader: &mut Reader<'_>) -> Result<Queries, ReadError>
     requires { length reader.old ≤ most_query_bytes }
-    ensures { Reads (λ found. found) IsQueryList list_bytes reader.old reader.new result }
+    ensures { ReadsAtStart (λ found. found) IsQueryList list_bytes reader.old reader.new result }
 {
     let count = reader.number()?;
     let mut items = Vec::new(alloc);

@@ -6,7 +6,7 @@ ghost use Rattle.ix_base.specs.Refusals.{query_size};
 
 use ix_base::{Name, Queries, Query};
 
-/// The size of an encoded query, or `u64::MAX` where it is more. It takes no memory.
+/// The number of bytes of an encoded query, or `u64::MAX` where it is more. No memory is taken.
 #[cycle(query_size)]
 pub(crate) fn query_size(query: &Query) -> u64
     ensures { result ≡ query_size (tree_of query.now) }
@@ -26,7 +26,7 @@ pub(crate) fn query_size(query: &Query) -> u64
     }
 }
 
-/// The size of a byte, a name and a text.
+/// The number of bytes of a byte, a name and a text.
 fn pair_size(field: &Name, text: &str) -> u64
     requires { length text.now < 2 ^ 32 }
     ensures { result ≡ 9 + length field.now + length text.now }
@@ -34,6 +34,7 @@ fn pair_size(field: &Name, text: &str) -> u64
     9 + field.as_str().len() as u64 + text.len() as u64
 }
 
+/// The number of bytes of a list of queries, or `u64::MAX` where it is more.
 #[cycle(query_size)]
 fn list_size(queries: &Queries) -> u64
     ensures { result ≡ min (length (list_bytes queries.now)) (2 ^ 64 - 1) }

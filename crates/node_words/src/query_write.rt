@@ -1,15 +1,16 @@
-//! Writing a query at the end of bytes.
+//! A query as bytes.
 ghost use Rattle.std.specs.Prelude.{◌≡◌, ◌≤◌, ◌++◌, length, OnOk};
 ghost use Rattle.ix_base.specs.Entry.{most_query_bytes};
 ghost use Rattle.ix_base.specs.Query.{tree_of};
 ghost use Rattle.ix_base.specs.QueryBytes.{query_bytes, list_bytes, IsQuery, IsQueryList};
 
-use crate::write::{put_name, put_number, put_term, put_text};
-use ix_base::{Queries, Query};
-use std::alloc::AllocError;
+use crate::write::put_term;
+use ix_base::codec::{put_name, put_text, put_u32};
+use ix_base::{NoMemory, Queries, Query};
 
+/// Appends a query.
 #[cycle(put_query)]
-pub(crate) fn put_query(out: &mut Vec<u8>, query: &Query) -> Result<(), AllocError>
+pub(crate) fn put_query(out: &mut Vec<u8>, query: &Query) -> Result<(), NoMemory>
     requires { length (query_bytes (tree_of query.now)) ≤ most_query_bytes }
     ensures bytes { OnOk result (out.new.items ≡ out.old.items ++ query_bytes (tree_of query.now)) }
     ensures query { OnOk result (IsQuery (tree_of query.now)) }
@@ -39,14 +40,15 @@ pub(crate) fn put_query(out: &mut Vec<u8>, query: &Query) -> Result<(), AllocErr
     Ok(())
 }
 
+/// Appends a list of queries: their count as four bytes, and each query.
 #[cycle(put_query)]
-fn put_list(out: &mut Vec<u8>, queries: &Queries) -> Result<(), AllocError>
+fn put_list(out: &mut Vec<u8>, queries: &Queries) -> Result<(), NoMemory>
     requires { length (list_bytes queries.now) ≤ most_query_bytes }
     ensures bytes { OnOk result (out.new.items ≡ out.old.items ++ list_bytes queries.now) }
     ensures queries { OnOk result (IsQueryList queries.now) }
 {
     let items = queries.as_slice();
-    put_number(out, items.len() as u32)?;
+    put_u32(out, items.len() as u32)?;
     for query in items {
         put_query(out, query)?;
     }

@@ -1,17 +1,18 @@
-//! Finding numbers, texts and terms at the front of bytes. It takes no memory.
-ghost use Rattle.std.specs.Prelude.{◌≡◌, ℕ, ◌<◌, ◌≤◌, ◌^◌, ◌++◌, [], List, length, IfOk, IfErr, FitsSigned};
+//! Numbers, texts and terms found at the start of bytes. No memory is taken.
+ghost use Rattle.std.specs.Prelude.{◌≡◌, ◌<◌, ◌^◌, length, IfOk, IfErr, FitsSigned};
 ghost use Rattle.std.specs.Int.{w64};
 ghost use Rattle.ix_base.specs.Entry.{term_bytes, IsOwnTerm};
-ghost use Rattle.ix_base.specs.Limits.{is_name};
 ghost use Rattle.ix_base.specs.Spelling.{be32, signed64, text_bytes, IsText, IsName};
 ghost use Rattle.node_words.specs.Reads.{Finds, byte_alone, pair_in, term_in, IsPair, pair_bytes};
 
 use crate::MOST_TERM_BYTES;
 use crate::fault::WrongForm;
 use crate::parts::TextPair;
+use ix_base::codec;
 use std::marker::Model;
 
-/// Bytes that are read from the front. Contracts see those that are left.
+/// A cursor over bytes. Contracts see it as the bytes that are left. Which are left after an error is
+/// not specified.
 #[derive(Drop)]
 pub(crate) struct Reader<'a> {
     rest: &'a [u8],
@@ -19,10 +20,13 @@ pub(crate) struct Reader<'a> {
 
 impl<'a> Model for Reader<'a> {
     ghost use Rattle.std.specs.Prelude.{List, ℕ};
+    ghost use Rattle.ix_base.specs.Spelling.{AreBytes};
 
     ghost Value = { List ℕ };
 
     ghost view = { λ reader. reader.rest.now };
+
+    ghost invariant = { λ reader. AreBytes reader.rest.now };
 }
 
 impl<'a> Reader<'a> {
@@ -40,63 +44,47 @@ impl<'a> Reader<'a> {
         no_more(self.rest)
     }
 
-    fn take(&mut self, count: usize) -> Result<&'a [u8], WrongForm>
-        ensures len { IfOk result (λ front. length front.now ≡ count) }
-        ensures front { IfOk result (λ front. self.old ≡ front.now ++ self.new) }
-        ensures short { IfErr result (λ _. length self.old < count) }
-    {
-        if self.rest.len() < count {
-            return Err(WrongForm);
-        }
-        let (front, rest) = self.rest.split_at(count);
-        self.rest = rest;
-        Ok(front)
-    }
-
     pub(crate) fn byte(&mut self) -> Result<u8, WrongForm>
         ensures { Finds (λ found. found) (λ b. b < 256) byte_alone self.old self.new result }
     {
-        let front = self.take(1)?;
-        Ok(front[0])
+        let (byte, rest) = codec::byte_at(self.rest)?;
+        self.rest = rest;
+        Ok(byte)
     }
 
     pub(crate) fn number(&mut self) -> Result<u32, WrongForm>
         ensures { Finds (λ found. found) (λ n. n < 2 ^ 32) be32 self.old self.new result }
     {
-        let front = self.take(4)?;
-        Ok(number_of(front))
+        let (number, rest) = codec::u32_at(self.rest)?;
+        self.rest = rest;
+        Ok(number)
     }
 
     pub(crate) fn signed(&mut self) -> Result<i64, WrongForm>
         ensures { Finds (λ found. found) (FitsSigned w64) signed64 self.old self.new result }
     {
-        let front = self.take(8)?;
-        Ok(signed_of(front))
+        let (number, rest) = codec::i64_at(self.rest)?;
+        self.rest = rest;
+        Ok(number)
     }
 
     pub(crate) fn text(&mut self) -> Result<&'a str, WrongForm>
         ensures { Finds (λ found. found.now) IsText text_bytes self.old self.new result }
     {
-        let len = self.number()? as usize;
-        let front = self.take(len)?;
-        match str::from_utf8(front) {
-            Ok(text) => Ok(text),
-            Err(_) => Err(WrongForm),
-        }
+        let (text, rest) = codec::text_at(self.rest)?;
+        self.rest = rest;
+        Ok(text)
     }
 
     pub(crate) fn name(&mut self) -> Result<&'a str, WrongForm>
         ensures { Finds (λ found. found.now) IsName text_bytes self.old self.new result }
     {
-        let name = self.text()?;
-        if is_name(name) {
-            Ok(name)
-        } else {
-            Err(WrongForm)
-        }
+        let (name, rest) = codec::name_at(self.rest)?;
+        self.rest = rest;
+        Ok(name)
     }
 
-    /// A name, and a text behind it.
+    /// A name, and a text after it.
     pub(crate) fn pair(&mut self) -> Result<TextPair<'a>, WrongForm>
         ensures { Finds pair_in IsPair pair_bytes self.old self.new result }
     {
@@ -117,13 +105,6 @@ impl<'a> Reader<'a> {
     }
 }
 
-/// Whether a text is a name: it has 1 to 255 bytes.
-fn is_name(text: &str) -> bool
-    ensures { result ≡ is_name text.now }
-{
-    0 < text.len() && text.len() < 256
-}
-
 /// `Ok` where these are no bytes.
 pub(crate) fn no_more(bytes: &[u8]) -> Result<(), WrongForm>
     ensures none { IfOk result (λ _. length bytes.now ≡ 0) }
@@ -134,20 +115,4 @@ pub(crate) fn no_more(bytes: &[u8]) -> Result<(), WrongForm>
     } else {
         Err(WrongForm)
     }
-}
-
-fn number_of(bytes: &[u8]) -> u32
-    requires { length bytes.now ≡ 4 }
-    ensures { bytes.now ≡ be32 result }
-{
-    u32::from_be_bytes([bytes[0], bytes[1], bytes[2], bytes[3]])
-}
-
-fn signed_of(bytes: &[u8]) -> i64
-    requires { length bytes.now ≡ 8 }
-    ensures { bytes.now ≡ signed64 result }
-{
-    i64::from_be_bytes([
-        bytes[0], bytes[1], bytes[2], bytes[3], bytes[4], bytes[5], bytes[6], bytes[7],
-    ])
 }

@@ -1,12 +1,14 @@
-//! Words as bytes again.
-ghost use Rattle.std.specs.Prelude.{◌≡◌, ◌++◌, ◌↔◌, ◌≤◌, IfOk, IsTrue, OnOk, drop, length, slice_index, EachIndex};
+//! Words as a kind and bytes.
+ghost use Rattle.std.specs.Prelude.{◌≡◌, ◌↔◌, ◌≤◌, IfOk, IsTrue, drop, length, slice_index, EachIndex};
 ghost use Rattle.std.specs.List.{flat_map};
 ghost use Rattle.ix_base.specs.Spelling.{be64};
 ghost use Rattle.node_words.specs.Packed.{Unpacks};
 
 use crate::MOST_QUERY_BYTES;
 use crate::fault::ReadError;
-use std::alloc::{AllocError, Global};
+use ix_base::NoMemory;
+use ix_base::codec::put_u64;
+use std::alloc::Global;
 
 /// The kind and the bytes that the words hold.
 pub(crate) fn unpack(alloc: Global, words: &[u64]) -> Result<(u64, Vec<u8>), ReadError>
@@ -37,19 +39,13 @@ fn is_zero_from(bytes: &[u8], at: usize) -> bool
     rest.iter().all(|byte| *byte == 0)
 }
 
-fn bytes_of(alloc: Global, words: &[u64]) -> Result<Vec<u8>, AllocError>
+/// The bytes of these words, eight of each, the highest first.
+fn bytes_of(alloc: Global, words: &[u64]) -> Result<Vec<u8>, NoMemory>
     ensures { IfOk result (λ bytes. bytes.items ≡ flat_map be64 words.now) }
 {
     let mut bytes = Vec::new(alloc);
     for word in words {
-        put_word(&mut bytes, *word)?;
+        put_u64(&mut bytes, *word)?;
     }
     Ok(bytes)
-}
-
-#[tactic(auto, unfolding(ix_base::specs::Spelling::be64))]
-fn put_word(out: &mut Vec<u8>, word: u64) -> Result<(), AllocError>
-    ensures { OnOk result (out.new.items ≡ out.old.items ++ be64 word) }
-{
-    out.extend_from_slice(&word.to_be_bytes())
 }

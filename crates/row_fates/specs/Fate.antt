@@ -94,6 +94,6 @@ renumbered numbers row = record row { doc = record row.doc { num = numbers } }
 abbrev pub MatchesWithoutNumbers : Type 0
 MatchesWithoutNumbers = (query : Tree) (numbers : List Named) (doc : Document) → matches query (record doc { num = numbers }) ≡ matches query doc
 
--- Of a row that isn't removed, operations change the numbers alone.
+-- Operations change only the numbers of a row that they don't remove.
 abbrev pub FatesRenumber : Type 0
 FatesRenumber = (ops : List Numbered) (row : Row) → IfSome (fate ops row) (λ (r : Row). r ≡ renumbered r.doc.num row)

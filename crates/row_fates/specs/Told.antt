@@ -37,8 +37,8 @@ abbrev pub numbers_given : List Numbered → Row → List Named → List Named
 numbers_given [] row numbers = numbers
 numbers_given (o ∷ ops) row numbers = numbers_given ops row (if nat_lt row.birth o.0 then set_by o.1 row.doc numbers else numbers)
 
--- A row's fate: it is removed where some operation numbered above its birth removes it. Else it is
--- the row with each number that such an operation gives it, the last one counting.
+-- A row's fate: it is removed where some operation numbered above its birth removes it. Otherwise it
+-- is the row with each number that such an operation gives it; the last one counts.
 abbrev pub FatesAreTold : Type 0
 FatesAreTold = (ops : List Numbered) (row : Row)
     → fate ops row ≡ (if is_removed ops row then None else Some (renumbered (numbers_given ops row row.doc.num) row))

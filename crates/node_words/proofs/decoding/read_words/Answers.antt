@@ -1,7 +1,7 @@
 use Rattle.std.proofs.Common.{ℕ, List, sym, subst}
 use Rattle.std.proofs.lemmas.Result.{err_from_is_err_and}
 use Rattle.node_words.proofs.decoding.read_words.Goals as goal
-use Rattle.node_words.specs.Packed.{Holds}
+use Rattle.node_words.specs.Packed.{HoldsBytes}
 use Rattle.node_words.proofs.Spelled.{unpack_fails, entry_read}
 
 pub returns-in_err-kind : goal.returns-in_err-kind
@@ -11,5 +11,5 @@ returns-in_err-kind c =
 
 pub returns : goal.returns
 returns c =
-    let held = subst (λ (bytes : List ℕ). Holds c.args.words.now c.in_ok-kind.kind bytes) (sym c.deref.ensures.value) c.in_ok-kind.ensures in
+    let held = subst (λ (bytes : List ℕ). HoldsBytes c.args.words.now c.in_ok-kind.kind bytes) (sym c.deref.ensures.value) c.in_ok-kind.ensures in
     entry_read c.args.words.now c.in_ok-kind.kind c.deref.result.now c.read_entry.result held c.read_entry.ensures

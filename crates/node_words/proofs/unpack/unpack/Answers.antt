@@ -1,7 +1,7 @@
 use Rattle.std.proofs.Common.{ℕ, List, ◌-◌, ap, sym, subst, ◌∙◌, arith, get_or, length, take, drop}
 use Rattle.ix_base.specs.Words.{head_len, head_kind}
 use Rattle.node_words.proofs.Packing.{none_held, not_filled, found_held, parts, rest_fits, enough, all_fit}
-use Rattle.node_words.specs.Packed.{Holds}
+use Rattle.node_words.specs.Packed.{HoldsBytes}
 use Rattle.node_words.proofs.unpack.unpack.Goals as goal
 use Rattle.node_words.proofs.unpack.unpack.Goals.{then-len-gt-MOST_QUERY_BYTES-via-then-len-gt-MOST_QUERY_BYTES, then-len-gt-MOST_QUERY_BYTES-via-else-len-gt-MOST_QUERY_BYTES+then-rest-len}
 
@@ -37,4 +37,4 @@ returns c =
     let same = c.deref.ensures.value ∙ c.in_ok-bytes.ensures in
     let held = found_held words (get_or words 0 0) rest all split (rest_fits words rest (get_or words 0 0) (λ i. omega (arith, c.type_inv.words i)) split)
     (all_fit rest all same) same (omega arith) c.if-rest-len.false (c.is_zero_from.ensures.0 c.if-not-is_zero_from.false) in
-    subst (λ (bytes : List ℕ). Holds words (head_kind (get_or words 0 0)) bytes) (ap (take (head_len (get_or words 0 0))) c.deref.ensures.value ∙ sym c.truncate.ensures.items) held
+    subst (λ (bytes : List ℕ). HoldsBytes words (head_kind (get_or words 0 0)) bytes) (ap (take (head_len (get_or words 0 0))) c.deref.ensures.value ∙ sym c.truncate.ensures.items) held
