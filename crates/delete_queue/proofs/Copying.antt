@@ -16,7 +16,8 @@ use Rattle.delete_queue.specs.declared.copy.Room.{Room}
 use Rattle.delete_queue.specs.Seats.{IsSeatOf, IsFound, Extends, the_view, seen_of, seats_of, Knows as KnowsEntry}
 use Rattle.delete_queue.specs.Cuts.{pieces_from}
 use Rattle.delete_queue.specs.Copying.{copied_of, Adds, Copied, CopiedAll}
-use Rattle.delete_queue.proofs.Cutting.{at_end, CutFrom, cut_more, pieces_more, length-pieces, all_words, all_pieces}
+use Rattle.queue_rule.proofs.Lists.{at_end}
+use Rattle.delete_queue.proofs.Cutting.{CutFrom, cut_more, pieces_more, length-pieces, all_words, all_pieces}
 use mathlib.Core.Logic.{dite}
 use native.Mathlib.Decide.{ℕ_discrete}
 use Rattle.queue_rule.specs.declared.view.View.{View}

@@ -1,7 +1,8 @@
 -- Words cut into entries.
-use Rattle.std.proofs.Common.{◌⊎◌, inl, inr, ⊎_elim, ◌≡◌, ℕ, zero, suc, ◌+◌, ◌-◌, ◌<◌, ◌≤◌, List, [], ◌∷◌, ◌++◌, length, get_or, slice_index, take, drop, sym, refl, ap, ap₂, ◌∙◌, arith, length-append, length-take-le}
-use Rattle.std.proofs.lemmas.List.{take-append-le, take_all}
-use mathlib.Core.Option.{some, some-injective, some-ne-none}
+use Rattle.std.proofs.Common.{◌≡◌, ℕ, zero, suc, ◌+◌, ◌-◌, ◌<◌, ◌≤◌, List, [], ◌∷◌, ◌++◌, length, get_or, slice_index, take, drop, sym, refl, ap, ap₂, ◌∙◌, arith, length-append, length-take-le}
+use Rattle.std.proofs.lemmas.List.{get_or_default, take-append-le, take_all, drop-append-le, length-drop}
+use Rattle.std.proofs.Math.Seq.{drop-append_seam}
+use mathlib.Core.Option.{some}
 use lib.ListN.{get_elem?}
 use Rattle.queue_rule.specs.Lists.{last_or}
 use Rattle.delete_queue.specs.declared.log.QueueLog.{QueueLog}
@@ -20,17 +21,12 @@ piece_at p (e ∷ ends) words (suc i) lt = piece_at e ends words i (omega (arith
 pub within : (log : QueueLog) (i : ℕ) → i < length (entries_of log) → i < length log.ends.items
 within log i lt = let len = length-pieces 0 log.ends.items log.words.items in omega (arith, len, lt)
 
-pub same_at : (l : List ℕ) (i c d : ℕ) → i < length l → get_or l i c ≡ get_or l i d
-same_at [] i c d lt = absurd (omega (arith, lt))
-same_at (x ∷ l) zero c d lt = refl
-same_at (x ∷ l) (suc i) c d lt = same_at l i c d (omega (arith, lt))
-
 -- the bounds of an entry of a log, as they were found
 pub bounded : (log : QueueLog) (i b e : ℕ) → i < length (entries_of log) → b ≡ slice_index (0 ∷ log.ends.items) i → e ≡ get_or log.ends.items i e
     → (b < e) × (e ≤ length log.words.items) × (get_elem? (entries_of log) i ≡ some (take (e - b) (drop b log.words.items)))
 bounded log i b e lt begins ends =
     let ends_lt = within log i lt in
-    let is : e ≡ slice_index log.ends.items i = ends ∙ same_at log.ends.items i e 0 ends_lt in
+    let is : e ≡ slice_index log.ends.items i = ends ∙ get_or_default log.ends.items i e 0 ends_lt in
     let cut = log.cut i ends_lt in let low = cut.0 in let high = cut.1 in (
       omega (arith, low, begins, is),
       omega (arith, high, is),
@@ -38,12 +34,6 @@ bounded log i b e lt begins ends =
     )
 
 -- ---- one piece more
-
-pub at_end : {A : Type 0} (l : List A) (x y : A) (j : ℕ) → get_elem? (l ++ x ∷ []) j ≡ some y → (get_elem? l j ≡ some y) ⊎ ((j ≡ length l) × (x ≡ y))
-at_end [] x y zero h = inr (refl, some-injective x y h)
-at_end [] x y (suc j) h = absurd (some-ne-none y (sym h))
-at_end (z ∷ l) x y zero h = inl h
-at_end (z ∷ l) x y (suc j) h = ⊎_elim (λ o. inl o) (λ t. inr (ap suc t.0, t.1)) (at_end l x y j h)
 
 -- the pieces of which the first begins at p have a word or more, and end within n words
 abbrev pub CutFrom : ℕ → List ℕ → ℕ → Type 0
@@ -55,29 +45,15 @@ cut_more p [] n m h last lt (suc i) low = absurd (omega (arith, low))
 cut_more p (e ∷ ends) n m h last lt zero low = let r = h 0 (omega arith) in let a = r.0 in let b = r.1 in (a, omega (arith, b, lt))
 cut_more p (e ∷ ends) n m h last lt (suc i) low = cut_more e ends n m (λ j l. h (suc j) (omega (arith, l))) last lt i (omega (arith, low))
 
-drop_front : (n : ℕ) (xs ys : List ℕ) → n ≤ length xs → drop n (xs ++ ys) ≡ drop n xs ++ ys
-drop_front zero xs ys le = refl
-drop_front (suc n) [] ys le = absurd (omega (arith, le))
-drop_front (suc n) (x ∷ xs) ys le = drop_front n xs ys (omega (arith, le))
-
-drop_all : (xs ys : List ℕ) → drop (length xs) (xs ++ ys) ≡ ys
-drop_all [] ys = refl
-drop_all (x ∷ xs) ys = drop_all xs ys
-
-pub length-dropped : (n : ℕ) (xs : List ℕ) → length (drop n xs) ≡ length xs - n
-length-dropped zero xs = omega arith
-length-dropped (suc n) [] = omega arith
-length-dropped (suc n) (x ∷ xs) = let h = length-dropped n xs in omega (arith, h)
-
 pub pieces_more : (p : ℕ) (ends words more : List ℕ) → CutFrom p ends (length words) → last_or p ends ≡ length words → pieces_from p (ends ++ length (words ++ more) ∷ []) (words ++ more) ≡ pieces_from p ends words ++ more ∷ []
 pieces_more p [] words more h last =
     let len = length-append words more in
     let all : take (length (words ++ more) - p) (drop p (words ++ more)) ≡ more =
-    ap (λ (n : ℕ). take (length (words ++ more) - p) (drop n (words ++ more))) last ∙ (ap (take (length (words ++ more) - p)) (drop_all words more) ∙ take_all (length (words ++ more) - p) more (omega (arith, len, last))) in
+    ap (λ (n : ℕ). take (length (words ++ more) - p) (drop n (words ++ more))) last ∙ (ap (take (length (words ++ more) - p)) (drop-append_seam words more) ∙ take_all (length (words ++ more) - p) more (omega (arith, len, last))) in
     ap (λ (l : List ℕ). l ∷ []) all
 pieces_more p (e ∷ ends) words more h last =
-    let r = h 0 (omega arith) in let a = r.0 in let b = r.1 in let len = length-dropped p words in
-    ap₂ ◌∷◌ (ap (take (e - p)) (drop_front p words more (omega (arith, a, b))) ∙ take-append-le (e - p) (drop p words) more (omega (arith, a, b, len)))
+    let r = h 0 (omega arith) in let a = r.0 in let b = r.1 in let len = length-drop p words in
+    ap₂ ◌∷◌ (ap (take (e - p)) (drop-append-le p words more (omega (arith, a, b))) ∙ take-append-le (e - p) (drop p words) more (omega (arith, a, b, len)))
     (pieces_more e ends words more (λ j l. h (suc j) (omega (arith, l))) last)
 
 -- how many words the pieces have
@@ -89,6 +65,6 @@ pub all_pieces : (p : ℕ) (ends words : List ℕ) → CutFrom p ends (length wo
 unfolding all_words
 all_pieces p [] words h last = omega (arith, last)
 all_pieces p (e ∷ ends) words h last =
-    let r = h 0 (omega arith) in let a = r.0 in let b = r.1 in let len = length-dropped p words in
+    let r = h 0 (omega arith) in let a = r.0 in let b = r.1 in let len = length-drop p words in
     let here : length (take (e - p) (drop p words)) ≡ e - p = length-take-le (e - p) (drop p words) (omega (arith, a, b, len)) in
     let rest = all_pieces e ends words (λ j l. h (suc j) (omega (arith, l))) last in omega (arith, a, here, rest)

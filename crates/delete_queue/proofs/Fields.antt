@@ -1,5 +1,6 @@
 -- What a seat's fields say, from one moment to the next.
 use Rattle.std.proofs.Common.{◌≡◌, ℕ, ◌+◌, ◌<◌, ◌≤◌, ◌⊎◌, inl, inr, List, [], ◌∷◌, ◌++◌, length, drop, slice_index, MatchBool, Bool, true, false, sym, refl, ap, ◌∙◌, subst, ⊎_elim, arith, length-append, append_assoc, append-nil}
+use Rattle.std.proofs.lemmas.List.{length_push}
 use mathlib.Core.Option.{some-ne-none}
 use lib.ListN.{get_elem?}
 use Rattle.atomic_table.proofs.Lists.{at_last, at_longer}
@@ -9,7 +10,7 @@ use Rattle.queue_rule.specs.declared.view.Own.{Own}
 use Rattle.queue_rule.specs.declared.view.Loaded.{Loaded}
 use Rattle.queue_rule.specs.Lists.{last_or}
 use Rattle.queue_rule.specs.Chain.{start, filled, own}
-use Rattle.queue_rule.specs.Views.{Knows, with_loaded, with_draft, links, sees, knows, known, known_from, front}
+use Rattle.queue_rule.specs.Views.{Knows, with_loaded, with_draft, links, sees, knows, known, known_from, draft_start}
 use Rattle.queue_rule.specs.Told.{SawOpen, MayRead}
 use Rattle.delete_queue.specs.declared.queue.DeleteQueue.{DeleteQueue}
 use Rattle.delete_queue.specs.declared.seat.Seat.{Seat}
@@ -121,13 +122,14 @@ filled_snoc : (os : List Own) (o : Own) → filled (os ++ o ∷ []) ≡ filled o
 filled_snoc [] o = omega arith
 filled_snoc (x ∷ os) o = let h = filled_snoc os o in omega (arith, h)
 
--- the exchange failed and showed an entry
-pub missed : (q : DeleteQueue) (s t : Seat) (found : ℕ) → IsSeatOf q s → used_of s ≤ 16640 → IsTold q t.inner → the_view t ≡ sees (the_view s) found → found + 1 < start (the_view s).seats → t.base ≡ s.base → t.progress ≡ s.progress → GoesOn q t found
-missed q s t found h low inner v room b p =
+-- a step showed the next entry, where the last one seen doesn't close the queue
+pub found_next : (q : DeleteQueue) (s t : Seat) (l : Loaded) (found : ℕ) → IsSeatOf q s → used_of s ≤ 16640 → IsTold q t.inner → the_view t ≡ sees (with_loaded (the_view s) l) found
+    → found + 1 < start (the_view s).seats → t.base ≡ s.base → t.progress ≡ s.progress → GoesOn q t found
+found_next q s t l found h low inner v room b p =
     let w = the_view s in
     let count = h.shows.count in
     let seats : (the_view t).seats ≡ w.seats = ap (λ (x : View). x.seats) v in
-    let more : length (w.seen ++ found ∷ []) ≡ length w.seen + 1 = length-append w.seen (found ∷ []) in record {
+    let more : length (w.seen ++ found ∷ []) ≡ length w.seen + 1 = length_push w.seen found in record {
       table = inner;
       base = b ∙ h.base;
       spares = ap (λ (x : View). x.spares) v ∙ h.spares;
@@ -140,11 +142,15 @@ missed q s t found h low inner v room b p =
       kept_back = subst (λ (x : View). filled x.own ≤ 16640) (sym v) low;
     }
 
+-- the exchange failed and showed an entry
+pub missed : (q : DeleteQueue) (s t : Seat) (found : ℕ) → IsSeatOf q s → used_of s ≤ 16640 → IsTold q t.inner → the_view t ≡ sees (the_view s) found → found + 1 < start (the_view s).seats → t.base ≡ s.base → t.progress ≡ s.progress → GoesOn q t found
+missed q s t found = found_next q s t (the_view s).loaded found
+
 -- the draft was linked
 follows_links : (v : View) → Follows v (links v)
 follows_links v = record {
-  seen = (front v ∷ [], refl);
-  known = in_longer v.known (known_from (front v + 1) (drop 1 v.draft));
+  seen = (draft_start v ∷ [], refl);
+  known = in_longer v.known (known_from (draft_start v + 1) (drop 1 v.draft));
   number = refl;
   olds = refl;
 }
@@ -153,7 +159,7 @@ pub followed_links : (u v w : View) → Follows u v → w ≡ links v → Follow
 followed_links u v w f e = subst (Follows u) (sym e) (follows_on u v (links v) f (follows_links v))
 
 pub came_in : (q : DeleteQueue) (s t : Seat) (used : ℕ) (ws : List ℕ) → IsSeatOf q s → used ≡ used_of s → HasRoom used ws → IsEntryWords ws → (the_view s).draft ≡ 0 ∷ ws
-    → IsTold q t.inner → the_view t ≡ links (the_view s) → t.base ≡ s.base → t.progress ≡ s.progress → Came q t (front (the_view s)) ws
+    → IsTold q t.inner → the_view t ≡ links (the_view s) → t.base ≡ s.base → t.progress ≡ s.progress → Came q t (draft_start (the_view s)) ws
 came_in q s t used ws h u room is d inner v b p =
     let w = the_view s in
     let some_word = IsEntryWords-not_empty ws is in
@@ -161,20 +167,20 @@ came_in q s t used ws h u room is d inner v b p =
     let snoc : filled (links w).own ≡ filled w.own + (length ws + 1) = filled_snoc w.own (own (length w.seen + 1) (drop 1 w.draft)) ∙ ap (λ (l : List ℕ). filled w.own + (length l + 1)) words in
     let same = h.shows.used in
     let count = h.shows.count in
-    let more : length (links w).seen ≡ length w.seen + 1 = length-append w.seen (front w ∷ []) in
+    let more : length (links w).seen ≡ length w.seen + 1 = length-append w.seen (draft_start w ∷ []) in
     let now_used : filled (the_view t).own ≡ filled (links w).own = ap (λ (x : View). filled x.own) v in
-    let at = in_behind w.known (known_from (front w + 1) (drop 1 w.draft)) (front w + 1 + 0) (slice_index (drop 1 w.draft) 0) (known_at (front w + 1) (drop 1 w.draft) 0 (subst (λ (l : List ℕ). 0 < length l) (sym words) some_word)) in
-    let plain : front w + 1 + 0 ≡ front w + 1 = omega arith in record {
+    let at = in_behind w.known (known_from (draft_start w + 1) (drop 1 w.draft)) (draft_start w + 1 + 0) (slice_index (drop 1 w.draft) 0) (known_at (draft_start w + 1) (drop 1 w.draft) 0 (subst (λ (l : List ℕ). 0 < length l) (sym words) some_word)) in
+    let plain : draft_start w + 1 + 0 ≡ draft_start w + 1 = omega arith in record {
       table = inner;
       base = b ∙ h.base;
       spares = ap (λ (x : View). x.spares) v ∙ h.spares;
       number = ap (λ (x : Progress). x.number) p ∙ (h.shows.number ∙ ap (λ (x : View). x.number) (sym v));
       used = let r : t.progress.used ≡ s.progress.used = ap (λ (x : Progress). x.used) p in omega (arith, r, same, snoc, now_used);
       count = (let c = ap (λ (x : Progress). x.count) p in let r : t.progress.count + 1 ≡ length (links w).seen = omega (arith, c, count, more) in r) ∙ ap (λ (x : View). length x.seen) (sym v);
-      last = ap (λ (x : View). last_or 0 x.seen) v ∙ last_snoc 0 (front w) w.seen;
+      last = ap (λ (x : View). last_or 0 x.seen) v ∙ last_snoc 0 (draft_start w) w.seen;
       some_word = some_word;
-      head = subst (λ (x : View). Knows x (front w + 1) (slice_index ws 0)) (sym v)
-          (subst (λ (l : List ℕ). Knows (links w) (front w + 1) (slice_index l 0)) words (subst (λ (a : ℕ). Knows (links w) a (slice_index (drop 1 w.draft) 0)) plain at));
+      head = subst (λ (x : View). Knows x (draft_start w + 1) (slice_index ws 0)) (sym v)
+          (subst (λ (l : List ℕ). Knows (links w) (draft_start w + 1) (slice_index l 0)) words (subst (λ (a : ℕ). Knows (links w) a (slice_index (drop 1 w.draft) 0)) plain at));
       kept_back = ⊎_elim (λ le. inl (omega (arith, le, now_used, snoc, u))) (λ high. inr high) room.kept_back;
     }
 

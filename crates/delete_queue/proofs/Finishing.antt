@@ -12,7 +12,7 @@ use Rattle.queue_rule.specs.Views.{Knows as KnowsWord}
 use Rattle.ix_base.specs.EntryLaws.{IsEntryWords-not_empty}
 use Rattle.queue_rule.specs.Chain.{ChainEntry, own, own_from}
 use Rattle.queue_rule.specs.Told.{Whole}
-use Rattle.queue_rule.proofs.Lists.{all_more}
+use Rattle.queue_rule.proofs.Lists.{all_more, at_behind}
 use Rattle.queue_rule.proofs.Entries.{each_at, at_of, last_entry}
 use Rattle.delete_queue.specs.declared.queue.DeleteQueue.{DeleteQueue}
 use Rattle.delete_queue.specs.declared.seat.Seat.{Seat}
@@ -23,21 +23,13 @@ use Rattle.delete_queue.specs.Copying.{CopiedAll}
 use Rattle.delete_queue.specs.Log.{Logged, own_in, HoldsList, TakesIn, HasAllOf, IsLogOf, entries_of, last_head_or, last_number}
 use Rattle.delete_queue.proofs.Copying.{knows_later, entry_words_are, seen_within}
 use Rattle.delete_queue.specs.Cuts.{pieces_from}
-use Rattle.delete_queue.proofs.Learning.{extends_on}
+use Rattle.delete_queue.proofs.Laws.{extends_on}
 use Rattle.delete_queue.proofs.Growing.{grown_same}
 use Rattle.delete_queue.proofs.Fields.{knows_none}
 
 pub each_from : {A : Type 0} (P : A → Type 0) (l : List A) → ((j : ℕ) (a : A) → get_elem? l j ≡ some a → P a) → Each P l
 each_from P [] h = tt
 each_from P (x ∷ l) h = (h 0 x refl, each_from P l (λ j a e. h (suc j) a e))
-
-at_behind : {A : Type 0} (xs : List A) (y : A) (ys : List A) (i : ℕ) (a : A) → get_elem? ys i ≡ some a → (j : ℕ) × (get_elem? (xs ++ y ∷ ys) j ≡ some a)
-at_behind [] y ys i a e = (suc i, e)
-at_behind (x ∷ xs) y ys i a e = let r = at_behind xs y ys i a e in (suc r.0, r.1)
-
-at_between : {A : Type 0} (xs : List A) (y : A) (ys : List A) → (j : ℕ) × (get_elem? (xs ++ y ∷ ys) j ≡ some y)
-at_between [] y ys = (0, refl)
-at_between (x ∷ xs) y ys = let r = at_between xs y ys in (suc r.0, r.1)
 
 pub takes_itself : (q : DeleteQueue) (s : Seat) → IsSeatOf q s → TakesIn s s
 takes_itself q s h = record {
@@ -60,8 +52,8 @@ takes_met s o t r m h = record {
 pub takes_other : (s o t : Seat) → Meets s o t → TakesIn t o
 takes_other s o t m = let joined : Joined = record { number = number_of o; own = own_of o } in record {
   extends = m.theirs;
-  own = let r = at_between (olds_of s) joined (olds_of o) in inr (r.0, ap (λ (l : List Joined). get_elem? l r.0) m.olds ∙ r.1);
-  olds = each_from (λ (j : Joined). HoldsList t j.number j.own) (olds_of o) (λ i j e. let r = at_behind (olds_of s) joined (olds_of o) i j e in inr (r.0, ap (λ (l : List Joined). get_elem? l r.0) m.olds ∙ r.1));
+  own = let r = at_behind (olds_of s) (joined ∷ olds_of o) 0 joined refl in inr (r.0, ap (λ (l : List Joined). get_elem? l r.0) m.olds ∙ r.1);
+  olds = each_from (λ (j : Joined). HoldsList t j.number j.own) (olds_of o) (λ i j e. let r = at_behind (olds_of s) (joined ∷ olds_of o) (suc i) j e in inr (r.0, ap (λ (l : List Joined). get_elem? l r.0) m.olds ∙ r.1));
 }
 
 holds_later : (t u : Seat) (n : ℕ) (os : List Own) → Learns t u → HoldsList t n os → HoldsList u n os

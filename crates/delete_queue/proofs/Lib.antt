@@ -11,5 +11,4 @@ pub mod Looking
 pub mod Words
 pub mod Cutting
 pub mod Copying
-pub mod Learning
 pub mod Finishing

@@ -13,10 +13,6 @@ pub has_first : (xs : List ℕ) → 0 < length xs → (m : ℕ) × (ms : List �
 has_first [] h = absurd (omega (arith, h))
 has_first (x ∷ xs) h = (x, xs, refl)
 
-pub empty : {A : Type 0} (l : List A) → length l ≡ 0 → l ≡ []
-empty [] e = refl
-empty (x ∷ l) e = absurd (omega (arith, e))
-
 pub last_snoc : (a x : ℕ) (xs : List ℕ) → last_or a (xs ++ x ∷ []) ≡ x
 last_snoc a x [] = refl
 last_snoc a x (y ∷ xs) = last_snoc y x xs

@@ -13,13 +13,12 @@ use Rattle.queue_rule.specs.Told.{MayRead, Sound}
 use Rattle.queue_rule.proofs.Entries.{each_at}
 use Rattle.delete_queue.specs.declared.queue.DeleteQueue.{DeleteQueue}
 use Rattle.delete_queue.specs.declared.seat.Seat.{Seat}
-use Rattle.delete_queue.specs.declared.seat.Progress.{Progress}
 use Rattle.delete_queue.specs.declared.seat.Place.{Place}
 use Rattle.delete_queue.specs.declared.seat.Found.{Found}
 use Rattle.delete_queue.specs.Ties.{IsTold}
 use Rattle.delete_queue.specs.Seats.{IsSeatOf, IsFound, KnowsHead, HasSeen, the_view, seen_of, number_at, SawClosed}
 use Rattle.delete_queue.specs.Linking.{GoesOn, Follows}
-use Rattle.delete_queue.proofs.Fields.{knows_none, knows_it, follows_on, follows_sees, follows_knows, rereads_loaded, rereads_follows}
+use Rattle.delete_queue.proofs.Fields.{found_next, knows_none, knows_it, follows_on, follows_sees, follows_knows, rereads_loaded, rereads_follows}
 
 -- the last of the entries seen, counted from the 0 before them
 pub at_count : (a : ℕ) (xs : List ℕ) → get_elem? (a ∷ xs) (length xs) ≡ some (last_or a xs)
@@ -49,21 +48,9 @@ pub looked_on : (q : DeleteQueue) (s t : Seat) (l : Loaded) (found : ℕ) → Is
     → t.base ≡ s.base → t.progress ≡ s.progress → GoesOn q t found
 looked_on q s t l found h inner v room b p =
     let w = the_view s in
-    let count = h.shows.count in
-    let seats : (the_view t).seats ≡ w.seats = ap (λ (x : View). x.seats) v in
-    let more : length (w.seen ++ found ∷ []) ≡ length w.seen + 1 = length-append w.seen (found ∷ []) in record {
-      table = inner;
-      base = b ∙ h.base;
-      spares = ap (λ (x : View). x.spares) v ∙ h.spares;
-      number = ap (λ (x : Progress). x.number) p ∙ (h.shows.number ∙ ap (λ (x : View). x.number) (sym v));
-      used = ap (λ (x : Progress). x.used) p ∙ (h.shows.used ∙ ap (λ (x : View). filled x.own) (sym v));
-      count = (let c = ap (λ (x : Progress). x.count) p in let r : t.progress.count + 1 ≡ length (w.seen ++ found ∷ []) = omega (arith, c, count, more) in r) ∙ ap (λ (x : View). length x.seen) (sym v);
-      before = w.seen;
-      ends = ap (λ (x : View). x.seen) v;
-      room = omega (arith, seats, room);
-      kept_back = subst (λ (x : View). filled x.own ≤ 16640) (sym v)
-          (⊎_elim (λ (le : filled w.own ≤ 16640). le) (λ (c : SawClosed w). absurd (still_open w (the_view t) found [] w.seen refl h.table.1 inner.1 (ap (λ (x : View). x.seen) v) (λ a x k. subst (λ (y : View). Knows y a x) (sym v) k) c)) h.kept_back);
-    }
+    let low = ⊎_elim (λ (le : filled w.own ≤ 16640). le)
+    (λ (c : SawClosed w). absurd (still_open w (the_view t) found [] w.seen refl h.table.1 inner.1 (ap (λ (x : View). x.seen) v) (λ a x k. subst (λ (y : View). Knows y a x) (sym v) k) c)) h.kept_back in
+    found_next q s t l found h low inner v room b p
 
 pub look_follows : (v w : View) (l : Loaded) (found head : ℕ) → w ≡ knows (sees (with_loaded v l) found) (found + 1) head → Follows v w
 look_follows v w l found head e = subst (Follows v) (sym e)

@@ -1,37 +1,32 @@
 -- Two seats in one.
-use Rattle.std.proofs.Common.{◌≡◌, ℕ, suc, ◌+◌, ◌-◌, ◌*◌, ◌<◌, ◌≤◌, ◌⊎◌, inl, inr, ltb, ltb-true, ltb-false, Bool, true, false, if◌then◌else◌, List, [], ◌∷◌, ◌++◌, map, length, sym, refl, ap, ap₂, ◌∙◌, subst, ⊎_elim, arith, append-nil}
+use Rattle.std.proofs.Common.{◌≡◌, ℕ, ◌+◌, ◌-◌, ◌*◌, ◌<◌, ◌≤◌, ◌⊎◌, inl, inr, ltb, ltb-true, ltb-false, Bool, true, false, if◌then◌else◌, List, [], ◌∷◌, ◌++◌, map, length, sym, refl, ap, ap₂, ◌∙◌, subst, ⊎_elim, arith, append-nil}
+use Rattle.std.proofs.lemmas.List.{nil_from_length}
 use mathlib.Core.Option.{some, some-ne-none}
 use lib.ListN.{get_elem?}
-use Rattle.atomic_table.proofs.Lists.{at_longer}
 use Rattle.queue_rule.specs.declared.view.View.{View}
 use Rattle.queue_rule.specs.declared.view.Old.{Old}
 use Rattle.queue_rule.specs.declared.view.Own.{Own}
-use Rattle.queue_rule.specs.declared.view.Known.{Known}
 use Rattle.queue_rule.specs.Lists.{Each, Starts, last_or, longer}
 use Rattle.queue_rule.specs.Chain.{start, filled}
 use Rattle.queue_rule.specs.Views.{Knows, known, knows, joined, old_of}
 use Rattle.queue_rule.specs.Told.{Sound, HasOwn, HeadsAt, filled_by}
 use Rattle.queue_rule.proofs.Lists.{all_more, each_append}
+use Rattle.queue_rule.proofs.Knowing.{in_longer, in_behind}
 use Rattle.delete_queue.specs.declared.queue.DeleteQueue.{DeleteQueue}
 use Rattle.delete_queue.specs.declared.seat.Seat.{Seat}
 use Rattle.delete_queue.specs.declared.seat.Progress.{Progress}
 use Rattle.delete_queue.specs.Ties.{IsTold, IsLiveOf}
 use Rattle.delete_queue.specs.Seats.{IsSeatOf, Shows, Meets, SawClosed, joined_of, the_view}
 use Rattle.delete_queue.specs.Linking.{IsTaken, gone_on}
-use Rattle.delete_queue.proofs.Lists.{empty}
 use Rattle.delete_queue.proofs.Fields.{knows_more}
 use Rattle.delete_queue.proofs.Growing.{extended}
 use Rattle.delete_queue.proofs.Looking.{still_open}
 
-at_behind : (l m : List Known) (i : ℕ) (x : Known) → get_elem? m i ≡ some x → (j : ℕ) × (get_elem? (l ++ m) j ≡ some x)
-at_behind [] m i x e = (i, e)
-at_behind (y ∷ l) m i x e = let r = at_behind l m i x e in (suc r.0, r.1)
-
 mine_stays : (v w : View) (a x : ℕ) → Knows v a x → Knows (joined v w) a x
-mine_stays v w a x k = (k.0, at_longer v.known w.known k.0 (known a x) k.1)
+mine_stays v w = in_longer v.known w.known
 
 theirs_comes : (v w : View) (a x : ℕ) → Knows w a x → Knows (joined v w) a x
-theirs_comes v w a x k = at_behind v.known w.known k.0 (known a x) k.1
+theirs_comes v w = in_behind v.known w.known
 
 -- the fields of the further seat are those of both
 shows_both : (b : Bool) (v w : View) (p r : Progress) → Shows v p → Shows w r → (seen : List ℕ) → seen ≡ (if b then w.seen else v.seen)
@@ -145,9 +140,9 @@ blank_sound : (v w : View) → Sound v → Sound w → length (longer v.seen w.s
 blank_sound v w s t z =
     let j = joined v w in
     let both = longer_blank v.seen w.seen (ltb (length v.seen) (length w.seen)) refl z in
-    let here : longer v.seen w.seen ≡ [] = empty (longer v.seen w.seen) z in
-    let mine : v.seen ≡ [] = empty v.seen both.0 in
-    let theirs : w.seen ≡ [] = empty w.seen both.1 in
+    let here : longer v.seen w.seen ≡ [] = nil_from_length (longer v.seen w.seen) z in
+    let mine : v.seen ≡ [] = nil_from_length v.seen both.0 in
+    let theirs : w.seen ≡ [] = nil_from_length w.seen both.1 in
     let nothing : v.known ++ w.known ≡ [] = ap₂ ◌++◌ (s.blank both.0) (t.blank both.1) in
     let starts : (xs : List ℕ) → xs ≡ [] → Starts (longer v.seen w.seen) xs = λ xs e. (longer v.seen w.seen, ap (λ l. l ++ longer v.seen w.seen) (sym e)) in
     let from : (xs : List ℕ) → xs ≡ [] → (os : List Old) → Each (λ o. Starts xs o.seen × Starts xs o.mine) os → Each (λ o. Starts (longer v.seen w.seen) o.seen × Starts (longer v.seen w.seen) o.mine) os =

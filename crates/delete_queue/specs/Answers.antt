@@ -1,4 +1,4 @@
--- What a clause says of an answer.
+-- What a clause says of what a call returns.
 use Rattle.std.specs.Prelude.{◌≡◌, ◌≢◌, ℕ, ◌+◌, ◌<◌, ◌≤◌, List, slice_index}
 use Rattle.ix_base.specs.Words.{head_kind, entry_words, IsEntryWords}
 use Rattle.ix_base.specs.Entry as e

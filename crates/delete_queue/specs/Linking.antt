@@ -5,7 +5,7 @@ use Rattle.queue_rule.specs.Told.{SawOpen, Whole}
 use Rattle.queue_rule.specs.declared.view.View.{View}
 use Rattle.queue_rule.specs.Lists.{Starts, last_or}
 use Rattle.queue_rule.specs.Chain.{start, filled, own}
-use Rattle.queue_rule.specs.Views.{Knows as KnowsWord, front, with_draft, links, sees, with_loaded, loaded}
+use Rattle.queue_rule.specs.Views.{Knows as KnowsWord, draft_start, with_draft, links, sees, with_loaded, loaded}
 use Rattle.delete_queue.specs.declared.queue.DeleteQueue.{DeleteQueue}
 use Rattle.delete_queue.specs.declared.seat.Seat.{Seat}
 use Rattle.delete_queue.specs.declared.seat.Progress.{Progress}
@@ -42,16 +42,16 @@ pub record GoesOn (q : DeleteQueue) (s : Seat) (found : ℕ) : Type 0 where
   pub kept_back : filled (the_view s).own ≤ 16640
 
 -- the seat has just linked an entry that its fields don't show yet
-pub record Came (q : DeleteQueue) (s : Seat) (front : ℕ) (words : List ℕ) : Type 0 where
+pub record Came (q : DeleteQueue) (s : Seat) (draft_start : ℕ) (words : List ℕ) : Type 0 where
   pub table : IsTold q s.inner
   pub base : s.base ≡ q.base
   pub spares : (the_view s).spares ≡ []
   pub number : s.progress.number ≡ (the_view s).number
   pub used : s.progress.used + (length words + 1) ≡ filled (the_view s).own
   pub count : s.progress.count + 1 ≡ length (the_view s).seen
-  pub last : last_or 0 (the_view s).seen ≡ front
+  pub last : last_or 0 (the_view s).seen ≡ draft_start
   pub some_word : 0 < length words
-  pub head : KnowsWord (the_view s) (front + 1) (slice_index words 0)
+  pub head : KnowsWord (the_view s) (draft_start + 1) (slice_index words 0)
   pub kept_back : (filled (the_view s).own ≤ 16640) ⊎ (6 ≤ head_kind (slice_index words 0))
 
 -- words that find room where so many are used; two are kept back for an entry that closes
@@ -77,12 +77,12 @@ pub record IsTaken (q : DeleteQueue) (s : Seat) : Type 0 where
 
 -- a word was stored at this address, in place of what stood of the draft from there on
 abbrev pub drafted : View → ℕ → ℕ → View
-drafted v at word = with_draft v (take (at - front v) v.draft ++ word ∷ [])
+drafted v at word = with_draft v (take (at - draft_start v) v.draft ++ word ∷ [])
 
 -- the next word of the draft goes to this address, inside the seat's own stretch
 pub record DraftsAt (v : View) (at : ℕ) : Type 0 where
-  pub low : front v ≤ at
-  pub next : at ≤ front v + length v.draft
+  pub low : draft_start v ≤ at
+  pub next : at ≤ draft_start v + length v.draft
   pub high : at < start v.number + 16642
 
 -- the draft is a next word 0 and the words of an entry, and the last entry seen doesn't close the queue

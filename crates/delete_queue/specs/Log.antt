@@ -16,7 +16,7 @@ use Rattle.delete_queue.specs.Cuts.{pieces_from}
 abbrev pub entries_of : QueueLog → List (List ℕ)
 entries_of log = pieces_from 0 log.ends.items log.words.items
 
--- an entry of the list: the number of the seat that linked it, and its words
+-- an entry of the list: the seat number of the seat that linked it, and its words
 pub record Logged : Type 0 where
   pub seat : ℕ
   pub words : List ℕ
@@ -43,12 +43,12 @@ pub record HasAllOf (entries : List (List ℕ)) (list : List Logged) (s : Seat) 
   pub seen : seen_of s ≤ length list
   pub agrees : (place : ℕ) (words : List ℕ) → Knows s place words → get_elem? entries (place - 1) ≡ some words
 
--- the head of the last entry, or h where there is none
+-- the head of the last entry; h where there is none
 abbrev pub last_head_or : ℕ → List (List ℕ) → ℕ
 last_head_or h [] = h
 last_head_or h (words ∷ rest) = last_head_or (slice_index words 0) rest
 
--- the number of the last numbered entry, the base where there is none
+-- the sequence number of the last numbered entry; the base where there is none
 abbrev pub last_number : ℕ → List (List ℕ) → ℕ
 last_number base entries = number_at base (length entries) (last_head_or 0 entries)
 
@@ -62,5 +62,5 @@ pub record IsLogOf (q : DeleteQueue) (all : List Seat) (log : QueueLog) : Type 0
   -- nothing follows an entry that closes the queue
   pub closes : (i : ℕ) (e : Logged) → get_elem? list i ≡ some e → i + 1 < length list → head_kind (slice_index e.words 0) < 6
   pub seats : Each (HasAllOf (entries_of log) list) all
-  -- no seat has seen a numbered entry behind the last one
+  -- no seat has seen an entry with a higher sequence number than the last one of the log
   pub lasts : Each (λ (s : Seat). last_of s ≤ last_number (base_of q) (entries_of log)) all

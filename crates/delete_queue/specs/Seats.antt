@@ -16,7 +16,7 @@ use Rattle.delete_queue.specs.declared.seat.Place.{Place}
 use Rattle.delete_queue.specs.declared.seat.Found.{Found}
 use Rattle.delete_queue.specs.Ties.{IsTold}
 
--- the first entry has the number base + 1
+-- the first entry has the sequence number base + 1
 abbrev pub base_of : DeleteQueue → ℕ
 base_of q = q.base
 
@@ -27,7 +27,7 @@ seats_of q = q.seats
 abbrev pub the_view : Seat → View
 the_view s = s.inner.me.0
 
--- the seat's number, from 0
+-- the seat number, from 0
 abbrev pub number_of : Seat → ℕ
 number_of s = (the_view s).number
 
@@ -35,11 +35,11 @@ number_of s = (the_view s).number
 abbrev pub own_of : Seat → List Own
 own_of s = (the_view s).own
 
--- how many entries the seat has seen: the first ones of the list
+-- how many entries the seat has seen: a prefix of the list
 abbrev pub seen_of : Seat → ℕ
 seen_of s = length (the_view s).seen
 
--- a seat that was taken over: its number and its own entries
+-- a seat that was taken over: its seat number and its own entries
 pub record Joined : Type 0 where
   pub number : ℕ
   pub own : List Own
@@ -58,11 +58,11 @@ loads_of s = (the_view s).loaded.count
 abbrev pub loaded_of : Seat → ℕ
 loaded_of s = (the_view s).loaded.word
 
--- the number of the entry at this place with this head; a turn, of kind 7, has that of the entry before it
+-- the sequence number of the entry at this place with this head; a turn, of kind 7, has that of the entry before it
 abbrev pub number_at : ℕ → ℕ → ℕ → ℕ
 number_at base place head = base + place - (if head_kind head == 7 then 1 else 0)
 
--- the number of the last numbered entry that the seat has seen; the base where there is none
+-- the sequence number of the last numbered entry that the seat has seen; the base where there is none
 abbrev pub last_of : Seat → ℕ
 last_of s = number_at s.base (seen_of s) s.progress.head
 
@@ -122,7 +122,7 @@ pub record Knows (s : Seat) (place : ℕ) (words : List ℕ) : Type 0 where
   pub size : length words ≡ word_count (slice_index words 0)
   pub each : (d : ℕ) → d < length words → KnowsWord (the_view s) (address + 1 + d) (slice_index words d)
 
--- what is said of an entry that was found is so
+-- what `Found` says of an entry is so
 pub record IsFound (s : Seat) (found : Found) : Type 0 where
   pub head : ℕ
   pub known : KnowsHead s found.place head
@@ -149,7 +149,7 @@ pub record Learns (s t : Seat) : Type 0 where
   pub grows : Grows s t
   pub own : own_of t ≡ own_of s
 
--- an entry with these words was linked behind all that is there, as the seat's own, and has the number n
+-- an entry with these words was linked after all that are there, as the seat's own, and has the sequence number n
 pub record Links (s t : Seat) (words : List ℕ) (n : ℕ) : Type 0 where
   pub own : own_of t ≡ own_of s ++ own (seen_of t) words ∷ []
   pub number : n ≡ number_at t.base (seen_of t) (slice_index words 0)

@@ -15,7 +15,7 @@ pub(crate) struct Room {
 }
 
 impl DeleteQueue {
-    // The entry behind a place that was seen. Nothing where a load has just shown that none is.
+    // The entry after a place that was seen, or `None` where a load has just shown that there is none.
     fn next(&self, seat: &mut Seat, place: Place) -> Option<Found>
         requires seat { IsSeatOf self.now seat.old }
         requires place { HasSeen seat.old place × (place.at ≤ seen_of seat.old) }
@@ -49,7 +49,7 @@ impl DeleteQueue {
         }
     }
 
-    // Copies an entry that was found behind those in the room.
+    // Copies an entry that was found to the end of the room.
     fn copy(&self, seat: &mut Seat, found: Found, room: &mut Room)
         requires seat { IsSeatOf self.now seat.old }
         requires found { IsFound seat.old found }

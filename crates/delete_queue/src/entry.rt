@@ -37,8 +37,9 @@ impl QueueLog {
         (self.begin(index), self.ends[index])
     }
 
-    /// The number, the kind and the words of the entry with this index, from 0. Its number is the
-    /// base plus its place in the list, from 1; a turn has that of the entry before it.
+    /// The sequence number, the kind, 1 to 7, and the words of the entry with this index, from 0. The
+    /// sequence number is the base plus the entry's place in the list, from 1. A turn has that of the
+    /// entry before it.
     pub fn entry(&self, i: u64) -> (u64, u64, &[u64])
         requires { i < length (entries_of self.now) }
         ensures words { get_elem? (entries_of self.now) i ≡ some result.2.now }

@@ -11,7 +11,7 @@ use crate::queue::DeleteQueue;
 use crate::seat::Seat;
 use ix_base::NoMemory;
 
-/// There was no memory for the log. The queue and its seats are as they were.
+/// Out of memory for the log. The queue and its seats are given back as they were.
 #[derive(Drop)]
 pub struct FinishRefused {
     /// The queue.
@@ -32,7 +32,7 @@ impl DeleteQueue {
         Ok(Room { ends, words })
     }
 
-    // One of the seats takes the others over.
+    // One of the seats takes the others over. `None` where there is no seat.
     fn meet_all(&self, seats: Vec<Seat>) -> Option<Seat>
         requires seats { Each (IsSeatOf self.now) seats.items }
         ensures some { IfNone result (seats.items ≡ []) }
@@ -49,13 +49,13 @@ impl DeleteQueue {
         }
     }
 
-    /// Ends the queue, and returns all its entries. It asks for its seats: one at least, and all
-    /// whose entries and knowledge the log is to be tied to.
+    /// Ends the queue, and returns the log of all its entries. It asks for seats of the queue: at
+    /// least one, and each whose own entries and known words are to be found in the log.
     ///
     /// The log is the whole list: each seat's entries in it are those that it linked, at their
     /// places; what a seat knows of an entry's words is what the log has; nothing follows an entry
-    /// that closes the queue. Where there is no memory for the log, the queue and the seats are
-    /// given back as they were.
+    /// that closes the queue. The only error is out of memory: the queue and the seats are then given
+    /// back as they were.
     pub fn finish(self, seats: Vec<Seat>) -> Result<QueueLog, FinishRefused>
         requires some { 0 < length seats.items }
         requires seats { Each (IsSeatOf self) seats.items }

@@ -1,6 +1,6 @@
 //! The linked delete queue: one list of entries that several threads share, without a lock.
 //!
-//! Each thread has a seat. With it the thread links entries behind all that are there, looks for
+//! Each thread has a seat. With it the thread links entries after all that are there, looks for
 //! the next entry that it has not seen, and reads the words of those that it has. All seats see
 //! one and the same list. What a seat knows of it is said by the words of `specs/Seats.antt`,
 //! which the layers above cite and don't look into.

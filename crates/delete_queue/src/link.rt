@@ -19,7 +19,7 @@ fn is_closing(head: u64) -> bool
     head >> 32 >= 6
 }
 
-/// The number of the entry at a place, from 1; a turn has that of the entry before it.
+/// The sequence number of the entry at a place, from 1. A turn has that of the entry before it.
 pub(crate) fn number_of_entry(base: u64, place: u64, head: u64) -> u64
     requires range { (base ≤ 2 ^ 62) × (place ≤ 2 ^ 62) }
     requires turn { 7 ≤ head_kind head → 0 < place }
@@ -43,7 +43,8 @@ fn closing_head(closing: Closing) -> u64
 }
 
 impl DeleteQueue {
-    /// The number of the last numbered entry that the seat has seen, the base where there is none.
+    /// The sequence number of the last numbered entry that the seat has seen, or the base where it has
+    /// seen none.
     pub fn last_number(&self, seat: &Seat) -> u64
         requires { IsSeatOf self.now seat.now }
         ensures { result ≡ last_of seat.now }
@@ -59,21 +60,21 @@ impl DeleteQueue {
         is_closing(seat.progress.head)
     }
 
-    // Writes the words as the seat's draft, behind its own entries.
+    // Writes a next word 0 and then the words as the seat's draft, after its own entries.
     fn lay(&self, seat: &mut Seat, words: &[u64])
         requires seat { IsSeatOf self.now seat.old }
         requires room { used_of seat.old + length words.now + 1 ≤ 16642 }
         ensures seat { IsSeatOf self.now seat.new }
         ensures view { the_view seat.new ≡ with_draft (the_view seat.old) (0 ∷ words.now) }
     {
-        let front = (16642 * seat.progress.number + 1 + seat.progress.used) as usize;
-        self.store_draft(&mut seat.inner, front, 0);
+        let draft_start = (16642 * seat.progress.number + 1 + seat.progress.used) as usize;
+        self.store_draft(&mut seat.inner, draft_start, 0);
         for i in 0..words.len() {
-            self.store_draft(&mut seat.inner, front + 1 + i, words[i]);
+            self.store_draft(&mut seat.inner, draft_start + 1 + i, words[i]);
         }
     }
 
-    // Goes on to an entry that was found behind the last one, and reads its head.
+    // Goes on to the entry that was found after the last one seen, and reads its head.
     pub(crate) fn go_on(&self, seat: &mut Seat, found: u64)
         requires seat { GoesOn self.now seat.old found }
         ensures seat { IsSeatOf self.now seat.new }
@@ -84,19 +85,20 @@ impl DeleteQueue {
         seat.progress.head = self.load_linked(&mut seat.inner, (found + 1) as usize);
     }
 
-    // The draft was linked at `front`. It is the last entry seen.
-    fn came(&self, seat: &mut Seat, front: u64, words: &[u64])
-        requires seat { Came self.now seat.old front words.now }
+    // The draft was linked at `draft_start`. It is the last entry seen.
+    fn came(&self, seat: &mut Seat, draft_start: u64, words: &[u64])
+        requires seat { Came self.now seat.old draft_start words.now }
         ensures seat { IsSeatOf self.now seat.new × (seat.new.inner ≡ seat.old.inner) }
         ensures head { seat.new.progress.head ≡ slice_index words.now 0 }
     {
         seat.progress.used += words.len() as u64 + 1;
         seat.progress.count += 1;
-        seat.progress.last = front;
+        seat.progress.last = draft_start;
         seat.progress.head = words[0];
     }
 
-    // Links an entry with these words behind all that is there, unless the queue is closed.
+    // Links an entry with these words after all that are there, unless the queue is closed. Returns
+    // whether it was linked.
     fn put(&self, seat: &mut Seat, words: &[u64]) -> bool
         requires seat { IsSeatOf self.now seat.old }
         requires words { IsEntryWords words.now }
@@ -106,23 +108,23 @@ impl DeleteQueue {
         ensures put { MatchBool result (Puts seat.old seat.new words.now) (FindsClosed seat.old seat.new) }
     {
         self.lay(seat, words);
-        let front = 16642 * seat.progress.number + 1 + seat.progress.used;
+        let draft_start = 16642 * seat.progress.number + 1 + seat.progress.used;
         loop {
             if self.saw_close(seat) {
                 return false;
             }
             let last = seat.progress.last as usize;
-            let found = self.try_link(&mut seat.inner, last, front);
+            let found = self.try_link(&mut seat.inner, last, draft_start);
             if found == 0 {
-                self.came(seat, front, words);
+                self.came(seat, draft_start, words);
                 return true;
             }
             self.go_on(seat, found);
         }
     }
 
-    /// Links an entry with these words behind all that are there, and answers its number, the
-    /// base plus its place in the list. It takes no memory and never waits.
+    /// Links an entry with these words after all that are there, and returns its sequence number,
+    /// which is the base plus its place in the list. It takes no memory and never waits.
     ///
     /// `Full` comes, before any shared word is touched and with the seat as it was, exactly where
     /// the entry takes more words than are left to the seat; two of its 16,642 words are kept back
@@ -151,9 +153,9 @@ impl DeleteQueue {
         }
     }
 
-    /// Links an entry that closes the queue: a commit, whose number is answered, or a turn, where
-    /// the number of the last numbered entry before it is answered. A turn asks that the seat has
-    /// linked an entry.
+    /// Links an entry that closes the queue: a commit, whose sequence number it returns, or a turn,
+    /// for which it returns the sequence number of the last numbered entry before it. A turn asks that
+    /// the seat has linked an entry. It takes no memory and never waits.
     ///
     /// `Closed` comes only where the last entry that the seat has seen closes the queue already;
     /// the seat's own entries are then as before. `Full` never comes.

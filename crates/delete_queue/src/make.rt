@@ -53,8 +53,9 @@ impl DeleteQueue {
         }
     }
 
-    /// A queue whose first entry gets the number base + 1, and its seats, numbered from 0. It asks
-    /// for a base of at most 2^62 and for 1 to 32 seats.
+    /// A queue whose first entry gets the sequence number base + 1, and its seats, in the order of
+    /// their seat numbers, which begin at 0. It asks for a base of at most 2^62 and for 1 to 32 seats.
+    /// The only error is out of memory.
     pub fn make(alloc: Global, base: u64, seats: u32) -> Result<(DeleteQueue, Vec<Seat>), NoMemory>
         requires base { base ≤ 2 ^ 62 }
         requires seats { (0 < seats) × (seats ≤ 32) }

@@ -7,7 +7,7 @@ ghost use Rattle.delete_queue.specs.Linking.{IsTaken, gone_on};
 use crate::queue::DeleteQueue;
 use crate::seat::{Progress, Seat};
 
-// What a seat has seen once it has taken over another: what the one has that has seen more.
+// How far a seat has come once it has taken over another: as far as the one that has seen more.
 fn further(mine: Progress, theirs: Progress) -> Progress
     ensures { result ≡ (if nat_lt mine.count theirs.count then gone_on mine theirs else mine) }
 {
@@ -42,7 +42,7 @@ impl DeleteQueue {
     }
 
     /// The first seat takes over what the second has seen, knows and has linked. Both had seen
-    /// first parts of one list. It takes no memory and never waits.
+    /// prefixes of one list. It takes no memory and never waits.
     pub fn meet(&self, seat: &mut Seat, other: Seat)
         requires seat { IsSeatOf self.now seat.old }
         requires other { IsSeatOf self.now other }

@@ -1,4 +1,4 @@
-// The queue: a table of words, and the number that its first entry follows.
+// The queue: a table of words, and the sequence number before that of its first entry.
 ghost use Rattle.std.specs.Prelude.{◌≡◌, ◌≤◌, ◌<◌, ◌^◌};
 ghost use Rattle.queue_rule.specs.Chain.{start};
 
@@ -6,12 +6,12 @@ use atomic_table::Table;
 use queue_rule::{QueueRule, View};
 use std::alloc::Global;
 
-/// A list of entries that several threads share: each links entries behind all that are there,
+/// A list of entries that several threads share: each links entries after all that are there,
 /// and all see one order. No call on it waits for another.
 ///
-/// The entry at place p of the list, from 1, has the number base + p. An entry of kind 6 (a
-/// commit) or 7 (a turn) closes the queue: nothing is linked behind it. A turn has no number of
-/// its own, but that of the numbered entry before it.
+/// The entry at place p of the list, from 1, has the sequence number base + p. An entry of kind 6 (a
+/// commit) or 7 (a turn) closes the queue: nothing is linked after it. A turn has no sequence number
+/// of its own, but that of the numbered entry before it.
 #[derive(Drop)]
 pub struct DeleteQueue {
     pub(crate) table: Table<(), View, u64, QueueRule, Global>,

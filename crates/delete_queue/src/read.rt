@@ -25,7 +25,7 @@ fn found_at(base: u64, place: Place, head: u64) -> Found
 }
 
 impl Seat {
-    /// The place of the last entry that the seat has seen, (0, 0) where it has seen none.
+    /// The place of the last entry that the seat has seen, or (0, 0) where it has seen none.
     pub fn last(&self) -> Place
         requires { IsSeat self.now }
         ensures seen { HasSeen self.now result }
@@ -76,8 +76,8 @@ impl DeleteQueue {
         Look::Entry(self.last_found(seat))
     }
 
-    /// The entry behind a place that the seat has seen and that isn't the last one seen, or the
-    /// first entry, behind (0, 0). It takes no memory and never waits.
+    /// The entry after a place that the seat has seen and that isn't the last one seen. The first
+    /// entry comes after (0, 0). It takes no memory and never waits.
     pub fn after(&self, seat: &mut Seat, place: Place) -> Found
         requires seat { IsSeatOf self.now seat.old }
         requires place { HasSeen seat.old place × (place.at < seen_of seat.old) }
@@ -95,8 +95,8 @@ impl DeleteQueue {
         found_at(seat.base, next, head)
     }
 
-    /// Fills in the words of the entry at a place that the seat has seen. It asks for as many
-    /// words as the entry has. It takes no memory and never waits.
+    /// Reads the words of the entry at a place that the seat has seen into `words`, which must be as
+    /// long as the entry. It takes no memory and never waits.
     pub fn read(&self, seat: &mut Seat, place: Place, words: &mut [u64])
         requires seat { IsSeatOf self.now seat.old }
         requires words { HasSize seat.old place (length words.old) }

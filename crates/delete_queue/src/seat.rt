@@ -1,4 +1,4 @@
-// A seat, and what the calls answer.
+// A seat, and what the calls return.
 use atomic_table::Seat as TableSeat;
 use queue_rule::View;
 
@@ -14,15 +14,15 @@ pub struct Seat {
 /// How far a seat has come.
 #[derive(Clone, Copy)]
 pub(crate) struct Progress {
-    /// The seat's number, from 0.
+    /// The seat number, from 0.
     pub(crate) number: u64,
     /// How many words its own entries take.
     pub(crate) used: u64,
     /// How many entries it has seen.
     pub(crate) count: u64,
-    /// The address of the last entry seen, 0 where it has seen none.
+    /// The address of the last entry seen, or 0 where it has seen none.
     pub(crate) last: u64,
-    /// The head of the last entry seen, 0 where it has seen none.
+    /// The head of the last entry seen, or 0 where it has seen none.
     pub(crate) head: u64,
 }
 
@@ -40,7 +40,7 @@ pub struct Place {
 pub struct Found {
     /// Its place.
     pub place: Place,
-    /// Its number; of a turn, that of the numbered entry before it.
+    /// Its sequence number; of a turn, that of the numbered entry before it.
     pub number: u64,
     /// Its kind, 1 to 7.
     pub kind: u64,
@@ -48,7 +48,7 @@ pub struct Found {
     pub words: u64,
 }
 
-/// What `look` answers.
+/// What `look` returns.
 #[derive(Clone, Copy, Debug, PartialEq, Eq)]
 pub enum Look {
     /// The next entry that the seat had not seen.
@@ -57,10 +57,11 @@ pub enum Look {
     End,
 }
 
-/// What `link` and `close` answer.
+/// What `link` and `close` return.
 #[derive(Clone, Copy, Debug, PartialEq, Eq)]
 pub enum Linked {
-    /// The entry was linked and has this number; of a turn, that of the numbered entry before it.
+    /// The entry was linked and has this sequence number; of a turn, that of the numbered entry before
+    /// it.
     At(u64),
     /// The list ends in an entry that closes the queue. Nothing was linked.
     Closed,
@@ -76,8 +77,8 @@ pub enum Linked {
 /// What closes a queue.
 #[derive(Clone, Copy, Debug, PartialEq, Eq)]
 pub enum Closing {
-    /// A commit, which has a number of its own.
+    /// A commit, which has a sequence number of its own.
     Commit,
-    /// A turn: a round ends because a seat is full. It has no number of its own.
+    /// A turn: a round ends because a seat is full. It has no sequence number of its own.
     Turn,
 }

@@ -2,7 +2,7 @@
 ghost use Rattle.std.specs.Prelude.{◌≡◌, ◌<◌, [], length};
 ghost use Rattle.queue_rule.specs.Lists.{last_or};
 ghost use Rattle.queue_rule.specs.Chain.{start};
-ghost use Rattle.queue_rule.specs.Views.{front, knows, kept_back, split_off, joined};
+ghost use Rattle.queue_rule.specs.Views.{draft_start, knows, kept_back, split_off, joined};
 ghost use Rattle.queue_rule.specs.Told.{MayRead};
 ghost use Rattle.delete_queue.specs.Ties.{IsTold, IsLiveOf, view};
 ghost use Rattle.delete_queue.specs.Linking.{drafted, DraftsAt, MayLink, Exchanged, Looked};
@@ -12,7 +12,7 @@ use atomic_table::Seat;
 use queue_rule::{LinkDraft, LoadLinked, LoadNext, SeatNumbers, StoreDraft, View};
 
 impl DeleteQueue {
-    /// A store of a draft word, behind the seat's own entries.
+    /// A store of a draft word, after the seat's own entries.
     pub(crate) fn store_draft(&self, seat: &mut Seat<(), View>, at: usize, word: u64)
         requires seat { IsTold self.now seat.old }
         requires place { DraftsAt (view seat.old) at }
@@ -26,7 +26,7 @@ impl DeleteQueue {
     /// linked, and else the address of an entry that the seat had not seen.
     pub(crate) fn try_link(&self, seat: &mut Seat<(), View>, last: usize, at: u64) -> u64
         requires seat { IsTold self.now seat.old }
-        requires place { (last ≡ last_or 0 (view seat.old).seen) × (at ≡ front (view seat.old)) }
+        requires place { (last ≡ last_or 0 (view seat.old).seen) × (at ≡ draft_start (view seat.old)) }
         requires entry { MayLink (view seat.old) }
         ensures seat { IsTold self.now seat.new }
         ensures view { Exchanged (view seat.old) (view seat.new) result }
@@ -56,7 +56,7 @@ impl DeleteQueue {
         self.table.shared.load::<LoadLinked>(seat, at)
     }
 
-    /// A seat with the next number is split off.
+    /// Splits off a seat with the next seat number.
     pub(crate) fn split(&self, seat: &mut Seat<(), View>) -> Seat<(), View>
         requires seat { IsLiveOf self.now seat.old }
         requires spares { 0 < length (view seat.old).spares }
@@ -66,7 +66,7 @@ impl DeleteQueue {
         self.table.shared.split_seat::<SeatNumbers>(seat)
     }
 
-    /// A seat takes another over.
+    /// A seat takes over another.
     pub(crate) fn join(&self, seat: &mut Seat<(), View>, other: Seat<(), View>)
         requires seat { IsLiveOf self.now seat.old }
         requires other { IsLiveOf self.now other × ((view other).spares ≡ []) }

@@ -3,3 +3,4 @@ pub mod Parts
 pub mod Words
 pub mod Reading
 pub mod Logs
+pub mod Last

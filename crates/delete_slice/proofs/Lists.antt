@@ -47,11 +47,11 @@ entries_stand Stands Others on from [] h = tt
 entries_stand Stands Others on from (e ∷ es) h =
     (record { words = h.0.words; stand = on (from + 1) h.0.words h.0.stand; spell = h.0.spell }, entries_stand Stands Others on (from + 1) es h.1)
 
-all_join : {A : Type 0} (P : A → Type 0) (xs ys : List A) → AllByRecursion P xs → AllByRecursion P ys → AllByRecursion P (xs ++ ys)
+pub all_join : {A : Type 0} (P : A → Type 0) (xs ys : List A) → AllByRecursion P xs → AllByRecursion P ys → AllByRecursion P (xs ++ ys)
 all_join P [] ys h k = k
 all_join P (x ∷ xs) ys h k = (h.0, all_join P xs ys h.1 k)
 
-own_within : (after upto n : ℕ) (entry : Entry) → after < n → n ≤ upto → AreWithin after upto (own_number n entry)
+pub own_within : (after upto n : ℕ) (entry : Entry) → after < n → n ≤ upto → AreWithin after upto (own_number n entry)
 own_within after upto n e.Add low high = ((low, high), tt)
 own_within after upto n (e.Update term) low high = ((low, high), tt)
 own_within after upto n (e.DeleteTerm term) low high = ((low, high), tt)

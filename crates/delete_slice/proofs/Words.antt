@@ -20,7 +20,7 @@ use Rattle.delete_slice.proofs.Lists.{upto_later}
 use Rattle.delete_slice.proofs.Parts.{takes_entry}
 
 -- the head of the words has the entry's kind
-spelled_kind : (words : List ℕ) (v : value.Entry) → Spells words v → head_kind (slice_index words 0) ≡ value.kind_of v
+pub spelled_kind : (words : List ℕ) (v : value.Entry) → Spells words v → head_kind (slice_index words 0) ≡ value.kind_of v
 spelled_kind words v is =
     let short = most_bytes v is.fits in
     subst (λ (ws : List ℕ). head_kind (slice_index ws 0) ≡ value.kind_of v) (sym is.spelled) (head_again (value.kind_of v) (length (value.entry_bytes v)) (omega (arith, short))).0

@@ -1,4 +1,4 @@
--- Entries behind a place of the list: their words, their operations and their numbers.
+-- Entries after a place of the list: their words, their operations and their sequence numbers.
 use Rattle.std.specs.Prelude.{◌≡◌, ℕ, ◌+◌, ◌-◌, ◌<◌, List, [], ◌∷◌, ◌++◌}
 use mathlib.Core.Option.{some}
 use lib.ListN.{get_elem?}
@@ -26,17 +26,17 @@ pub record HasEntry (Stands : Standing) (place : ℕ) (entry : Entry) : Type 0 w
   pub stand : Stands place words
   pub spell : Spells words (value_of entry)
 
--- these entries stand behind the place `from`, the first of them at the next place
+-- these entries stand after the place `from`, the first of them at the next place
 abbrev pub HasEntries : Standing → ℕ → List Entry → Type 0
 HasEntries Stands from [] = Unit {0}
 HasEntries Stands from (entry ∷ rest) = HasEntry Stands (from + 1) entry × HasEntries Stands (from + 1) rest
 
--- The operations of the entries behind a place. The entry at place p has the number base + p.
+-- The operations of the entries after a place. The entry at place p has the sequence number base + p.
 abbrev pub operations_behind : ℕ → ℕ → List Entry → List Numbered
 operations_behind base from [] = []
 operations_behind base from (entry ∷ rest) = entry_operation (base + (from + 1)) entry ++ operations_behind base (from + 1) rest
 
--- the number of an entry; a turn has none
+-- the sequence number of an entry; a turn has none
 abbrev pub own_number : ℕ → Entry → List ℕ
 own_number n e.Add = n ∷ []
 own_number n (e.Update term) = n ∷ []
@@ -46,7 +46,7 @@ own_number n (e.SetNumber term num value) = n ∷ []
 own_number n e.Commit = n ∷ []
 own_number n e.Turn = []
 
--- the numbers of the entries behind a place
+-- the sequence numbers of the entries after a place
 abbrev pub numbers_behind : ℕ → ℕ → List Entry → List ℕ
 numbers_behind base from [] = []
 numbers_behind base from (entry ∷ rest) = own_number (base + (from + 1)) entry ++ numbers_behind base (from + 1) rest

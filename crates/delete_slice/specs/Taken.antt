@@ -1,4 +1,4 @@
--- Updates that took the entries behind a place.
+-- Updates that took the entries after a place.
 use Rattle.std.specs.Prelude.{◌≡◌, ℕ, ◌+◌, ◌<◌, ◌≤◌, List, ◌++◌, length}
 use Rattle.std.specs.List.{AllByRecursion}
 use Rattle.ix_base.specs.Words.{Spells}
@@ -27,7 +27,7 @@ abbrev pub KeepsBoundsOf : List ℕ → Updates → Updates → Type 0
 KeepsBoundsOf numbers old new = (after upto : ℕ) → NumberedWithin after upto (as_operations old) → AreWithin after upto numbers
     → NumberedWithin after upto (as_operations new)
 
--- The updates took all entries from behind the place `from` to the place `to`: they make of every
+-- The updates took all entries after the place `from`, up to the place `to`: they make of every
 -- row what they made of it before and then the operations of these entries.
 pub record TakesPart (Stands : Standing) (base from to : ℕ) (old new : Updates) : Type 0 where
   pub entries : List Entry
@@ -37,31 +37,35 @@ pub record TakesPart (Stands : Standing) (base from to : ℕ) (old new : Updates
   pub bounds : KeepsBoundsOf (numbers_behind base from entries) old new
   pub upto : HaveUpTo (base + to) new
 
--- the updates took the one entry behind the place `from`
+-- the updates took the one entry after the place `from`
 abbrev pub TakesEntry : Standing → ℕ → ℕ → Updates → Updates → Type 0
 TakesEntry Stands base from old new = TakesPart Stands base from (from + 1) old new
 
+-- the updates took the entry after a place, whose words the seat knows
 abbrev pub TakesNext : DeleteQueue → Seat → ℕ → Updates → Updates → Type 0
 TakesNext q s from old new = TakesEntry (Knows s) (base_of q) from old new
 
+-- the updates took the entry after a place, as the log has it
 abbrev pub TakesNextLogged : QueueLog → ℕ → Updates → Updates → Type 0
 TakesNextLogged log from old new = TakesEntry (Has log) log.base from old new
 
--- the updates took the first of these entries, up to some place
+-- the updates took a prefix of these entries, up to some place
 abbrev pub TakesSomePart : Standing → ℕ → ℕ → ℕ → Updates → Updates → Type 0
 TakesSomePart Stands base from to old new = (reached : ℕ) × (reached ≤ to) × TakesPart Stands base from reached old new
 
--- the updates took the slice's entries, or the first of them, whose words the seat knows
+-- the updates took the slice's entries, whose words the seat knows
 abbrev pub TakesSlice : DeleteQueue → Seat → Slice → Updates → Updates → Type 0
 TakesSlice q s slice old new = TakesPart (Knows s) (base_of q) slice.from.at slice.to.at old new
 
+-- the updates took a prefix of the slice's entries, whose words the seat knows
 abbrev pub TakesSome : DeleteQueue → Seat → Slice → Updates → Updates → Type 0
 TakesSome q s slice old new = TakesSomePart (Knows s) (base_of q) slice.from.at slice.to.at old new
 
--- the updates took the slice's entries, or the first of them, as the log has them
+-- the updates took the slice's entries, as the log has them
 abbrev pub TakesLogged : QueueLog → Slice → Updates → Updates → Type 0
 TakesLogged log slice old new = TakesPart (Has log) log.base slice.from.at slice.to.at old new
 
+-- the updates took a prefix of the slice's entries, as the log has them
 abbrev pub TakesSomeLogged : QueueLog → Slice → Updates → Updates → Type 0
 TakesSomeLogged log slice old new = TakesSomePart (Has log) log.base slice.from.at slice.to.at old new
 

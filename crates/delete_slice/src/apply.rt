@@ -15,13 +15,13 @@ use node_words::{Entry, decode};
 use std::alloc::Global;
 
 impl Slice {
-    /// Takes the slice's entries into the updates, in order: these make of every row what they
-    /// made of it before and then the slice's deletes and settings. The seat then knows the words
-    /// of these entries. The numbers in the updates must not be above that of the slice's
-    /// beginning, the base of the queue plus the place.
+    /// Takes the slice's entries into the updates, in order: the updates then make of every row
+    /// what they made of it before, followed by the slice's deletes and settings. The seat then
+    /// knows the words of these entries. No sequence number in the updates may be above the base of
+    /// the queue plus the place `from`.
     ///
-    /// After an error the updates have taken the first of these entries, up to some place, and the
-    /// seat may know more words than before. It has seen no further entry in any case.
+    /// The only error is out of memory. After it the updates have taken a prefix of these entries,
+    /// and the seat may know more words than before. In any case the seat has seen no more entries.
     pub fn apply(
         &self,
         alloc: Global,
@@ -45,9 +45,10 @@ impl Slice {
         Ok(())
     }
 
-    /// The same over the log of the finished queue. `to` is a place in the log.
+    /// Takes the slice's entries into the updates, as `apply` does, from the log of the finished
+    /// queue. `to` is a place in the log.
     ///
-    /// After an error the updates have taken the first of these entries, up to some place.
+    /// The only error is out of memory. After it the updates have taken a prefix of these entries.
     pub fn apply_log(
         &self,
         alloc: Global,
@@ -68,7 +69,8 @@ impl Slice {
     }
 }
 
-/// Takes the entry behind a place that the seat has seen, and returns its place.
+/// Takes the entry after a place that the seat has seen, and returns the place of that entry. After
+/// an error the updates are unchanged.
 fn take_next(
     alloc: Global,
     queue: &DeleteQueue,
@@ -93,7 +95,7 @@ fn take_next(
     Ok(found.place)
 }
 
-/// Takes the entry of the log with this index, from 0.
+/// Takes the entry of the log with this index, from 0. After an error the updates are unchanged.
 fn take_logged(
     alloc: Global,
     log: &QueueLog,
@@ -110,7 +112,8 @@ fn take_logged(
     take_words(alloc, number, words, updates)
 }
 
-/// Takes the entry that these words spell.
+/// Takes the entry that these words spell, with this sequence number. After an error the updates are
+/// unchanged.
 fn take_words(
     alloc: Global,
     number: u64,
@@ -125,7 +128,7 @@ fn take_words(
     let Some(entry) = decode(alloc, words)? else {
         unreachable!()
     };
-    // A turn has no number of its own and changes nothing.
+    // A turn has no sequence number of its own and changes nothing.
     if let Entry::Turn = entry {
         return Ok(());
     }

@@ -5,17 +5,18 @@ ghost use Rattle.delete_slice.specs.Slices.{IsSliceOf, LooksToEnd};
 
 use delete_queue::{DeleteQueue, Look, Place, Seat};
 
-/// A part of the list: the entries behind `from`, up to `to`. It is one thread's own, as its seat.
+/// A part of the queue's list: the entries after `from`, up to and with `to`. It belongs to one
+/// thread, as its seat does.
 #[derive(Clone, Copy, Debug, PartialEq, Eq)]
 pub struct Slice {
     /// The place of the last entry before the slice, (0, 0) where there is none.
     pub from: Place,
-    /// The place of the slice's last entry, `from` where it has none.
+    /// The place of the slice's last entry; `from` where the slice is empty.
     pub to: Place,
 }
 
 impl Slice {
-    /// The empty slice behind the last entry that the seat has seen. It takes no memory.
+    /// The empty slice after the last entry that the seat has seen. It takes no memory.
     pub fn start(seat: &Seat) -> Slice
         requires { IsSeat seat.now }
         ensures slice { IsSliceOf seat.now result }

@@ -1,4 +1,5 @@
-//! Slices of a small queue. What the updates then are is worked out by hand.
+//! Slices of a small queue, and of one with thousands of entries. What the updates then are is
+//! worked out by hand.
 ghost use Rattle.std.specs.Prelude.{◌≤◌, [], ◌∷◌, IfOk};
 ghost use Rattle.delete_queue.specs.Answers.{IsOperation};
 ghost use Rattle.delete_queue.specs.Seats.{IsSeatOf, Extends, Learns};
@@ -158,5 +159,81 @@ fn slices_of_a_queue(rt: HostRuntime) -> Result<(), Fail> {
     assert!(rt; by_log(alloc, &log, first)?.as_str() == "abcde5n6");
     assert!(rt; by_log(alloc, &log, rest)?.as_str() == "abcde8abcdef7");
     assert!(rt; by_log(alloc, &log, whole)?.as_str() == "abcde8abcdef7n6");
+    Ok(())
+}
+
+/// Links deletes of `abcde` that are to have these numbers. Returns whether each has its number.
+fn link_fives(queue: &DeleteQueue, seat: &mut Seat, first: u64, last: u64) -> bool
+    requires { IsSeatOf queue.now seat.old }
+    ensures seat { IsSeatOf queue.now seat.new }
+    ensures extends { Extends seat.old seat.new }
+{
+    let mut right = true;
+    for number in first..=last {
+        let linked = queue.link(seat, &delete_of_five());
+        right = right && linked == Linked::At(number);
+    }
+    right
+}
+
+/// Links 4,000 deletes, numbered from 1. Only number 3,001 deletes `abcdef`.
+fn link_thousands(queue: &DeleteQueue, seat: &mut Seat) -> bool
+    requires { IsSeatOf queue.now seat.old }
+    ensures seat { IsSeatOf queue.now seat.new }
+    ensures extends { Extends seat.old seat.new }
+{
+    let before = link_fives(queue, seat, 1, 3000);
+    let six = queue.link(seat, &delete_of_six()) == Linked::At(3001);
+    before && six && link_fives(queue, seat, 3002, 4000)
+}
+
+/// The numbers in the updates that took a slice by a seat: those of the deletes, in the order of
+/// their terms, and then those of the settings.
+fn numbers_by_seat(
+    alloc: Global,
+    queue: &DeleteQueue,
+    seat: &mut Seat,
+    slice: Slice,
+) -> Result<Vec<u64>, NoMemory>
+    requires seat { IsSeatOf queue.now seat.old }
+    requires slice { IsSliceOf seat.old slice }
+    ensures { IsSeatOf queue.now seat.new }
+{
+    let mut updates = Updates::new(alloc);
+    slice.apply(alloc, queue, seat, &mut updates)?;
+    numbers_in(alloc, &updates)
+}
+
+/// The numbers in updates.
+fn numbers_in(alloc: Global, updates: &Updates) -> Result<Vec<u64>, NoMemory> {
+    let mut numbers = Vec::new(alloc);
+    for (_, number) in updates.deletes().as_map() {
+        numbers.push(*number)?;
+    }
+    for setting in updates.settings() {
+        numbers.push(setting.number)?;
+    }
+    Ok(numbers)
+}
+
+/// A slice of 4,000 deletes, and one that begins at its end and has only what came after.
+#[test]
+fn slices_of_thousands(rt: HostRuntime) -> Result<(), Fail> {
+    let alloc = rt.alloc();
+    let (queue, mut seats) = DeleteQueue::make(alloc, 0, 1)?;
+    let mut seat = seats.pop().ok_or("a seat")?;
+    let mut first = Slice::start(&seat);
+    assert!(rt; link_thousands(&queue, &mut seat));
+    first.advance(&queue, &mut seat);
+    assert!(rt; (first.from.at, first.to.at) == (0, 4000));
+    let numbers = numbers_by_seat(alloc, &queue, &mut seat, first)?;
+    assert!(rt; numbers.as_slice() == [4000, 3001].as_slice());
+    let mut rest = Slice::start(&seat);
+    assert!(rt; rest.from == first.to);
+    assert!(rt; link_fives(&queue, &mut seat, 4001, 4100));
+    rest.advance(&queue, &mut seat);
+    assert!(rt; (rest.from.at, rest.to.at) == (4000, 4100));
+    let numbers = numbers_by_seat(alloc, &queue, &mut seat, rest)?;
+    assert!(rt; numbers.as_slice() == [4100].as_slice());
     Ok(())
 }

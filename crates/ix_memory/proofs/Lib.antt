@@ -1,4 +1,4 @@
-pub mod Fronts
+pub mod Prefixes
 pub mod Looks
 pub mod NameLists
 pub mod SettledFiles

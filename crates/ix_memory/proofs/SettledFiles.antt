@@ -6,7 +6,7 @@ use Rattle.std.specs.declared.alloc.Global.{Global}
 use Rattle.ix_base.specs.declared.file_name.FileName.{FileName}
 use Rattle.ix_outside.specs.Files.{Files}
 use Rattle.ix_outside.specs.Disk.{Disk, is_same, with_at, moved, files as files_of}
-use Rattle.ix_memory.specs.History.{outcome_of, leaves_step}
+use Rattle.ix_memory.specs.History.{files_left, leaves_step}
 use Rattle.ix_memory.proofs.Looks.{newest}
 use Rattle.ix_outside.specs.CrashLaws.{is_same-true}
 use Rattle.ix_memory.specs.HistoryLaws.{whole_is_read}
@@ -84,22 +84,22 @@ none_moved «from» to name f apart none =
     (none_at (is_same name «from») None (with_at to (f «from») f name) refl (rw apart none))
 
 -- A file that no call made isn't there.
-pub unmade : (steps : StepsLeft) (bytes : BytesLeft) (calls : List Step) (name : FileName) → are_made calls name ≡ false → outcome_of steps bytes calls name ≡ None
+pub unmade : (steps : StepsLeft) (bytes : BytesLeft) (calls : List Step) (name : FileName) → are_made calls name ≡ false → files_left steps bytes calls name ≡ None
 unmade steps bytes [] = λ name none. refl
 unmade steps bytes (Wrote at written ∷ older) = λ name none.
     let p = not_made at name (are_made older) none in
     rw p.0 (unmade steps bytes older name p.1)
 unmade steps bytes (Synced at ∷ older) = λ name none.
-    none_synced at name (files_of older) (outcome_of steps bytes older)
+    none_synced at name (files_of older) (files_left steps bytes older)
     (sym (ap (λ (f : Files). f name) (whole_is_read older)) ∙ unmade Every Whole older name none) (unmade steps bytes older name none)
 unmade steps bytes (Renamed «from» to ∷ older) = λ name none.
     let p = not_made to name (are_made older) none in
-    none_by (leaves_step steps (length older)) (moved «from» to None (outcome_of steps bytes older)) (outcome_of steps bytes older) name
-    (none_moved «from» to name (outcome_of steps bytes older) p.0 (unmade steps bytes older name p.1)) (unmade steps bytes older name p.1)
+    none_by (leaves_step steps (length older)) (moved «from» to None (files_left steps bytes older)) (files_left steps bytes older) name
+    (none_moved «from» to name (files_left steps bytes older) p.0 (unmade steps bytes older name p.1)) (unmade steps bytes older name p.1)
 unmade steps bytes (Deleted at ∷ older) = λ name none.
     let less = unmade steps bytes older name none in
-    none_by (leaves_step steps (length older)) (with_at at None (outcome_of steps bytes older)) (outcome_of steps bytes older) name
-    (none_at (is_same name at) None (outcome_of steps bytes older name) refl less) less
+    none_by (leaves_step steps (length older)) (with_at at None (files_left steps bytes older)) (files_left steps bytes older) name
+    (none_at (is_same name at) None (files_left steps bytes older name) refl less) less
 unmade steps bytes (Settled ∷ older) = unmade Every bytes older
 unmade steps bytes (Spoilt at found ∷ older) = λ name none.
     let p = not_made at name (are_made older) none in
@@ -108,29 +108,29 @@ unmade steps bytes (HalfRenamed «from» to ∷ older) = unmade steps bytes olde
 unmade steps bytes (HalfDeleted at ∷ older) = unmade steps bytes older
 
 -- Files that are the outcome's where a call made them are the outcome's files.
-pub filled : (steps : StepsLeft) (bytes : BytesLeft) (calls : List Step) (files : Files) → Fills (are_made calls) (outcome_of steps bytes calls) files → files ≡ outcome_of steps bytes calls
+pub filled : (steps : StepsLeft) (bytes : BytesLeft) (calls : List Step) (files : Files) → Fills (are_made calls) (files_left steps bytes calls) files → files ≡ files_left steps bytes calls
 filled steps bytes calls files fills = fun_ext (λ name. tell name (are_made calls name) refl)
   where
-    tell : (name : FileName) (b : Bool) → are_made calls name ≡ b → files name ≡ outcome_of steps bytes calls name
+    tell : (name : FileName) (b : Bool) → are_made calls name ≡ b → files name ≡ files_left steps bytes calls name
     tell name true e = fills name ∙ rw e refl
     tell name false e = fills name ∙ (rw e (sym (unmade steps bytes calls name e)))
 
 -- ---- the same along the calls, the oldest first
 
 pub fills_on : (calls history : List Step) (k : ℕ) (call : Step) (steps : StepsLeft) (bytes : BytesLeft) (old new : Files) → k < length calls → get_or calls k call ≡ call → reverse calls ≡ history
-    → Fills (are_made (reverse (take k calls))) (outcome_of steps bytes (reverse calls)) old → new ≡ taken_at (file_made call) (outcome_of steps bytes history) old
-    → Fills (are_made (reverse (take (k + 1) calls))) (outcome_of steps bytes (reverse calls)) new
+    → Fills (are_made (reverse (take k calls))) (files_left steps bytes (reverse calls)) old → new ≡ taken_at (file_made call) (files_left steps bytes history) old
+    → Fills (are_made (reverse (take (k + 1) calls))) (files_left steps bytes (reverse calls)) new
 fills_on calls history k call steps bytes old new lt here whole fills is =
     let last : reverse (take (k + 1) calls) ≡ call ∷ reverse (take k calls) = newest calls k call lt ∙ ap (λ (x : Step). x ∷ reverse (take k calls)) here in
-    let same : taken_at (file_made call) (outcome_of steps bytes (reverse calls)) old ≡ new =
-    ap (λ (h : List Step). taken_at (file_made call) (outcome_of steps bytes h) old) whole ∙ sym is in
-    subst (λ (h : List Step). Fills (are_made h) (outcome_of steps bytes (reverse calls)) new) (sym last)
-    (subst (λ (f : Files). Fills (are_made (call ∷ reverse (take k calls))) (outcome_of steps bytes (reverse calls)) f) same
-    (fills_more (file_made call) (are_made (reverse (take k calls))) (outcome_of steps bytes (reverse calls)) old fills))
+    let same : taken_at (file_made call) (files_left steps bytes (reverse calls)) old ≡ new =
+    ap (λ (h : List Step). taken_at (file_made call) (files_left steps bytes h) old) whole ∙ sym is in
+    subst (λ (h : List Step). Fills (are_made h) (files_left steps bytes (reverse calls)) new) (sym last)
+    (subst (λ (f : Files). Fills (are_made (call ∷ reverse (take k calls))) (files_left steps bytes (reverse calls)) f) same
+    (fills_more (file_made call) (are_made (reverse (take k calls))) (files_left steps bytes (reverse calls)) old fills))
 
 pub filled_all : (calls history : List Step) (k : ℕ) (steps : StepsLeft) (bytes : BytesLeft) (files : Files) → length calls ≤ k → reverse calls ≡ history
-    → Fills (are_made (reverse (take k calls))) (outcome_of steps bytes (reverse calls)) files → files ≡ outcome_of steps bytes history
+    → Fills (are_made (reverse (take k calls))) (files_left steps bytes (reverse calls)) files → files ≡ files_left steps bytes history
 filled_all calls history k steps bytes files all whole fills =
     filled steps bytes (reverse calls) files
-    (subst (λ (h : List Step). Fills (are_made (reverse h)) (outcome_of steps bytes (reverse calls)) files) (take_all k calls all) fills)
-    ∙ ap (λ (h : List Step). outcome_of steps bytes h) whole
+    (subst (λ (h : List Step). Fills (are_made (reverse h)) (files_left steps bytes (reverse calls)) files) (take_all k calls all) fills)
+    ∙ ap (λ (h : List Step). files_left steps bytes h) whole

@@ -8,14 +8,15 @@ use Rattle.ix_memory.specs.declared.outcome.StepsLeft.TheVariants.{Every, Nothin
 use Rattle.ix_memory.specs.declared.outcome.BytesLeft.{BytesLeft}
 use Rattle.ix_memory.specs.declared.outcome.BytesLeft.TheVariants.{Whole, Absent, Empty, Half}
 
--- the outcomes in their order, again and again
+-- which renames and deletes are left, by the choice
 abbrev pub steps_of : ℕ → StepsLeft
 steps_of choice = if choice % 4 == 0 then Every else (if choice % 4 == 1 then Nothing else (if choice % 4 == 2 then Even else Odd))
 
+-- what is left of a file that wasn't synced, by the choice
 abbrev pub bytes_of : ℕ → BytesLeft
 bytes_of choice = if choice % 4 == 0 then Whole else (if choice % 4 == 1 then Absent else (if choice % 4 == 2 then Empty else Half))
 
--- a step with so many calls before it is there
+-- a rename or delete with so many steps before it is there
 abbrev pub leaves_step : StepsLeft → ℕ → Bool
 leaves_step Every before = true
 leaves_step Nothing before = false
@@ -29,16 +30,16 @@ bytes_left Absent bytes = None
 bytes_left Empty bytes = Some []
 bytes_left Half bytes = Some (take (length bytes / 2) bytes)
 
--- what the crash of this outcome leaves
-abbrev pub outcome_of : StepsLeft → BytesLeft → Disk → Files
-outcome_of steps bytes [] = λ name. None
-outcome_of steps bytes (Wrote name written ∷ older) = with_at name (bytes_left bytes written) (outcome_of steps bytes older)
-outcome_of steps bytes (Synced name ∷ older) = with_at name (files_of older name) (outcome_of steps bytes older)
-outcome_of steps bytes (Renamed «from» to ∷ older) =
-    if leaves_step steps (length older) then moved «from» to None (outcome_of steps bytes older) else outcome_of steps bytes older
-outcome_of steps bytes (Deleted name ∷ older) =
-    if leaves_step steps (length older) then with_at name None (outcome_of steps bytes older) else outcome_of steps bytes older
-outcome_of steps bytes (Settled ∷ older) = outcome_of Every bytes older
-outcome_of steps bytes (Spoilt name found ∷ older) = with_at name (option_and_then (bytes_left bytes) found) (outcome_of steps bytes older)
-outcome_of steps bytes (HalfRenamed «from» to ∷ older) = outcome_of steps bytes older
-outcome_of steps bytes (HalfDeleted name ∷ older) = outcome_of steps bytes older
+-- the files that a crash of this outcome leaves
+abbrev pub files_left : StepsLeft → BytesLeft → Disk → Files
+files_left steps bytes [] = λ name. None
+files_left steps bytes (Wrote name written ∷ older) = with_at name (bytes_left bytes written) (files_left steps bytes older)
+files_left steps bytes (Synced name ∷ older) = with_at name (files_of older name) (files_left steps bytes older)
+files_left steps bytes (Renamed «from» to ∷ older) =
+    if leaves_step steps (length older) then moved «from» to None (files_left steps bytes older) else files_left steps bytes older
+files_left steps bytes (Deleted name ∷ older) =
+    if leaves_step steps (length older) then with_at name None (files_left steps bytes older) else files_left steps bytes older
+files_left steps bytes (Settled ∷ older) = files_left Every bytes older
+files_left steps bytes (Spoilt name found ∷ older) = with_at name (option_and_then (bytes_left bytes) found) (files_left steps bytes older)
+files_left steps bytes (HalfRenamed «from» to ∷ older) = files_left steps bytes older
+files_left steps bytes (HalfDeleted name ∷ older) = files_left steps bytes older

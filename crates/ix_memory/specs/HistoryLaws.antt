@@ -8,7 +8,7 @@ use Rattle.ix_outside.specs.Disk.{Disk, is_same, with_at, moved, is_unsynced, fi
 use Rattle.ix_outside.specs.Crash.{IsImage}
 use Rattle.ix_outside.specs.CrashLaws.{is_same-true, with_at-same, with_at-other, may_rename}
 use Rattle.ix_outside.specs.declared.step.Step.TheVariants.{Wrote, Synced, Renamed, Deleted, Settled, Spoilt, HalfRenamed, HalfDeleted}
-use Rattle.ix_memory.specs.History.{leaves_step, bytes_left, outcome_of}
+use Rattle.ix_memory.specs.History.{leaves_step, bytes_left, files_left}
 use Rattle.ix_memory.specs.declared.outcome.StepsLeft.{StepsLeft}
 use Rattle.ix_memory.specs.declared.outcome.StepsLeft.TheVariants.{Every}
 use Rattle.ix_memory.specs.declared.outcome.BytesLeft.{BytesLeft}
@@ -61,7 +61,7 @@ agree_moved «from» to x test f g agree = tell (is_same «from» to)
     tell false = agree_at «from» false x x _ _ _ (λ _. refl) (agree_at to (test «from») (f «from») (g «from») test f g (agree «from») agree)
 
 -- where every step is there, each file but the unsynced ones is as reads give it
-agrees : (bytes : BytesLeft) (calls : Disk) → Agree (is_unsynced calls) (outcome_of Every bytes calls) (files_of calls)
+agrees : (bytes : BytesLeft) (calls : Disk) → Agree (is_unsynced calls) (files_left Every bytes calls) (files_of calls)
 unfolding Agree
 agrees bytes [] = λ name apart. refl
 agrees bytes (Wrote name written ∷ older) =
@@ -75,28 +75,28 @@ agrees bytes (HalfRenamed «from» to ∷ older) = agrees bytes older
 agrees bytes (HalfDeleted name ∷ older) = agrees bytes older
 
 -- Each outcome is one that a crash may leave.
-pub outcome_is_image : (steps : StepsLeft) (bytes : BytesLeft) (calls : Disk) → IsImage calls (outcome_of steps bytes calls)
+pub outcome_is_image : (steps : StepsLeft) (bytes : BytesLeft) (calls : Disk) → IsImage calls (files_left steps bytes calls)
 unfolding Agree
 outcome_is_image steps bytes [] = λ name. refl
 outcome_is_image steps bytes (Wrote name written ∷ older) =
-    (outcome_of steps bytes older, outcome_is_image steps bytes older, keeps_others name (bytes_left bytes written) (outcome_of steps bytes older))
+    (files_left steps bytes older, outcome_is_image steps bytes older, keeps_others name (bytes_left bytes written) (files_left steps bytes older))
 outcome_is_image steps bytes (Synced name ∷ older) = (
-  outcome_of steps bytes older,
+  files_left steps bytes older,
   outcome_is_image steps bytes older,
   record {
-    there = with_at-same name (files_of older name) (outcome_of steps bytes older);
-    others = keeps_others name (files_of older name) (outcome_of steps bytes older);
+    there = with_at-same name (files_of older name) (files_left steps bytes older);
+    others = keeps_others name (files_of older name) (files_left steps bytes older);
   },
 )
 outcome_is_image steps bytes (Renamed «from» to ∷ older) =
-    (outcome_of steps bytes older, outcome_is_image steps bytes older, may_rename_if (leaves_step steps (length older)) «from» to (outcome_of steps bytes older))
+    (files_left steps bytes older, outcome_is_image steps bytes older, may_rename_if (leaves_step steps (length older)) «from» to (files_left steps bytes older))
 outcome_is_image steps bytes (Deleted name ∷ older) =
-    (outcome_of steps bytes older, outcome_is_image steps bytes older, may_remove_if (leaves_step steps (length older)) name (outcome_of steps bytes older))
-outcome_is_image steps bytes (Settled ∷ older) = (outcome_of Every bytes older, outcome_is_image Every bytes older, record { same = refl; kept = agrees bytes older })
+    (files_left steps bytes older, outcome_is_image steps bytes older, may_remove_if (leaves_step steps (length older)) name (files_left steps bytes older))
+outcome_is_image steps bytes (Settled ∷ older) = (files_left Every bytes older, outcome_is_image Every bytes older, record { same = refl; kept = agrees bytes older })
 outcome_is_image steps bytes (Spoilt name found ∷ older) =
-    (outcome_of steps bytes older, outcome_is_image steps bytes older, keeps_others name (option_and_then (bytes_left bytes) found) (outcome_of steps bytes older))
-outcome_is_image steps bytes (HalfRenamed «from» to ∷ older) = (outcome_of steps bytes older, outcome_is_image steps bytes older, inr refl)
-outcome_is_image steps bytes (HalfDeleted name ∷ older) = (outcome_of steps bytes older, outcome_is_image steps bytes older, inr refl)
+    (files_left steps bytes older, outcome_is_image steps bytes older, keeps_others name (option_and_then (bytes_left bytes) found) (files_left steps bytes older))
+outcome_is_image steps bytes (HalfRenamed «from» to ∷ older) = (files_left steps bytes older, outcome_is_image steps bytes older, inr refl)
+outcome_is_image steps bytes (HalfDeleted name ∷ older) = (files_left steps bytes older, outcome_is_image steps bytes older, inr refl)
 
 -- ---- the outcome that is what reads give
 
@@ -111,7 +111,7 @@ with_what_is_there name f = extend (with_at name (f name) f) f (λ other. tell o
     tell other false e = refl
 
 -- Where all is left, a crash leaves what reads give.
-pub whole_is_read : (calls : Disk) → outcome_of Every Whole calls ≡ files_of calls
+pub whole_is_read : (calls : Disk) → files_left Every Whole calls ≡ files_of calls
 whole_is_read [] = refl
 whole_is_read (Wrote name written ∷ older) = ap (λ f. with_at name (Some written) f) (whole_is_read older)
 whole_is_read (Synced name ∷ older) =
@@ -119,7 +119,7 @@ whole_is_read (Synced name ∷ older) =
 whole_is_read (Renamed «from» to ∷ older) = ap (λ f. moved «from» to None f) (whole_is_read older)
 whole_is_read (Deleted name ∷ older) = ap (λ f. with_at name None f) (whole_is_read older)
 whole_is_read (Settled ∷ older) = whole_is_read older
-whole_is_read (Spoilt name found ∷ older) = ap (λ x. with_at name x (outcome_of Every Whole older)) (all_of found) ∙ ap (λ f. with_at name found f) (whole_is_read older)
+whole_is_read (Spoilt name found ∷ older) = ap (λ x. with_at name x (files_left Every Whole older)) (all_of found) ∙ ap (λ f. with_at name found f) (whole_is_read older)
   where
     all_of : (x : Option (List ℕ)) → option_and_then (bytes_left Whole) x ≡ x
     all_of None = refl

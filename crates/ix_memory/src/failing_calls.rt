@@ -4,7 +4,8 @@ ghost use Rattle.std.specs.Bool.{OnTrue, OnFalse};
 ghost use Rattle.ix_outside.specs.Causes.{Rose};
 ghost use Rattle.ix_memory.specs.Failing.{Counts, NextFails};
 
-/// The numbers of the calls that are to fail, counted from 1, and how many calls have failed.
+/// The numbers of the calls that are to fail, counted from 1; how many calls were made, and how many
+/// have failed.
 #[derive(Drop)]
 pub struct FailingCalls {
     numbers: Vec<u64>,
@@ -26,8 +27,8 @@ impl FailingCalls {
         }
     }
 
-    /// Counts one more call, and says whether it is one of those that are to fail. If so, the count
-    /// of faults has risen. Either count stands still at `u64::MAX`.
+    /// Counts one more call, and returns whether it is one of those that are to fail. If so, the count
+    /// of faults has risen. Either count stays at `u64::MAX` once it is there.
     pub fn next_fails(&mut self) -> bool
         ensures fails { IsTrue result ↔ NextFails self.old }
         ensures counted { Counts self.old self.new }
@@ -44,7 +45,7 @@ impl FailingCalls {
         fails
     }
 
-    /// Raises the count of faults, which stands still at `u64::MAX`.
+    /// Raises the count of faults by one. It stays at `u64::MAX` once it is there.
     pub fn fail(&mut self)
         ensures risen { self.new.faults ≡ min (self.old.faults + 1) (2 ^ 64 - 1) }
         ensures rose { Rose self.old.faults self.new.faults }

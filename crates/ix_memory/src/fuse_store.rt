@@ -1,4 +1,4 @@
-//! A store that fails for good after so many calls.
+//! A store all of whose calls fail after a chosen number of calls.
 ghost use Rattle.std.specs.Prelude.{◌≡◌, ◌+◌, ◌-◌, ◌^◌, ◌↔◌, min, IsTrue};
 ghost use Rattle.std.specs.Bool.{OnTrue, OnFalse};
 
@@ -6,15 +6,15 @@ use ix_base::FileName;
 use ix_outside::{Store, StoreFault};
 use std::alloc::Global;
 
-/// Passes so many calls to the store inside. Each later call fails, raises the count of faults and
-/// changes nothing.
+/// A store that passes a chosen number of calls on to the store inside. Each later call fails: it
+/// raises the count of faults and changes nothing else.
 #[derive(Drop)]
 pub struct FuseStore<S> {
     inner: S,
     fuse: Fuse,
 }
 
-/// How many calls still pass, and how many failed since none does.
+/// How many calls will still pass, and how many have failed because none passes.
 #[derive(Drop)]
 struct Fuse {
     passes: u64,
@@ -22,7 +22,7 @@ struct Fuse {
 }
 
 impl<S: Store> FuseStore<S> {
-    /// Passes this many calls to the store inside, which is as it was.
+    /// The store that passes this many calls on to the store inside.
     pub fn new(inner: S, passes: u64) -> Self
         ensures inner { result.inner ≡ inner }
         ensures passes { result.fuse.passes ≡ passes }
@@ -44,7 +44,9 @@ impl<S: Store> FuseStore<S> {
 }
 
 impl Fuse {
-    /// Whether this call fails: exactly where no more pass. A call that passes is one less to come.
+    /// Whether this call fails: exactly where no more calls pass. A call that passes lowers the number
+    /// of those that still pass by one; one that fails raises the count of faults, which stays at
+    /// `u64::MAX` once it is there.
     fn next_fails(&mut self) -> bool
         ensures fails { IsTrue result ↔ (self.old.passes ≡ 0) }
         ensures passes { self.new.passes ≡ self.old.passes - 1 }

@@ -37,7 +37,7 @@ impl History {
     ghost use Rattle.ix_outside.specs.Files.{Lists};
     ghost use Rattle.ix_outside.specs.Disk.{with_at, is_unsynced, files as files_of};
     ghost use Rattle.ix_outside.specs.Crash.{IsImage};
-    ghost use Rattle.ix_memory.specs.History.{outcome_of};
+    ghost use Rattle.ix_memory.specs.History.{files_left};
     ghost use Rattle.ix_memory.specs.Settled.{AreDurable, AllSynced, taken_at, file_made};
     ghost use Rattle.ix_memory.specs.Names.{NamesFile};
 
@@ -51,7 +51,7 @@ impl History {
         }
     }
 
-    /// One step more.
+    /// Adds a step, the newest. After an error the history is as it was.
     pub fn push(&mut self, step: Step) -> Result<(), NoMemory>
         requires { NamesFile step }
         ensures ok { OnOk result (self.new ≡ step ∷ self.old) }
@@ -61,7 +61,7 @@ impl History {
         Ok(())
     }
 
-    /// A copy of these bytes, in the memory that the history takes.
+    /// A copy of these bytes, in memory of the history's allocator.
     pub fn copy_of(&self, bytes: &[u8]) -> Result<List<u8>, NoMemory>
         ensures { IfOk result (λ copy. copy ≡ bytes.now) }
     {
@@ -80,14 +80,15 @@ impl History {
         Ok(names)
     }
 
-    /// What a crash of this outcome leaves of the file: `None` where it leaves no such file.
+    /// The bytes of the file that a crash of this outcome leaves, or `None` where it leaves no such
+    /// file.
     pub fn left(&self, steps: StepsLeft, bytes: BytesLeft, name: FileName) -> Option<&[u8]>
-        ensures { option_copied result ≡ outcome_of steps bytes self.now name }
+        ensures { option_copied result ≡ files_left steps bytes self.now name }
     {
         left_of(&self.steps, steps, bytes, name)
     }
 
-    /// The bytes of the file: `None` where there is no such file.
+    /// All bytes of the file, or `None` where there is no such file.
     pub fn read(&self, name: FileName) -> Option<&[u8]>
         ensures { option_copied result ≡ files_of self.now name }
     {
@@ -101,7 +102,7 @@ impl History {
         steps: StepsLeft,
         bytes: BytesLeft,
     ) -> Result<History, NoMemory>
-        ensures files { IfOk result (λ left. files_of left ≡ outcome_of steps bytes self.now) }
+        ensures files { IfOk result (λ left. files_of left ≡ files_left steps bytes self.now) }
         ensures durable { IfOk result (λ left. AreDurable (files_of left) left) }
     {
         let mut left = History::new(alloc);
@@ -112,7 +113,7 @@ impl History {
         Ok(left)
     }
 
-    /// Puts the file that this step made among those that a crash of this outcome leaves.
+    /// Puts the file that this step made, as a crash of this outcome leaves it, into `left`.
     fn leave(
         &self,
         left: &mut History,
@@ -121,7 +122,7 @@ impl History {
         step: &Step,
     ) -> Result<(), NoMemory>
         requires { NamesFile step.now }
-        ensures files { OnOk result (files_of left.new ≡ taken_at (file_made step.now) (outcome_of steps bytes self.now) (files_of left.old)) }
+        ensures files { OnOk result (files_of left.new ≡ taken_at (file_made step.now) (files_left steps bytes self.now) (files_of left.old)) }
         ensures synced { OnOk result (AllSynced left.old → AllSynced left.new) }
     {
         match step {
@@ -136,7 +137,8 @@ impl History {
         }
     }
 
-    /// Puts this file among those that a crash of this outcome leaves.
+    /// Puts this file, as a crash of this outcome leaves it, into `left`, or takes it out of `left`
+    /// where the crash leaves no such file.
     fn leave_file(
         &self,
         left: &mut History,
@@ -145,7 +147,7 @@ impl History {
         name: FileName,
     ) -> Result<(), NoMemory>
         requires { IsName name }
-        ensures files { OnOk result (files_of left.new ≡ with_at name (outcome_of steps bytes self.now name) (files_of left.old)) }
+        ensures files { OnOk result (files_of left.new ≡ with_at name (files_left steps bytes self.now name) (files_of left.old)) }
         ensures synced { OnOk result (AllSynced left.old → AllSynced left.new) }
     {
         match self.left(steps, bytes, name) {

@@ -1,8 +1,8 @@
-//! What a list of steps leaves of a file.
+//! What a crash leaves of a file, by the list of steps.
 ghost use Rattle.std.specs.Prelude.{◌≡◌, ◌∷◌, ◌/◌, List as ListOf, ℕ, Option, None, Some, length, reverse, take, option_and_then};
 ghost use Rattle.std.specs.Option.{option_copied};
 ghost use Rattle.ix_outside.specs.Disk.{moved};
-ghost use Rattle.ix_memory.specs.History.{bytes_left, outcome_of};
+ghost use Rattle.ix_memory.specs.History.{bytes_left, files_left};
 ghost use Rattle.ix_memory.specs.Left.{Goes};
 ghost use Rattle.ix_outside.specs.declared.step.Step.{Step as StepOf};
 
@@ -21,14 +21,15 @@ pub enum Found<'a> {
     Before(StepsLeft, BytesLeft, FileName),
 }
 
-/// What the steps leave of the file, the newest last.
+/// The bytes of the file that a crash of this outcome leaves after these steps, of which the newest
+/// comes last, or `None` where it leaves no such file.
 pub fn left_of(
     made: &[Step],
     mut steps: StepsLeft,
     mut bytes: BytesLeft,
     mut name: FileName,
 ) -> Option<&[u8]>
-    ensures { option_copied result ≡ outcome_of steps bytes (reverse made.now) name }
+    ensures { option_copied result ≡ files_left steps bytes (reverse made.now) name }
 {
     let mut count = made.len();
     while count > 0 {
@@ -48,7 +49,7 @@ pub fn left_of(
 
 /// Looks at one step, with so many steps before it.
 fn look(step: &Step, before: usize, steps: StepsLeft, bytes: BytesLeft, name: FileName) -> Found<'_>
-    ensures { (older : ListOf StepOf) → length older ≡ before → Goes older (outcome_of steps bytes (step.now ∷ older) name) result }
+    ensures { (older : ListOf StepOf) → length older ≡ before → Goes older (files_left steps bytes (step.now ∷ older) name) result }
 {
     match step {
         Step::Wrote(at, written) if is_same(name, *at) => look_written(written.as_slice(), bytes),
@@ -95,7 +96,7 @@ fn look_renamed<'a>(
     bytes: BytesLeft,
     name: FileName,
 ) -> Found<'a>
-    ensures { (older : ListOf StepOf) → Goes older (moved from to None (outcome_of steps bytes older) name) result }
+    ensures { (older : ListOf StepOf) → Goes older (moved from to None (files_left steps bytes older) name) result }
 {
     if is_same(from, to) {
         Found::Before(steps, bytes, name)

@@ -1,7 +1,7 @@
 //! The outside in memory: a source, a sink and stores that tell all that they hold, for tests.
 //!
-//! A store in memory is the list of the calls that changed it. What reads give and what a crash may
-//! leave follow from that list. Calls of chosen numbers fail, or all calls from one on.
+//! A store in memory is the list of the steps that its calls took. What reads return and what a crash
+//! may leave follow from that list. Calls of chosen numbers fail, or all calls from one on.
 #![tactic(auto)]
 
 mod failing_calls;

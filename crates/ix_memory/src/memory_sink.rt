@@ -6,8 +6,8 @@ use ix_base::NoMemory;
 use ix_outside::{Failed, Sink};
 use std::alloc::Global;
 
-/// Takes bytes as long as it has room. Calls of chosen numbers fail, and so does a write that finds
-/// no room left.
+/// A sink in memory, which takes bytes as long as it has room. Writes of chosen numbers fail, and so
+/// does a write that finds no room left.
 #[derive(Drop)]
 pub struct MemorySink {
     bytes: Vec<u8>,
@@ -15,8 +15,8 @@ pub struct MemorySink {
 }
 
 impl MemorySink {
-    /// An empty sink with room for this many bytes, which it takes now. None of its calls is to
-    /// fail.
+    /// An empty sink with room for this many bytes, whose memory it takes now. None of its writes is
+    /// to fail.
     pub fn new(alloc: Global, room: usize) -> Result<Self, NoMemory>
         ensures written { IfOk result (λ sink. ⟦<MemorySink as Sink>⟧.written sink ≡ Some []) }
         ensures faults { IfOk result (λ sink. ⟦<MemorySink as Sink>⟧.fault_count sink ≡ 0) }
@@ -26,7 +26,7 @@ impl MemorySink {
         MemorySink::failing(alloc, room, Vec::new(alloc))
     }
 
-    /// An empty sink with room for this many bytes, which it takes now, and whose writes of these
+    /// An empty sink with room for this many bytes, whose memory it takes now. Its writes of these
     /// numbers, counted from 1, fail.
     pub fn failing(alloc: Global, room: usize, calls: Vec<u64>) -> Result<Self, NoMemory>
         ensures written { IfOk result (λ sink. ⟦<MemorySink as Sink>⟧.written sink ≡ Some []) }
@@ -79,7 +79,7 @@ impl Sink for MemorySink {
         if self.calls.next_fails() {
             return Err(Failed);
         }
-        let count = take_front(&mut self.bytes, bytes);
+        let count = take_prefix(&mut self.bytes, bytes);
         if count == 0 && bytes.len() > 0 {
             self.calls.fail();
             return Err(Failed);
@@ -92,8 +92,8 @@ impl Sink for MemorySink {
     }
 }
 
-/// Takes as many bytes as there is room for.
-fn take_front(taken: &mut Vec<u8>, bytes: &[u8]) -> usize
+/// Takes a prefix of the bytes, as long as there is room for, and returns its length in bytes.
+fn take_prefix(taken: &mut Vec<u8>, bytes: &[u8]) -> usize
     ensures count { result ≡ min (vec_capacity taken.old - vec_len taken.old) (length bytes.now) }
     ensures taken { taken.new.items ≡ taken.old.items ++ take result bytes.now }
 {

@@ -6,7 +6,7 @@ use crate::steady_source::SteadySource;
 use ix_outside::{Failed, Source};
 use std::alloc::Global;
 
-/// Bytes in memory that are read from their front. Calls of chosen numbers fail.
+/// A source of bytes in memory, which are read from the first on. Reads of chosen numbers fail.
 #[derive(Drop)]
 pub struct MemorySource {
     source: SteadySource,

@@ -11,8 +11,9 @@ use ix_base::{FileName, NoMemory};
 use ix_outside::{Step, Store, StoreFault};
 use std::alloc::Global;
 
-/// Files in memory. Calls of chosen numbers fail and change nothing else. A sync or a rename of an
-/// absent file fails too, and so does a rename of a file to its own name.
+/// A store in memory. Calls of chosen numbers fail; a call that fails changes only the count of
+/// faults. A sync or a rename of an absent file fails too, and so does a rename of a file to its own
+/// name.
 #[derive(Drop)]
 pub struct MemoryStore {
     history: History,
@@ -24,7 +25,7 @@ impl MemoryStore {
     ghost use Rattle.ix_base.specs.FileNames.{IsName};
     ghost use Rattle.ix_outside.specs.Disk.{Tells, told_files};
     ghost use Rattle.ix_outside.specs.Crash.{IsImage};
-    ghost use Rattle.ix_memory.specs.History.{bytes_of, outcome_of, steps_of};
+    ghost use Rattle.ix_memory.specs.History.{bytes_of, files_left, steps_of};
     ghost use Rattle.ix_memory.specs.Settled.{AreDurable, no_files, with_pairs};
 
     /// The store without a file. None of its calls is to fail. It takes no memory.
@@ -47,8 +48,8 @@ impl MemoryStore {
         Ok(MemoryStore::of_history(alloc, settled_files(alloc, files)?))
     }
 
-    /// The same store, whose calls of these numbers fail, counted from 1 at its next call. Its count
-    /// of faults is 0.
+    /// The same store, but its calls of these numbers, counted from 1 at its next call, fail, and its
+    /// count of faults is 0.
     pub fn failing(self, calls: Vec<u64>) -> Self
         ensures disk { ⟦<MemoryStore as Store>⟧.disk result ≡ ⟦<MemoryStore as Store>⟧.disk self }
         ensures faults { ⟦<MemoryStore as Store>⟧.fault_count result ≡ 0 }
@@ -64,14 +65,14 @@ impl MemoryStore {
     }
 
     /// A store with the files that a crash now may leave, all of them on the disk. None of its calls
-    /// is to fail. The choice, from 0 to 15, says which of the possible outcomes: by its rest at 4
-    /// the renames and deletes that aren't settled are all there, or none is, or those with an even,
-    /// or an odd number of changes before them; by the next two bits a file that was written and not
-    /// yet synced has all of its bytes, is absent, is empty, or has the first half of its bytes. Any
-    /// other choice is as its rest at 16.
+    /// is to fail. The choice, from 0 to 15, says which of the possible outcomes. `choice % 4` says
+    /// which renames and deletes that no `sync_all` followed are there: all, none, those with an even
+    /// number of steps before them, or those with an odd one. `choice / 4` says what a file that was
+    /// written and not yet synced is: it has all of its bytes, is absent, is empty, or has the first
+    /// half of its bytes. Any other choice is as `choice % 16`.
     pub fn crash(&self, alloc: Global, choice: u32) -> Result<MemoryStore, NoMemory>
         ensures image { IfOk result (λ left. IfSome (told_files (⟦<MemoryStore as Store>⟧.disk left)) (IsImage self.now.history)) }
-        ensures chosen { IfOk result (λ left. Tells (AreDurable (outcome_of (steps_of choice) (bytes_of (choice / 4)) self.now.history)) (⟦<MemoryStore as Store>⟧.disk left)) }
+        ensures chosen { IfOk result (λ left. Tells (AreDurable (files_left (steps_of choice) (bytes_of (choice / 4)) self.now.history)) (⟦<MemoryStore as Store>⟧.disk left)) }
         ensures all_left { choice ≡ 0 → IfOk result (λ left. told_files (⟦<MemoryStore as Store>⟧.disk left) ≡ told_files (⟦<MemoryStore as Store>⟧.disk self.now)) }
         ensures faults { IfOk result (λ left. ⟦<MemoryStore as Store>⟧.fault_count left ≡ 0) }
         ensures never { IfOk result (λ left. left.calls.numbers.items ≡ []) }
@@ -81,7 +82,7 @@ impl MemoryStore {
         Ok(MemoryStore::of_history(alloc, self.history.crash(alloc, steps, bytes)?))
     }
 
-    /// The store of these calls, none of whose calls is to fail.
+    /// The store that these steps made. None of its calls is to fail.
     fn of_history(alloc: Global, history: History) -> Self
         ensures history { result.history ≡ history }
         ensures faults { result.calls.faults ≡ 0 }

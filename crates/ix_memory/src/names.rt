@@ -14,14 +14,14 @@ pub fn is_same(one: FileName, other: FileName) -> bool
     one == other
 }
 
-/// Takes the name out of the list.
+/// Takes the name out of the list, wherever it stands.
 fn take_out(names: &mut Vec<FileName>, name: FileName)
     ensures { names.new.items ≡ filter (λ other. not (is_same other name)) names.old.items }
 {
     names.retain(|other| !is_same(*other, name));
 }
 
-/// Takes the name out of the list.
+/// The file of this name is gone: takes the name out of the list.
 fn lose(names: &mut Vec<FileName>, name: FileName)
     ensures change { Loses name names.old.items names.new.items }
     ensures real { All IsName names.old.items → All IsName names.new.items }
@@ -29,7 +29,7 @@ fn lose(names: &mut Vec<FileName>, name: FileName)
     take_out(names, name);
 }
 
-/// Puts the name into the list, unless it is there.
+/// A file of this name is there: the list has the name once, at its end.
 fn gain(names: &mut Vec<FileName>, name: FileName) -> Result<(), NoMemory>
     ensures change { OnOk result (Gains name names.old.items names.new.items) }
     ensures real { OnOk result (IsName name → All IsName names.old.items → All IsName names.new.items) }

@@ -1,15 +1,15 @@
-//! What a crash leaves of what isn't yet settled.
+//! What a crash leaves of what isn't yet on the disk.
 
-/// Which renames and deletes that aren't settled are there after a crash.
+/// Which renames and deletes that no `sync_all` followed are there after a crash.
 #[derive(Clone, Copy, Debug, PartialEq, Eq)]
 pub enum StepsLeft {
     /// Every one.
     Every,
     /// Not one.
     Nothing,
-    /// Those with an even number of calls before them.
+    /// Those with an even number of steps before them.
     Even,
-    /// Those with an odd number of calls before them.
+    /// Those with an odd number of steps before them.
     Odd,
 }
 
@@ -17,7 +17,7 @@ impl StepsLeft {
     ghost use Rattle.std.specs.Prelude.{◌≡◌};
     ghost use Rattle.ix_memory.specs.History.{leaves_step, steps_of};
 
-    /// One of the four, by the rest of the choice at 4.
+    /// One of the four, by `choice % 4`.
     pub fn of_choice(choice: u32) -> Self
         ensures { result ≡ steps_of choice }
     {
@@ -29,7 +29,7 @@ impl StepsLeft {
         }
     }
 
-    /// Whether the step with so many calls before it is there.
+    /// Whether a rename or delete with so many steps before it is there.
     pub fn leaves(self, before: usize) -> bool
         ensures { result ≡ leaves_step self before }
     {
@@ -59,7 +59,7 @@ impl BytesLeft {
     ghost use Rattle.std.specs.Prelude.{◌≡◌};
     ghost use Rattle.ix_memory.specs.History.{bytes_of};
 
-    /// One of the four, by the rest of the choice at 4.
+    /// One of the four, by `choice % 4`.
     pub fn of_choice(choice: u32) -> Self
         ensures { result ≡ bytes_of choice }
     {

@@ -11,7 +11,7 @@ use ix_base::FileName;
 use ix_outside::{Step, StoreFault};
 use std::alloc::Global;
 
-/// One step more.
+/// Adds a step, the newest. The only error is out of memory, and after it the history is as it was.
 pub fn record(history: &mut History, step: Step) -> Result<(), StoreFault>
     requires { NamesFile step }
     ensures { Records step history.old history.new result }
@@ -22,7 +22,8 @@ pub fn record(history: &mut History, step: Step) -> Result<(), StoreFault>
     }
 }
 
-/// The file has these bytes now.
+/// Adds the step of a write of the whole file. The only error is out of memory, and after it the
+/// history is as it was.
 pub fn record_write(history: &mut History, name: FileName, bytes: &[u8]) -> Result<(), StoreFault>
     requires { IsName name }
     ensures { Records (Step.Wrote name bytes.now) history.old history.new result }
@@ -33,7 +34,7 @@ pub fn record_write(history: &mut History, name: FileName, bytes: &[u8]) -> Resu
     }
 }
 
-/// The names of the files, each once.
+/// The names of the files, each once. The only error is out of memory.
 pub fn list_names(history: &History, alloc: Global) -> Result<Vec<FileName>, StoreFault>
     ensures names { IfOk result (λ names. Lists (files_of history.now) names.items) }
     ensures real { IfOk result (λ names. All IsName names.items) }
@@ -45,7 +46,7 @@ pub fn list_names(history: &History, alloc: Global) -> Result<Vec<FileName>, Sto
     }
 }
 
-/// The bytes of the file.
+/// All bytes of the file, or `None` where there is no such file. The only error is out of memory.
 pub fn read_bytes(
     history: &History,
     alloc: Global,

@@ -1,4 +1,4 @@
-//! Histories that leave their files on the disk.
+//! Histories whose files are all on the disk.
 ghost use Rattle.std.specs.Prelude.{◌≡◌, All, IfOk, OnOk};
 ghost use Rattle.ix_base.specs.FileNames.{IsName};
 ghost use Rattle.ix_outside.specs.Disk.{with_at, is_unsynced, files as files_of};
@@ -10,7 +10,7 @@ use ix_base::{FileName, NoMemory};
 use ix_outside::Step;
 use std::alloc::Global;
 
-/// Puts a file into a store and syncs it.
+/// Adds a write of the file and its sync.
 pub fn put(history: &mut History, name: FileName, bytes: &[u8]) -> Result<(), NoMemory>
     requires { IsName name }
     ensures files { OnOk result (files_of history.new ≡ with_at name (Some bytes.now) (files_of history.old)) }
@@ -21,7 +21,7 @@ pub fn put(history: &mut History, name: FileName, bytes: &[u8]) -> Result<(), No
     history.push(Step::Synced(name))
 }
 
-/// Puts a file into a store and syncs it.
+/// Adds a write of the file, a pair of name and bytes, and its sync.
 fn put_file(history: &mut History, file: &(FileName, Vec<u8>)) -> Result<(), NoMemory>
     requires { IsName file.now.0 }
     ensures files { OnOk result (files_of history.new ≡ with_at file.now.0 (Some file.now.1.items) (files_of history.old)) }
@@ -30,7 +30,7 @@ fn put_file(history: &mut History, file: &(FileName, Vec<u8>)) -> Result<(), NoM
     put(history, file.0, file.1.as_slice())
 }
 
-/// Takes a file out of a store.
+/// Adds a delete of the file.
 pub fn take_out(history: &mut History, name: FileName) -> Result<(), NoMemory>
     ensures files { OnOk result (files_of history.new ≡ with_at name None (files_of history.old)) }
     ensures synced { OnOk result (AllSynced history.old → AllSynced history.new) }
@@ -38,7 +38,7 @@ pub fn take_out(history: &mut History, name: FileName) -> Result<(), NoMemory>
     history.push(Step::Deleted(name))
 }
 
-/// Puts all renames and deletes of a store on the disk.
+/// Adds a sync of all renames and deletes.
 pub fn settle(history: &mut History) -> Result<(), NoMemory>
     ensures files { OnOk result (files_of history.new ≡ files_of history.old) }
     ensures durable { OnOk result (AllSynced history.old → AreDurable (files_of history.new) history.new) }
@@ -46,7 +46,8 @@ pub fn settle(history: &mut History) -> Result<(), NoMemory>
     history.push(Step::Settled)
 }
 
-/// A store with these files, of which the last of a name counts, all of them on the disk.
+/// The history of a store with these files, all of them on the disk. Of files with one name the last
+/// counts.
 pub fn settled_files(alloc: Global, files: Vec<(FileName, Vec<u8>)>) -> Result<History, NoMemory>
     requires { All (λ file. IsName file.0) files.items }
     ensures files { IfOk result (λ history. files_of history ≡ with_pairs files.items no_files) }

@@ -4,7 +4,7 @@ ghost use Rattle.std.specs.Prelude.{◌≡◌, ◌≤◌, ◌<◌, ◌++◌, [],
 use ix_outside::{Failed, Source};
 use std::marker::Model;
 
-/// Bytes in memory that are read from their front. No call fails.
+/// A source of bytes in memory, which are read from the first on. No call fails.
 #[derive(Drop)]
 pub struct SteadySource {
     bytes: Vec<u8>,
@@ -29,23 +29,24 @@ impl SteadySource {
         SteadySource { bytes, at: 0 }
     }
 
-    /// Takes as many bytes from the front as there are and fit the buffer.
-    fn take_front(&mut self, buffer: &mut [u8]) -> usize
+    /// Reads as many of the next bytes as there are and fit the buffer, and returns how many.
+    fn take_prefix(&mut self, buffer: &mut [u8]) -> usize
         ensures bound { result ≤ length buffer.new }
         ensures bytes { self.old ≡ take result buffer.new ++ self.new }
         ensures end { result ≡ 0 → 0 < length buffer.new → self.new ≡ [] }
     {
         let (_, rest) = self.bytes.split_at(self.at);
-        let count = copy_front(rest, buffer);
+        let count = copy_prefix(rest, buffer);
         self.at += count;
         count
     }
 }
 
-/// Copies as many of the bytes as there are and fit the buffer.
-fn copy_front(bytes: &[u8], buffer: &mut [u8]) -> usize
+/// Copies a prefix of the bytes into a prefix of the buffer, as long as both allow, and returns its
+/// length in bytes.
+fn copy_prefix(bytes: &[u8], buffer: &mut [u8]) -> usize
     ensures count { result ≡ min (length bytes.now) (length buffer.new) }
-    ensures front { take result buffer.new ≡ take result bytes.now }
+    ensures copied { take result buffer.new ≡ take result bytes.now }
 {
     let count = bytes.len().min(buffer.len());
     buffer[..count].copy_from_slice(&bytes[..count]);
@@ -58,7 +59,7 @@ impl Source for SteadySource {
     ghost fault_count = { λ _. 0 };
 
     fn read(&mut self, buffer: &mut [u8]) -> Result<usize, Failed> {
-        Ok(self.take_front(buffer))
+        Ok(self.take_prefix(buffer))
     }
 
     fn faults(&self) -> u64 {

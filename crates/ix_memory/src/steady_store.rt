@@ -9,8 +9,8 @@ use ix_base::{FileName, NoMemory};
 use ix_outside::{Step, Store, StoreFault};
 use std::alloc::Global;
 
-/// Files in memory. No call fails. A rename of an absent file takes away the file of the new name,
-/// and a sync of an absent file puts on the disk that it is absent.
+/// A store in memory, none of whose calls fails. A rename of an absent file removes the file of the
+/// new name, and after a sync of an absent file a crash leaves it absent.
 #[derive(Drop)]
 pub struct SteadyStore {
     history: History,
@@ -21,7 +21,7 @@ impl SteadyStore {
     ghost use Rattle.ix_outside.specs.Disk.{Tells, told_files};
     ghost use Rattle.ix_outside.specs.Crash.{IsImage};
     ghost use Rattle.ix_base.specs.FileNames.{IsName};
-    ghost use Rattle.ix_memory.specs.History.{bytes_of, outcome_of, steps_of};
+    ghost use Rattle.ix_memory.specs.History.{bytes_of, files_left, steps_of};
     ghost use Rattle.ix_memory.specs.Settled.{AreDurable, no_files, with_pairs};
 
     /// The store without a file. It takes no memory.
@@ -43,11 +43,11 @@ impl SteadyStore {
         })
     }
 
-    /// A store with the files that a crash now may leave, all of them on the disk, by a choice as
-    /// that of a `MemoryStore`.
+    /// A store with the files that a crash now may leave, all of them on the disk. The choice says
+    /// which of the possible outcomes, as at `MemoryStore::crash`.
     pub fn crash(&self, alloc: Global, choice: u32) -> Result<SteadyStore, NoMemory>
         ensures image { IfOk result (λ left. IfSome (told_files (⟦<SteadyStore as Store>⟧.disk left)) (IsImage self.now.history)) }
-        ensures chosen { IfOk result (λ left. Tells (AreDurable (outcome_of (steps_of choice) (bytes_of (choice / 4)) self.now.history)) (⟦<SteadyStore as Store>⟧.disk left)) }
+        ensures chosen { IfOk result (λ left. Tells (AreDurable (files_left (steps_of choice) (bytes_of (choice / 4)) self.now.history)) (⟦<SteadyStore as Store>⟧.disk left)) }
         ensures all_left { choice ≡ 0 → IfOk result (λ left. told_files (⟦<SteadyStore as Store>⟧.disk left) ≡ told_files (⟦<SteadyStore as Store>⟧.disk self.now)) }
     {
         let steps = StepsLeft::of_choice(choice);

@@ -34,7 +34,7 @@ fn steady_reads(rt: HostRuntime) {
 }
 
 #[test]
-fn writes_fail_by_number_and_for_want_of_room(rt: HostRuntime) {
+fn writes_fail_by_number_and_without_room(rt: HostRuntime) {
     let calls = vec![in rt.alloc(); 2u64].expect(&rt, "memory");
     let Ok(mut sink) = MemorySink::failing(rt.alloc(), 5, calls) else {
         panic!(rt; "memory");
@@ -176,4 +176,34 @@ fn fuse_burns(rt: HostRuntime) {
     let mut inner = store.into_inner();
     assert_eq!(rt; inner.faults(), 0);
     assert!(rt; has(rt.alloc(), &mut inner, FileName::Posts(1), b"posts"));
+}
+
+/// Whether the store takes a file of 100,000 bytes, lists it, and returns its bytes.
+fn keeps_large<S: Store>(alloc: Global, store: &mut S, bytes: &[u8]) -> Result<bool, StoreFault> {
+    store.write(FileName::Rows(1), bytes)?;
+    store.sync(FileName::Rows(1))?;
+    store.sync_all()?;
+    let names = store.list(alloc)?;
+    Ok(names.as_slice() == [FileName::Rows(1)].as_slice()
+        && has(alloc, store, FileName::Rows(1), bytes))
+}
+
+#[test]
+fn stores_keep_a_large_file(rt: HostRuntime) {
+    let alloc = rt.alloc();
+    let bytes = Vec::from_elem(alloc, 7u8, 100_000).expect(&rt, "memory");
+    let mut memory = MemoryStore::new(alloc);
+    assert_eq!(rt; keeps_large(alloc, &mut memory, bytes.as_slice()), Ok(true));
+    let Ok(mut left) = memory.crash(alloc, 1) else {
+        panic!(rt; "memory");
+    };
+    assert!(rt; has(alloc, &mut left, FileName::Rows(1), bytes.as_slice()));
+    let mut steady = SteadyStore::new(alloc);
+    assert_eq!(rt; keeps_large(alloc, &mut steady, bytes.as_slice()), Ok(true));
+    let Ok(mut left) = steady.crash(alloc, 1) else {
+        panic!(rt; "memory");
+    };
+    assert!(rt; has(alloc, &mut left, FileName::Rows(1), bytes.as_slice()));
+    let mut fuse = FuseStore::new(MemoryStore::new(alloc), 100);
+    assert_eq!(rt; keeps_large(alloc, &mut fuse, bytes.as_slice()), Ok(true));
 }

@@ -12,13 +12,13 @@ pub record HasCause {T E : Type 0} (before now : ℕ) (result : Result T E) : Ty
   pub later : before ≤ now
   pub failed : OnErr result (Rose before now)
 
--- The same of a call to a store, whose want of memory is free and raises no count.
+-- The same of a call to a store. Where it was out of memory the count is as it was.
 pub record HasStoreCause {T : Type 0} (before now : ℕ) (result : Result T StoreFault) : Type 0 where
   pub later : before ≤ now
   pub failed : IsErrOf result Failed → Rose before now
   pub no_memory : IsErrOf result NoMemory → now ≡ before
 
--- The same of several calls to a store, of which only the last may have failed.
+-- The same of several calls to a store, of which only the last may have returned an error.
 pub record Blames {T : Type 0} (before now : ℕ) (result : Result T StoreFault) : Type 0 where
   pub later : before ≤ now
   pub failed : IsErrOf result Failed → Rose before now

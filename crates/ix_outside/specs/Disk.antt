@@ -61,7 +61,7 @@ IsPartOf step part = ⊥
 abbrev pub Failing : Step → Disk → Disk → Type 0
 Failing step old new = (new ≡ old) ⊎ ((part : Step) × IsPartOf step part × (new ≡ part ∷ old))
 
--- A call takes this step, or fails at it, or wanted memory and changed nothing.
+-- A call takes this step, or fails at it, or was out of memory and changed nothing.
 abbrev pub TakesOn : {T : Type 0} → Step → Disk → Disk → Result T StoreFault → Type 0
 TakesOn step old new (Ok x) = new ≡ step ∷ old
 TakesOn step old new (Err Failed) = Failing step old new

@@ -25,9 +25,9 @@ use std::rt::Files;
 /// - After a sync that failed each later one fails: nobody knows what the disk has kept.
 /// - An interrupted call is made again, up to 2^64 - 1 times.
 ///
-/// Each error of the system is a fault, but want of memory of `list` and `read`, which change
-/// nothing. So is a file to be read of more than 2,147,483,648 bytes, an entry whose name isn't
-/// UTF-8, and a missing directory.
+/// Each error of the system is a fault, except where `list` or `read`, which change nothing, are out
+/// of memory. A file of more than 2,147,483,648 bytes that is to be read is a fault too, and so are
+/// an entry whose name isn't UTF-8 and a missing directory.
 #[derive(Drop)]
 pub struct DirStore<R: Files> {
     directory: Directory<R>,
@@ -35,8 +35,8 @@ pub struct DirStore<R: Files> {
 }
 
 impl<R: Files + AllocGlobal + Clone + Drop> DirStore<R> {
-    /// The store of the directory at this path, without a fault yet. It doesn't look at it, and takes
-    /// no memory.
+    /// The store of the directory at this path, without a fault yet. It doesn't look at the directory,
+    /// and takes no memory.
     pub fn new(runtime: R, path: String) -> Self
         ensures faults { result.faults.count ≡ 0 }
     {
@@ -47,8 +47,8 @@ impl<R: Files + AllocGlobal + Clone + Drop> DirStore<R> {
     }
 }
 
-/// What a call that only reads answers for what the system answered. Each error but want of memory
-/// is a fault.
+/// What a call that only reads returns for what the system returned. Each error is a fault, except
+/// out of memory.
 fn told<T: Drop>(faults: &mut FaultCount, answer: io::Result<T>) -> Result<T, StoreFault>
     ensures value { IfOk answer (λ value. result ≡ Ok value) }
     ensures failed { IfErr answer (λ error. IsErrOf result StoreFault.Failed ↔ (error_kind error ≢ ErrorKind.OutOfMemory)) }
@@ -62,7 +62,7 @@ fn told<T: Drop>(faults: &mut FaultCount, answer: io::Result<T>) -> Result<T, St
     }
 }
 
-/// What a call that changes something answers for what the system answered. Each error is a fault.
+/// What a call that changes something returns for what the system returned. Each error is a fault.
 fn changed(faults: &mut FaultCount, answer: io::Result<()>) -> Result<(), StoreFault>
     ensures done { OnOk answer (IsOk result) }
     ensures failed { OnErr answer (IsErrOf result StoreFault.Failed) }
@@ -74,7 +74,7 @@ fn changed(faults: &mut FaultCount, answer: io::Result<()>) -> Result<(), StoreF
     }
 }
 
-/// A fault, which is counted.
+/// Counts a fault, and returns it.
 fn failed(faults: &mut FaultCount) -> StoreFault
     ensures failed { result ≡ StoreFault.Failed }
     ensures rose { Rose faults.old.count faults.new.count }

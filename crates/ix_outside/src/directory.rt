@@ -74,7 +74,7 @@ impl<R: Files + AllocGlobal + Clone + Drop> Directory<R> {
         Ok(Some(fs::open(&self.runtime, path)?))
     }
 
-    /// The names of the files of the index.
+    /// The names of the files of the index, in the order of the directory's entries.
     pub fn list_files(&self, alloc: Global) -> io::Result<Vec<FileName>>
         ensures { IfOk result (λ names. All IsName names.items) }
     {
@@ -88,7 +88,7 @@ impl<R: Files + AllocGlobal + Clone + Drop> Directory<R> {
         Ok(names)
     }
 
-    /// The bytes of the file at this path: `None` where there is none.
+    /// All bytes of the file at this path, or `None` where there is no regular file.
     pub fn read_file(&self, alloc: Global, path: &str) -> io::Result<Option<Vec<u8>>> {
         match self.open_file(path)? {
             Some(file) => Ok(Some(read_whole(alloc, file)?)),
@@ -143,7 +143,7 @@ impl<R: Files + AllocGlobal + Clone + Drop> Directory<R> {
         }
     }
 
-    /// Syncs the directory.
+    /// Syncs the directory, so that its entries are on the disk.
     pub fn sync_directory(&mut self) -> io::Result<()> {
         let directory = fs::open(&self.runtime, self.path.as_str())?;
         self.sync_opened(&directory)?;
@@ -197,7 +197,7 @@ fn is_file_entry<R: Files + Drop>(entry: &DirEntry<R, Global>) -> io::Result<boo
     }
 }
 
-/// Puts the name that the text is into the list, unless it is foreign.
+/// Puts the name that has this text at the end of the list. A text of no name is passed over.
 fn take_name(names: &mut Vec<FileName>, text: &str) -> io::Result<()>
     ensures real { OnOk result (All IsName names.old.items → All IsName names.new.items) }
     ensures taken { OnOk result (Takes text.now names.old.items names.new.items) }

@@ -1,8 +1,8 @@
-//! How often a real object failed.
+//! How many calls of an object of the system have failed.
 ghost use Rattle.std.specs.Prelude.{◌≡◌, ◌+◌, ◌-◌, ◌^◌, ◌≤◌, min};
 ghost use Rattle.ix_outside.specs.Causes.{Rose};
 
-/// A count of faults, which stands still at `u64::MAX`.
+/// A count of faults, which stays at `u64::MAX` once it is there.
 #[derive(Drop)]
 pub struct FaultCount {
     count: u64,

@@ -1,11 +1,12 @@
 //! What watches the lines of a run.
 
-/// Hears of each try of a write or commit line, and of each number. The program's gate does nothing.
+/// Hears of each try of a write or commit line, and of each sequence number that a line gets. The
+/// program's gate does nothing.
 pub trait Gate: Sync {
     /// A worker is about to try this line of the script.
     fn before(&self, line: u32);
 
-    /// The line has this number.
+    /// This line of the script got this sequence number.
     fn told(&self, line: u32, number: u64);
 }
 

@@ -1,7 +1,7 @@
 //! The outside: where the input comes from, where the report goes and where the files are.
 //!
-//! Each trait's ghost members say what the thing holds, where it tells, and how often a call of
-//! it failed. A count of faults never falls, and a call answers `Failed` only where it rose.
+//! Each trait's ghost members say what an object holds, where it tells, and how many of its calls
+//! have failed. A count of faults never falls, and a call returns `Failed` only where it rose.
 #![tactic(auto)]
 
 mod dir_store;

@@ -8,22 +8,22 @@ ghost use Rattle.ix_outside.specs.Causes.{HasCause};
 #[derive(Clone, Copy, Debug, PartialEq, Eq)]
 pub struct Failed;
 
-/// A stream of bytes.
+/// A stream that bytes are read from.
 pub trait Source {
-    /// The bytes that are left, where they are told.
+    /// The bytes that are left, where the stream tells them.
     ghost left: { Self → Option (List ℕ) };
 
-    /// How often a call failed.
+    /// How many calls have failed.
     ghost fault_count: { Self → ℕ };
 
-    /// Fills a front of the buffer. 0 for a buffer that isn't empty is the end. After an error
-    /// nothing was read.
+    /// Reads bytes into a prefix of the buffer, and returns how many. 0 for a buffer that isn't empty
+    /// is the end of the stream. After an error no byte was read.
     fn read(&mut self, buffer: &mut [u8]) -> Result<usize, Failed>
         ensures bound { ReadsAtMost result buffer.new }
         ensures bytes { ReadConsumes (left self.old) (left self.new) result buffer.new }
         ensures cause { HasCause (fault_count self.old) (fault_count self.new) result };
 
-    /// How often a call failed.
+    /// How many calls have failed.
     fn faults(&self) -> u64
         ensures { result ≡ fault_count self.now };
 }

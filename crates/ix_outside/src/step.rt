@@ -1,7 +1,7 @@
 //! The steps that make a store what it is.
 use ix_base::{FileName, List};
 
-/// What a call made of the store.
+/// What a call did to a store.
 #[derive(Drop)]
 pub enum Step {
     /// The file has these bytes now.
@@ -14,10 +14,10 @@ pub enum Step {
     Deleted(FileName),
     /// All renames and deletes were put on the disk.
     Settled,
-    /// A write or a sync failed, and reads of the file give this now.
+    /// A write or a sync failed, and reads of the file return this now.
     Spoilt(FileName, Option<List<u8>>),
-    /// A rename failed. Reads give the old name, and a crash may show the new one.
+    /// A rename failed. Reads find the old name, and after a crash the file may have the new one.
     HalfRenamed(FileName, FileName),
-    /// A delete failed. Reads give the file, and a crash may show it gone.
+    /// A delete failed. Reads find the file, and after a crash it may be gone.
     HalfDeleted(FileName),
 }

@@ -8,19 +8,19 @@ ghost use Rattle.ix_outside.specs.Causes.{HasStoreCause};
 use ix_base::{FileName, NoMemory};
 use std::alloc::{AllocError, AllocFailed, Global};
 
-/// Why a call of a store gave up.
+/// Why a call of a store returned an error.
 #[derive(Clone, Copy, Debug, PartialEq, Eq)]
 pub enum StoreFault {
     /// The store failed, and its count of faults rose.
     Failed,
-    /// Memory ran out. Nothing changed, and no count rose.
+    /// Out of memory. Nothing changed, and the count of faults did not rise.
     NoMemory,
 }
 
 impl From<NoMemory> for StoreFault {
-    ghost use Rattle.ix_outside.specs.declared.store.StoreFault.TheVariants.{NoMemory as WantOfMemory};
+    ghost use Rattle.ix_outside.specs.declared.store.StoreFault.TheVariants.{NoMemory as OutOfMemory};
 
-    ghost from_gives = { λ _ fault. fault ≡ WantOfMemory };
+    ghost from_gives = { λ _ fault. fault ≡ OutOfMemory };
 
     fn from(_error: NoMemory) -> StoreFault {
         StoreFault::NoMemory
@@ -28,9 +28,9 @@ impl From<NoMemory> for StoreFault {
 }
 
 impl From<AllocError> for StoreFault {
-    ghost use Rattle.ix_outside.specs.declared.store.StoreFault.TheVariants.{NoMemory as WantOfMemory};
+    ghost use Rattle.ix_outside.specs.declared.store.StoreFault.TheVariants.{NoMemory as OutOfMemory};
 
-    ghost from_gives = { λ _ fault. fault ≡ WantOfMemory };
+    ghost from_gives = { λ _ fault. fault ≡ OutOfMemory };
 
     fn from(_error: AllocError) -> StoreFault {
         StoreFault::NoMemory
@@ -38,68 +38,72 @@ impl From<AllocError> for StoreFault {
 }
 
 impl<T: Drop> From<AllocFailed<T>> for StoreFault {
-    ghost use Rattle.ix_outside.specs.declared.store.StoreFault.TheVariants.{NoMemory as WantOfMemory};
+    ghost use Rattle.ix_outside.specs.declared.store.StoreFault.TheVariants.{NoMemory as OutOfMemory};
 
-    ghost from_gives = { λ _ fault. fault ≡ WantOfMemory };
+    ghost from_gives = { λ _ fault. fault ≡ OutOfMemory };
 
     fn from(_error: AllocFailed<T>) -> StoreFault {
         StoreFault::NoMemory
     }
 }
 
-/// A directory of whole files. Where it tells what it holds, contracts see it as its *disk*: the
-/// list of the steps that made it from an empty directory, the newest first. What reads give and
-/// what a crash may leave are functions of that list. A call puts its step in front of it:
+/// A directory of files, each of which is read and written as a whole. Where a store tells what it
+/// holds, contracts see it as its *disk*: the list of the steps that made it from an empty directory,
+/// the newest first. What reads return and what a crash may leave are functions of that list. A call
+/// that changes something adds its step as the newest one:
 ///
 /// - A file that was written and then synced stays with its bytes. One that was written and not yet
 ///   synced is absent or holds any bytes.
 /// - A rename or a delete is there wholly or not at all until `sync_all` succeeds; then it stays.
 /// - Other files stay.
 ///
-/// A call that failed has taken no step, or a part of its own. Once memory ran out nothing has
-/// changed.
+/// A call that returned `Failed` has taken no step, or a part of its own. A call that was out of
+/// memory has changed nothing.
 pub trait Store {
     ghost use Rattle.ix_outside.specs.declared.step.Step.TheVariants.{Wrote, Synced, Renamed, Deleted, Settled};
 
-    /// What it holds, where it tells: the steps that made it, the newest first.
+    /// The steps that made the store, the newest first, where it tells them.
     ghost disk: { Self → Option Disk };
 
-    /// How often a call failed.
+    /// How many calls have failed.
     ghost fault_count: { Self → ℕ };
 
-    /// The names of the files, each once. Foreign names are passed over.
+    /// The names of the files, each once. Entries whose names are no `FileName` are left out.
     fn list(&mut self, alloc: Global) -> Result<Vec<FileName>, StoreFault>
         ensures names { IfOk result (λ names. IfSome (told_files (disk self.old)) (λ here. Lists here names.items)) }
         ensures real { IfOk result (λ names. All IsName names.items) }
         ensures disk { disk self.new ≡ disk self.old }
         ensures cause { HasStoreCause (fault_count self.old) (fault_count self.new) result };
 
-    /// The bytes of a file: `None` where there is no such file.
+    /// All bytes of a file, or `None` where there is no such file.
     fn read(&mut self, alloc: Global, name: FileName) -> Result<Option<Vec<u8>>, StoreFault>
         ensures bytes { IfOk result (λ found. Reads (told_files (disk self.old)) name (option_map (λ bytes. bytes.items) found)) }
         ensures disk { disk self.new ≡ disk self.old }
         ensures cause { HasStoreCause (fault_count self.old) (fault_count self.new) result };
 
-    /// Makes or replaces the whole file. After `Failed` it may hold anything, or be absent.
+    /// Makes the file with these bytes, or replaces all that it had. After `Failed` it may hold
+    /// anything, or be absent.
     fn write(&mut self, name: FileName, bytes: &[u8]) -> Result<(), StoreFault>
         requires { IsName name }
         ensures disk { Takes (Wrote name bytes.now) (disk self.old) (disk self.new) result }
         ensures cause { HasStoreCause (fault_count self.old) (fault_count self.new) result };
 
-    /// Puts the file's bytes on the disk. After `Failed` it may hold anything, or be absent.
+    /// Puts the file's bytes on the disk, so that a crash leaves them. After `Failed` it may hold
+    /// anything, or be absent.
     fn sync(&mut self, name: FileName) -> Result<(), StoreFault>
         ensures disk { Takes (Synced name) (disk self.old) (disk self.new) result }
         ensures cause { HasStoreCause (fault_count self.old) (fault_count self.new) result };
 
-    /// Gives the file another name, in place of a file that has it. After `Failed` it may have
-    /// either name.
+    /// Gives the file another name, and replaces a file that has that name. After `Failed` it may
+    /// have either name.
     fn rename(&mut self, from: FileName, to: FileName) -> Result<(), StoreFault>
         requires name { IsName to }
         requires apart { from ≢ to }
         ensures disk { Takes (Renamed from to) (disk self.old) (disk self.new) result }
         ensures cause { HasStoreCause (fault_count self.old) (fault_count self.new) result };
 
-    /// Removes the file; of no file: Ok. After `Failed` it may be there or not.
+    /// Removes the file. Where there is none it does nothing and returns Ok. After `Failed` the file
+    /// may be there or not.
     fn delete(&mut self, name: FileName) -> Result<(), StoreFault>
         ensures disk { Takes (Deleted name) (disk self.old) (disk self.new) result }
         ensures cause { HasStoreCause (fault_count self.old) (fault_count self.new) result };
@@ -109,7 +113,7 @@ pub trait Store {
         ensures disk { Takes Settled (disk self.old) (disk self.new) result }
         ensures cause { HasStoreCause (fault_count self.old) (fault_count self.new) result };
 
-    /// How often a call failed.
+    /// How many calls have failed.
     fn faults(&self) -> u64
         ensures { result ≡ fault_count self.now };
 }

@@ -9,7 +9,7 @@ use crate::source::{Failed, Source};
 use std::io;
 use std::io::{Error, ErrorKind, Read, Write};
 
-/// A reader as a source, which tells the bytes that are left where the reader tells them. A read that
+/// A reader as a source. It tells the bytes that are left where the reader tells them. A read that
 /// was interrupted is made again, up to 2^64 - 1 times. Each other error of the reader is a fault.
 #[derive(Drop)]
 pub struct ReadSource<R> {
@@ -50,8 +50,8 @@ impl<R: Read> Source for ReadSource<R> {
     }
 }
 
-/// A writer as a sink, which it flushes after each write. It tells nothing of its bytes, since a
-/// flush can fail once they are taken. A write or a flush that was interrupted is made again, up to
+/// A writer as a sink, which flushes the writer after each write. It tells nothing of its bytes, since
+/// a flush can fail once they are taken. A write or a flush that was interrupted is made again, up to
 /// 2^64 - 1 times. Each other error of the writer is a fault, and so is a write that takes no byte of
 /// a piece that has some.
 #[derive(Drop)]

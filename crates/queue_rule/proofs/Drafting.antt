@@ -10,7 +10,7 @@ use Rattle.atomic_table.proofs.Lists.{at_set}
 use Rattle.queue_rule.specs.declared.view.View.{View}
 use Rattle.queue_rule.specs.declared.view.Own.{Own}
 use Rattle.queue_rule.specs.Lists.{times}
-use Rattle.queue_rule.specs.Views.{numbers, more_numbers, front, with_draft}
+use Rattle.queue_rule.specs.Views.{numbers, more_numbers, draft_start, with_draft}
 use Rattle.queue_rule.specs.Chain.{ChainEntry, need, start, used, own, own_from, filled, Spelled}
 use Rattle.queue_rule.specs.Rule.{total, IsKnown, Fits, Kept}
 use Rattle.queue_rule.specs.Steps.{Drafted}
@@ -72,11 +72,16 @@ module _ (k : ℕ) where
   abbrev pub AllFit : List ℕ → List ChainEntry → List View → Type 0
   AllFit ws es vs = (id : ℕ) (v : View) → get_elem? vs id ≡ some v → v.live ≡ true → Fits k ws es v
 
+  -- the words stay, and other views keep the rule
+  pub with_views : (s : St) (r : Kept k s) (views : List View) → ((n : ℕ) → n < k → total (λ v. times n (numbers v)) views ≡ 1) → AllFit s.words r.entries views
+      → Kept k record { words = s.words; homes = s.homes; views = views }
+  with_views s r views once fits = record { entries = r.entries; long = r.long; chained = r.chained; lies = r.lies; opens = r.opens; once = once; fits = fits }
+
   pub fit_set : (ws : List ℕ) (es : List ChainEntry) (vs : List View) (id : ℕ) (w : View) → Fits k ws es w → ((j : ℕ) (u : View) → j ≢ id → get_elem? vs j ≡ some u → u.live ≡ true → Fits k ws es u) → AllFit ws es (set vs id w)
   fit_set ws es vs id w mine others j u e live = ⊎_elim (λ (t : (j ≡ id) × (w ≡ u)). subst (λ (y : View). Fits k ws es y) t.1 mine) (λ (t : (j ≢ id) × (get_elem? vs j ≡ some u)). others j u t.0 t.1 live) (at_set vs id j w u e)
 
   drafted : (s : St) (r : Kept k s) (id : ℕ) (v : View) (cs : List (ℕ × Unit {0})) (d x : ℕ) → get_elem? s.views id ≡ some v → v.live ≡ true → d ≤ length v.draft → filled v.own + d < 16642
-      → Kept k (stepped s (front v + d) x id cs (with_draft v (take d v.draft ++ x ∷ [])) keeps)
+      → Kept k (stepped s (draft_start v + d) x id cs (with_draft v (take d v.draft ++ x ∷ [])) keeps)
   drafted s r id v cs d x at live le room =
       let f = r.fits id v at live in
       let es = r.entries in
@@ -114,11 +119,11 @@ module _ (k : ℕ) where
             fits_else k s.words es i a x u past (omega arith) (omega (arith, room)) (apart s r id j v u at got other live alive f.number) g);
       }
 
-  pub drafts : (slots id : ℕ) (v : View) (cs : List (ℕ × Unit {0})) (word x : ℕ) → v.live ≡ true → front v ≤ word → word ≤ front v + length v.draft → word < start v.number + 16642
+  pub drafts : (slots id : ℕ) (v : View) (cs : List (ℕ × Unit {0})) (word x : ℕ) → v.live ≡ true → draft_start v ≤ word → word ≤ draft_start v + length v.draft → word < start v.number + 16642
       → Allows (Kept k) slots id (v, cs) word (λ _. x) (λ _. Drafted (step slots word x 0 none) (v, cs) x)
   drafts slots id v cs word x live low high room s r _ at _ =
-      let d : ℕ = word - front v in
-      let is : front v + d ≡ word = omega (arith, low) in (
+      let d : ℕ = word - draft_start v in
+      let is : draft_start v + d ≡ word = omega (arith, low) in (
         with_draft v (take d v.draft ++ x ∷ []),
         keeps,
         tt,

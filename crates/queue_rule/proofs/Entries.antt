@@ -1,5 +1,5 @@
 -- Lists of entries: the chain that they make, and one entry more.
-use Rattle.std.proofs.Common.{◌≡◌, ◌≢◌, ℕ, zero, suc, ◌+◌, ◌<◌, ◌≤◌, ◌⊎◌, eqb, Bool, true, false, if◌then◌else◌, List, [], ◌∷◌, ◌++◌, append_assoc, append-nil, map, length, get_or, take, drop, set, sym, refl, ap, ◌∙◌, subst, inl, inr, ⊎_elim, arith, eq-eqb, ne_eqb, get_or-set_other, get_or-set_same, length-append, lt_of_not-le}
+use Rattle.std.proofs.Common.{◌≡◌, ◌≢◌, ℕ, zero, suc, ◌+◌, ◌<◌, ◌≤◌, ◌⊎◌, eqb, Bool, true, false, if◌then◌else◌, List, [], ◌∷◌, ◌++◌, append_assoc, append-nil, map, length, get_or, take, drop, set, sym, refl, ap, ◌∙◌, subst, inl, inr, ⊎_elim, arith, eq-eqb, ne_eqb, get_or-set_other, get_or-set_same, lt_of_not-le}
 use Rattle.std.proofs.lemmas.List.{map-append}
 use mathlib.Core.Option.{some, some-injective, some-ne-none}
 use mathlib.Core.Logic.{dite}
@@ -103,12 +103,6 @@ each_at P [] h j a e = absurd (some-ne-none a (sym e))
 each_at P (x ∷ l) h zero a e = subst P (some-injective x a e) h.0
 each_at P (x ∷ l) h (suc j) a e = each_at P l h.1 j a e
 
-pub at_end : (es : List ChainEntry) (e y : ChainEntry) (j : ℕ) → get_elem? (es ++ e ∷ []) j ≡ some y → (get_elem? es j ≡ some y) ⊎ ((j ≡ length es) × (e ≡ y))
-at_end [] e y zero h = inr (refl, some-injective e y h)
-at_end [] e y (suc j) h = absurd (some-ne-none y (sym h))
-at_end (x ∷ es) e y zero h = inl h
-at_end (x ∷ es) e y (suc j) h = ⊎_elim (λ o. inl o) (λ t. inr (ap suc t.0, t.1)) (at_end es e y j h)
-
 -- the olds and the spare numbers of a view that doesn't hold the entry's seat
 pub starts_more : (l xs : List ℕ) (a : ℕ) → Starts l xs → Starts (l ++ a ∷ []) xs
 starts_more l xs a h = (h.0 ++ a ∷ [], ap (λ m. m ++ a ∷ []) h.1 ∙ append_assoc xs h.0 (a ∷ []))
@@ -133,9 +127,6 @@ old_more es e ks ls n m o up le ne h = let now = sym (map-append at_of es (e ∷
 pub olds_more : (es : List ChainEntry) (e : ChainEntry) (ks ls : List Known) (n m : ℕ) (os : List Old) → KnownIn ks ls → n ≤ m → times e.seat (map (λ (o : Old). o.number) os) ≡ 0 → Each (IsOld es ks n) os → Each (IsOld (es ++ e ∷ []) ls m) os
 olds_more es e ks ls n m [] up le absent h = tt
 olds_more es e ks ls n m (o ∷ os) up le absent h = (old_more es e ks ls n m o up le (no_times e.seat o.number (map (λ (x : Old). x.number) os) absent) h.0, olds_more es e ks ls n m os up le (omega (arith, absent)) h.1)
-
-pub one_longer : {A : Type 0} (xs : List A) (x : A) → length (xs ++ x ∷ []) ≡ length xs + 1
-one_longer xs x = length-append xs (x ∷ [])
 
 pub spares_more : (k : ℕ) (es : List ChainEntry) (e : ChainEntry) (ns : List ℕ) → times e.seat ns ≡ 0 → Each (λ n. (n < k) × (own_from n 1 es ≡ [])) ns → Each (λ n. (n < k) × (own_from n 1 (es ++ e ∷ []) ≡ [])) ns
 spares_more k es e [] absent h = tt

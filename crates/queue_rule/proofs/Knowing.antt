@@ -8,7 +8,7 @@ use Rattle.queue_rule.specs.Lists.{Each}
 use Rattle.queue_rule.specs.Chain.{ChainEntry}
 use Rattle.queue_rule.specs.Views.{known, known_from, IsAmong, KnownFrom}
 use Rattle.queue_rule.specs.Rule.{KnowsAll, IsOld}
-use Rattle.queue_rule.proofs.Lists.{all_more}
+use Rattle.queue_rule.proofs.Lists.{all_more, at_behind}
 
 -- what is known in the first list is known in the second
 abbrev pub KnownIn : List Known → List Known → Type 0
@@ -21,8 +21,7 @@ pub in_longer : (ks ls : List Known) → KnownIn ks (ks ++ ls)
 in_longer ks ls a x h = (h.0, at_longer ks ls h.0 (known a x) h.1)
 
 pub in_behind : (ks ls : List Known) → KnownIn ls (ks ++ ls)
-in_behind [] ls a x h = h
-in_behind (k ∷ ks) ls a x h = let r = in_behind ks ls a x h in (suc r.0, r.1)
+in_behind ks ls a x h = at_behind ks ls h.0 (known a x) h.1
 
 pub known_at : (at : ℕ) (ws : List ℕ) → KnownFrom (known_from at ws) at ws
 known_at at [] d lt = absurd (omega (arith, lt))

@@ -16,8 +16,8 @@ use Rattle.queue_rule.proofs.Chain.{AllLie, has_words}
 use Rattle.queue_rule.proofs.Entries.{at_of, each_at}
 
 -- the head that is known of an entry is its first word
-pub head_of : (k : ℕ) (ws : List ℕ) (es : List ChainEntry) (v : View) → AllLie k ws es → Each (IsKnown ws es) v.known → (j a h : ℕ) (e : ChainEntry) → get_elem? es j ≡ some e → e.at ≡ a → Knows v (a + 1) h → get_or e.words 0 0 ≡ h
-head_of k ws es v lies all j a h e got place read = let l = lies j e got in let p = each_at (IsKnown ws es) v.known all read.0 (known (a + 1) h) read.1 in
+pub known_head : (k : ℕ) (ws : List ℕ) (es : List ChainEntry) (v : View) → AllLie k ws es → Each (IsKnown ws es) v.known → (j a h : ℕ) (e : ChainEntry) → get_elem? es j ≡ some e → e.at ≡ a → Knows v (a + 1) h → get_or e.words 0 0 ≡ h
+known_head k ws es v lies all j a h e got place read = let l = lies j e got in let p = each_at (IsKnown ws es) v.known all read.0 (known (a + 1) h) read.1 in
     sym (l.spelled 0 (has_words l)) ∙ (ap (λ (n : ℕ). get_or ws n 0) (omega (arith, place)) ∙ p.present)
 
 -- a next word leads to the next address

@@ -1,6 +1,6 @@
 -- A compare-exchange on the next word of the last entry seen keeps the rule.
 use Rattle.std.proofs.Common.{◌≡◌, ◌≢◌, ℕ, suc, ◌+◌, ◌<◌, ◌≤◌, ◌⊎◌, eqb, Bool, true, MatchBool, List, [], ◌∷◌, ◌++◌, append_assoc, append-nil, map, length, get_or, take, drop, set, sym, refl, ap, ◌∙◌, subst, ap₂, inl, inr, ⊎_elim, arith, eq-eqb, ne_eqb, get_or-set_other, length-set, length-append, lt_of_not-le}
-use Rattle.std.proofs.lemmas.List.{set-get_or, length-map, map-append, take-append-le, take_all}
+use Rattle.std.proofs.lemmas.List.{set-get_or, length-map, length_push, map-append, take-append-le, take_all}
 use mathlib.Core.Option.{some, none, some-injective, some-ne-none}
 use mathlib.Core.Logic.{dite}
 use native.Mathlib.Decide.{ℕ_discrete, dec_le, dec_lt}
@@ -12,7 +12,7 @@ use Rattle.queue_rule.specs.declared.view.View.{View}
 use Rattle.queue_rule.specs.declared.view.Known.{Known}
 use Rattle.queue_rule.specs.declared.view.Old.{Old}
 use Rattle.queue_rule.specs.Lists.{Each, times, last_or}
-use Rattle.queue_rule.specs.Views.{numbers, more_numbers, front, known, sees, links}
+use Rattle.queue_rule.specs.Views.{numbers, more_numbers, draft_start, known, sees, links}
 use Rattle.queue_rule.specs.Rule.{IsKnown, Fits, Kept}
 use Rattle.queue_rule.specs.Chain.{ChainEntry, need, start, used, own, own_from, filled, IsOpen, Chained, Spelled, Lies, IsLinked, IsNext}
 use Rattle.ix_base.specs.Words.{head_kind, IsEntryWords}
@@ -21,13 +21,13 @@ use Rattle.queue_rule.specs.Views.{Knows}
 use Rattle.queue_rule.specs.Steps.{Tried}
 use Rattle.queue_rule.proofs.Lists.{at_inside, all_more, used_take}
 use Rattle.queue_rule.proofs.Chain.{has_words, AllLie, AllPast, is_past, linked_else}
-use Rattle.queue_rule.proofs.Drafting.{apart, elsewhere, once_here, own_number, live_numbers, times_append, same_once, fit_set, filled_own}
+use Rattle.queue_rule.proofs.Drafting.{with_views, apart, elsewhere, once_here, own_number, live_numbers, times_append, same_once, fit_set, filled_own}
 use Rattle.queue_rule.specs.Views.{known_from, KnownFrom}
 use Rattle.queue_rule.specs.Rule.{KnowsAll}
 use Rattle.atomic_table.proofs.Lists.{at_last}
-use Rattle.queue_rule.proofs.Lists.{each_append}
+use Rattle.queue_rule.proofs.Lists.{at_end, each_append}
 use Rattle.queue_rule.proofs.Knowing.{in_same, in_longer, in_behind, known_at, each_known, known_longer, held_longer, olds_longer}
-use Rattle.queue_rule.proofs.Entries.{at_end, at_last_place, at_of, chained_last, chained_more, chained_split, each_at, entry_at, held_more, last_entry, lt_or_not, olds_more, one_longer, own_else, own_more, own_same, payload_known, spares_more, spelled_else, take_before, used_more, used_other, used_same}
+use Rattle.queue_rule.proofs.Entries.{at_last_place, at_of, chained_last, chained_more, chained_split, each_at, entry_at, held_more, last_entry, lt_or_not, olds_more, own_else, own_more, own_same, payload_known, spares_more, spelled_else, take_before, used_more, used_other, used_same}
 
 -- ---- the step
 
@@ -38,15 +38,8 @@ module _ (k : ℕ) where
   -- the words stay, and one view changes
   pub stays : (s : State (Unit {0}) View) (r : Kept k s) (i id : ℕ) (v w : View) (cs : List (ℕ × Unit {0})) → get_elem? s.views id ≡ some v → numbers w ≡ numbers v → Fits k s.words r.entries w
       → Kept k (stepped s i (get_or s.words i 0) id cs w keeps)
-  stays s r i id v w cs at same mine = subst (λ (ws : List ℕ). Kept k record { words = ws; homes = s.homes; views = set s.views id w }) (sym (set-get_or s.words i 0)) record {
-    entries = r.entries;
-    long = r.long;
-    chained = r.chained;
-    lies = r.lies;
-    opens = r.opens;
-    once = same_once k s r id v w at same;
-    fits = fit_set k s.words r.entries s.views id w mine (λ j u _ got live. r.fits j u got live);
-  }
+  stays s r i id v w cs at same mine = subst (λ (ws : List ℕ). Kept k record { words = ws; homes = s.homes; views = set s.views id w }) (sym (set-get_or s.words i 0))
+      (with_views k s r (set s.views id w) (same_once k s r id v w at same) (fit_set k s.words r.entries s.views id w mine (λ j u _ got live. r.fits j u got live)))
 
   -- an entry was found behind the last one seen
   pub found_more : (s : State (Unit {0}) View) (r : Kept k s) (v : View) (a : ℕ) (rest : List ℕ) → (f : Fits k s.words r.entries v) → f.unseen ≡ a ∷ rest
@@ -64,9 +57,9 @@ module _ (k : ℕ) where
           number = f.number;
           seats = f.seats;
           owns = f.owns;
-          held = held_longer r.entries v.known v.known (length v.seen) (length (v.seen ++ a ∷ [])) v.number (in_same v.known) (let n = one_longer v.seen a in omega (arith, n)) f.held;
-          olds = olds_longer r.entries v.known v.known (length v.seen) (length (v.seen ++ a ∷ [])) v.olds (in_same v.known) (let n = one_longer v.seen a in omega (arith, n)) f.olds;
-          blank = λ z. let n = one_longer v.seen a in absurd (omega (arith, n, z));
+          held = held_longer r.entries v.known v.known (length v.seen) (length (v.seen ++ a ∷ [])) v.number (in_same v.known) (let n = length_push v.seen a in omega (arith, n)) f.held;
+          olds = olds_longer r.entries v.known v.known (length v.seen) (length (v.seen ++ a ∷ [])) v.olds (in_same v.known) (let n = length_push v.seen a in omega (arith, n)) f.olds;
+          blank = λ z. let n = length_push v.seen a in absurd (omega (arith, n, z));
           spares = f.spares;
           room = f.room;
           draft = f.draft;
@@ -112,11 +105,11 @@ module _ (k : ℕ) where
 
   -- the draft of v becomes an entry behind the last one
   pub linked : (s : State (Unit {0}) View) (r : Kept k s) (id : ℕ) (v : View) (cs : List (ℕ × Unit {0})) (ws : List ℕ) → get_elem? s.views id ≡ some v → v.live ≡ true → (f : Fits k s.words r.entries v) → f.unseen ≡ []
-      → SawOpen v → v.draft ≡ 0 ∷ ws → IsEntryWords ws → Kept k (stepped s (last_or 0 v.seen) (front v) id cs (links v) keeps)
+      → SawOpen v → v.draft ≡ 0 ∷ ws → IsEntryWords ws → Kept k (stepped s (last_or 0 v.seen) (draft_start v) id cs (links v) keeps)
   linked s r id v cs ws at alive f is saw draft grammar =
       let es = r.entries in
       let i = v.number in
-      let a : ℕ = front v in
+      let a : ℕ = draft_start v in
       let last : ℕ = last_or 0 v.seen in
       let same : filled v.own ≡ used i es = ap filled f.owns ∙ filled_own i 1 es in
       let number = f.number in
@@ -187,7 +180,7 @@ module _ (k : ℕ) where
       (each_known (IsKnown (set s.words last a) entries) (a + 1) ws (λ d lt. subst (λ (x : ℕ). IsKnown (set s.words last a) entries (known (a + 1 + d) x)) (spelled d lt) (payload_known k (set s.words last a) entries lies (length es) d e last_at lt))) in
       let own_known : KnownFrom w.known (a + 1) ws = known_longer (known_from (a + 1) (drop 1 v.draft)) w.known (a + 1) ws (in_behind v.known (known_from (a + 1) (drop 1 v.draft)))
       (subst (λ l. KnownFrom (known_from (a + 1) l) (a + 1) ws) (sym payload) (known_at (a + 1) ws)) in
-      let held_now : KnowsAll entries w.known (length (v.seen ++ a ∷ [])) i = λ j y got is_seat. let n = one_longer v.seen a in ⊎_elim
+      let held_now : KnowsAll entries w.known (length (v.seen ++ a ∷ [])) i = λ j y got is_seat. let n = length_push v.seen a in ⊎_elim
       (λ (old : get_elem? es j ≡ some y). held_longer es v.known w.known (length v.seen) (length (v.seen ++ a ∷ [])) i (in_longer v.known (known_from (a + 1) (drop 1 v.draft))) (omega (arith, n)) f.held j y old is_seat)
       (λ (new : (j ≡ length es) × (e ≡ y)). let end = new.0 in (omega (arith, end, n, places), subst (λ (z : ChainEntry). KnownFrom w.known (z.at + 1) z.words) new.1 own_known)) (at_end es e y j got) in
       let mine : Fits k (set s.words last a) entries w = record {
@@ -195,8 +188,8 @@ module _ (k : ℕ) where
         seats = f.seats;
         owns = own_now;
         held = held_now;
-        olds = olds_more es e v.known w.known (length v.seen) (length (v.seen ++ a ∷ [])) v.olds (in_longer v.known (known_from (a + 1) (drop 1 v.draft))) (let n = one_longer v.seen a in omega (arith, n)) (omega (arith, none_else)) f.olds;
-        blank = λ z. let n = one_longer v.seen a in absurd (omega (arith, n, z));
+        olds = olds_more es e v.known w.known (length v.seen) (length (v.seen ++ a ∷ [])) v.olds (in_longer v.known (known_from (a + 1) (drop 1 v.draft))) (let n = length_push v.seen a in omega (arith, n)) (omega (arith, none_else)) f.olds;
+        blank = λ z. let n = length_push v.seen a in absurd (omega (arith, n, z));
         spares = spares_more k es e v.spares (omega (arith, none_else)) f.spares;
         room = omega (arith, used_now, room, draft_len);
         draft = λ j l. absurd (omega (arith, l));
@@ -240,17 +233,17 @@ module _ (k : ℕ) where
 
   -- the new view and act, whatever the word is found to be
   abbrev Made : State (Unit {0}) View → ℕ → ℕ → View → List (ℕ × Unit {0}) → ℕ → ℕ → Type 0
-  Made s slots id v cs n m = (w : View) × (b : Act (Unit {0})) × Valid s.homes cs b × Kept k (stepped s (last_or 0 v.seen) m id cs w b) × Tried (step slots (last_or 0 v.seen) 0 (front v) none) (v, cs) n (w, carried_after cs b)
+  Made s slots id v cs n m = (w : View) × (b : Act (Unit {0})) × Valid s.homes cs b × Kept k (stepped s (last_or 0 v.seen) m id cs w b) × Tried (step slots (last_or 0 v.seen) 0 (draft_start v) none) (v, cs) n (w, carried_after cs b)
 
   abbrev pub Same : View → View → List (ℕ × Unit {0}) → Type 0
   Same w u cs = ◌≡◌ {A = Me (Unit {0}) View} (w, cs) (u, cs)
 
   made : (s : State (Unit {0}) View) (r : Kept k s) (slots id : ℕ) (v : View) (cs : List (ℕ × Unit {0})) (ws : List ℕ) → get_elem? s.views id ≡ some v → v.live ≡ true → (f : Fits k s.words r.entries v)
-      → SawOpen v → v.draft ≡ 0 ∷ ws → IsEntryWords ws → (u : List ℕ) → f.unseen ≡ u → (n : ℕ) → n ≡ get_or s.words (last_or 0 v.seen) 0 → Made s slots id v cs n (either (eqb n 0) (front v) n)
+      → SawOpen v → v.draft ≡ 0 ∷ ws → IsEntryWords ws → (u : List ℕ) → f.unseen ≡ u → (n : ℕ) → n ≡ get_or s.words (last_or 0 v.seen) 0 → Made s slots id v cs n (either (eqb n 0) (draft_start v) n)
   made s r slots id v cs ws at alive f saw draft grammar [] is n n_is =
       let zero_there : n ≡ 0 = n_is ∙ chained_split s.words 0 v.seen [] (subst (Chained s.words 0) (f.seen ∙ ap (λ l. v.seen ++ l) is) r.chained) in
       let hit = eq-eqb n 0 zero_there in
-      subst (Made s slots id v cs n) (ap (λ (b : Bool). either b (front v) n) (sym hit)) (
+      subst (Made s slots id v cs n) (ap (λ (b : Bool). either b (draft_start v) n) (sym hit)) (
         links v,
         keeps,
         tt,
@@ -264,7 +257,7 @@ module _ (k : ℕ) where
       let low = more.2 in
       let seats = f.seats in
       let miss = ne_eqb n 0 (λ z. let x : ⊥ = omega (arith, z, n_a, some_a) in x) in
-      subst (Made s slots id v cs n) (ap (λ (b : Bool). either b (front v) n) (sym miss)) (
+      subst (Made s slots id v cs n) (ap (λ (b : Bool). either b (draft_start v) n) (sym miss)) (
         sees v n,
         keeps,
         tt,
@@ -275,5 +268,5 @@ module _ (k : ℕ) where
 
   -- the step, whatever the table is when it comes
   pub tries : (slots id : ℕ) (v : View) (cs : List (ℕ × Unit {0})) (ws : List ℕ) → v.live ≡ true → SawOpen v → v.draft ≡ 0 ∷ ws → IsEntryWords ws
-      → Allows (Kept k) slots id (v, cs) (last_or 0 v.seen) (λ n. either (eqb n 0) (front v) n) (Tried (step slots (last_or 0 v.seen) 0 (front v) none) (v, cs))
+      → Allows (Kept k) slots id (v, cs) (last_or 0 v.seen) (λ n. either (eqb n 0) (draft_start v) n) (Tried (step slots (last_or 0 v.seen) 0 (draft_start v) none) (v, cs))
   tries slots id v cs ws live saw draft grammar s r _ at _ = let f = r.fits id v at live in made s r slots id v cs ws at live f saw draft grammar f.unseen refl (get_or s.words (last_or 0 v.seen) 0) refl

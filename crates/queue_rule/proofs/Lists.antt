@@ -1,5 +1,5 @@
 -- Lists read by `get_elem?`, and what the entries of a seat take.
-use Rattle.std.proofs.Common.{◌++◌, ◌≡◌, ◌≢◌, ℕ, zero, suc, ◌+◌, ◌<◌, ◌≤◌, List, [], ◌∷◌, map, length, take, set, sym, refl, ap, subst, arith, eq-eqb}
+use Rattle.std.proofs.Common.{◌++◌, ◌≡◌, ◌≢◌, ℕ, zero, suc, ◌+◌, ◌<◌, ◌≤◌, ◌⊎◌, inl, inr, ⊎_elim, List, [], ◌∷◌, map, length, take, set, sym, refl, ap, subst, arith, eq-eqb}
 use mathlib.Core.Option.{some, some-injective, some-ne-none}
 use lib.ListN.{get_elem?}
 use Rattle.queue_rule.specs.declared.view.View.{View}
@@ -24,6 +24,18 @@ module _ {A : Type 0} where
   pub each_append : (P : A → Type 0) (xs ys : List A) → Each P xs → Each P ys → Each P (xs ++ ys)
   each_append P [] ys h g = g
   each_append P (x ∷ xs) ys h g = (h.0, each_append P xs ys h.1 g)
+
+  -- an element of the second list stands in both together
+  pub at_behind : (l m : List A) (i : ℕ) (a : A) → get_elem? m i ≡ some a → (j : ℕ) × (get_elem? (l ++ m) j ≡ some a)
+  at_behind [] m i a e = (i, e)
+  at_behind (x ∷ l) m i a e = let r = at_behind l m i a e in (suc r.0, r.1)
+
+  -- an element of a list with one more stands before the last place, or is the last one
+  pub at_end : (l : List A) (a b : A) (j : ℕ) → get_elem? (l ++ a ∷ []) j ≡ some b → (get_elem? l j ≡ some b) ⊎ ((j ≡ length l) × (a ≡ b))
+  at_end [] a b zero h = inr (refl, some-injective a b h)
+  at_end [] a b (suc j) h = absurd (some-ne-none b (sym h))
+  at_end (x ∷ l) a b zero h = inl h
+  at_end (x ∷ l) a b (suc j) h = ⊎_elim (λ o. inl o) (λ t. inr (ap suc t.0, t.1)) (at_end l a b j h)
 
 -- the words of an entry lie below the end of its seat's
 pub used_take : (es : List ChainEntry) (j : ℕ) (e : ChainEntry) → get_elem? es j ≡ some e → used e.seat (take j es) + need e ≤ used e.seat es

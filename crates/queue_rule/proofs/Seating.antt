@@ -14,7 +14,7 @@ use Rattle.queue_rule.specs.Chain.{ChainEntry, start, used, own_from, filled}
 use Rattle.queue_rule.specs.Rule.{total, IsOld, IsKnown, Fits, Kept}
 use Rattle.queue_rule.specs.Views.{numbers, numbers_from, newcomer, kept_back, split_off, old_of, joined, spent}
 use Rattle.queue_rule.proofs.Lists.{total_set}
-use Rattle.queue_rule.proofs.Drafting.{filled_own, live_numbers, times_append, fit_set}
+use Rattle.queue_rule.proofs.Drafting.{filled_own, live_numbers, times_append, fit_set, with_views}
 use Rattle.queue_rule.proofs.Entries.{at_of}
 use Rattle.queue_rule.proofs.Knowing.{in_longer, in_behind, held_longer, olds_longer}
 use Rattle.queue_rule.proofs.Drafting.{no_entry}
@@ -68,25 +68,20 @@ module _ (k : ℕ) where
         known = tt;
       } in
       let l_fits : Fits k s.words r.entries l = record { number = f.number; seats = f.seats; owns = f.owns; held = f.held; olds = f.olds; blank = f.blank; spares = subst (Each (λ n. (n < k) × (own_from n 1 r.entries ≡ []))) (sym behind) spares.1; room = f.room; draft = f.draft; unseen = f.unseen; seen = f.seen; known = f.known } in
-      let all = fit_set k s.words r.entries s.views id l l_fits (λ j u _ got alive. r.fits j u got alive) in record {
-        entries = r.entries;
-        long = r.long;
-        chained = r.chained;
-        lies = r.lies;
-        opens = r.opens;
-        once = λ n low.
-            let count = λ (u : View). times n (numbers u) in
-            let one = r.once n low in
-            let t = total_set count s.views id v l at in
-            let both = total_append count (set s.views id l) (w ∷ []) in
-            let old_v = ap (times n) (live_numbers v live) in
-            let old_l = ap (times n) (live_numbers l live) in
-            let part_v = times_append n (map (λ (o : Old). o.number) v.olds) v.spares in
-            let part_l = times_append n (map (λ (o : Old). o.number) v.olds) (drop 1 v.spares) in
-            let cut : times n v.spares ≡ times n (get_or v.spares 0 0 ∷ drop 1 v.spares) = ap (times n) (is ∙ ap (λ xs. m ∷ xs) (sym behind) ∙ ap (λ (x : ℕ). x ∷ drop 1 v.spares) (sym first)) in
-            omega (arith, one, t, both, old_v, old_l, part_v, part_l, cut);
-        fits = λ j u got alive. ⊎_elim (λ (old : get_elem? (set s.views id l) j ≡ some u). all j u old alive) (λ (new : w ≡ u). subst (λ (x : View). Fits k s.words r.entries x) new w_fits) (at_snoc (set s.views id l) w u j got);
-      }
+      let all = fit_set k s.words r.entries s.views id l l_fits (λ j u _ got alive. r.fits j u got alive) in
+      with_views k s r (set s.views id l ++ w ∷ [])
+      (λ n low.
+      let count = λ (u : View). times n (numbers u) in
+      let one = r.once n low in
+      let t = total_set count s.views id v l at in
+      let both = total_append count (set s.views id l) (w ∷ []) in
+      let old_v = ap (times n) (live_numbers v live) in
+      let old_l = ap (times n) (live_numbers l live) in
+      let part_v = times_append n (map (λ (o : Old). o.number) v.olds) v.spares in
+      let part_l = times_append n (map (λ (o : Old). o.number) v.olds) (drop 1 v.spares) in
+      let cut : times n v.spares ≡ times n (get_or v.spares 0 0 ∷ drop 1 v.spares) = ap (times n) (is ∙ ap (λ xs. m ∷ xs) (sym behind) ∙ ap (λ (x : ℕ). x ∷ drop 1 v.spares) (sym first)) in
+      omega (arith, one, t, both, old_v, old_l, part_v, part_l, cut))
+      (λ j u got alive. ⊎_elim (λ (old : get_elem? (set s.views id l) j ≡ some u). all j u old alive) (λ (new : w ≡ u). subst (λ (x : View). Fits k s.words r.entries x) new w_fits) (at_snoc (set s.views id l) w u j got))
 
   longer_is : (xs ys : List ℕ) (b : Bool) → ((if b then ys else xs) ≡ xs) ⊎ ((if b then ys else xs) ≡ ys)
   longer_is xs ys true = inr refl
@@ -135,28 +130,23 @@ module _ (k : ℕ) where
       let f = r.fits id v at live in
       let g = r.fits other w was alive in
       let vs = set s.views id b in
-      let first = fit_set k s.words r.entries s.views id b (joined_fits s.words r.entries v w f g) (λ j u _ got ok. r.fits j u got ok) in record {
-        entries = r.entries;
-        long = r.long;
-        chained = r.chained;
-        lies = r.lies;
-        opens = r.opens;
-        once = λ n low.
-            let count = λ (u : View). times n (numbers u) in
-            let one = r.once n low in
-            let t = total_set count s.views id v b at in
-            let u = total_set count vs other w spent there in
-            let num_v = ap (times n) (live_numbers v live) in
-            let num_w = ap (times n) (live_numbers w alive) in
-            let num_b = ap (times n) (live_numbers b live) in
-            let split_v = times_append n (map (λ (o : Old). o.number) v.olds) v.spares in
-            let split_w = times_append n (map (λ (o : Old). o.number) w.olds) w.spares in
-            let split_b = times_append n (map (λ (o : Old). o.number) b.olds) v.spares in
-            let split_o = ap (times n) (map-append (λ (o : Old). o.number) v.olds (old_of v w ∷ w.olds)) ∙ times_append n (map (λ (o : Old). o.number) v.olds) (map (λ (o : Old). o.number) (old_of v w ∷ w.olds)) in
-            let none_left : times n w.spares ≡ 0 = ap (times n) bare in
-            omega (arith, one, t, u, num_v, num_w, num_b, split_v, split_w, split_b, split_o, none_left);
-        fits = λ j u got ok. ⊎_elim (λ (x : (j ≡ other) × (spent ≡ u)). absurd (not_live spent u x.1 refl ok)) (λ (x : (j ≢ other) × (get_elem? vs j ≡ some u)). first j u x.1 ok) (at_set vs other j spent u got);
-      }
+      let first = fit_set k s.words r.entries s.views id b (joined_fits s.words r.entries v w f g) (λ j u _ got ok. r.fits j u got ok) in
+      with_views k s r (set vs other spent)
+      (λ n low.
+      let count = λ (u : View). times n (numbers u) in
+      let one = r.once n low in
+      let t = total_set count s.views id v b at in
+      let u = total_set count vs other w spent there in
+      let num_v = ap (times n) (live_numbers v live) in
+      let num_w = ap (times n) (live_numbers w alive) in
+      let num_b = ap (times n) (live_numbers b live) in
+      let split_v = times_append n (map (λ (o : Old). o.number) v.olds) v.spares in
+      let split_w = times_append n (map (λ (o : Old). o.number) w.olds) w.spares in
+      let split_b = times_append n (map (λ (o : Old). o.number) b.olds) v.spares in
+      let split_o = ap (times n) (map-append (λ (o : Old). o.number) v.olds (old_of v w ∷ w.olds)) ∙ times_append n (map (λ (o : Old). o.number) v.olds) (map (λ (o : Old). o.number) (old_of v w ∷ w.olds)) in
+      let none_left : times n w.spares ≡ 0 = ap (times n) bare in
+      omega (arith, one, t, u, num_v, num_w, num_b, split_v, split_w, split_b, split_o, none_left))
+      (λ j u got ok. ⊎_elim (λ (x : (j ≡ other) × (spent ≡ u)). absurd (not_live spent u x.1 refl ok)) (λ (x : (j ≢ other) × (get_elem? vs j ≡ some u)). first j u x.1 ok) (at_set vs other j spent u got))
 
   -- the table at the start
   only_at : (v : View) (id : ℕ) (u : View) → get_elem? (v ∷ []) id ≡ some u → v ≡ u

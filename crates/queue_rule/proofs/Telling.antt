@@ -9,7 +9,7 @@ use lib.ListN.{get_elem?}
 use Rattle.atomic_table.specs.Table.{State, Me, step, Allows}
 use Rattle.atomic_table.proofs.Lists.{set_here}
 use Rattle.queue_rule.specs.Steps.{Drafted, Tried, Looked, HasRead}
-use Rattle.queue_rule.specs.Views.{view_of, front}
+use Rattle.queue_rule.specs.Views.{view_of, draft_start}
 use Rattle.queue_rule.specs.Lists.{last_or}
 use Rattle.queue_rule.specs.Told.{SawOpen, MayRead}
 use Rattle.ix_base.specs.Words.{head_kind, IsEntryWords}
@@ -29,7 +29,7 @@ use Rattle.queue_rule.proofs.Lists.{at_inside, all_more}
 use Rattle.queue_rule.proofs.Chain.{has_words, has_count, AllLie}
 use Rattle.queue_rule.proofs.Drafting.{filled_own}
 use Rattle.queue_rule.proofs.Entries.{at_of, each_at, used_more, used_other, used_same}
-use Rattle.queue_rule.proofs.Learning.{own_place, head_of, chain_next, has_own, needs, heads_needs}
+use Rattle.queue_rule.proofs.Learning.{own_place, known_head, chain_next, has_own, needs, heads_needs}
 use Rattle.queue_rule.specs.Told.{HasOwn, HeadsAt, filled_by}
 use Rattle.ix_base.specs.EntryLaws.{IsEntryWords-kind}
 use Rattle.atomic_table.proofs.Lists.{at_longer}
@@ -123,13 +123,13 @@ module _ (k : ℕ) where
             (omega (arith, place, is), omega (arith, seat, place, fits, some_words, is, seats)));
         room = omega (arith, fill, room);
         bound = omega (arith, count, same, most, len, seats);
-        total = λ hs heads. let t = heads_needs es v v.seen f.unseen hs (λ j e got h read. let e_head = head_of k s.words es v r.lies f.known j (e.at) h e got refl read in let c = has_count (r.lies j e got) in let n : word_count (get_or e.words 0 0) ≡ word_count h = ap word_count e_head in omega (arith, c, n)) f.seen heads in omega (arith, t, same, most, seats);
-        fits = λ j a h got read. let e = entry_seen es v.seen f.unseen j a f.seen got in let l = r.lies j e.0 e.1 in let c = has_count l in let n : word_count (get_or e.0.words 0 0) ≡ word_count h = ap word_count (head_of k s.words es v r.lies f.known j a h e.0 e.1 e.2 read) in
+        total = λ hs heads. let t = heads_needs es v v.seen f.unseen hs (λ j e got h read. let e_head = known_head k s.words es v r.lies f.known j (e.at) h e got refl read in let c = has_count (r.lies j e got) in let n : word_count (get_or e.words 0 0) ≡ word_count h = ap word_count e_head in omega (arith, c, n)) f.seen heads in omega (arith, t, same, most, seats);
+        fits = λ j a h got read. let e = entry_seen es v.seen f.unseen j a f.seen got in let l = r.lies j e.0 e.1 in let c = has_count l in let n : word_count (get_or e.0.words 0 0) ≡ word_count h = ap word_count (known_head k s.words es v r.lies f.known j a h e.0 e.1 e.2 read) in
             let seat = l.seat in let place = l.at in let fits = l.room in let is = e.2 in omega (arith, seat, place, fits, is, c, n, seats);
         kinds = λ j a h got read. let e = entry_seen es v.seen f.unseen j a f.seen got in let l = r.lies j e.0 e.1 in
-            subst (λ (n : ℕ). (1 ≤ head_kind n) × (head_kind n ≤ 7)) (head_of k s.words es v r.lies f.known j a h e.0 e.1 e.2 read) (IsEntryWords-kind e.0.words l.grammar);
+            subst (λ (n : ℕ). (1 ≤ head_kind n) × (head_kind n ≤ 7)) (known_head k s.words es v r.lies f.known j a h e.0 e.1 e.2 read) (IsEntryWords-kind e.0.words l.grammar);
         opens = λ j a h got more read. let e = entry_seen es v.seen f.unseen j a f.seen got in
-            subst (λ (n : ℕ). head_kind n < 6) (head_of k s.words es v r.lies f.known j a h e.0 e.1 e.2 read) (r.opens j e.0 e.1 (omega (arith, len, more)));
+            subst (λ (n : ℕ). head_kind n < 6) (known_head k s.words es v r.lies f.known j a h e.0 e.1 e.2 read) (r.opens j e.0 e.1 (omega (arith, len, more)));
         nexts = λ j a b x here behind read. let p = each_at (IsKnown s.words es) v.known f.known read.0 (known a x) read.1 in
             sym p.present ∙ chain_next s.words 0 (v.seen ++ f.unseen) j a b (subst (Chained s.words 0) f.seen r.chained) (at_longer (0 ∷ v.seen) f.unseen j a here) (at_longer v.seen f.unseen j b behind);
         owns = has_own es v f.unseen f.seen v.own v.number f.owns f.held;
@@ -183,13 +183,13 @@ module _ (k : ℕ) where
   either_live true P Q m f g h = f h
   either_live false P Q m f g h = g h
 
-  pub may_draft : (slots id : ℕ) (v : View) (cs : List (ℕ × Unit {0})) (word x : ℕ) → v.live ≡ true → front v ≤ word → word ≤ front v + length v.draft → word < start v.number + 16642
+  pub may_draft : (slots id : ℕ) (v : View) (cs : List (ℕ × Unit {0})) (word x : ℕ) → v.live ≡ true → draft_start v ≤ word → word ≤ draft_start v + length v.draft → word < start v.number + 16642
       → Allows (Kept k) slots id (v, cs) word (λ _. x) (λ _ m'. Drafted (step slots word x 0 none) (v, cs) x m' × Sound m'.0)
   may_draft slots id v cs word x live low high room = tells slots id (v, cs) word (λ _. x) (λ _. Drafted (step slots word x 0 none) (v, cs) x) (λ n m e. ap (λ (y : M). y.0.live) e ∙ live) (drafts k slots id v cs word x live low high room)
 
   pub may_try : (slots id : ℕ) (v : View) (cs : List (ℕ × Unit {0})) (ws : List ℕ) → v.live ≡ true → SawOpen v → v.draft ≡ 0 ∷ ws → IsEntryWords ws
-      → Allows (Kept k) slots id (v, cs) (last_or 0 v.seen) (λ n. either (eqb n 0) (front v) n) (λ n m'. Tried (step slots (last_or 0 v.seen) 0 (front v) none) (v, cs) n m' × Sound m'.0)
-  may_try slots id v cs ws live saw draft grammar = tells slots id (v, cs) (last_or 0 v.seen) (λ n. either (eqb n 0) (front v) n) (Tried (step slots (last_or 0 v.seen) 0 (front v) none) (v, cs))
+      → Allows (Kept k) slots id (v, cs) (last_or 0 v.seen) (λ n. either (eqb n 0) (draft_start v) n) (λ n m'. Tried (step slots (last_or 0 v.seen) 0 (draft_start v) none) (v, cs) n m' × Sound m'.0)
+  may_try slots id v cs ws live saw draft grammar = tells slots id (v, cs) (last_or 0 v.seen) (λ n. either (eqb n 0) (draft_start v) n) (Tried (step slots (last_or 0 v.seen) 0 (draft_start v) none) (v, cs))
       (λ n m h. either_live (eqb n 0) _ _ m (λ e. ap (λ (y : M). y.0.live) e ∙ live) (λ e. ap (λ (y : M). y.0.live) e.0 ∙ live) h) (tries k slots id v cs ws live saw draft grammar)
 
   pub may_look : (slots id : ℕ) (v : View) (cs : List (ℕ × Unit {0})) → v.live ≡ true

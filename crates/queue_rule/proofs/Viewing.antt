@@ -2,6 +2,7 @@
 use Rattle.std.proofs.Common.{◌≡◌, ℕ, zero, suc, ◌+◌, ◌<◌, Bool, true, MatchBool, List, [], ◌∷◌, ◌++◌, append-nil, map, length, get_or, drop, sym, refl, ap, ◌∙◌, subst, inl, inr, ⊎_elim, arith, eq-eqb, ne_eqb, length-append}
 use mathlib.Core.Option.{some, none, some-injective, some-ne-none}
 use lib.ListN.{get_elem?}
+use Rattle.atomic_table.proofs.Lists.{at_longer}
 use Rattle.atomic_table.specs.Table.{State, step, keeps, stepped, Allows, Act, Valid, carried_after}
 use Rattle.queue_rule.specs.declared.view.View.{View}
 use Rattle.queue_rule.specs.declared.view.Loaded.{Loaded}
@@ -33,11 +34,6 @@ entry_seen [] (x ∷ xs) rest j a h e = let n : 0 ≡ 1 + length (xs ++ rest) = 
 entry_seen (y ∷ es) (x ∷ xs) rest zero a h e = (y, refl, ap (λ l. get_or l 0 0) h ∙ some-injective x a e)
 entry_seen (y ∷ es) (x ∷ xs) rest (suc j) a h e = entry_seen es xs rest j a (ap (drop 1) h) e
 
-at_front : (xs ys : List ℕ) (j a : ℕ) → get_elem? xs j ≡ some a → get_elem? (xs ++ ys) j ≡ some a
-at_front [] ys j a e = absurd (some-ne-none a (sym e))
-at_front (x ∷ xs) ys zero a e = e
-at_front (x ∷ xs) ys (suc j) a e = at_front xs ys j a e
-
 -- the first next word isn't 0 once an entry was seen
 first_next : (ws xs rest : List ℕ) → Chained ws 0 (xs ++ rest) → 0 < length xs → get_or ws 0 0 ≡ 0 → ⊥
 first_next ws [] rest h l z = omega (arith, l)
@@ -66,7 +62,7 @@ module _ (k : ℕ) where
       let whole = subst (Chained s.words 0) f.seen r.chained in
       let len = length-append v.seen f.unseen in
       let inside = next.1 in
-      let some_word = chained_next s.words 0 (v.seen ++ f.unseen) next.0 a whole (at_front v.seen f.unseen next.0 a next.2) (omega (arith, len, inside)) in record {
+      let some_word = chained_next s.words 0 (v.seen ++ f.unseen) next.0 a whole (at_longer v.seen f.unseen next.0 a next.2) (omega (arith, len, inside)) in record {
         linked = inr (next.0, e.0, e.1, omega (arith, place), omega (arith, place));
         present = refl;
         stays = λ _ zero_there. let z : ⊥ = omega (arith, some_word, zero_there) in z;

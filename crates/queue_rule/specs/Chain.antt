@@ -52,7 +52,7 @@ abbrev pub filled : List Own → ℕ
 filled [] = 0
 filled (o ∷ os) = (length o.words + 1) + filled os
 
--- where an entry lies, if these stand before it in the chain: its seat's entries fill the stretch from its front without holes
+-- where an entry lies, if these stand before it in the chain: its seat's entries fill the stretch from its first word on without holes
 pub record Lies (k : ℕ) (ws : List ℕ) (before : List ChainEntry) (e : ChainEntry) : Type 0 where
   pub seat : e.seat < k
   pub at : e.at ≡ start e.seat + used e.seat before

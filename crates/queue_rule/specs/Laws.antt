@@ -8,7 +8,7 @@ use Rattle.ix_base.specs.Words.{IsEntryWords}
 use Rattle.queue_rule.specs.declared.view.View.{View}
 use Rattle.queue_rule.specs.Lists.{last_or}
 use Rattle.queue_rule.specs.Chain.{start}
-use Rattle.queue_rule.specs.Views.{front, view_of, newcomer, kept_back, split_off, joined, spent}
+use Rattle.queue_rule.specs.Views.{draft_start, view_of, newcomer, kept_back, split_off, joined, spent}
 use Rattle.queue_rule.specs.Rule.{Kept}
 use Rattle.queue_rule.specs.Told.{MayRead, SawOpen, Sound}
 use Rattle.queue_rule.specs.Steps.{Drafted, Tried, Looked, HasRead}
@@ -19,13 +19,13 @@ OpeningKept = (k : ℕ) (words : List ℕ) → 0 < k → length words ≡ start 
 
 -- a store of a word over the draft or at its end, inside the seat's stretch
 abbrev pub StoreKept : Type 0
-StoreKept = (k slots id : ℕ) (v : View) (carried : List (ℕ × Unit {0})) (word x : ℕ) → v.live ≡ true → front v ≤ word → word ≤ front v + length v.draft → word < start v.number + 16642
+StoreKept = (k slots id : ℕ) (v : View) (carried : List (ℕ × Unit {0})) (word x : ℕ) → v.live ≡ true → draft_start v ≤ word → word ≤ draft_start v + length v.draft → word < start v.number + 16642
     → Allows (Kept k) slots id (v, carried) word (λ _. x) (λ _ m. Drafted (step slots word x 0 none) (v, carried) x m × Sound m.0)
 
 -- a compare-exchange on the next word of the last entry seen, which doesn't close the queue, from 0 to the address of a draft that is an entry
 abbrev pub ExchangeKept : Type 0
 ExchangeKept = (k slots id : ℕ) (v : View) (carried : List (ℕ × Unit {0})) (words : List ℕ) → v.live ≡ true → SawOpen v → v.draft ≡ 0 ∷ words → IsEntryWords words
-    → Allows (Kept k) slots id (v, carried) (last_or 0 v.seen) (λ n. either (n == 0) (front v) n) (λ n m. Tried (step slots (last_or 0 v.seen) 0 (front v) none) (v, carried) n m × Sound m.0)
+    → Allows (Kept k) slots id (v, carried) (last_or 0 v.seen) (λ n. either (n == 0) (draft_start v) n) (λ n m. Tried (step slots (last_or 0 v.seen) 0 (draft_start v) none) (v, carried) n m × Sound m.0)
 
 -- a load of the next word of the last entry seen
 abbrev pub NextLoadKept : Type 0

@@ -3,12 +3,12 @@ use Rattle.std.specs.Prelude.{◌≡◌, ℕ, ◌+◌, ◌-◌, ◌<◌, ◌==�
 use Rattle.atomic_table.specs.Table.{Me, Step}
 use Rattle.queue_rule.specs.declared.view.View.{View}
 use Rattle.queue_rule.specs.Chain.{start}
-use Rattle.queue_rule.specs.Views.{front, with_draft, links, sees, with_loaded, loaded, knows}
+use Rattle.queue_rule.specs.Views.{draft_start, with_draft, links, sees, with_loaded, loaded, knows}
 use Rattle.queue_rule.specs.Told.{Whole}
 
 -- a store: the word joins the draft, in place of what stood from there on
 abbrev pub Drafted : Step (Unit {0}) → Me (Unit {0}) View → ℕ → Me (Unit {0}) View → Type 0
-Drafted st m found m' = m' ≡ (with_draft m.0 (take (st.word - front m.0) m.0.draft ++ st.first ∷ []), m.1)
+Drafted st m found m' = m' ≡ (with_draft m.0 (take (st.word - draft_start m.0) m.0.draft ++ st.first ∷ []), m.1)
 
 -- a compare-exchange: the draft was linked, or an entry was seen behind the last one
 abbrev pub Tried : Step (Unit {0}) → Me (Unit {0}) View → ℕ → Me (Unit {0}) View → Type 0

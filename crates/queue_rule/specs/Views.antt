@@ -53,8 +53,8 @@ abbrev pub newcomer : ℕ → View
 newcomer k = view_of k 0 (numbers_from 1 (k - 1)) []
 
 -- where the draft of a view begins
-abbrev pub front : View → ℕ
-front v = start v.number + filled v.own
+abbrev pub draft_start : View → ℕ
+draft_start v = start v.number + filled v.own
 
 abbrev pub with_draft : View → List ℕ → View
 with_draft v xs = record { live = v.live; seats = v.seats; number = v.number; spares = v.spares; olds = v.olds; seen = v.seen; known = v.known; own = v.own; draft = xs; loaded = v.loaded }
@@ -72,7 +72,7 @@ knows v a x = record { live = v.live; seats = v.seats; number = v.number; spares
 
 -- the draft has become the view's own entry, the last one of the chain, whose words it knows
 abbrev pub links : View → View
-links v = record { live = v.live; seats = v.seats; number = v.number; spares = v.spares; olds = v.olds; seen = v.seen ++ front v ∷ []; known = v.known ++ known_from (front v + 1) (drop 1 v.draft); own = v.own ++ own (length v.seen + 1) (drop 1 v.draft) ∷ []; draft = []; loaded = v.loaded }
+links v = record { live = v.live; seats = v.seats; number = v.number; spares = v.spares; olds = v.olds; seen = v.seen ++ draft_start v ∷ []; known = v.known ++ known_from (draft_start v + 1) (drop 1 v.draft); own = v.own ++ own (length v.seen + 1) (drop 1 v.draft) ∷ []; draft = []; loaded = v.loaded }
 
 -- the view without its first spare number
 abbrev pub kept_back : View → View

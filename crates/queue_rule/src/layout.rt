@@ -5,15 +5,15 @@ ghost use Rattle.queue_rule.specs.Chain.{start};
 
 /// How many words of the table belong to one seat.
 pub const STRETCH_WORDS: u64 = 16_642;
-/// How many words of a stretch only a closing entry may take.
+/// How many words of a stretch are kept for an entry that closes the queue.
 pub const CLOSING_WORDS: u64 = 2;
-/// A table is for so many seats at most.
+/// The most seats that a table is for.
 pub const MOST_SEATS: u64 = 32;
 /// The kinds from this one on close the queue: 6 is a commit, 7 a turn.
 pub const FIRST_CLOSING_KIND: u64 = 6;
 
-/// The address at which the stretch of a seat begins. Given a number of seats, it is also how
-/// many words their table has: word 0, and one stretch for each.
+/// The address of the first word of a seat's stretch; seat numbers count from 0. For a count of
+/// seats it is also how many words their table has: word 0, and one stretch for each.
 pub fn stretch_start(seat: u64) -> u64
     requires { seat ≤ 32 }
     ensures { result ≡ start seat }
@@ -21,8 +21,8 @@ pub fn stretch_start(seat: u64) -> u64
     STRETCH_WORDS * seat + 1
 }
 
-/// How many words a write operation's entry may take, its next word included, in a stretch of
-/// which so many words are used: two are kept for a closing entry.
+/// How many words an entry that doesn't close the queue may still take, its next word included, in
+/// a stretch of which this many words are used. Two words are kept for an entry that closes it.
 pub fn words_left(used: u64) -> u64
     requires { used ≤ 16642 }
     ensures { result ≡ 16640 - used }

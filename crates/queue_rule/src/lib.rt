@@ -1,18 +1,18 @@
 //! The rule of the linked delete queue: how entries stand in a table of words that several seats
 //! share, what a seat knows of it, and what each kind of step keeps and tells.
 //!
-//! Word 0 of the table is the first next word, and each seat has a stretch of 16,642 words behind
-//! it. An entry is a next word and the words that spell it, in the stretch of the seat that linked
-//! it; its address is that of its next word, and a next word 0 says that no entry stands behind.
-//! The entries that next words lead to from word 0 on are the chain. Its order is the order in
-//! which operations take effect: the k-th has the number at which the queue began plus k, and a
-//! turn, which can only be the last, has that of the entry before it.
+//! Word 0 of the table is the first next word. After it each seat has a stretch of 16,642 words. An
+//! entry is a next word and the words that spell it, in the stretch of the seat that linked it. Its
+//! address is that of its next word, and a next word 0 says that no entry follows. The entries that
+//! next words lead to from word 0 on are the chain. Its order is the order in which operations take
+//! effect: the k-th entry has the sequence number base + k, where base is the number before the
+//! queue's first one. A turn, which can only be the last entry, has that of the entry before it.
 //!
 //! The rule (`specs/Rule.antt`) holds between any two steps: the chain ends in a next word 0 and in
-//! no other; the entries of each seat fill its stretch from the front without holes, each in the
+//! no other; the entries of each seat fill its stretch from its first word on without holes, each in the
 //! grammar of an entry's words; only the last may close the queue; what a seat has seen is a
 //! prefix of the chain; the words that it knows stay as they are; its own list has the entries of
-//! its number; each number is held by one seat.
+//! its seat number; each seat number is held by one seat.
 //!
 //! The laws stand in `specs/Laws.antt`, and `steps_keep_the_rule` has them as its clauses:
 //!

@@ -14,7 +14,7 @@ impl TableRule<(), View, u64> for QueueRule {
     ghost first = { newcomer };
 }
 
-/// A store of a draft word, behind the seat's own entries.
+/// A store of a draft word, after the seat's own entries.
 pub struct StoreDraft;
 
 impl Play<(), View> for StoreDraft {
@@ -54,7 +54,8 @@ impl Play<(), View> for LoadLinked {
     ghost then = { λ st m found m'. HasRead st m found m' × Sound m'.0 };
 }
 
-/// A split of a seat, which gives a new seat the first number that is left, and a join of two.
+/// A split of a seat, which gives a new seat the first seat number that is left, and a join of two
+/// seats.
 pub struct SeatNumbers;
 
 impl Split<View> for SeatNumbers {

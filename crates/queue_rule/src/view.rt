@@ -1,7 +1,7 @@
-// What a seat knows. No value of these types is made: they stand in proofs alone.
+// What a seat knows. No value of these types is ever made: they stand in proofs alone.
 use std::collections::LinkedList;
 
-/// An entry of a seat's own: its place in the chain, from 1, and its words.
+/// An entry that a seat has linked: its place in the chain and its words.
 pub struct Own {
     /// The place in the chain, counted from 1.
     pub place: u64,
@@ -9,7 +9,7 @@ pub struct Own {
     pub words: LinkedList<u64>,
 }
 
-/// A word that is known: its address, and what it holds for good.
+/// A known word: its address, and what it holds from then on.
 pub struct Known {
     /// The address in the table.
     pub at: u64,
@@ -17,9 +17,9 @@ pub struct Known {
     pub word: u64,
 }
 
-/// A seat that was joined.
+/// A seat that another seat has taken over.
 pub struct Old {
-    /// Its seat number.
+    /// Its seat number, from 0.
     pub number: u64,
     /// Its own entries.
     pub own: LinkedList<Own>,
@@ -41,7 +41,7 @@ pub struct Loaded {
 
 /// What a seat knows of the queue.
 pub struct View {
-    /// Whether the seat is in use: a seat that was joined is not.
+    /// Whether the seat is in use: a seat that was taken over is not.
     pub live: bool,
     /// How many seats the table is for.
     pub seats: u64,
@@ -49,7 +49,7 @@ pub struct View {
     pub number: u64,
     /// The seat numbers that the seat may still split off.
     pub spares: LinkedList<u64>,
-    /// The seats that were joined.
+    /// The seats that this seat has taken over.
     pub olds: LinkedList<Old>,
     /// The addresses of the entries seen: a prefix of the chain.
     pub seen: LinkedList<u64>,
@@ -57,7 +57,7 @@ pub struct View {
     pub known: LinkedList<Known>,
     /// The seat's own entries, in order.
     pub own: LinkedList<Own>,
-    /// The words behind the seat's own entries that the seat has stored.
+    /// The words that the seat has stored after its own entries.
     pub draft: LinkedList<u64>,
     /// The next word that was loaded last.
     pub loaded: Loaded,

@@ -1,7 +1,7 @@
 use Rattle.std.proofs.Common.{ℕ, subst, arith}
 use Rattle.delete_queue.specs.Copying.{Copied}
 use Rattle.delete_queue.proofs.Copying.{copied_later, all_copied}
-use Rattle.delete_queue.proofs.Learning.{learns_on, seen_later}
+use Rattle.delete_queue.proofs.Laws.{learns_on, seen_stays}
 use Rattle.delete_queue.proofs.queue.DeleteQueue.copy_all.Goals as goal
 
 pub returns-in_default-clause-copied : goal.returns-in_default-clause-copied
@@ -24,7 +24,7 @@ loop-found-preserved c =
     let within = found.2 in let same = copied.1 in (
       c.copy.ensures.seat,
       learns_on c.args.seat.now c.loop-found.seat c.copy.new.seat i.1 (learns_on c.loop-found.seat c.next.new.seat c.copy.new.seat c.in-Some.ensures.learns copied.0),
-      seen_later c.next.new.seat c.copy.new.seat c.in-Some.found.place copied.0.grows.extends found.0.known.seen,
+      seen_stays c.next.new.seat c.copy.new.seat c.in-Some.found.place copied.0.grows.extends found.0.known.seen,
       omega (arith, within, same),
       c.copy.ensures.copied,
       c.copy.ensures.space,

@@ -41,8 +41,8 @@ returns-in_err-place-clause-err c =
     let i = c.loop-place.invariant in let q = c.args.queue.now in let slice = c.args.self.now in
     let after = c.take_next.new.seat in let place = c.loop-place.place.at in let old = c.args.updates.now in let new = c.take_next.new.updates in
     let stays = parts_stay c.loop-place.seat after (base_of q) slice.from.at place old c.loop-place.updates c.take_next.ensures.learns.grows.extends i.5 in
-    let front : TakesSome q after slice old new = (place, i.4, subst (λ (u : Updates). TakesPart (Knows after) (base_of q) slice.from.at place old u) (sym c.in_err-place.ensures.err) stays) in
-    on_err _ (TakesSome q after slice old new) front
+    let prefix : TakesSome q after slice old new = (place, i.4, subst (λ (u : Updates). TakesPart (Knows after) (base_of q) slice.from.at place old u) (sym c.in_err-place.ensures.err) stays) in
+    on_err _ (TakesSome q after slice old new) prefix
 
 pub returns-clause-ok : goal.returns-clause-ok
 returns-clause-ok c =

@@ -21,8 +21,8 @@ loop-index-preserved c =
 pub returns-in_err-take_logged-clause-err : goal.returns-in_err-take_logged-clause-err
 returns-in_err-take_logged-clause-err c =
     let log = c.args.log.now in let slice = c.args.self.now in let old = c.args.updates.now in let new = c.take_logged.new.updates in let lt = c.loop-index-test.true in
-    let front : TakesSomeLogged log slice old new = (c.loop-index.index, omega (arith, lt), subst (λ (u : Updates). TakesPart (Has log) log.base slice.from.at c.loop-index.index old u) (sym c.in_err-take_logged.ensures.err) c.loop-index.invariant) in
-    on_err _ (TakesSomeLogged log slice old new) front
+    let prefix : TakesSomeLogged log slice old new = (c.loop-index.index, omega (arith, lt), subst (λ (u : Updates). TakesPart (Has log) log.base slice.from.at c.loop-index.index old u) (sym c.in_err-take_logged.ensures.err) c.loop-index.invariant) in
+    on_err _ (TakesSomeLogged log slice old new) prefix
 
 pub returns-clause-ok : goal.returns-clause-ok
 returns-clause-ok c =
