@@ -2,7 +2,8 @@
 use Rattle.std.specs.Prelude.{◌≡◌, ℕ, ◌+◌, ◌<◌, ◌^◌, List, length, slice_set, Option, Some, None}
 use Rattle.ix_base.specs.declared.document.Operation.{Operation}
 use Rattle.ix_base.specs.declared.document.Operation.TheVariants.{Commit}
-use Rattle.ix_base.specs.Refusals.{Refusal, refusal}
+use Rattle.ix_base.specs.Refusals.{refusal}
+use Rattle.ix_base.specs.declared.refusal.Refusal.{Refusal}
 use Rattle.ix_base.specs.Steps.{step}
 use Rattle.ix_outside.specs.Files.{Files, Changes}
 use Rattle.commit_point.specs.Writing.{Commits, MayCommit, next_after}

@@ -3,7 +3,8 @@ use Rattle.std.specs.Prelude.{ℕ, List, [], ◌∷◌, ◌++◌, length, ◌&&�
 use Rattle.ix_base.specs.declared.document.Operation.{Operation}
 use Rattle.ix_base.specs.declared.document.Operation.TheVariants.{Commit}
 use Rattle.ix_base.specs.declared.document.Row.{Row}
-use Rattle.ix_base.specs.Refusals.{Refusal, refusal}
+use Rattle.ix_base.specs.Refusals.{refusal}
+use Rattle.ix_base.specs.declared.refusal.Refusal.{Refusal}
 use Rattle.op_script.specs.declared.script.Line.{Line}
 use Rattle.op_script.specs.declared.script.Act.{Act}
 use Rattle.op_script.specs.declared.script.Act.TheVariants.{Do, Search}

@@ -9,7 +9,7 @@ use ix_base::NoMemory;
 use ix_outside::Source;
 use op_script::MOST_BYTES;
 use report_text::Fault;
-use run_report::Stop;
+use crate::stop::Stop;
 use std::alloc::Global;
 
 /// The most that a turn of reading asks for: 64 KiB.
