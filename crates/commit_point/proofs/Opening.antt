@@ -1,6 +1,6 @@
 -- What the reads of a whole commit come to.
 use Rattle.std.proofs.Common.{◌≡◌, ◌≢◌, ℕ, ◌<◌, ◌^◌, false, eqb, List, length, Option, Some, Result, Ok, Err, refl, sym, ap, subst, ◌∙◌, inl, inr}
-use Rattle.std.specs.Prelude.{◌⊎◌, IsPermutation, IfOk, IfErr}
+use Rattle.std.specs.Prelude.{IsPermutation, IfOk, IfErr}
 use Rattle.std.specs.List.Sorted.{IsNonDecreasingBy}
 use Rattle.std.proofs.lemmas.Bool.{ne_eqb}
 use Rattle.std.proofs.lemmas.List.Sorted.{length_permutation}
@@ -15,7 +15,7 @@ use Rattle.commit_point.specs.declared.heads.Head.{Head}
 use Rattle.commit_point.specs.Spelling.{commit_file}
 use Rattle.commit_point.specs.Fits.{HeadFits}
 use Rattle.commit_point.specs.Holds.{Holds, HaveRows}
-use Rattle.commit_point.specs.Loading.{IsBroken, AreRead, BreakAt}
+use Rattle.commit_point.specs.Loading.{IsBroken, IsOutside, AreRead, BreakAt}
 use Rattle.commit_point.specs.Reading.{of_file, head_in, head_from, segments_from, reading, all_rows}
 use Rattle.commit_point.proofs.Births.{merged_rises, one_order}
 use Rattle.commit_point.proofs.Segments.{Seen, sees, some_files, head_reads, segments_read, holds_reads, each_rises}
@@ -108,7 +108,7 @@ abbrev failed_by : OpenFault → Result Opened OpenFault
 failed_by e = Err e
 
 pub whole_is_read : (told : Option Files) (s : ℕ) (r : Result Opened OpenFault) → ((d : Damaged) → r ≡ Err (open_faults.Damaged d) → (files : Files) × Was told files × (reading files s ≡ Err d)) → ((other : ℕ) → r ≡ Err (open_faults.NoSuch other) → ⊥)
-    → (files : Files) (next : ℕ) (rows : List Row) → told ≡ Some files → Holds files s next rows → IfErr r (λ e. (e ≡ open_faults.Store) ⊎ (e ≡ open_faults.NoMemory))
+    → (files : Files) (next : ℕ) (rows : List Row) → told ≡ Some files → Holds files s next rows → IfErr r IsOutside
 whole_is_read told s (Ok x) damaged listed files next rows is h = tt
 whole_is_read told s (Err open_faults.Store) damaged listed files next rows is h = inl refl
 whole_is_read told s (Err open_faults.NoMemory) damaged listed files next rows is h = inr refl

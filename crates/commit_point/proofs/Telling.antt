@@ -1,6 +1,6 @@
 -- What a list of the commits tells before one of them is read.
 use Rattle.std.proofs.Common.{◌≡◌, ℕ, Bool, true, false, not, List, Option, Some, None, Result, Ok, Err, refl, sym, ap, subst, ◌∙◌, inl, inr}
-use Rattle.std.specs.Prelude.{◌⊎◌, ◌↔◌, IfOk, IfErr, IsSome, IsTrue}
+use Rattle.std.specs.Prelude.{◌↔◌, IfOk, IfErr, IsSome, IsTrue}
 use Rattle.ix_base.specs.declared.file_name.FileName.TheVariants.{Commit}
 use Rattle.ix_outside.specs.Files.{Files, Was, Reads}
 use Rattle.ix_base.specs.declared.damaged.Damaged.{Damaged}
@@ -11,7 +11,7 @@ use Rattle.commit_point.specs.Spelling.{commit_file}
 use Rattle.commit_point.specs.Fits.{HeadFits}
 use Rattle.commit_point.specs.Holds.{HasHead}
 use Rattle.commit_point.specs.Laws.{one_head}
-use Rattle.commit_point.specs.Loading.{IsBroken}
+use Rattle.commit_point.specs.Loading.{IsBroken, IsOutside, TellsNone}
 use Rattle.commit_point.specs.Reading.{of_file, head_in, head_from}
 use Rattle.commit_point.proofs.Segments.{Seen, sees, some_files, head_reads}
 
@@ -32,6 +32,15 @@ is_there told s true yes_ tells files is none =
     let some : IsSome (files (Commit s)) = (tells files is).0 refl in
     let t : IsSome {T = List ℕ} None = subst IsSome none some in
     absurd cc
+
+-- ---- what is said of a store without the commit
+
+pub none_said : {T : Type 0} (told : Option Files) (s : ℕ) (listed : Bool) → not listed ≡ true → Tells told s listed → TellsNone {T = T} told s (Err (open_faults.NoSuch s))
+none_said told s listed lacks tells = record { no_such = λ other e. (cc, not_there told s listed lacks tells); absent = λ files is none. inl refl }
+
+pub there_said : {T : Type 0} (told : Option Files) (s : ℕ) (listed : Bool) (r : Result T OpenFault) → not listed ≡ false → Tells told s listed → ((other : ℕ) → r ≡ Err (open_faults.NoSuch other) → ⊥)
+    → TellsNone told s r
+there_said told s listed r has tells never = record { no_such = λ other e. absurd (never other e); absent = λ files is none. is_there told s listed has tells files is none }
 
 -- ---- the commit file alone
 
@@ -58,7 +67,7 @@ head_is_broken told next_told s d same broken =
     (see.files, see.was, ap (of_file (Commit s) (head_in s)) see.there ∙ broken.broken)
 
 pub head_whole : (told : Option Files) (s : ℕ) (r : Result Head OpenFault) → ((d : Damaged) → r ≡ Err (open_faults.Damaged d) → (files : Files) × Was told files × (head_from files s ≡ Err d)) → ((other : ℕ) → r ≡ Err (open_faults.NoSuch other) → ⊥)
-    → (files : Files) (head : Head) → told ≡ Some files → HasHead files s head → IfErr r (λ e. (e ≡ open_faults.Store) ⊎ (e ≡ open_faults.NoMemory))
+    → (files : Files) (head : Head) → told ≡ Some files → HasHead files s head → IfErr r IsOutside
 head_whole told s (Ok x) damaged listed files head is h = tt
 head_whole told s (Err open_faults.Store) damaged listed files head is h = inl refl
 head_whole told s (Err open_faults.NoMemory) damaged listed files head is h = inr refl

@@ -1,11 +1,13 @@
 -- What the reads of a commit tell, of the files where a store tells them and else of files that the reads fit.
-use Rattle.std.specs.Prelude.{◌≡◌, ℕ, List, [], ◌∷◌, Bool, false, ◌==◌, ◌||◌, ⊤, Option, Result, Err}
+use Rattle.std.specs.Prelude.{◌≡◌, ℕ, List, [], ◌∷◌, Bool, false, ◌==◌, ◌||◌, ◌⊎◌, ⊤, Option, Some, None, Result, Err, IsErrAnd}
 use Rattle.std.specs.List.{AllByRecursion}
 use Rattle.ix_base.specs.declared.file_name.FileName.{FileName}
 use Rattle.ix_base.specs.declared.file_name.FileName.TheVariants.{Commit}
 use Rattle.ix_base.specs.declared.document.Row.{Row}
 use Rattle.ix_outside.specs.Files.{Files, Was, Reads}
 use Rattle.ix_base.specs.declared.damaged.Damaged.{Damaged}
+use Rattle.commit_point.specs.declared.fault.OpenFault.{OpenFault}
+use Rattle.commit_point.specs.declared.fault.OpenFault.TheVariants as faults
 use Rattle.commit_point.specs.declared.heads.Head.{Head}
 use Rattle.commit_point.specs.Holds.{HaveRows}
 use Rattle.commit_point.specs.Reading.{of_file, segments_from, has_birth, all_rows}
@@ -14,6 +16,16 @@ use Rattle.commit_point.specs.Reading.{of_file, segments_from, has_birth, all_ro
 abbrev pub names_commit : ℕ → FileName → Bool
 names_commit s (Commit t) = s == t
 names_commit s name = false
+
+-- the store failed or memory ran out
+abbrev pub IsOutside : OpenFault → Type 0
+IsOutside fault = (fault ≡ faults.Store) ⊎ (fault ≡ faults.NoMemory)
+
+-- What a call for the commit s says of a store without it: that there is none, unless the store fails or memory runs
+-- out. It says so of no other store.
+pub record TellsNone {T : Type 0} (told : Option Files) (s : ℕ) (result : Result T OpenFault) : Type 0 where
+  pub no_such : (other : ℕ) → result ≡ Err (faults.NoSuch other) → (other ≡ s) × ((files : Files) → told ≡ Some files → files (Commit s) ≡ None)
+  pub absent : (files : Files) → told ≡ Some files → files (Commit s) ≡ None → IsErrAnd result (λ fault. (fault ≡ faults.NoSuch s) ⊎ IsOutside fault)
 
 -- a read of this file gave what is broken here
 pub record IsBroken {A : Type 0} (told : Option Files) (name : FileName) (read : List ℕ → Result A ℕ) (damaged : Damaged) : Type 0 where

@@ -35,6 +35,7 @@ fn place_of(broken: Broken, file: FileName, len: usize) -> FileFault
     }
 }
 
+/// So many rows, and the bytes after them.
 fn row_list<'a>(
     alloc: Global,
     count: u32,
@@ -56,16 +57,17 @@ fn row_list<'a>(
     Ok((rows, rest))
 }
 
+/// The rows of a whole file of rows.
 #[tactic(auto, unfolding(crate::specs::Reading::rows_in))]
 fn rows_of(
     alloc: Global,
     bytes: &[u8],
     id: u64,
-    n: u32,
+    row_count: u32,
     number: u64,
     earlier: &BTreeSet<u64>,
 ) -> Result<Vec<Row>, Broken>
-    ensures { Gives (λ rows. rows.items) result (rows_in id n number (contains nat_cmp earlier.now) bytes.now) }
+    ensures { Gives (λ rows. rows.items) result (rows_in id row_count number (contains nat_cmp earlier.now) bytes.now) }
 {
     let own = rows_mark_at(bytes)?;
     let (own_id, counted) = u64_at(own)?;
@@ -73,53 +75,54 @@ fn rows_of(
         return Err(Broken::At(own.len()));
     }
     let (count, rest) = u32_at(counted)?;
-    if count != n || count == 0 {
+    if count != row_count || count == 0 {
         return Err(Broken::At(counted.len()));
     }
-    let (rows, rest) = row_list(alloc, n, rest, number, earlier)?;
+    let (rows, rest) = row_list(alloc, row_count, rest, number, earlier)?;
     if !rest.is_empty() {
         return Err(Broken::At(rest.len()));
     }
     Ok(rows)
 }
 
+/// The rows of a whole file of rows. Where it is broken, the place is told from the file's start.
 fn placed_rows(
     alloc: Global,
     bytes: &[u8],
     id: u64,
-    n: u32,
+    row_count: u32,
     number: u64,
     earlier: &BTreeSet<u64>,
 ) -> Result<List<Row>, FileFault>
-    ensures { GivesFile (λ x. x) result (placed (Rows id) bytes.now (rows_in id n number (contains nat_cmp earlier.now) bytes.now)) }
+    ensures { GivesFile (λ x. x) result (placed (Rows id) bytes.now (rows_in id row_count number (contains nat_cmp earlier.now) bytes.now)) }
 {
-    match rows_of(alloc, bytes, id, n, number, earlier) {
+    match rows_of(alloc, bytes, id, row_count, number, earlier) {
         Ok(rows) => Ok(List::from_vec(rows)),
         Err(broken) => Err(place_of(broken, FileName::Rows(id), bytes.len())),
     }
 }
 
-/// The rows that the file of a segment spells: the segment has this id and so many rows, the commit
-/// this number, and the earlier segments of the commit have these births.
+/// The rows that the file of a segment spells: the segment has this id and `row_count` rows, the
+/// commit has this number, and the earlier segments of the commit have these births.
 ///
-/// It is `Damaged` exactly where the bytes are not in the grammar of such a file, at the first
-/// broken place. Memory is taken for what was read, and never for a count before its elements.
+/// It returns `Damaged` exactly where the bytes are not in the grammar of such a file, with the
+/// first broken place. Memory is taken for what was read, and never for a count before its elements.
 pub fn decode_row(
     alloc: Global,
     bytes: &[u8],
     id: u64,
-    n: u32,
+    row_count: u32,
     number: u64,
     earlier: &BTreeSet<u64>,
 ) -> Result<List<Row>, FileFault>
     // What is read is spelled so, each byte of it.
-    ensures found { IfOk result (λ rows. IsSegment number n (contains nat_cmp earlier.now) rows × (bytes.now ≡ rows_file id rows)) }
+    ensures found { IfOk result (λ rows. IsSegment number row_count (contains nat_cmp earlier.now) rows × (bytes.now ≡ rows_file id rows)) }
     // What is spelled so is read, unless memory runs out.
-    ensures only { (rows : List Row) → IsSegment number n (contains nat_cmp earlier.now) rows → bytes.now ≡ rows_file id rows → GivesFile (λ x. x) result (Ok rows) }
+    ensures only { (rows : List Row) → IsSegment number row_count (contains nat_cmp earlier.now) rows → bytes.now ≡ rows_file id rows → GivesFile (λ x. x) result (Ok rows) }
     // Which place is the first broken one.
-    ensures exact { GivesFile (λ x. x) result (placed (Rows id) bytes.now (rows_in id n number (contains nat_cmp earlier.now) bytes.now)) }
+    ensures exact { GivesFile (λ x. x) result (placed (Rows id) bytes.now (rows_in id row_count number (contains nat_cmp earlier.now) bytes.now)) }
 {
-    placed_rows(alloc, bytes, id, n, number, earlier)
+    placed_rows(alloc, bytes, id, row_count, number, earlier)
 }
 
 /// A segment of a commit file: its id is after the last one and below the next one.
@@ -151,6 +154,7 @@ fn entry_of(
     Ok((HeadSegment { id, rows, written }, rest))
 }
 
+/// So many segments of a commit file, and the bytes after them.
 fn entry_list(
     alloc: Global,
     count: u64,
@@ -175,6 +179,7 @@ fn entry_list(
 /// The greatest next id of a commit.
 const LAST_ID: u64 = 1 << 62;
 
+/// What a whole commit file says.
 #[tactic(auto, unfolding(crate::specs::Reading::head_in))]
 fn head_of(alloc: Global, bytes: &[u8], number: u64) -> Result<Head, Broken>
     ensures { Gives (λ head. head) result (head_in number bytes.now) }
@@ -202,6 +207,7 @@ fn head_of(alloc: Global, bytes: &[u8], number: u64) -> Result<Head, Broken>
     })
 }
 
+/// What a whole commit file says. Where it is broken, the place is told from the file's start.
 fn placed_head(alloc: Global, bytes: &[u8], number: u64) -> Result<Head, FileFault>
     ensures { GivesFile (λ x. x) result (placed (Commit number) bytes.now (head_in number bytes.now)) }
 {
@@ -211,8 +217,8 @@ fn placed_head(alloc: Global, bytes: &[u8], number: u64) -> Result<Head, FileFau
     }
 }
 
-/// What the commit file of this number says. It is `Damaged` exactly where the bytes are not in the
-/// grammar of such a file, at the first broken place.
+/// What the commit file of this number says. It returns `Damaged` exactly where the bytes are not in
+/// the grammar of such a file, with the first broken place.
 pub fn decode_commit(alloc: Global, bytes: &[u8], number: u64) -> Result<Head, FileFault>
     // What is read is spelled so, each byte of it.
     ensures found { IfOk result (λ head. (head.number ≡ number) × HeadFits head × (bytes.now ≡ commit_file head)) }

@@ -1,4 +1,5 @@
-//! Documents and rows as bytes. What is put fits the grammar, as the types of its parts say.
+//! Documents and rows as bytes. What is written is in the grammar, as the types of its parts say.
+//! After an error a prefix of it may stand behind the bytes that were there.
 ghost use Rattle.std.specs.Prelude.{◌≡◌, ◌<◌, ◌^◌, ◌++◌, length, map, true, OnOk};
 ghost use Rattle.std.specs.List.{AllByRecursion};
 ghost use Rattle.ix_base.specs.Limits.{names_rise};
@@ -65,7 +66,7 @@ fn put_document(out: &mut Vec<u8>, doc: &Document) -> Result<(), NoMemory>
     Ok(())
 }
 
-/// A row, behind what stands there.
+/// Appends a row.
 pub(crate) fn put_row(out: &mut Vec<u8>, item: &Row) -> Result<(), NoMemory>
     ensures bytes { OnOk result (out.new.items ≡ out.old.items ++ row item.now) }
     ensures fits { OnOk result (DocumentFits item.now.doc) }

@@ -11,6 +11,7 @@ use ix_base::codec::{put_u32, put_u64};
 use ix_base::{NoMemory, Row};
 use std::alloc::Global;
 
+/// Appends a file of rows. After an error a prefix of it may stand there.
 fn put_rows(out: &mut Vec<u8>, id: u64, rows: &[Row]) -> Result<(), NoMemory>
     requires count { length rows.now < 2 ^ 32 }
     ensures bytes { OnOk result (out.new.items ≡ out.old.items ++ rows_file id rows.now) }
@@ -25,8 +26,8 @@ fn put_rows(out: &mut Vec<u8>, id: u64, rows: &[Row]) -> Result<(), NoMemory>
     Ok(())
 }
 
-/// The file of a segment's rows, which are fewer than 2^32. What else a file asks of documents their
-/// types keep.
+/// The file of a segment's rows, of which there are fewer than 2^32. The other rules of the grammar
+/// are kept by the types.
 pub fn encode_row(alloc: Global, id: u64, rows: &[Row]) -> Result<Vec<u8>, NoMemory>
     requires count { length rows.now < 2 ^ 32 }
     ensures file { IfOk result (λ bytes. bytes.items ≡ rows_file id rows.now) }
@@ -37,6 +38,7 @@ pub fn encode_row(alloc: Global, id: u64, rows: &[Row]) -> Result<Vec<u8>, NoMem
     Ok(out)
 }
 
+/// Appends a segment of a commit file. After an error a prefix of it may stand there.
 fn put_segment(out: &mut Vec<u8>, segment: &HeadSegment) -> Result<(), NoMemory>
     ensures { OnOk result (out.new.items ≡ out.old.items ++ entry segment.now) }
 {
@@ -46,6 +48,7 @@ fn put_segment(out: &mut Vec<u8>, segment: &HeadSegment) -> Result<(), NoMemory>
     Ok(())
 }
 
+/// Appends a commit file. After an error a prefix of it may stand there.
 fn put_head(out: &mut Vec<u8>, head: &Head) -> Result<(), NoMemory>
     ensures { OnOk result (out.new.items ≡ out.old.items ++ commit_file head.now) }
 {
@@ -61,7 +64,7 @@ fn put_head(out: &mut Vec<u8>, head: &Head) -> Result<(), NoMemory>
     Ok(())
 }
 
-/// A commit file.
+/// The commit file that says this.
 pub fn encode_commit(alloc: Global, head: &Head) -> Result<Vec<u8>, NoMemory>
     ensures { IfOk result (λ bytes. bytes.items ≡ commit_file head.now) }
 {

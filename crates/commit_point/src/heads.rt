@@ -12,12 +12,14 @@ pub struct HeadSegment {
     pub written: u64,
 }
 
-/// A commit file: its number, how many live rows it has, the next segment id, and its segments by
-/// rising id.
+/// What a commit file says.
 #[derive(Drop)]
 pub struct Head {
     pub number: u64,
+    /// How many live rows the commit has.
     pub docs: u64,
+    /// The id that the next segment takes.
     pub next_id: u64,
+    /// By rising id.
     pub segments: List<HeadSegment>,
 }

@@ -14,6 +14,7 @@ use ix_outside::{Store, StoreFault};
 use std::alloc::Global;
 use std::collections::BTreeSet;
 
+/// Adds the number of a commit, where the name is that of a commit file.
 fn add_commit(numbers: &mut BTreeSet<u64>, name: &FileName) -> Result<(), NoMemory>
     ensures { OnOk result ((s : ℕ) → contains nat_cmp numbers.new s ≡ (contains nat_cmp numbers.old s || names_commit s name.now)) }
 {
@@ -23,6 +24,7 @@ fn add_commit(numbers: &mut BTreeSet<u64>, name: &FileName) -> Result<(), NoMemo
     Ok(())
 }
 
+/// The numbers of the commits among these names.
 fn commits_among(alloc: Global, names: &[FileName]) -> Result<BTreeSet<u64>, NoMemory>
     ensures { IfOk result (λ numbers. (s : ℕ) → contains nat_cmp numbers s ≡ list_any (names_commit s) names.now) }
 {
@@ -34,7 +36,7 @@ fn commits_among(alloc: Global, names: &[FileName]) -> Result<BTreeSet<u64>, NoM
 }
 
 /// The numbers of the commits among these names, rising.
-fn numbers_of(alloc: Global, names: &[FileName]) -> Result<List<u64>, NoMemory>
+fn rising_numbers(alloc: Global, names: &[FileName]) -> Result<List<u64>, NoMemory>
     ensures commits { IfOk result (λ numbers. (s : ℕ) → Contains numbers s ↔ Contains names.now (Commit s)) }
     ensures rise { IfOk result (λ numbers. AllPairs ◌<◌ numbers) }
 {
@@ -53,7 +55,7 @@ pub fn list_commits<S: Store>(alloc: Global, store: &mut S) -> Result<List<u64>,
     ensures failed { result ≡ Err StoreFault.Failed → Rose (S.fault_count store.old) (S.fault_count store.new) }
 {
     let names = store.list(alloc)?;
-    match numbers_of(alloc, &names) {
+    match rising_numbers(alloc, &names) {
         Ok(numbers) => Ok(numbers),
         Err(_) => Err(StoreFault::NoMemory),
     }

@@ -20,7 +20,7 @@ use ix_outside::{Store, StoreFault};
 use std::alloc::Global;
 use std::collections::BTreeSet;
 
-/// The bytes of a file. An absent one is damaged at 0.
+/// The bytes of a file. An absent file is damaged at 0.
 fn bytes_of<S: Store>(alloc: Global, store: &mut S, name: FileName) -> Result<Vec<u8>, OpenFault>
     ensures bytes { IfOk result (λ bytes. Reads (told_files (S.disk store.old)) name (Some bytes.items)) }
     ensures absent { (damaged : Damaged) → result ≡ Err (OpenFault.Damaged damaged) → (damaged ≡ record { file = name; at = 0 }) × Reads (told_files (S.disk store.old)) name None }
@@ -81,7 +81,8 @@ fn read_segment<S: Store>(
     }
 }
 
-/// Puts the rows of a segment behind those of earlier ones, and their births beside theirs.
+/// Appends the rows of a segment to those of earlier ones, and adds their births to the earlier ones.
+/// After an error some of them may stand there.
 fn take_in(
     earlier: &mut BTreeSet<u64>,
     rows: &mut Vec<Row>,

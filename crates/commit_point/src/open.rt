@@ -1,5 +1,5 @@
 //! Reading a commit back.
-ghost use Rattle.std.specs.Prelude.{◌≡◌, ◌≤◌, ◌⊎◌, ◌↔◌, ℕ, List, IfOk, IfErr, IsErrAnd, IsPermutation, IsSome, IsTrue, Some, None, Err};
+ghost use Rattle.std.specs.Prelude.{◌≡◌, ◌≤◌, ◌↔◌, ℕ, List, IfOk, IfErr, IsPermutation, IsSome, IsTrue, Some, None, Err};
 ghost use Rattle.ix_outside.specs.Disk.{told_files};
 ghost use Rattle.std.specs.List.Sorted.{IsNonDecreasingBy};
 ghost use Rattle.ix_base.specs.declared.document.Row.{Row};
@@ -7,6 +7,7 @@ ghost use Rattle.ix_base.specs.declared.file_name.FileName.TheVariants.{Commit};
 ghost use Rattle.ix_outside.specs.Causes.{Rose};
 ghost use Rattle.ix_outside.specs.Files.{Files, Was};
 ghost use Rattle.commit_point.specs.Holds.{HasHead, Holds};
+ghost use Rattle.commit_point.specs.Loading.{IsOutside, TellsNone};
 ghost use Rattle.commit_point.specs.Reading.{head_from, reading};
 ghost use Rattle.ix_base.specs.declared.damaged.Damaged.{Damaged};
 ghost use Rattle.commit_point.specs.declared.heads.Head.{Head};
@@ -19,15 +20,17 @@ use ix_base::{Damaged, FileName, List, Row};
 use ix_outside::{Store, StoreFault};
 use std::alloc::Global;
 
-/// A commit that was read back: its rows by birth.
+/// A commit that was read back.
 #[derive(Drop)]
 pub struct Opened {
     pub number: u64,
+    /// The id that the next segment takes.
     pub next_id: u64,
+    /// By rising birth.
     pub rows: List<Row>,
 }
 
-/// Brings rows into the order of their births.
+/// Sorts rows by their births.
 fn sort_by_birth(rows: &mut Vec<Row>)
     ensures moved { IsPermutation rows.old.items rows.new.items }
     ensures sorted { IsNonDecreasingBy (λ row. row.birth) rows.new.items }
@@ -35,6 +38,7 @@ fn sort_by_birth(rows: &mut Vec<Row>)
     rows.sort_unstable_by_key(|row| row.birth);
 }
 
+/// Reads the commit of this number, whose commit file should be there.
 fn read_whole<S: Store>(alloc: Global, store: &mut S, number: u64) -> Result<Opened, OpenFault>
     ensures number { IfOk result (λ opened. opened.number ≡ number) }
     ensures found { IfOk result (λ opened. (files : Files) × Was (told_files (S.disk store.old)) files × Holds files number opened.next_id opened.rows) }
@@ -61,7 +65,7 @@ fn read_whole<S: Store>(alloc: Global, store: &mut S, number: u64) -> Result<Ope
     })
 }
 
-/// Reads the commit of this number, which a list has shown. A commit file that is gone since is
+/// Reads the commit of this number, which a list has shown. A commit file that is gone since then is
 /// damaged at 0.
 pub fn read_commit<S: Store>(alloc: Global, store: &mut S, number: u64) -> Result<Opened, OpenFault>
     ensures number { IfOk result (λ opened. opened.number ≡ number) }
@@ -71,7 +75,7 @@ pub fn read_commit<S: Store>(alloc: Global, store: &mut S, number: u64) -> Resul
     ensures only { (files : Files) (next : ℕ) (rows : List Row) → told_files (S.disk store.old) ≡ Some files → Holds files number next rows
         → IfOk result (λ opened. (opened.next_id ≡ next) × (opened.rows ≡ rows)) }
     ensures whole { (files : Files) (next : ℕ) (rows : List Row) → told_files (S.disk store.old) ≡ Some files → Holds files number next rows
-        → IfErr result (λ fault. (fault ≡ OpenFault.Store) ⊎ (fault ≡ OpenFault.NoMemory)) }
+        → IfErr result IsOutside }
     // Which place is the first broken one.
     ensures damaged { (damaged : Damaged) → result ≡ Err (OpenFault.Damaged damaged)
         → (files : Files) × Was (told_files (S.disk store.old)) files × (reading files number ≡ Err damaged) }
@@ -86,7 +90,7 @@ pub fn read_commit<S: Store>(alloc: Global, store: &mut S, number: u64) -> Resul
 /// Whether the store's list has the commit of this number.
 fn is_listed<S: Store>(alloc: Global, store: &mut S, number: u64) -> Result<bool, OpenFault>
     ensures told { IfOk result (λ listed. (files : Files) → told_files (S.disk store.old) ≡ Some files → (IsTrue listed ↔ IsSome (files (Commit number)))) }
-    ensures fault { IfErr result (λ fault. (fault ≡ OpenFault.Store) ⊎ (fault ≡ OpenFault.NoMemory)) }
+    ensures fault { IfErr result IsOutside }
     ensures reads { S.disk store.new ≡ S.disk store.old }
     ensures later { S.fault_count store.old ≤ S.fault_count store.new }
     ensures failed { result ≡ Err OpenFault.Store → Rose (S.fault_count store.old) (S.fault_count store.new) }
@@ -98,21 +102,20 @@ fn is_listed<S: Store>(alloc: Global, store: &mut S, number: u64) -> Result<bool
     }
 }
 
-/// Reads the commit file of this number. `NoSuch` comes where the store's list lacks the number.
+/// Reads the commit file of this number. It returns `NoSuch` where the store's list lacks the
+/// number.
 pub fn head<S: Store>(alloc: Global, store: &mut S, number: u64) -> Result<Head, OpenFault>
     // What is read is what the file spells.
     ensures found { IfOk result (λ head. (files : Files) × Was (told_files (S.disk store.old)) files × HasHead files number head) }
     // What the file spells is read, unless the store fails or memory runs out.
     ensures only { (files : Files) (head : Head) → told_files (S.disk store.old) ≡ Some files → HasHead files number head → IfOk result (λ read. read ≡ head) }
     ensures whole { (files : Files) (head : Head) → told_files (S.disk store.old) ≡ Some files → HasHead files number head
-        → IfErr result (λ fault. (fault ≡ OpenFault.Store) ⊎ (fault ≡ OpenFault.NoMemory)) }
+        → IfErr result IsOutside }
     // Which place is the first broken one.
     ensures damaged { (damaged : Damaged) → result ≡ Err (OpenFault.Damaged damaged)
         → (files : Files) × Was (told_files (S.disk store.old)) files × (head_from files number ≡ Err damaged) }
-    // There is no such commit, and this is said.
-    ensures no_such { (other : ℕ) → result ≡ Err (OpenFault.NoSuch other) → (other ≡ number) × ((files : Files) → told_files (S.disk store.old) ≡ Some files → files (Commit number) ≡ None) }
-    ensures absent { (files : Files) → told_files (S.disk store.old) ≡ Some files → files (Commit number) ≡ None
-        → IsErrAnd result (λ fault. (fault ≡ OpenFault.NoSuch number) ⊎ ((fault ≡ OpenFault.Store) ⊎ (fault ≡ OpenFault.NoMemory))) }
+    // Where there is no such commit, this is said, and nowhere else.
+    ensures no_such { TellsNone (told_files (S.disk store.old)) number result }
     ensures reads { S.disk store.new ≡ S.disk store.old }
     ensures later { S.fault_count store.old ≤ S.fault_count store.new }
     ensures failed { result ≡ Err OpenFault.Store → Rose (S.fault_count store.old) (S.fault_count store.new) }
@@ -123,7 +126,8 @@ pub fn head<S: Store>(alloc: Global, store: &mut S, number: u64) -> Result<Head,
     read_head(alloc, store, number)
 }
 
-/// Reads the commit of this number. `NoSuch` comes where the store's list lacks the number.
+/// Reads the commit of this number. It returns `NoSuch` where the store's list lacks the
+/// number.
 pub fn open_commit<S: Store>(alloc: Global, store: &mut S, number: u64) -> Result<Opened, OpenFault>
     ensures number { IfOk result (λ opened. opened.number ≡ number) }
     // What is read is what the files spell.
@@ -132,14 +136,12 @@ pub fn open_commit<S: Store>(alloc: Global, store: &mut S, number: u64) -> Resul
     ensures only { (files : Files) (next : ℕ) (rows : List Row) → told_files (S.disk store.old) ≡ Some files → Holds files number next rows
         → IfOk result (λ opened. (opened.next_id ≡ next) × (opened.rows ≡ rows)) }
     ensures whole { (files : Files) (next : ℕ) (rows : List Row) → told_files (S.disk store.old) ≡ Some files → Holds files number next rows
-        → IfErr result (λ fault. (fault ≡ OpenFault.Store) ⊎ (fault ≡ OpenFault.NoMemory)) }
+        → IfErr result IsOutside }
     // Which place is the first broken one.
     ensures damaged { (damaged : Damaged) → result ≡ Err (OpenFault.Damaged damaged)
         → (files : Files) × Was (told_files (S.disk store.old)) files × (reading files number ≡ Err damaged) }
-    // There is no such commit, and this is said.
-    ensures no_such { (other : ℕ) → result ≡ Err (OpenFault.NoSuch other) → (other ≡ number) × ((files : Files) → told_files (S.disk store.old) ≡ Some files → files (Commit number) ≡ None) }
-    ensures absent { (files : Files) → told_files (S.disk store.old) ≡ Some files → files (Commit number) ≡ None
-        → IsErrAnd result (λ fault. (fault ≡ OpenFault.NoSuch number) ⊎ ((fault ≡ OpenFault.Store) ⊎ (fault ≡ OpenFault.NoMemory))) }
+    // Where there is no such commit, this is said, and nowhere else.
+    ensures no_such { TellsNone (told_files (S.disk store.old)) number result }
     ensures reads { S.disk store.new ≡ S.disk store.old }
     ensures later { S.fault_count store.old ≤ S.fault_count store.new }
     ensures failed { result ≡ Err OpenFault.Store → Rose (S.fault_count store.old) (S.fault_count store.new) }

@@ -81,12 +81,13 @@ fn commit_bytes(alloc: Global, number: u64, next_id: u64, rows: &[Row]) -> Resul
     encode_commit(alloc, &head)
 }
 
-/// Writes the rows as the commit of this number, as one new segment with the id `next_id`; without
-/// a row it has no segment. It answers the number of rows. The files are written and synced one by
-/// one, the commit file under its pending name, which is then renamed; last the directory is synced.
+/// Writes the rows as the commit of this number, in one new segment with the id `next_id`; where
+/// there are no rows, the commit has no segment. Returns the number of rows. Each file is written and
+/// synced before the next. The commit file is last: it is written under its pending name and renamed,
+/// and then the directory is synced.
 ///
 /// After an error every file but this commit's own is as before. More than 2,147,483,647 rows are
-/// answered as out of memory.
+/// refused as out of memory.
 pub fn write_commit<S: Store>(
     alloc: Global,
     store: &mut S,

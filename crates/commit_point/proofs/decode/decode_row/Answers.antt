@@ -6,7 +6,7 @@ use Rattle.commit_point.proofs.FileLaws.{rows_found, rows_only}
 use Rattle.commit_point.proofs.decode.decode_row.Goals as goal
 
 pub returns-clause-found : goal.returns-clause-found
-returns-clause-found c = rows_found c.args.id c.args.n c.args.number (contains nat_cmp c.args.earlier.now) c.args.bytes.now (Rows c.args.id) c.placed_rows.result (λ i. omega (arith, c.type_inv.bytes i)) c.placed_rows.ensures
+returns-clause-found c = rows_found c.args.id c.args.row_count c.args.number (contains nat_cmp c.args.earlier.now) c.args.bytes.now (Rows c.args.id) c.placed_rows.result (λ i. omega (arith, c.type_inv.bytes i)) c.placed_rows.ensures
 
 pub returns-clause-only : goal.returns-clause-only
-returns-clause-only c = rows_only c.args.id c.args.n c.args.number (contains nat_cmp c.args.earlier.now) c.args.bytes.now (Rows c.args.id) c.placed_rows.result (omega arith) (omega arith) c.placed_rows.ensures
+returns-clause-only c = rows_only c.args.id c.args.row_count c.args.number (contains nat_cmp c.args.earlier.now) c.args.bytes.now (Rows c.args.id) c.placed_rows.result (omega arith) (omega arith) c.placed_rows.ensures

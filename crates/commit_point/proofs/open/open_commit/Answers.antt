@@ -1,7 +1,7 @@
 use Rattle.std.proofs.Common.{◌≡◌, None, not, ap, ◌∙◌}
 use Rattle.ix_outside.specs.Disk.{told_files}
 use Rattle.ix_base.specs.declared.file_name.FileName.TheVariants.{Commit}
-use Rattle.commit_point.proofs.Telling.{not_there, is_there}
+use Rattle.commit_point.proofs.Telling.{not_there, none_said, there_said}
 use Rattle.commit_point.proofs.open.open_commit.Goals as goal
 
 pub returns-then-not-branch-clause-whole : goal.returns-then-not-branch-clause-whole
@@ -11,8 +11,7 @@ returns-then-not-branch-clause-whole g c files next rows told h =
     absurd cc
 
 pub returns-then-not-branch-clause-no_such : goal.returns-then-not-branch-clause-no_such
-returns-then-not-branch-clause-no_such g c other e =
-    (cc, λ files told. not_there (told_files (g.S.Store.disk c.args.store.now)) c.args.number c.in_ok-is_listed.field-0 (ap not c.if-not-branch.true) c.in_ok-is_listed.ensures.told files told)
+returns-then-not-branch-clause-no_such g c = none_said (told_files (g.S.Store.disk c.args.store.now)) c.args.number c.in_ok-is_listed.field-0 (ap not c.if-not-branch.true) c.in_ok-is_listed.ensures.told
 
 pub returns-clause-only : goal.returns-clause-only
 returns-clause-only g c files next rows told h = c.read_commit.ensures.only files next rows ((ap told_files c.is_listed.ensures.reads) ∙ told) h
@@ -20,5 +19,5 @@ returns-clause-only g c files next rows told h = c.read_commit.ensures.only file
 pub returns-clause-whole : goal.returns-clause-whole
 returns-clause-whole g c files next rows told h = c.read_commit.ensures.whole files next rows ((ap told_files c.is_listed.ensures.reads) ∙ told) h
 
-pub returns-clause-absent : goal.returns-clause-absent
-returns-clause-absent g c files told none = is_there (told_files (g.S.Store.disk c.args.store.now)) c.args.number c.in_ok-is_listed.field-0 (ap not c.if-not-branch.false) c.in_ok-is_listed.ensures.told files told none
+pub returns-clause-no_such : goal.returns-clause-no_such
+returns-clause-no_such g c = there_said (told_files (g.S.Store.disk c.args.store.now)) c.args.number c.in_ok-is_listed.field-0 c.read_commit.result (ap not c.if-not-branch.false) c.in_ok-is_listed.ensures.told c.read_commit.ensures.listed

@@ -1,6 +1,6 @@
 use Rattle.std.proofs.Common.{◌≡◌, rules}
 use Rattle.commit_point.proofs.CommitNumbers.{among, rise}
-use Rattle.commit_point.proofs.listing.numbers_of.Goals as goal
+use Rattle.commit_point.proofs.listing.rising_numbers.Goals as goal
 
 pub returns-clause-commits : goal.returns-clause-commits
 returns-clause-commits c =
