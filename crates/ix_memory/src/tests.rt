@@ -184,8 +184,10 @@ fn keeps_large<S: Store>(alloc: Global, store: &mut S, bytes: &[u8]) -> Result<b
     store.sync(FileName::Rows(1))?;
     store.sync_all()?;
     let names = store.list(alloc)?;
-    Ok(names.as_slice() == [FileName::Rows(1)].as_slice()
-        && has(alloc, store, FileName::Rows(1), bytes))
+    Ok(
+        names.as_slice() == [FileName::Rows(1)].as_slice()
+            && has(alloc, store, FileName::Rows(1), bytes),
+    )
 }
 
 #[test]
