@@ -30,4 +30,6 @@ pub use encoding::encode;
 pub use entry::Entry;
 
 #[cfg(test)]
+mod query_tests;
+#[cfg(test)]
 mod tests;

@@ -1,37 +1,24 @@
 use super::*;
 use crate::pack::pack;
-use ix_base::{
-    Name, NoMemory, Operation, PhraseText, Queries, Query, Refusal, Refused, Term, Text,
-};
+use ix_base::{Name, NoMemory, Operation, PhraseText, Query, Refusal, Refused, Term, Text};
 use std::alloc::Global;
 use std::fmt::Write;
 use std::test::*;
 
-/// The words that are written so, each of sixteen digits.
-fn words_in(alloc: Global, text: &str) -> Result<Vec<u64>, Fail> {
-    let mut words = Vec::new(alloc);
-    for word in text.split(' ') {
-        if !word.is_empty() {
-            words.push(u64::from_str_radix(word, 16)?)?;
-        }
-    }
-    Ok(words)
+fn text_of(string: String) -> Result<Text, NoMemory> {
+    Text::new(string).ok_or(NoMemory)
 }
 
-fn text_of(string: String) -> Result<Text, Fail> {
-    Ok(Text::new(string).ok_or("a text")?)
-}
-
-fn text(alloc: Global, string: &str) -> Result<Text, Fail> {
+fn text(alloc: Global, string: &str) -> Result<Text, NoMemory> {
     text_of(String::from_str(alloc, string)?)
 }
 
-fn name(alloc: Global, string: &str) -> Result<Name, Fail> {
-    let text = text(alloc, string)?;
-    Ok(Name::new(text).ok_or("a name")?)
+fn name(alloc: Global, string: &str) -> Result<Name, NoMemory> {
+    Name::new(text(alloc, string)?).ok_or(NoMemory)
 }
 
-fn letters(alloc: Global, count: usize) -> Result<Text, Fail> {
+/// A text of so many letters.
+fn letters(alloc: Global, count: usize) -> Result<Text, NoMemory> {
     let mut string = String::new(alloc);
     for _ in 0..count {
         string.push('a')?;
@@ -39,18 +26,23 @@ fn letters(alloc: Global, count: usize) -> Result<Text, Fail> {
     text_of(string)
 }
 
-fn delete_term(field: Name, bytes: Text) -> Operation {
-    Operation::DeleteTerm(Term { field, bytes })
+/// A delete by the term of so many letters.
+fn delete_term(alloc: Global, count: usize) -> Result<Operation, NoMemory> {
+    let field = name(alloc, "body")?;
+    let bytes = letters(alloc, count)?;
+    Ok(Operation::DeleteTerm(Term { field, bytes }))
 }
 
-fn delete_phrase(field: Name, text: Text) -> Result<Operation, Fail> {
-    let phrase = PhraseText::new(text).ok_or("a phrase")?;
+/// A delete by the phrase of so many letters.
+fn delete_phrase(alloc: Global, count: usize) -> Result<Operation, NoMemory> {
+    let field = name(alloc, "body")?;
+    let phrase = PhraseText::new(letters(alloc, count)?).ok_or(NoMemory)?;
     Ok(Operation::DeleteQuery(Query::Phrase(field, phrase)))
 }
 
 /// The number of words, or the size of what was refused.
-fn outcome(alloc: Global, operation: &Operation) -> (u64, u64) {
-    match encode(alloc, operation) {
+pub(crate) fn outcome(words: Result<Vec<u64>, Refused>) -> (u64, u64) {
+    match words {
         Ok(words) => (words.len() as u64, 0),
         Err(Refused::For(Refusal::Term { size })) => (1, size),
         Err(Refused::For(Refusal::Query { size })) => (2, size),
@@ -58,45 +50,99 @@ fn outcome(alloc: Global, operation: &Operation) -> (u64, u64) {
     }
 }
 
-/// What an entry asks for, a query left out.
-fn shown(alloc: Global, entry: &Entry) -> Result<String, Fail> {
-    let mut text = String::new(alloc);
-    match entry {
-        Entry::Add => text.push_str("add")?,
-        Entry::Update(term) => {
-            let (field, bytes) = (term.field.as_str(), term.bytes.as_str());
-            write!(text, "update {field} {bytes}")?;
-        }
-        Entry::DeleteTerm(term) => {
-            let (field, bytes) = (term.field.as_str(), term.bytes.as_str());
-            write!(text, "delete {field} {bytes}")?;
-        }
-        Entry::DeleteQuery(_) => text.push_str("query")?,
-        Entry::SetNumber { term, num, value } => {
-            let (field, bytes) = (term.field.as_str(), term.bytes.as_str());
-            let num = num.as_str();
-            write!(text, "set {field} {bytes} {num} {value}")?;
-        }
-        Entry::Commit => text.push_str("commit")?,
-        Entry::Turn => text.push_str("turn")?,
-    }
-    Ok(text)
+fn term_outcome(alloc: Global, count: usize) -> Result<(u64, u64), NoMemory> {
+    let delete = delete_term(alloc, count)?;
+    Ok(outcome(encode(alloc, &delete)))
 }
 
-/// What the words spell, or what was answered.
-fn answer(alloc: Global, words: &[u64]) -> Result<String, Fail> {
-    match decode(alloc, words) {
-        Ok(Some(entry)) => shown(alloc, &entry),
-        Ok(None) => Ok(String::from_str(alloc, "none")?),
-        Err(NoMemory) => Ok(String::from_str(alloc, "no memory")?),
-    }
+fn phrase_outcome(alloc: Global, count: usize) -> Result<(u64, u64), NoMemory> {
+    let delete = delete_phrase(alloc, count)?;
+    Ok(outcome(encode(alloc, &delete)))
 }
 
-/// Words written by hand: an entry of each kind, and words that are one step from a spelling.
 #[test]
-fn words_by_hand(rt: HostRuntime) -> Result<(), Fail> {
-    let alloc = rt.alloc();
-    let cases = [
+fn term_limit(rt: HostRuntime) {
+    for (count, want) in [(32766, (4099, 0)), (32767, (1, 32767))] {
+        assert!(rt; term_outcome(rt.alloc(), count) == Ok(want));
+    }
+}
+
+#[test]
+fn query_limit(rt: HostRuntime) {
+    for (count, want) in [(131_059, (16385, 0)), (131_060, (2, 131_073))] {
+        assert!(rt; phrase_outcome(rt.alloc(), count) == Ok(want));
+    }
+}
+
+fn put_term(out: &mut String, start: &str, term: &Term) -> Result<(), NoMemory> {
+    out.push_str(start)?;
+    out.push_str(term.field.as_str())?;
+    out.push(' ')?;
+    out.push_str(term.bytes.as_str())?;
+    Ok(())
+}
+
+fn put_setting(out: &mut String, num: &Name, value: i64) -> Result<(), NoMemory> {
+    let num = num.as_str();
+    match write!(out, " {num} {value}") {
+        Ok(()) => Ok(()),
+        Err(_) => Err(NoMemory),
+    }
+}
+
+/// What an entry asks for, a query left out.
+fn shown(alloc: Global, entry: &Entry) -> Result<String, NoMemory> {
+    let mut out = String::new(alloc);
+    match entry {
+        Entry::Add => out.push_str("add")?,
+        Entry::Update(term) => put_term(&mut out, "update ", term)?,
+        Entry::DeleteTerm(term) => put_term(&mut out, "delete ", term)?,
+        Entry::DeleteQuery(_) => out.push_str("query")?,
+        Entry::SetNumber { term, num, value } => {
+            put_term(&mut out, "set ", term)?;
+            put_setting(&mut out, num, *value)?;
+        }
+        Entry::Commit => out.push_str("commit")?,
+        Entry::Turn => out.push_str("turn")?,
+    }
+    Ok(out)
+}
+
+/// What the words spell, or `none`.
+fn answer(alloc: Global, words: &[u64]) -> Result<String, NoMemory> {
+    match decode(alloc, words)? {
+        Some(entry) => shown(alloc, &entry),
+        None => Ok(String::from_str(alloc, "none")?),
+    }
+}
+
+/// The word that is written so. A test never has other digits.
+fn word_of(digits: &str) -> Result<u64, NoMemory> {
+    match u64::from_str_radix(digits, 16) {
+        Ok(word) => Ok(word),
+        Err(_) => Err(NoMemory),
+    }
+}
+
+/// The words that are written so, each of sixteen digits.
+pub(crate) fn words_in(alloc: Global, text: &str) -> Result<Vec<u64>, NoMemory> {
+    let mut words = Vec::new(alloc);
+    for word in text.split(' ') {
+        if !word.is_empty() {
+            words.push(word_of(word)?)?;
+        }
+    }
+    Ok(words)
+}
+
+fn answer_at(alloc: Global, text: &str) -> Result<String, NoMemory> {
+    let words = words_in(alloc, text)?;
+    answer(alloc, &words)
+}
+
+/// An entry of each kind, written by hand.
+fn spelled() -> [(&'static str, &'static str); 7] {
+    [
         ("0000000100000000", "add"),
         (
             "000000020000000d 000000036b657900 0000026131000000",
@@ -116,98 +162,122 @@ fn words_by_hand(rt: HostRuntime) -> Result<(), Fail> {
         ),
         ("0000000600000000", "commit"),
         ("0000000700000000", "turn"),
-        ("", "none"),
-        ("0000000000000000", "none"),
-        ("0000000800000000", "none"),
-        ("0000000100000000 0000000000000000", "none"),
-        ("0000000700000001 0000000000000000", "none"),
-        ("0000000400000001 0400000000000000", "none"),
-        ("000000030000000d 000000036b657900", "none"),
-        ("000000030000000d 000000036b657900 0000026131000001", "none"),
-        ("000000030000000e 000000036b657900 0000026131000000", "none"),
-        ("000000030000000d 00000003ff657900 0000026131000000", "none"),
-    ];
-    for (text, want) in cases {
-        let words = words_in(alloc, text)?;
-        let found = answer(alloc, &words)?;
+    ]
+}
+
+/// Words that are one step from a spelling.
+fn not_spelled() -> [&'static str; 10] {
+    [
+        "",
+        "0000000000000000",
+        "0000000800000000",
+        "0000000100000000 0000000000000000",
+        "0000000700000001 0000000000000000",
+        "0000000400000001 0400000000000000",
+        "000000030000000d 000000036b657900",
+        "000000030000000d 000000036b657900 0000026131000001",
+        "000000030000000e 000000036b657900 0000026131000000",
+        "000000030000000d 00000003ff657900 0000026131000000",
+    ]
+}
+
+#[test]
+fn words_by_hand(rt: HostRuntime) {
+    for (text, want) in spelled() {
+        let Ok(found) = answer_at(rt.alloc(), text) else {
+            panic!(rt; "memory");
+        };
         assert_eq!(rt; found.as_str(), want, "at {text}");
-        if want == "query" {
-            let same = again(alloc, &words)?;
-            assert!(rt; words.as_slice() == same.as_slice());
-        }
     }
-    Ok(())
 }
 
 #[test]
-fn one_delete(rt: HostRuntime) -> Result<(), Fail> {
-    let alloc = rt.alloc();
+fn no_words_by_hand(rt: HostRuntime) {
+    for text in not_spelled() {
+        let Ok(found) = answer_at(rt.alloc(), text) else {
+            panic!(rt; "memory");
+        };
+        assert_eq!(rt; found.as_str(), "none", "at {text}");
+    }
+}
+
+/// A delete of the field `key` by the term `a1`.
+fn delete_of_key(alloc: Global) -> Result<Operation, NoMemory> {
     let field = name(alloc, "key")?;
-    let delete = delete_term(field, text(alloc, "a1")?);
-    let words = encode(alloc, &delete).ok().ok_or("words")?;
-    let want = words_in(alloc, "000000030000000d 000000036b657900 0000026131000000")?;
-    assert!(rt; words.as_slice() == want.as_slice());
-    Ok(())
+    let bytes = text(alloc, "a1")?;
+    Ok(Operation::DeleteTerm(Term { field, bytes }))
+}
+
+/// Whether the words of the operation are those that are written so.
+fn has_words(alloc: Global, operation: &Operation, text: &str) -> Result<bool, NoMemory> {
+    let want = words_in(alloc, text)?;
+    match encode(alloc, operation) {
+        Ok(words) => Ok(words.as_slice() == want.as_slice()),
+        Err(_) => Ok(false),
+    }
 }
 
 #[test]
-fn term_limit(rt: HostRuntime) -> Result<(), Fail> {
-    let alloc = rt.alloc();
-    for (count, want) in [(32766, (4099, 0)), (32767, (1, 32767))] {
-        let field = name(alloc, "body")?;
-        let delete = delete_term(field, letters(alloc, count)?);
-        assert!(rt; outcome(alloc, &delete) == want);
-    }
-    Ok(())
+fn one_delete(rt: HostRuntime) {
+    let Ok(delete) = delete_of_key(rt.alloc()) else {
+        panic!(rt; "memory");
+    };
+    let text = "000000030000000d 000000036b657900 0000026131000000";
+    assert!(rt; has_words(rt.alloc(), &delete, text) == Ok(true));
 }
 
-#[test]
-fn query_limit(rt: HostRuntime) -> Result<(), Fail> {
-    let alloc = rt.alloc();
-    for (count, want) in [(131_059, (16385, 0)), (131_060, (2, 131_073))] {
-        let field = name(alloc, "body")?;
-        let delete = delete_phrase(field, letters(alloc, count)?)?;
-        assert!(rt; outcome(alloc, &delete) == want);
-    }
-    Ok(())
+fn spells(alloc: Global, words: &[u64]) -> Result<bool, NoMemory> {
+    Ok(decode(alloc, words)?.is_some())
 }
 
 /// Whether these bytes are those of an entry of this kind.
-fn is_entry(alloc: Global, kind: u8, bytes: &[u8]) -> Result<bool, Fail> {
+fn is_entry(alloc: Global, kind: u8, bytes: &[u8]) -> Result<bool, NoMemory> {
     let head = kind as u64 * (1 << 32) + bytes.len() as u64;
     let words = pack(alloc, head, bytes)?;
-    match decode(alloc, &words) {
-        Ok(entry) => Ok(entry.is_some()),
-        Err(NoMemory) => Err("memory".into()),
-    }
+    spells(alloc, &words)
 }
 
-/// The bytes of an entry of each kind that has some: each cut of them is foreign, and so is a byte
-/// more.
-#[test]
-fn foreign_cuts(rt: HostRuntime) -> Result<(), Fail> {
-    let alloc = rt.alloc();
-    let cases = [
+/// Whether no prefix of the bytes is an entry of this kind, except all of them.
+fn is_no_sooner(alloc: Global, kind: u8, bytes: &[u8]) -> Result<bool, NoMemory> {
+    let mut part = Vec::new(alloc);
+    for byte in bytes {
+        if is_entry(alloc, kind, &part)? {
+            return Ok(false);
+        }
+        part.push(*byte)?;
+    }
+    is_entry(alloc, kind, &part)
+}
+
+/// Whether the bytes with a zero byte after them are an entry of this kind.
+fn is_longer(alloc: Global, kind: u8, bytes: &[u8]) -> Result<bool, NoMemory> {
+    let mut longer = Vec::new(alloc);
+    longer.extend_from_slice(bytes)?;
+    longer.push(0)?;
+    is_entry(alloc, kind, &longer)
+}
+
+/// The bytes of an entry of each kind that has some.
+fn entries() -> [(u8, &'static str); 5] {
+    [
         (2, "\0\0\0\x03key\0\0\0\x02a1"),
         (4, "\x01\0\0\0\x01f\0\0\0\x01a"),
         (4, "\x02\0\0\0\x01f\0\0\0\x03b c"),
         (4, "\x03\0\0\0\0\0\0\0\x01\0\0\0\0\x01\0"),
         (5, "\0\0\0\x03key\0\0\0\x02a1\0\0\0\x01n\0\0\0\0\0\0\0\x07"),
-    ];
-    for (kind, text) in cases {
-        let mut bytes = Vec::new(alloc);
-        for byte in text.as_bytes() {
-            assert!(rt; !is_entry(alloc, kind, &bytes)?);
-            bytes.push(*byte)?;
-        }
-        assert!(rt; is_entry(alloc, kind, &bytes)?);
-        bytes.push(0)?;
-        assert!(rt; !is_entry(alloc, kind, &bytes)?);
-    }
-    Ok(())
+    ]
 }
 
-fn put_letters(out: &mut Vec<u8>, count: u32) -> Result<(), Fail> {
+/// Each cut of an entry's bytes is foreign, and so is a byte more.
+#[test]
+fn foreign_cuts(rt: HostRuntime) {
+    for (kind, text) in entries() {
+        assert!(rt; is_no_sooner(rt.alloc(), kind, text.as_bytes()) == Ok(true));
+        assert!(rt; is_longer(rt.alloc(), kind, text.as_bytes()) == Ok(false));
+    }
+}
+
+fn put_letters(out: &mut Vec<u8>, count: u32) -> Result<(), NoMemory> {
     out.extend_from_slice(&count.to_be_bytes())?;
     for _ in 0..count {
         out.push(b'a')?;
@@ -215,11 +285,21 @@ fn put_letters(out: &mut Vec<u8>, count: u32) -> Result<(), Fail> {
     Ok(())
 }
 
-/// Terms and queries by the bytes of the name and of the text, at their limits.
-#[test]
-fn read_limits(rt: HostRuntime) -> Result<(), Fail> {
-    let alloc = rt.alloc();
-    for (kind, name, text, want) in [
+/// Whether a delete by a name and a text of so many letters is read: by a term at kind 3, by a
+/// phrase at kind 4.
+fn is_read(alloc: Global, kind: u8, name: u32, text: u32) -> Result<bool, NoMemory> {
+    let mut bytes = Vec::new(alloc);
+    if kind == 4 {
+        bytes.push(2)?;
+    }
+    put_letters(&mut bytes, name)?;
+    put_letters(&mut bytes, text)?;
+    is_entry(alloc, kind, &bytes)
+}
+
+/// Terms and phrases by the bytes of the name and of the text, at their limits.
+fn limits() -> [(u8, u32, u32, bool); 10] {
+    [
         (3, 1, 0, true),
         (3, 0, 1, false),
         (3, 255, 32766, true),
@@ -230,91 +310,12 @@ fn read_limits(rt: HostRuntime) -> Result<(), Fail> {
         (4, 256, 1, false),
         (4, 4, 131_059, true),
         (4, 4, 131_060, false),
-    ] {
-        let mut bytes = Vec::new(alloc);
-        if kind == 4 {
-            bytes.push(2)?;
-        }
-        put_letters(&mut bytes, name)?;
-        put_letters(&mut bytes, text)?;
-        assert!(rt; is_entry(alloc, kind, &bytes)? == want);
-    }
-    Ok(())
+    ]
 }
 
-fn wrapped(alloc: Global, query: Query) -> Result<Query, Fail> {
-    let mut must = Vec::new(alloc);
-    must.push(query)?;
-    Ok(Query::Bool {
-        must: Queries::from_vec(must),
-        should: Queries::from_vec(Vec::new(alloc)),
-        must_not: Queries::from_vec(Vec::new(alloc)),
-    })
-}
-
-/// A delete by so many bools, each the one element of the next, round `All`.
-fn nested(alloc: Global, depth: usize) -> Result<Operation, Fail> {
-    let mut query = Query::All;
-    for _ in 0..depth {
-        query = wrapped(alloc, query)?;
-    }
-    Ok(Operation::DeleteQuery(query))
-}
-
-/// The words of what these words spell.
-fn again(alloc: Global, words: &[u64]) -> Result<Vec<u64>, Fail> {
-    match decode(alloc, words) {
-        Ok(Some(Entry::DeleteQuery(query))) => {
-            Ok(
-                encode(alloc, &Operation::DeleteQuery(query))
-                    .ok()
-                    .ok_or("words")?,
-            )
-        }
-        _ => Err("a query".into()),
-    }
-}
-
-/// Whether the operation has so many words, and is read back from them to the same words.
-fn keeps_words(alloc: Global, operation: &Operation, count: usize) -> Result<bool, Fail> {
-    let words = encode(alloc, operation).ok().ok_or("words")?;
-    let same = again(alloc, &words)?;
-    Ok(words.len() == count && words.as_slice() == same.as_slice())
-}
-
-/// A query of 1,000 bools, each in the next.
 #[test]
-fn deep_query(rt: HostRuntime) -> Result<(), Fail> {
-    let delete = nested(rt.alloc(), 1000)?;
-    assert!(rt; keeps_words(rt.alloc(), &delete, 1627)?);
-    Ok(())
-}
-
-/// A delete by a bool of so many queries.
-fn wide(alloc: Global, count: usize) -> Result<Operation, Fail> {
-    let mut should = Vec::new(alloc);
-    for _ in 0..count {
-        should.push(Query::All)?;
+fn read_limits(rt: HostRuntime) {
+    for (kind, name, text, want) in limits() {
+        assert!(rt; is_read(rt.alloc(), kind, name, text) == Ok(want));
     }
-    Ok(Operation::DeleteQuery(Query::Bool {
-        must: Queries::from_vec(Vec::new(alloc)),
-        should: Queries::from_vec(should),
-        must_not: Queries::from_vec(Vec::new(alloc)),
-    }))
-}
-
-/// The largest query that has words.
-#[test]
-fn wide_query(rt: HostRuntime) -> Result<(), Fail> {
-    let delete = wide(rt.alloc(), 131_059)?;
-    assert!(rt; keeps_words(rt.alloc(), &delete, 16385)?);
-    Ok(())
-}
-
-/// A query of a byte more.
-#[test]
-fn wider_query(rt: HostRuntime) -> Result<(), Fail> {
-    let delete = wide(rt.alloc(), 131_060)?;
-    assert!(rt; outcome(rt.alloc(), &delete) == (2, 131_073));
-    Ok(())
 }
