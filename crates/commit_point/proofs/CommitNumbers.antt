@@ -10,7 +10,7 @@ use Rattle.std.proofs.lemmas.Cmp.{nat_cmp_total}
 use Rattle.std.proofs.lemmas.Map.Keys.{below_from_sorted}
 use Rattle.std.proofs.lemmas.Map.Lookups.{exact_unsigned}
 use Rattle.std.proofs.lemmas.Map.Views.{btree_set_contains_iff}
-use Rattle.ix_base.specs.FileNames.{IsName, IsCounted}
+use Rattle.ix_base.specs.FileNames.{IsFileName, IsCounted}
 use Rattle.ix_base.specs.declared.file_name.FileName.{FileName}
 use Rattle.ix_base.specs.declared.file_name.FileName.TheVariants.{Commit}
 use Rattle.ix_outside.specs.Files.{Files, Lists}
@@ -57,7 +57,7 @@ listed (Some files) names seen numbers is lists same = λ s. (
   (λ c. (same s).1 (subst (λ (xs : List FileName). Contains xs (Commit s)) (sym is) ((lists.each (Commit s)).1 c))),
 )
 
-pub counted : (names seen : List FileName) (numbers : List ℕ) → seen ≡ names → All IsName names → ((s : ℕ) → Contains numbers s ↔ Contains seen (Commit s)) → (s : ℕ) → Contains numbers s → IsCounted s
+pub counted : (names seen : List FileName) (numbers : List ℕ) → seen ≡ names → All IsFileName names → ((s : ℕ) → Contains numbers s ↔ Contains seen (Commit s)) → (s : ℕ) → Contains numbers s → IsCounted s
 counted names seen numbers is real same s c =
     let there : Contains names (Commit s) = subst (λ (xs : List FileName). Contains xs (Commit s)) is ((same s).0 c) in
-    subst IsName there.2 (real there.0 (Commit s) there.1)
+    subst IsFileName there.2 (real there.0 (Commit s) there.1)

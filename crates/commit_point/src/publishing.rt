@@ -1,6 +1,6 @@
 //! Files that are there whole, or not at all.
 ghost use Rattle.std.specs.Prelude.{◌≡◌, ◌≢◌, ◌∷◌, ◌++◌, [], All, IfErr, false};
-ghost use Rattle.ix_base.specs.FileNames.{IsName};
+ghost use Rattle.ix_base.specs.FileNames.{IsFileName};
 ghost use Rattle.ix_outside.specs.Causes.{Blames};
 ghost use Rattle.ix_outside.specs.Disk.{Told, Does};
 ghost use Rattle.ix_outside.specs.declared.step.Step.TheVariants.{Renamed as RenamedStep, Settled as SettledStep};
@@ -12,7 +12,7 @@ use ix_outside::{Store, StoreFault};
 
 /// Writes a file, and puts its bytes on the disk.
 fn put_file<S: Store>(store: &mut S, name: FileName, bytes: &[u8]) -> Result<(), StoreFault>
-    requires { IsName name }
+    requires { IsFileName name }
     ensures disk { Does (puts name bytes.now) (S.disk store.old) (S.disk store.new) result }
     ensures cause { Blames (S.fault_count store.old) (S.fault_count store.new) result }
 {
@@ -22,7 +22,7 @@ fn put_file<S: Store>(store: &mut S, name: FileName, bytes: &[u8]) -> Result<(),
 
 /// Writes each file, and puts its bytes on the disk.
 fn put_files<S: Store>(store: &mut S, files: &[(FileName, List<u8>)]) -> Result<(), StoreFault>
-    requires { All (λ file. IsName file.0) files.now }
+    requires { All (λ file. IsFileName file.0) files.now }
     ensures disk { Does (puts_all files.now) (S.disk store.old) (S.disk store.new) result }
     ensures cause { Blames (S.fault_count store.old) (S.fault_count store.new) result }
 {
@@ -51,7 +51,7 @@ fn name_file<S: Store>(
     pending: FileName,
     last: FileName,
 ) -> Result<(), CommitRefused>
-    requires name { IsName last }
+    requires name { IsFileName last }
     requires apart { pending ≢ last }
     ensures disk { Does (RenamedStep pending last ∷ SettledStep ∷ []) (S.disk store.old) (S.disk store.new) result }
     ensures renamed { IfErr result (λ refused. Told (λ old new. Refuses [] (RenamedStep pending last) refused.fault refused.renamed old new)
@@ -77,7 +77,7 @@ fn put_last<S: Store>(
     last: FileName,
     bytes: &[u8],
 ) -> Result<(), CommitRefused>
-    requires names { IsName pending × IsName last }
+    requires names { IsFileName pending × IsFileName last }
     requires apart { pending ≢ last }
     ensures disk { Does (puts pending bytes.now ++ (RenamedStep pending last ∷ SettledStep ∷ [])) (S.disk store.old) (S.disk store.new) result }
     ensures renamed { IfErr result (λ refused. Told (λ old new. Refuses (puts pending bytes.now) (RenamedStep pending last) refused.fault refused.renamed old new)
@@ -99,7 +99,7 @@ pub(crate) fn publish<S: Store>(
     last: FileName,
     bytes: &[u8],
 ) -> Result<(), CommitRefused>
-    requires names { All (λ file. IsName file.0) list.now × IsName pending × IsName last }
+    requires names { All (λ file. IsFileName file.0) list.now × IsFileName pending × IsFileName last }
     requires apart { pending ≢ last }
     ensures disk { Does (publishes list.now pending last bytes.now) (S.disk store.old) (S.disk store.new) result }
     ensures renamed { IfErr result (λ refused. Told (λ old new. Refuses (puts_all list.now ++ puts pending bytes.now) (RenamedStep pending last) refused.fault refused.renamed old new)

@@ -5,11 +5,11 @@ ghost use Rattle.ix_outside.specs.Causes.{Rose};
 ghost use Rattle.op_script.specs.Language.{most_bytes};
 ghost use Rattle.index_run.specs.Causes.{TakesUpTo};
 
+use crate::stop::Stop;
 use ix_base::NoMemory;
 use ix_outside::Source;
 use op_script::MOST_BYTES;
 use report_text::Fault;
-use crate::stop::Stop;
 use std::alloc::Global;
 
 /// The most that a turn of reading asks for: 64 KiB.

@@ -9,7 +9,7 @@ use Rattle.std.proofs.lemmas.Fmt.{decimal_is_IsNumeral}
 use Rattle.std.proofs.lemmas.Str.Parse.{digit_from_value}
 use Rattle.std.proofs.lemmas.List.{append-nil}
 use Rattle.std.proofs.lemmas.Str.Pattern.{IsSplitOnceResult, split_after}
-use Rattle.ix_base.specs.FileNames.{name_text, IsCounted, IsName}
+use Rattle.ix_base.specs.FileNames.{name_text, IsCounted, IsFileName}
 use Rattle.ix_base.specs.declared.file_name.FileName.{FileName}
 use Rattle.ix_base.specs.declared.file_name.FileName.TheVariants.{Commit, Pending, Rows, Posts, Live, Values}
 
@@ -32,7 +32,7 @@ pub foreign_text : (text : List ℕ)
     → ((n : ℕ) → IsCounted n → text ≡ codes "seg_" ++ (decimal n ++ codes ".pst") → ⊥)
     → ((id n : ℕ) → IsCounted id → IsCounted n → text ≡ codes "seg_" ++ (decimal id ++ (codes "_" ++ (decimal n ++ codes ".liv"))) → ⊥)
     → ((id n : ℕ) → IsCounted id → IsCounted n → text ≡ codes "seg_" ++ (decimal id ++ (codes "_" ++ (decimal n ++ codes ".val"))) → ⊥)
-    → (name : FileName) → IsName name → name_text name ≡ text → ⊥
+    → (name : FileName) → IsFileName name → name_text name ≡ text → ⊥
 foreign_text text commit pending rows posts live values (Commit s) real e = commit s real (sym e ∙ ap (λ l. codes "segments_" ++ l) (sym (append-nil (decimal s))))
 foreign_text text commit pending rows posts live values (Pending s) real e = pending s real (sym e ∙ ap (λ l. codes "pending_segments_" ++ l) (sym (append-nil (decimal s))))
 foreign_text text commit pending rows posts live values (Rows id) real e = rows id real (sym e)

@@ -19,10 +19,10 @@ pub record IsCounted (n : ℕ) : Type 0 where
   pub fits : n < 2 ^ 64
 
 -- the name of a file: its numbers are at least 1
-abbrev pub IsName : FileName → Type 0
-IsName (Commit s) = IsCounted s
-IsName (Pending s) = IsCounted s
-IsName (Rows id) = IsCounted id
-IsName (Posts id) = IsCounted id
-IsName (Live id v) = IsCounted id × IsCounted v
-IsName (Values id v) = IsCounted id × IsCounted v
+abbrev pub IsFileName : FileName → Type 0
+IsFileName (Commit s) = IsCounted s
+IsFileName (Pending s) = IsCounted s
+IsFileName (Rows id) = IsCounted id
+IsFileName (Posts id) = IsCounted id
+IsFileName (Live id v) = IsCounted id × IsCounted v
+IsFileName (Values id v) = IsCounted id × IsCounted v

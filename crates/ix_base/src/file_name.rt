@@ -1,7 +1,7 @@
 //! The names of a store's files.
 ghost use Rattle.std.specs.Prelude.{◌≡◌, ◌≤◌, ◌++◌, ℕ, None, IfSome, length, codes};
 ghost use Rattle.std.specs.Fmt.{decimal};
-ghost use Rattle.ix_base.specs.FileNames.{name_text, IsCounted, IsName};
+ghost use Rattle.ix_base.specs.FileNames.{name_text, IsCounted, IsFileName};
 
 use arrayvec::ArrayString;
 
@@ -43,8 +43,8 @@ impl FileName {
     /// text this is, and `None` exactly of a foreign name. It takes no memory.
     pub fn parse(text: &str) -> Option<FileName>
         ensures text { IfSome result (λ name. name_text name ≡ text.now) }
-        ensures real { IfSome result IsName }
-        ensures foreign { result ≡ None → (name : FileName) → IsName name → name_text name ≡ text.now → ⊥ }
+        ensures real { IfSome result IsFileName }
+        ensures foreign { result ≡ None → (name : FileName) → IsFileName name → name_text name ≡ text.now → ⊥ }
     {
         if let Some(number) = number_between("segments_", text, "") {
             return Some(FileName::Commit(number));

@@ -1,6 +1,6 @@
 -- The names of the files that the steps of a store have left.
 use Rattle.std.specs.Prelude.{◌≡◌, ◌≢◌, ◌⊎◌, ◌↔◌, List, ◌∷◌, Contains, AllPairs}
-use Rattle.ix_base.specs.FileNames.{IsName}
+use Rattle.ix_base.specs.FileNames.{IsFileName}
 use Rattle.ix_base.specs.declared.file_name.FileName.{FileName}
 use Rattle.ix_outside.specs.Files.{Lists}
 use Rattle.ix_outside.specs.Disk.{Disk, files as files_of}
@@ -9,12 +9,12 @@ use Rattle.ix_outside.specs.declared.step.Step.TheVariants.{Wrote, Synced, Renam
 
 -- the file that the step makes, if it makes one, has a name that a file may have
 abbrev pub NamesFile : Step → Type 0
-NamesFile (Wrote name bytes) = IsName name
+NamesFile (Wrote name bytes) = IsFileName name
 NamesFile (Synced name) = Unit {0}
-NamesFile (Renamed «from» to) = IsName to
+NamesFile (Renamed «from» to) = IsFileName to
 NamesFile (Deleted name) = Unit {0}
 NamesFile Settled = Unit {0}
-NamesFile (Spoilt name found) = IsName name
+NamesFile (Spoilt name found) = IsFileName name
 NamesFile (HalfRenamed «from» to) = Unit {0}
 NamesFile (HalfDeleted name) = Unit {0}
 

@@ -71,7 +71,7 @@ impl<S: Store> Store for FuseStore<S> {
     ghost fault_count = { λ store. min (S.fault_count store.inner + store.fuse.faults) (2 ^ 64 - 1) };
 
     ghost use Rattle.std.specs.Prelude.{◌≡◌, ◌≢◌, ◌<◌, Err, IfOk, IfSome, All, option_map};
-    ghost use Rattle.ix_base.specs.FileNames.{IsName};
+    ghost use Rattle.ix_base.specs.FileNames.{IsFileName};
     ghost use Rattle.ix_outside.specs.Files.{Lists, Reads};
     ghost use Rattle.ix_outside.specs.Disk.{Takes, told_files};
     ghost use Rattle.ix_outside.specs.Causes.{HasStoreCause};
@@ -79,7 +79,7 @@ impl<S: Store> Store for FuseStore<S> {
 
     fn list(&mut self, alloc: Global) -> Result<Vec<FileName>, StoreFault>
         ensures names { IfOk result (λ names. IfSome (told_files (S.disk self.old.inner)) (λ here. Lists here names.items)) }
-        ensures real { IfOk result (λ names. All IsName names.items) }
+        ensures real { IfOk result (λ names. All IsFileName names.items) }
         ensures disk { S.disk self.new.inner ≡ S.disk self.old.inner }
         ensures cause { HasStoreCause (min (S.fault_count self.old.inner + self.old.fuse.faults) (2 ^ 64 - 1)) (min (S.fault_count self.new.inner + self.new.fuse.faults) (2 ^ 64 - 1)) result }
         ensures burnt { self.old.fuse.passes ≡ 0 → result ≡ Err StoreFault.Failed }
@@ -109,7 +109,7 @@ impl<S: Store> Store for FuseStore<S> {
     }
 
     fn write(&mut self, name: FileName, bytes: &[u8]) -> Result<(), StoreFault>
-        requires { IsName name }
+        requires { IsFileName name }
         ensures disk { Takes (Wrote name bytes.now) (S.disk self.old.inner) (S.disk self.new.inner) result }
         ensures cause { HasStoreCause (min (S.fault_count self.old.inner + self.old.fuse.faults) (2 ^ 64 - 1)) (min (S.fault_count self.new.inner + self.new.fuse.faults) (2 ^ 64 - 1)) result }
         ensures burnt { self.old.fuse.passes ≡ 0 → result ≡ Err StoreFault.Failed }
@@ -138,7 +138,7 @@ impl<S: Store> Store for FuseStore<S> {
     }
 
     fn rename(&mut self, from: FileName, to: FileName) -> Result<(), StoreFault>
-        requires name { IsName to }
+        requires name { IsFileName to }
         requires apart { from ≢ to }
         ensures disk { Takes (Renamed from to) (S.disk self.old.inner) (S.disk self.new.inner) result }
         ensures cause { HasStoreCause (min (S.fault_count self.old.inner + self.old.fuse.faults) (2 ^ 64 - 1)) (min (S.fault_count self.new.inner + self.new.fuse.faults) (2 ^ 64 - 1)) result }

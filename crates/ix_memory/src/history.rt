@@ -33,7 +33,7 @@ impl Model for History {
 
 impl History {
     ghost use Rattle.std.specs.Option.{option_copied};
-    ghost use Rattle.ix_base.specs.FileNames.{IsName};
+    ghost use Rattle.ix_base.specs.FileNames.{IsFileName};
     ghost use Rattle.ix_outside.specs.Files.{Lists};
     ghost use Rattle.ix_outside.specs.Disk.{with_at, is_unsynced, files as files_of};
     ghost use Rattle.ix_outside.specs.Crash.{IsImage};
@@ -71,7 +71,7 @@ impl History {
     /// The names of the files, each once.
     pub fn names(&self, alloc: Global) -> Result<Vec<FileName>, NoMemory>
         ensures names { IfOk result (λ names. Lists (files_of self.now) names.items) }
-        ensures real { IfOk result (λ names. All IsName names.items) }
+        ensures real { IfOk result (λ names. All IsFileName names.items) }
     {
         let mut names = Vec::new(alloc);
         for step in &self.steps {
@@ -146,7 +146,7 @@ impl History {
         bytes: BytesLeft,
         name: FileName,
     ) -> Result<(), NoMemory>
-        requires { IsName name }
+        requires { IsFileName name }
         ensures files { OnOk result (files_of left.new ≡ with_at name (files_left steps bytes self.now name) (files_of left.old)) }
         ensures synced { OnOk result (AllSynced left.old → AllSynced left.new) }
     {

@@ -22,7 +22,7 @@ pub struct MemoryStore {
 
 impl MemoryStore {
     ghost use Rattle.std.specs.Prelude.{◌/◌, [], All, IfOk, IfSome};
-    ghost use Rattle.ix_base.specs.FileNames.{IsName};
+    ghost use Rattle.ix_base.specs.FileNames.{IsFileName};
     ghost use Rattle.ix_outside.specs.Disk.{Tells, told_files};
     ghost use Rattle.ix_outside.specs.Crash.{IsImage};
     ghost use Rattle.ix_memory.specs.History.{bytes_of, files_left, steps_of};
@@ -40,7 +40,7 @@ impl MemoryStore {
     /// The store of these files, all of them on the disk. Of files with one name the last counts.
     /// None of its calls is to fail.
     pub fn with_files(alloc: Global, files: Vec<(FileName, Vec<u8>)>) -> Result<Self, NoMemory>
-        requires { All (λ file. IsName file.0) files.items }
+        requires { All (λ file. IsFileName file.0) files.items }
         ensures files { IfOk result (λ store. Tells (AreDurable (with_pairs files.items no_files)) (⟦<MemoryStore as Store>⟧.disk store)) }
         ensures faults { IfOk result (λ store. ⟦<MemoryStore as Store>⟧.fault_count store ≡ 0) }
         ensures never { IfOk result (λ store. store.calls.numbers.items ≡ []) }
@@ -103,7 +103,7 @@ impl Store for MemoryStore {
     ghost fault_count = { λ store. store.calls.faults };
 
     ghost use Rattle.std.specs.Prelude.{◌≡◌, ◌≢◌, ◌⊎◌, ◌↔◌, None, IfOk, IfSome, All, IsErrOf, option_map};
-    ghost use Rattle.ix_base.specs.FileNames.{IsName};
+    ghost use Rattle.ix_base.specs.FileNames.{IsFileName};
     ghost use Rattle.ix_outside.specs.Files.{Lists, Reads};
     ghost use Rattle.ix_outside.specs.Disk.{Takes, told_files, files};
     ghost use Rattle.ix_outside.specs.Causes.{HasStoreCause};
@@ -112,7 +112,7 @@ impl Store for MemoryStore {
 
     fn list(&mut self, alloc: Global) -> Result<Vec<FileName>, StoreFault>
         ensures names { IfOk result (λ names. IfSome (told_files (Some self.old.history)) (λ here. Lists here names.items)) }
-        ensures real { IfOk result (λ names. All IsName names.items) }
+        ensures real { IfOk result (λ names. All IsFileName names.items) }
         ensures disk { Some self.new.history ≡ Some self.old.history }
         ensures cause { HasStoreCause self.old.calls.faults self.new.calls.faults result }
         ensures fails { IsErrOf result StoreFault.Failed ↔ NextFails self.old.calls }
@@ -138,7 +138,7 @@ impl Store for MemoryStore {
     }
 
     fn write(&mut self, name: FileName, bytes: &[u8]) -> Result<(), StoreFault>
-        requires { IsName name }
+        requires { IsFileName name }
         ensures disk { Takes (Wrote name bytes.now) (Some self.old.history) (Some self.new.history) result }
         ensures cause { HasStoreCause self.old.calls.faults self.new.calls.faults result }
         ensures fails { IsErrOf result StoreFault.Failed ↔ NextFails self.old.calls }
@@ -167,7 +167,7 @@ impl Store for MemoryStore {
     }
 
     fn rename(&mut self, from: FileName, to: FileName) -> Result<(), StoreFault>
-        requires name { IsName to }
+        requires name { IsFileName to }
         requires apart { from ≢ to }
         ensures disk { Takes (Renamed from to) (Some self.old.history) (Some self.new.history) result }
         ensures cause { HasStoreCause self.old.calls.faults self.new.calls.faults result }

@@ -1,6 +1,6 @@
 //! Lists of the names of files, each once.
 ghost use Rattle.std.specs.Prelude.{◌≡◌, ◌↔◌, All, Contains, IsTrue, OnOk, filter, not};
-ghost use Rattle.ix_base.specs.FileNames.{IsName};
+ghost use Rattle.ix_base.specs.FileNames.{IsFileName};
 ghost use Rattle.ix_outside.specs.Disk.{is_same};
 ghost use Rattle.ix_memory.specs.Names.{Gains, Loses, GoesOn, NamesFile};
 
@@ -24,7 +24,7 @@ fn take_out(names: &mut Vec<FileName>, name: FileName)
 /// The file of this name is gone: takes the name out of the list.
 fn lose(names: &mut Vec<FileName>, name: FileName)
     ensures change { Loses name names.old.items names.new.items }
-    ensures real { All IsName names.old.items → All IsName names.new.items }
+    ensures real { All IsFileName names.old.items → All IsFileName names.new.items }
 {
     take_out(names, name);
 }
@@ -32,7 +32,7 @@ fn lose(names: &mut Vec<FileName>, name: FileName)
 /// A file of this name is there: the list has the name once, at its end.
 fn gain(names: &mut Vec<FileName>, name: FileName) -> Result<(), NoMemory>
     ensures change { OnOk result (Gains name names.old.items names.new.items) }
-    ensures real { OnOk result (IsName name → All IsName names.old.items → All IsName names.new.items) }
+    ensures real { OnOk result (IsFileName name → All IsFileName names.old.items → All IsFileName names.new.items) }
 {
     take_out(names, name);
     names.push(name)?;
@@ -42,7 +42,7 @@ fn gain(names: &mut Vec<FileName>, name: FileName) -> Result<(), NoMemory>
 /// The names of the files before the step become those after it.
 pub fn go_on(names: &mut Vec<FileName>, step: &Step) -> Result<(), NoMemory>
     ensures change { OnOk result (GoesOn step.now names.old.items names.new.items) }
-    ensures real { OnOk result (NamesFile step.now → All IsName names.old.items → All IsName names.new.items) }
+    ensures real { OnOk result (NamesFile step.now → All IsFileName names.old.items → All IsFileName names.new.items) }
 {
     match step {
         Step::Wrote(name, _) => gain(names, *name),
@@ -63,7 +63,7 @@ fn spoil(
     found: &Option<List<u8>>,
 ) -> Result<(), NoMemory>
     ensures change { OnOk result (GoesOn (Step.Spoilt name found.now) names.old.items names.new.items) }
-    ensures real { OnOk result (IsName name → All IsName names.old.items → All IsName names.new.items) }
+    ensures real { OnOk result (IsFileName name → All IsFileName names.old.items → All IsFileName names.new.items) }
 {
     match found {
         Some(_) => gain(names, name),
@@ -77,7 +77,7 @@ fn spoil(
 /// The file of the first name, if it is there, has the second one now, in place of another file.
 fn rename(names: &mut Vec<FileName>, from: FileName, to: FileName) -> Result<(), NoMemory>
     ensures change { OnOk result (GoesOn (Step.Renamed from to) names.old.items names.new.items) }
-    ensures real { OnOk result (IsName to → All IsName names.old.items → All IsName names.new.items) }
+    ensures real { OnOk result (IsFileName to → All IsFileName names.old.items → All IsFileName names.new.items) }
 {
     if is_same(from, to) {
         return Ok(());

@@ -1,6 +1,6 @@
 //! The calls of a store in memory, on the list of its steps.
 ghost use Rattle.std.specs.Prelude.{◌≡◌, All, IfOk, IsErrOf, option_map};
-ghost use Rattle.ix_base.specs.FileNames.{IsName};
+ghost use Rattle.ix_base.specs.FileNames.{IsFileName};
 ghost use Rattle.ix_outside.specs.Files.{Lists};
 ghost use Rattle.ix_outside.specs.Disk.{files as files_of};
 ghost use Rattle.ix_memory.specs.Names.{NamesFile};
@@ -25,7 +25,7 @@ pub fn record(history: &mut History, step: Step) -> Result<(), StoreFault>
 /// Adds the step of a write of the whole file. The only error is out of memory, and after it the
 /// history is as it was.
 pub fn record_write(history: &mut History, name: FileName, bytes: &[u8]) -> Result<(), StoreFault>
-    requires { IsName name }
+    requires { IsFileName name }
     ensures { Records (Step.Wrote name bytes.now) history.old history.new result }
 {
     match history.copy_of(bytes) {
@@ -37,7 +37,7 @@ pub fn record_write(history: &mut History, name: FileName, bytes: &[u8]) -> Resu
 /// The names of the files, each once. The only error is out of memory.
 pub fn list_names(history: &History, alloc: Global) -> Result<Vec<FileName>, StoreFault>
     ensures names { IfOk result (λ names. Lists (files_of history.now) names.items) }
-    ensures real { IfOk result (λ names. All IsName names.items) }
+    ensures real { IfOk result (λ names. All IsFileName names.items) }
     ensures never { IsErrOf result StoreFault.Failed → ⊥ }
 {
     match history.names(alloc) {

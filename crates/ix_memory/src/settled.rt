@@ -1,6 +1,6 @@
 //! Histories whose files are all on the disk.
 ghost use Rattle.std.specs.Prelude.{◌≡◌, All, IfOk, OnOk};
-ghost use Rattle.ix_base.specs.FileNames.{IsName};
+ghost use Rattle.ix_base.specs.FileNames.{IsFileName};
 ghost use Rattle.ix_outside.specs.Disk.{with_at, is_unsynced, files as files_of};
 ghost use Rattle.ix_outside.specs.Crash.{IsImage};
 ghost use Rattle.ix_memory.specs.Settled.{AreDurable, AllSynced, no_files, with_pairs};
@@ -12,7 +12,7 @@ use std::alloc::Global;
 
 /// Adds a write of the file and its sync.
 pub fn put(history: &mut History, name: FileName, bytes: &[u8]) -> Result<(), NoMemory>
-    requires { IsName name }
+    requires { IsFileName name }
     ensures files { OnOk result (files_of history.new ≡ with_at name (Some bytes.now) (files_of history.old)) }
     ensures synced { OnOk result (AllSynced history.old → AllSynced history.new) }
 {
@@ -23,7 +23,7 @@ pub fn put(history: &mut History, name: FileName, bytes: &[u8]) -> Result<(), No
 
 /// Adds a write of the file, a pair of name and bytes, and its sync.
 fn put_file(history: &mut History, file: &(FileName, Vec<u8>)) -> Result<(), NoMemory>
-    requires { IsName file.now.0 }
+    requires { IsFileName file.now.0 }
     ensures files { OnOk result (files_of history.new ≡ with_at file.now.0 (Some file.now.1.items) (files_of history.old)) }
     ensures synced { OnOk result (AllSynced history.old → AllSynced history.new) }
 {
@@ -49,7 +49,7 @@ pub fn settle(history: &mut History) -> Result<(), NoMemory>
 /// The history of a store with these files, all of them on the disk. Of files with one name the last
 /// counts.
 pub fn settled_files(alloc: Global, files: Vec<(FileName, Vec<u8>)>) -> Result<History, NoMemory>
-    requires { All (λ file. IsName file.0) files.items }
+    requires { All (λ file. IsFileName file.0) files.items }
     ensures files { IfOk result (λ history. files_of history ≡ with_pairs files.items no_files) }
     ensures durable { IfOk result (λ history. AreDurable (files_of history) history) }
 {

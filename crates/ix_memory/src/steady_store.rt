@@ -20,7 +20,7 @@ impl SteadyStore {
     ghost use Rattle.std.specs.Prelude.{◌/◌, All, IfOk, IfSome};
     ghost use Rattle.ix_outside.specs.Disk.{Tells, told_files};
     ghost use Rattle.ix_outside.specs.Crash.{IsImage};
-    ghost use Rattle.ix_base.specs.FileNames.{IsName};
+    ghost use Rattle.ix_base.specs.FileNames.{IsFileName};
     ghost use Rattle.ix_memory.specs.History.{bytes_of, files_left, steps_of};
     ghost use Rattle.ix_memory.specs.Settled.{AreDurable, no_files, with_pairs};
 
@@ -35,7 +35,7 @@ impl SteadyStore {
 
     /// The store of these files, all of them on the disk. Of files with one name the last counts.
     pub fn with_files(alloc: Global, files: Vec<(FileName, Vec<u8>)>) -> Result<Self, NoMemory>
-        requires { All (λ file. IsName file.0) files.items }
+        requires { All (λ file. IsFileName file.0) files.items }
         ensures { IfOk result (λ store. Tells (AreDurable (with_pairs files.items no_files)) (⟦<SteadyStore as Store>⟧.disk store)) }
     {
         Ok(SteadyStore {

@@ -1,7 +1,7 @@
 //! A directory of the system, whose files are opened, written, synced and renamed.
 ghost use Rattle.std.specs.Prelude.{◌≡◌, ◌≤◌, ◌++◌, codes, string_bytes, vec_len, All, IfOk, IfSome, IsErr, IsTrue, OnErr, OnOk};
 ghost use Rattle.std.specs.Io.{StartsWith};
-ghost use Rattle.ix_base.specs.FileNames.{IsName, name_text};
+ghost use Rattle.ix_base.specs.FileNames.{IsFileName, name_text};
 ghost use Rattle.ix_outside.specs.Listing.{Takes};
 
 use ix_base::{FileName, NoMemory};
@@ -76,7 +76,7 @@ impl<R: Files + AllocGlobal + Clone + Drop> Directory<R> {
 
     /// The names of the files of the index, in the order of the directory's entries.
     pub fn list_files(&self, alloc: Global) -> io::Result<Vec<FileName>>
-        ensures { IfOk result (λ names. All IsName names.items) }
+        ensures { IfOk result (λ names. All IsFileName names.items) }
     {
         let mut names = Vec::new(alloc);
         for entry in fs::read_dir(&self.runtime, self.path.as_str())? {
@@ -199,7 +199,7 @@ fn is_file_entry<R: Files + Drop>(entry: &DirEntry<R, Global>) -> io::Result<boo
 
 /// Puts the name that has this text at the end of the list. A text of no name is passed over.
 fn take_name(names: &mut Vec<FileName>, text: &str) -> io::Result<()>
-    ensures real { OnOk result (All IsName names.old.items → All IsName names.new.items) }
+    ensures real { OnOk result (All IsFileName names.old.items → All IsFileName names.new.items) }
     ensures taken { OnOk result (Takes text.now names.old.items names.new.items) }
 {
     match FileName::parse(text) {

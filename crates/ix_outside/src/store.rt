@@ -1,6 +1,6 @@
 //! Where the files are.
 ghost use Rattle.std.specs.Prelude.{◌≡◌, ◌≢◌, ℕ, Option, IfOk, IfSome, All, option_map};
-ghost use Rattle.ix_base.specs.FileNames.{IsName};
+ghost use Rattle.ix_base.specs.FileNames.{IsFileName};
 ghost use Rattle.ix_outside.specs.Files.{Lists, Reads};
 ghost use Rattle.ix_outside.specs.Disk.{Disk, Takes, told_files};
 ghost use Rattle.ix_outside.specs.Causes.{HasStoreCause};
@@ -71,7 +71,7 @@ pub trait Store {
     /// The names of the files, each once. Entries whose names are no `FileName` are left out.
     fn list(&mut self, alloc: Global) -> Result<Vec<FileName>, StoreFault>
         ensures names { IfOk result (λ names. IfSome (told_files (disk self.old)) (λ here. Lists here names.items)) }
-        ensures real { IfOk result (λ names. All IsName names.items) }
+        ensures real { IfOk result (λ names. All IsFileName names.items) }
         ensures disk { disk self.new ≡ disk self.old }
         ensures cause { HasStoreCause (fault_count self.old) (fault_count self.new) result };
 
@@ -84,7 +84,7 @@ pub trait Store {
     /// Makes the file with these bytes, or replaces all that it had. After `Failed` it may hold
     /// anything, or be absent.
     fn write(&mut self, name: FileName, bytes: &[u8]) -> Result<(), StoreFault>
-        requires { IsName name }
+        requires { IsFileName name }
         ensures disk { Takes (Wrote name bytes.now) (disk self.old) (disk self.new) result }
         ensures cause { HasStoreCause (fault_count self.old) (fault_count self.new) result };
 
@@ -97,7 +97,7 @@ pub trait Store {
     /// Gives the file another name, and replaces a file that has that name. After `Failed` it may
     /// have either name.
     fn rename(&mut self, from: FileName, to: FileName) -> Result<(), StoreFault>
-        requires name { IsName to }
+        requires name { IsFileName to }
         requires apart { from ≢ to }
         ensures disk { Takes (Renamed from to) (disk self.old) (disk self.new) result }
         ensures cause { HasStoreCause (fault_count self.old) (fault_count self.new) result };

@@ -108,12 +108,16 @@ fn numbered_and_refused(rt: HostRuntime) -> Result<(), Fail> {
         commit.as_slice(),
         b"{\"docs\":1,\"line\":2,\"seq\":4}\n".as_slice()
     );
-    let term = refused_text(alloc, 2, Refusal::Term { size: 32767 }).ok().ok_or("memory")?;
+    let term = refused_text(alloc, 2, Refusal::Term { size: 32767 })
+        .ok()
+        .ok_or("memory")?;
     assert_eq!(rt;
         term.as_slice(),
         b"{\"line\":2,\"refused\":\"term\",\"size\":32767}\n".as_slice()
     );
-    let query = refused_text(alloc, 7, Refusal::Query { size: 65536 }).ok().ok_or("memory")?;
+    let query = refused_text(alloc, 7, Refusal::Query { size: 65536 })
+        .ok()
+        .ok_or("memory")?;
     assert_eq!(rt;
         query.as_slice(),
         b"{\"line\":7,\"refused\":\"query\",\"size\":65536}\n".as_slice()

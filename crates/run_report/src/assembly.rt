@@ -108,7 +108,11 @@ fn joined(alloc: Global, made: &[Vec<u8>]) -> Result<Vec<u8>, NoMemory>
 
 /// The whole report, for a script with these outcomes. Search lines read their commits from the
 /// store.
-pub fn report<S: Store>(alloc: Global, store: &mut S, outcomes: &[Outcome]) -> Result<Vec<u8>, OpenFault>
+pub fn report<S: Store>(
+    alloc: Global,
+    store: &mut S,
+    outcomes: &[Outcome],
+) -> Result<Vec<u8>, OpenFault>
     ensures text { (files : Files) (rows_of : ℕ → List Row) → told_files (S.disk store.old) ≡ Some files → CanSearch files rows_of outcomes.now
         → IfOk result (λ bytes. bytes.items ≡ texts rows_of outcomes.now) }
     ensures whole { (files : Files) (rows_of : ℕ → List Row) → told_files (S.disk store.old) ≡ Some files → CanSearch files rows_of outcomes.now

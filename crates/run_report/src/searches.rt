@@ -55,7 +55,11 @@ impl SearchedCommit {
     }
 
     /// The commit of this number, as the store has it.
-    fn open<S: Store>(alloc: Global, store: &mut S, number: u64) -> Result<SearchedCommit, OpenFault>
+    fn open<S: Store>(
+        alloc: Global,
+        store: &mut S,
+        number: u64,
+    ) -> Result<SearchedCommit, OpenFault>
         ensures indexed { IfOk result IsIndexed }
         ensures number { IfOk result (λ commit. commit.number ≡ number) }
         ensures rows { (files : Files) (rows : List Row) → told_files (S.disk store.old) ≡ Some files → HoldsCommit files number rows → IfOk result (λ commit. commit.rows ≡ rows) }
