@@ -145,7 +145,7 @@ commit_line base next rows lines done rest l w lasts outcomes d e c is act room 
         let whole : lines ≡ (done ++ l ∷ []) ++ rest = is ∙ sym (append_assoc done (l ∷ []) rest) in
         let one = one_more l rest (ap is_numbered act) in
         front_of base next rows lines (done ++ l ∷ []) rest (next_after w.next_id w.rows) d c whole (omega (arith, far.high, next-le w.next_id w.rows, ids_left lines done (l ∷ rest) is, one))
-        (stands_line base next rows lines done rest l (Do CommitOperation) w lasts outcomes d e c is act refl room far starts stands made)
+        (stands_line base next rows lines done rest l (Do CommitOperation) w lasts outcomes d e c is act room far starts stands made)
 
 -- a crash while a line is done leaves a front
 front_line : (base next : ℕ) (rows : List Row) (lines done rest : List Line) (l : Line) (a : Act) (w : Writer) (lasts : List ℕ) (outcomes : List Outcome) (d e c : Files)
