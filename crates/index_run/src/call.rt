@@ -43,7 +43,7 @@ pub struct Ended<S> {
 /// | 0 | the script was done and its report written |
 /// | 2 | exactly where the words are not `run` |
 /// | 3 | exactly where the input has a bad line, which the line that is written names |
-/// | 4 | for want of memory, at any point; nothing is written |
+/// | 4 | where memory ran out, at any point; nothing is written |
 /// | 5, 6, 7 | only where the source, the sink or the store failed in this call |
 /// | 8 | only where a file of a commit that this run reads is not in the grammar, or absent: of the last commit, or of one that a search line asks for |
 /// | 10 | exactly where the last commit's number is above 2^61 |
