@@ -13,7 +13,7 @@ use Rattle.ix_base.specs.Documents.{Document}
 use Rattle.ix_base.specs.Codec.{◌>>=◌, number_at, signed_at, text_at, name_at}
 use Rattle.ix_base.specs.CodecLaws.{bind_ok, ok_is, passes, Takes, Takes-then, u32_takes, u32_again, u64_takes, u64_again, signed_takes, signed_again, text_takes, text_again}
 use Rattle.ix_base.specs.Spelling.{be32, be64, signed64, text_bytes, AreBytes}
-use Rattle.commit_point.specs.Spelling.{field, fields, number, numbers, document}
+use Rattle.commit_point.specs.Spelling.{field, fields, number_bytes, numbers_bytes, document}
 use Rattle.commit_point.specs.Fits.{FieldFits, NumberFits, DocumentFits}
 use Rattle.commit_point.specs.Fields.{name_where, items_at, comes_after, is_key, is_free_name, may_name, field_at, fields_at, numbered_at, numbers_at, document_at}
 use Rattle.commit_point.proofs.NumberLaws.{name_where_takes, name_where_again}
@@ -230,7 +230,7 @@ pub record NumberGood (last : Option (List ℕ)) (pair : List ℕ × ℤ) : Type
   pub fits : NumberFits pair
   pub named : comes_after last pair.0 ≡ true
 
-number_takes : TakesItem numbered_at number NumberGood
+number_takes : TakesItem numbered_at number_bytes NumberGood
 unfolding numbered_at
 number_takes last bytes x fits e =
     let a = bind_ok (name_where (comes_after last) bytes) (λ name. signed_at name.1 >>= λ t. Ok ((name.0, t.0), t.1)) x e in
@@ -239,29 +239,29 @@ number_takes last bytes x fits e =
     let t1 = signed_takes a.0.1 b.0 t0.0.rest_fits b.1 in
     let both = Takes-then bytes (text_bytes a.0.0) a.0.1 (signed64 b.0.0) b.0.1 t0.0 t1.0 in
     let made : (List ℕ × ℤ) × List ℕ = ((a.0.0, b.0.0), b.0.1) in
-    subst (λ (y : (List ℕ × ℤ) × List ℕ). Takes bytes (number y.0) y.1 × NumberGood last y.0) (ok_is made x b.2) (both, record { fits = record { name = t0.1; value = t1.1 }; named = t0.2 })
+    subst (λ (y : (List ℕ × ℤ) × List ℕ). Takes bytes (number_bytes y.0) y.1 × NumberGood last y.0) (ok_is made x b.2) (both, record { fits = record { name = t0.1; value = t1.1 }; named = t0.2 })
 
-number_again : GivesItem numbered_at number NumberGood
+number_again : GivesItem numbered_at number_bytes NumberGood
 unfolding numbered_at
 number_again last pair rest good =
-    let regrouped : number pair ++ rest ≡ text_bytes pair.0 ++ (signed64 pair.1 ++ rest) = append_assoc (text_bytes pair.0) (signed64 pair.1) rest in
+    let regrouped : number_bytes pair ++ rest ≡ text_bytes pair.0 ++ (signed64 pair.1 ++ rest) = append_assoc (text_bytes pair.0) (signed64 pair.1) rest in
     ap (numbered_at last) regrouped ∙ rw (name_where_again (comes_after last) pair.0 (signed64 pair.1 ++ rest) good.fits.name good.named, signed_again pair.1 rest good.fits.value) refl
 
 pub numbers_take : (bytes : List ℕ) (x : List (List ℕ × ℤ) × List ℕ) → AreBytes bytes → numbers_at bytes ≡ Ok x
-    → Takes bytes (numbers x.0) x.1 × (length x.0 < 2 ^ 64) × AllGood NumberGood own_name None x.0
+    → Takes bytes (numbers_bytes x.0) x.1 × (length x.0 < 2 ^ 64) × AllGood NumberGood own_name None x.0
 unfolding numbers_at
 numbers_take bytes x fits e =
     let a = bind_ok (number_at w64 bytes) (λ n. items_at numbered_at own_name None n.0 n.1) x e in
     let t0 = u64_takes bytes a.0 fits a.1 in
-    let t1 = items_take numbered_at own_name number NumberGood number_takes None a.0.0 a.0.1 x t0.0.rest_fits a.2 in
-    let both = Takes-then bytes (be64 a.0.0) a.0.1 (flat_map number x.0) x.1 t0.0 t1.0 in
-    (subst (λ (n : ℕ). Takes bytes (be64 n ++ flat_map number x.0) x.1) (sym t1.1) both, omega (arith, t0.1, t1.1), t1.2)
+    let t1 = items_take numbered_at own_name number_bytes NumberGood number_takes None a.0.0 a.0.1 x t0.0.rest_fits a.2 in
+    let both = Takes-then bytes (be64 a.0.0) a.0.1 (flat_map number_bytes x.0) x.1 t0.0 t1.0 in
+    (subst (λ (n : ℕ). Takes bytes (be64 n ++ flat_map number_bytes x.0) x.1) (sym t1.1) both, omega (arith, t0.1, t1.1), t1.2)
 
-pub numbers_again : (pairs : List (List ℕ × ℤ)) (rest : List ℕ) → length pairs < 2 ^ 64 → AllGood NumberGood own_name None pairs → numbers_at (numbers pairs ++ rest) ≡ Ok (pairs, rest)
+pub numbers_again : (pairs : List (List ℕ × ℤ)) (rest : List ℕ) → length pairs < 2 ^ 64 → AllGood NumberGood own_name None pairs → numbers_at (numbers_bytes pairs ++ rest) ≡ Ok (pairs, rest)
 unfolding numbers_at
 numbers_again pairs rest short good =
-    let regrouped : numbers pairs ++ rest ≡ be64 (length pairs) ++ (flat_map number pairs ++ rest) = append_assoc (be64 (length pairs)) (flat_map number pairs) rest in
-    ap numbers_at regrouped ∙ rw (u64_again (length pairs) (flat_map number pairs ++ rest) short) (items_again numbered_at own_name number NumberGood number_again None pairs rest good)
+    let regrouped : numbers_bytes pairs ++ rest ≡ be64 (length pairs) ++ (flat_map number_bytes pairs ++ rest) = append_assoc (be64 (length pairs)) (flat_map number_bytes pairs) rest in
+    ap numbers_at regrouped ∙ rw (u64_again (length pairs) (flat_map number_bytes pairs ++ rest) short) (items_again numbered_at own_name number_bytes NumberGood number_again None pairs rest good)
 
 -- ---- documents
 
@@ -276,9 +276,9 @@ document_takes bytes x fits e =
     let t1 = fields_take [] a.0.1 b.0 t0.0.rest_fits b.1 in
     let t2 = fields_take (names b.0.0) b.0.1 c.0 t1.0.rest_fits c.1 in
     let t3 = numbers_take c.0.1 d.0 t2.0.rest_fits d.1 in
-    let e23 = Takes-then b.0.1 (fields c.0.0) c.0.1 (numbers d.0.0) d.0.1 t2.0 t3.0 in
-    let e13 = Takes-then a.0.1 (fields b.0.0) b.0.1 (fields c.0.0 ++ numbers d.0.0) d.0.1 t1.0 e23 in
-    let e03 = Takes-then bytes (text_bytes a.0.0) a.0.1 (fields b.0.0 ++ (fields c.0.0 ++ numbers d.0.0)) d.0.1 t0.0 e13 in
+    let e23 = Takes-then b.0.1 (fields c.0.0) c.0.1 (numbers_bytes d.0.0) d.0.1 t2.0 t3.0 in
+    let e13 = Takes-then a.0.1 (fields b.0.0) b.0.1 (fields c.0.0 ++ numbers_bytes d.0.0) d.0.1 t1.0 e23 in
+    let e03 = Takes-then bytes (text_bytes a.0.0) a.0.1 (fields b.0.0 ++ (fields c.0.0 ++ numbers_bytes d.0.0)) d.0.1 t0.0 e13 in
     let made : Document × List ℕ = (record { key = a.0.0; text = b.0.0; exact = c.0.0; num = d.0.0 }, d.0.1) in
     subst (λ (y : Document × List ℕ). Takes bytes (document y.0) y.1 × DocumentFits y.0) (ok_is made x d.2) (
       e03,
@@ -309,12 +309,12 @@ numbers_good pairs fits rises = good_both NumberGood Comes NumberFits own_name (
 pub document_again : (doc : Document) (rest : List ℕ) → DocumentFits doc → document_at (document doc ++ rest) ≡ Ok (doc, rest)
 unfolding document_at
 document_again doc rest fits =
-    let regrouped : document doc ++ rest ≡ text_bytes doc.key ++ (fields doc.text ++ (fields doc.exact ++ (numbers doc.num ++ rest))) =
-    append_assoc (text_bytes doc.key) (fields doc.text ++ (fields doc.exact ++ numbers doc.num)) rest
-    ∙ ap (λ (x : List ℕ). text_bytes doc.key ++ x) (append_assoc (fields doc.text) (fields doc.exact ++ numbers doc.num) rest)
-    ∙ ap (λ (x : List ℕ). text_bytes doc.key ++ (fields doc.text ++ x)) (append_assoc (fields doc.exact) (numbers doc.num) rest) in
+    let regrouped : document doc ++ rest ≡ text_bytes doc.key ++ (fields doc.text ++ (fields doc.exact ++ (numbers_bytes doc.num ++ rest))) =
+    append_assoc (text_bytes doc.key) (fields doc.text ++ (fields doc.exact ++ numbers_bytes doc.num)) rest
+    ∙ ap (λ (x : List ℕ). text_bytes doc.key ++ x) (append_assoc (fields doc.text) (fields doc.exact ++ numbers_bytes doc.num) rest)
+    ∙ ap (λ (x : List ℕ). text_bytes doc.key ++ (fields doc.text ++ x)) (append_assoc (fields doc.exact) (numbers_bytes doc.num) rest) in
     let free = free_of doc.text doc.exact fits.apart in
-    let after_exact = numbers doc.num ++ rest in
+    let after_exact = numbers_bytes doc.num ++ rest in
     let after_text = fields doc.exact ++ after_exact in
     ap document_at regrouped ∙ rw (
       text_again doc.key (fields doc.text ++ after_text) fits.key,

@@ -20,14 +20,14 @@ field pair = text_bytes pair.0 ++ text_bytes pair.1
 abbrev pub fields : List (List ℕ × List ℕ) → List ℕ
 fields pairs = be32 (length pairs) ++ flat_map field pairs
 
-abbrev pub number : List ℕ × ℤ → List ℕ
-number pair = text_bytes pair.0 ++ signed64 pair.1
+abbrev pub number_bytes : List ℕ × ℤ → List ℕ
+number_bytes pair = text_bytes pair.0 ++ signed64 pair.1
 
-abbrev pub numbers : List (List ℕ × ℤ) → List ℕ
-numbers pairs = be64 (length pairs) ++ flat_map number pairs
+abbrev pub numbers_bytes : List (List ℕ × ℤ) → List ℕ
+numbers_bytes pairs = be64 (length pairs) ++ flat_map number_bytes pairs
 
 abbrev pub document : Document → List ℕ
-document doc = text_bytes doc.key ++ (fields doc.text ++ (fields doc.exact ++ numbers doc.num))
+document doc = text_bytes doc.key ++ (fields doc.text ++ (fields doc.exact ++ numbers_bytes doc.num))
 
 abbrev pub row : Row → List ℕ
 row r = be64 r.birth ++ document r.doc

@@ -3,7 +3,7 @@
 ghost use Rattle.std.specs.Prelude.{◌≡◌, ◌<◌, ◌^◌, ◌++◌, length, map, true, OnOk};
 ghost use Rattle.std.specs.List.{AllByRecursion};
 ghost use Rattle.ix_base.specs.Limits.{names_rise};
-ghost use Rattle.commit_point.specs.Spelling.{field, fields, number, numbers, document, row};
+ghost use Rattle.commit_point.specs.Spelling.{field, fields, number_bytes, numbers_bytes, document, row};
 ghost use Rattle.commit_point.specs.Fits.{FieldFits, NumberFits, DocumentFits};
 
 use ix_base::codec::{put_i64, put_name, put_text, put_u32, put_u64};
@@ -33,7 +33,7 @@ fn put_fields(out: &mut Vec<u8>, pairs: &Fields) -> Result<(), NoMemory>
 }
 
 fn put_number(out: &mut Vec<u8>, pair: &(Name, i64)) -> Result<(), NoMemory>
-    ensures bytes { OnOk result (out.new.items ≡ out.old.items ++ number pair.now) }
+    ensures bytes { OnOk result (out.new.items ≡ out.old.items ++ number_bytes pair.now) }
     ensures fits { OnOk result (NumberFits pair.now) }
 {
     put_name(out, &pair.0)?;
@@ -42,7 +42,7 @@ fn put_number(out: &mut Vec<u8>, pair: &(Name, i64)) -> Result<(), NoMemory>
 }
 
 fn put_numbers(out: &mut Vec<u8>, pairs: &Numbers) -> Result<(), NoMemory>
-    ensures bytes { OnOk result (out.new.items ≡ out.old.items ++ numbers pairs.now) }
+    ensures bytes { OnOk result (out.new.items ≡ out.old.items ++ numbers_bytes pairs.now) }
     ensures fits { OnOk result (AllByRecursion NumberFits pairs.now) }
     ensures count { OnOk result (length pairs.now < 2 ^ 64) }
     ensures rise { names_rise (map (λ pair. pair.0) pairs.now) ≡ true }

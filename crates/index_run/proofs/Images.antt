@@ -33,7 +33,7 @@ use Rattle.index_run.specs.Crashes.{HasAll, HasFront}
 use Rattle.index_run.proofs.Far.{Far, SoFar, files_line, kept_line, elsewhere_of, has_widen, commits_done}
 use Rattle.index_run.proofs.Kept.{AllBelow, Made, commits_none, kept_more, keeps_itself, nat_or}
 
--- a front of the script's commits
+-- the first of the script's commits, up to some number
 abbrev pub Front : ℕ → ℕ → List Row → List Line → Files → Files → Type 0
 Front base next rows lines = HasFront base next rows (numbered lines) (next + length (numbered lines))
 
@@ -42,7 +42,7 @@ pub record Stands (base next : ℕ) (rows : List Row) (lines done : List Line) (
   pub commits : SoFar base next rows lines done limit old new
   pub kept : KeepsCommits old new
 
--- the lines that are done are a front of the log
+-- the lines that are done are a prefix of the log
 front_of : (base next : ℕ) (rows : List Row) (lines done rest : List Line) (limit : ℕ) (d c : Files) → lines ≡ done ++ rest → limit ≤ next + length (numbered lines)
     → Stands base next rows lines done limit d c → Front base next rows lines d c
 front_of base next rows lines done rest limit d c is le stands =
@@ -147,7 +147,7 @@ commit_line base next rows lines done rest l w lasts outcomes d e c is act room 
         front_of base next rows lines (done ++ l ∷ []) rest (next_after w.next_id w.rows) d c whole (omega (arith, far.high, next-le w.next_id w.rows, ids_left lines done (l ∷ rest) is, one))
         (stands_line base next rows lines done rest l (Do CommitOperation) w lasts outcomes d e c is act room far starts stands made)
 
--- a crash while a line is done leaves a front
+-- a crash while a line is done leaves the first of the commits
 front_line : (base next : ℕ) (rows : List Row) (lines done rest : List Line) (l : Line) (a : Act) (w : Writer) (lasts : List ℕ) (outcomes : List Outcome) (d e c : Files)
     → lines ≡ done ++ l ∷ rest → l.act ≡ a → w.next_id < 2 ^ 62 → Far base next rows done w lasts outcomes → Starts d base next
     → Stands base next rows lines done w.next_id d e → MayLeave w a e c → Front base next rows lines d c

@@ -25,7 +25,7 @@ pub record HasAll (base next : ℕ) (rows : List Row) (lines : List Line) (old n
   pub commits : HasCommits base next rows (numbered lines) (commit_numbers base (numbered lines)) (next + length (numbered lines)) old new
   pub kept : KeepsCommits old new
 
--- A run that was stopped: for one order of the numbered lines, the store has a front of that order's commits.
+-- A run that was stopped: for one order of the numbered lines, the store has the first of that order's commits, up to some number.
 pub record StopsRight (base next : ℕ) (rows : List Row) (lines : List Line) (old new : Files) : Type 0 where
   pub log : List Line
   pub numbering : Interleaves lines log

@@ -43,7 +43,7 @@ pub struct Ended<S> {
 /// | 0 | the script was done and its report written |
 /// | 2 | exactly where the words are not `run` |
 /// | 3 | exactly where the input has a bad line, which the line that is written names |
-/// | 4 | for want of memory, at any point; nothing is written |
+/// | 4 | where memory ran out, at any point; nothing is written |
 /// | 5, 6, 7 | only where the source, the sink or the store failed in this call |
 /// | 8 | only where a file of a commit that this run reads is not in the grammar, or absent: of the last commit, or of one that a search line asks for |
 /// | 10 | exactly where the last commit's number is above 2^61 |
@@ -68,7 +68,7 @@ pub fn top<R: Threads + Wait, I: Source, O: Sink, S: Store, G: Gate>(
     store: S,
     gate: &G,
 ) -> Ended<S>
-    // Every status, and when it comes. Want of memory, 4, is free.
+    // Every status, and when it comes. Out of memory, 4, is free.
     ensures statuses { IsOneOf result.status (0 ∷ 2 ∷ 3 ∷ 4 ∷ 5 ∷ 6 ∷ 7 ∷ 8 ∷ 10 ∷ []) }
     ensures words { result.status ≡ 2 → (IsAccepted words.now → ⊥) × WritesFront (O.written out.old) (O.written out.new) (O.fault_count out.old) (O.fault_count out.new) (fault_text Fault.Words) }
     ensures unread { result.status ≡ 2 → input.new ≡ input.old }
@@ -100,7 +100,7 @@ pub fn top<R: Threads + Wait, I: Source, O: Sink, S: Store, G: Gate>(
     ensures headline { (bytes : List ℕ) (lines : List Line) (files : Files) (base next : ℕ) (rows : List Row) → I.left input.old ≡ Some bytes → script bytes ≡ Ok lines
         → told_files (S.disk store) ≡ Some files → Begins files base next rows → result.status ≡ 0
         → Changes (RunsRight base next rows lines (λ text. Appends (O.written out.old) (O.written out.new) text)) (told_files (S.disk store)) (told_files (S.disk result.store)) }
-    // Where the sink fails, the commits are the same, and a front of the report was written.
+    // Where the sink fails, the commits are the same, and a prefix of the report was written.
     ensures front { (bytes : List ℕ) (lines : List Line) (files : Files) (base next : ℕ) (rows : List Row) → I.left input.old ≡ Some bytes → script bytes ≡ Ok lines
         → told_files (S.disk store) ≡ Some files → Begins files base next rows → result.status ≡ 6
         → Changes (RunsRight base next rows lines (λ text. (n : ℕ) × Appends (O.written out.old) (O.written out.new) (take n text))) (told_files (S.disk store)) (told_files (S.disk result.store)) }
@@ -111,7 +111,7 @@ pub fn top<R: Threads + Wait, I: Source, O: Sink, S: Store, G: Gate>(
     // At every status the commits that were there have their files and bytes.
     ensures kept { (files : Files) (base next : ℕ) (rows : List Row) → told_files (S.disk store) ≡ Some files → Begins files base next rows → Changes KeepsCommits (told_files (S.disk store)) (told_files (S.disk result.store)) }
 
-    // Every image has the commits of a run that came to its end; a crash at any moment leaves a front of them, each
+    // Every image has the commits of a run that came to its end; a crash at any moment leaves the first of them, each
     // whole. The commits that were there have their files and bytes in each.
     ensures acknowledged { (bytes : List ℕ) (lines : List Line) (files : Files) (base next : ℕ) (rows : List Row) → I.left input.old ≡ Some bytes → script bytes ≡ Ok lines
         → told_files (S.disk store) ≡ Some files → Begins files base next rows → AreKept files (MayHold (S.disk store))

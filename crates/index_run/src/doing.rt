@@ -43,7 +43,7 @@ pub fn do_script<S: Store, G: Gate>(
         → IfOk result (λ text. Changes (DoesScript base next rows lines text.items) (told_files (S.disk store.old)) (told_files (S.disk store.new))) }
     ensures kept { (files : Files) (base next : ℕ) (rows : List Row) → told_files (S.disk store.old) ≡ Some files → Begins files base next rows
         → Changes KeepsCommits (told_files (S.disk store.old)) (told_files (S.disk store.new)) }
-    // Once the script is done every image has its commits; a crash meanwhile leaves a front of them, each whole.
+    // Once the script is done every image has its commits; a crash meanwhile leaves the first of them, each whole.
     ensures acknowledged { (files : Files) (base next : ℕ) (rows : List Row) → told_files (S.disk store.old) ≡ Some files → Begins files base next rows → AreKept files (MayHold (S.disk store.old))
         → IfOk result (λ text. (c : Files) → MayHold (S.disk store.new) c → DoesScript base next rows lines text.items files c) }
     ensures crash { (files : Files) (base next : ℕ) (rows : List Row) → told_files (S.disk store.old) ≡ Some files → Begins files base next rows → AreKept files (MayHold (S.disk store.old))

@@ -118,7 +118,7 @@ pub fn do_lines<S: Store, G: Gate>(
         → OnOk result (Changes (HasCommits writer.number writer.next_id writer.rows (numbered lines) (commit_numbers writer.number (numbered lines)) (writer.next_id + length (numbered lines))) (told_files (S.disk store.old)) (told_files (S.disk store.new))) }
     ensures kept { (files : Files) → told_files (S.disk store.old) ≡ Some files → Starts files writer.number writer.next_id → writer.next_id ≤ 2 ^ 61
         → Changes KeepsCommits (told_files (S.disk store.old)) (told_files (S.disk store.new)) }
-    // Once the lines are done every image has their commits; a crash meanwhile leaves a front of them, each whole.
+    // Once the lines are done every image has their commits; a crash meanwhile leaves the first of them, each whole.
     ensures acknowledged { (files : Files) → told_files (S.disk store.old) ≡ Some files → ((d : Files) → MayHold (S.disk store.old) d → Starts d writer.number writer.next_id) → writer.next_id ≤ 2 ^ 61
         → OnOk result (Follows (HasAll writer.number writer.next_id writer.rows lines) (MayHold (S.disk store.old)) (MayHold (S.disk store.new))) }
     ensures crash { (files : Files) → told_files (S.disk store.old) ≡ Some files → ((d : Files) → MayHold (S.disk store.old) d → Starts d writer.number writer.next_id) → writer.next_id ≤ 2 ^ 61

@@ -62,7 +62,7 @@ pub fn run<I: Source, O: Sink, S: Store, G: Gate>(
     ensures end { OnOk result (IsAtEnd (I.left input.new)) }
     ensures bound { TakesUpTo (most_bytes + 1) (I.left input.old) (I.left input.new) }
     ensures kept { (files : Files) (base next : ℕ) (rows : List Row) → told_files (S.disk store.old) ≡ Some files → Begins files base next rows → Changes KeepsCommits (told_files (S.disk store.old)) (told_files (S.disk store.new)) }
-    // Every image has the commits of a run that came to its end; a crash at any moment leaves a front of them, each
+    // Every image has the commits of a run that came to its end; a crash at any moment leaves the first of them, each
     // whole. The commits that were there have their files and bytes in each.
     ensures acknowledged { (bytes : List ℕ) (lines : List Line) (files : Files) (base next : ℕ) (rows : List Row) → I.left input.old ≡ Some bytes → script bytes ≡ Ok lines
         → told_files (S.disk store.old) ≡ Some files → Begins files base next rows → AreKept files (MayHold (S.disk store.old))

@@ -48,7 +48,7 @@ pub fn run_and_tell<I: Source, O: Sink, S: Store, G: Gate>(
     store: &mut S,
     gate: &G,
 ) -> u8
-    // Every status, and when it comes. Want of memory, 4, is free.
+    // Every status, and when it comes. Out of memory, 4, is free.
     ensures statuses { IsOneOf result (0 ∷ 2 ∷ 3 ∷ 4 ∷ 5 ∷ 6 ∷ 7 ∷ 8 ∷ 10 ∷ []) }
     ensures words { result ≡ 2 → (IsAccepted words.now → ⊥) × WritesFront (O.written out.old) (O.written out.new) (O.fault_count out.old) (O.fault_count out.new) (fault_text Fault.Words) }
     ensures unread { result ≡ 2 → input.new ≡ input.old }
@@ -80,7 +80,7 @@ pub fn run_and_tell<I: Source, O: Sink, S: Store, G: Gate>(
     ensures headline { (bytes : List ℕ) (lines : List Line) (files : Files) (base next : ℕ) (rows : List Row) → I.left input.old ≡ Some bytes → script bytes ≡ Ok lines
         → told_files (S.disk store.old) ≡ Some files → Begins files base next rows → result ≡ 0
         → Changes (RunsRight base next rows lines (λ text. Appends (O.written out.old) (O.written out.new) text)) (told_files (S.disk store.old)) (told_files (S.disk store.new)) }
-    // Where the sink fails, the commits are the same, and a front of the report was written.
+    // Where the sink fails, the commits are the same, and a prefix of the report was written.
     ensures front { (bytes : List ℕ) (lines : List Line) (files : Files) (base next : ℕ) (rows : List Row) → I.left input.old ≡ Some bytes → script bytes ≡ Ok lines
         → told_files (S.disk store.old) ≡ Some files → Begins files base next rows → result ≡ 6
         → Changes (RunsRight base next rows lines (λ text. (n : ℕ) × Appends (O.written out.old) (O.written out.new) (take n text))) (told_files (S.disk store.old)) (told_files (S.disk store.new)) }
@@ -90,7 +90,7 @@ pub fn run_and_tell<I: Source, O: Sink, S: Store, G: Gate>(
     // At every status the commits that were there have their files and bytes.
     ensures kept { (files : Files) (base next : ℕ) (rows : List Row) → told_files (S.disk store.old) ≡ Some files → Begins files base next rows → Changes KeepsCommits (told_files (S.disk store.old)) (told_files (S.disk store.new)) }
 
-    // Every image has the commits of a run that came to its end; a crash at any moment leaves a front of them, each
+    // Every image has the commits of a run that came to its end; a crash at any moment leaves the first of them, each
     // whole. The commits that were there have their files and bytes in each.
     ensures acknowledged { (bytes : List ℕ) (lines : List Line) (files : Files) (base next : ℕ) (rows : List Row) → I.left input.old ≡ Some bytes → script bytes ≡ Ok lines
         → told_files (S.disk store.old) ≡ Some files → Begins files base next rows → AreKept files (MayHold (S.disk store.old))

@@ -80,7 +80,7 @@ fn counted(digits: &str) -> Option<u64>
     }
 }
 
-/// The number from 1 that stands in the text between this front and this end.
+/// The number from 1 that stands in the text between this prefix and this suffix.
 fn number_between(front: &str, text: &str, end: &str) -> Option<u64>
     ensures some { IfSome result (λ number. IsCounted number × (text.now ≡ front.now ++ (decimal number ++ end.now))) }
     ensures none { result ≡ None → (number : ℕ) → IsCounted number → text.now ≡ front.now ++ (decimal number ++ end.now) → ⊥ }

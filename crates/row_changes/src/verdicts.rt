@@ -1,4 +1,5 @@
-//! What is decided of each row before any row changes, so that nothing has changed where memory runs out.
+//! What is decided of each row before any row changes: so nothing has changed where memory runs
+//! out.
 ghost use Rattle.std.specs.Prelude.{◌≡◌, ◌<◌, [], map, IfOk};
 ghost use Rattle.std.specs.Vec.{vec_len, vec_capacity};
 ghost use Rattle.ix_base.specs.Matches.{matches};

@@ -23,7 +23,7 @@ not_search (Searched s q) none = absurd (none s q refl)
 abbrev Bytes : Type 0
 Bytes = Vec ℕ Global
 
--- what holds of a text holds of it when want of memory is told otherwise
+-- what holds of a text holds of it where out of memory is told by another type
 pub same_text : (P : Bytes → Type 0) (found : Result Bytes NoMemory) (told : Result Bytes OpenFault) → IfOk told (λ bytes. found ≡ Ok bytes) → IfOk found P → IfOk told P
 same_text P found (Ok bytes) is holds = let Q : Result Bytes NoMemory → Type 0 = λ r. IfOk r P in subst Q is holds
 same_text P found (Err stop) is holds = tt

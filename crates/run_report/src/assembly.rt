@@ -107,7 +107,10 @@ fn joined(alloc: Global, made: &[Vec<u8>]) -> Result<Vec<u8>, NoMemory>
 }
 
 /// The whole report, for a script with these outcomes. Search lines read their commits from the
-/// store.
+/// store, which is as before, whatever is answered.
+///
+/// `Store` comes only where the store's count of faults rose; `Damaged` names the first broken place
+/// of a commit that a search line asks for. `NoSuch` never comes.
 pub fn report<S: Store>(
     alloc: Global,
     store: &mut S,
