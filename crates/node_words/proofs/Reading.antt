@@ -1,4 +1,4 @@
--- Reading queries from the front of bytes.
+-- Reading queries from the start of bytes.
 use Rattle.std.proofs.Common.{◌≡◌, ℕ, ◌+◌, ◌<◌, ◌≤◌, ◌^◌, List, [], ◌∷◌, ◌++◌, length, drop, sym, ap, subst, ◌∙◌, append_assoc, arith, length-append}
 use Rattle.ix_base.specs.EntryLaws.{length-be32}
 use Rattle.ix_base.specs.Query.{tree_of, trees_of}
