@@ -68,7 +68,7 @@ setting_begins term name value bytes mid late rest p q r =
 pub no_spelling : {V : Type 0} (IsOne : V → Type 0) (spelling : V → List ℕ) (start bytes : List ℕ) → start ≡ bytes → NoneAtStart IsOne spelling start → IsNoSpelling IsOne spelling bytes
 no_spelling IsOne spelling start bytes s h v is e = h v [] is (s ∙ e ∙ sym (append-nil (spelling v)))
 
--- bytes with more behind a value spell none
+-- bytes with more after a value spell none
 pub more_behind : {V : Type 0} (IsOne : V → Type 0) (spelling : V → List ℕ) → OneForm IsOne spelling → (v : V) (start bytes rest : List ℕ) → start ≡ bytes → StandsAtStart IsOne spelling v start rest → 0 < length rest
     → IsNoSpelling IsOne spelling bytes
 more_behind IsOne spelling one v start bytes rest s p some w is e =

@@ -81,7 +81,7 @@ sub-zero n = omega arith
 past : (n : ℕ) (bytes : List ℕ) → length bytes ≤ n → drop n bytes ≡ []
 past n bytes le = nil_from_length (drop n bytes) (omega (arith, length-drop n bytes))
 
--- the words' bytes are the bytes, and zeros behind them
+-- the words' bytes are the bytes, and zeros after them
 pub bytes_packed : (n : ℕ) (bytes : List ℕ) → AreBytes bytes → length bytes ≤ 8 * n → flat_map be64 (words_in n bytes) ≡ bytes ++ zeros (8 * n - length bytes)
 bytes_packed zero bytes fits le =
     let none : bytes ≡ [] = nil_from_length bytes (omega arith) in
@@ -169,7 +169,7 @@ none_held words h rest e not kind bytes p =
 abbrev pub IsZero : List ℕ → Type 0
 IsZero bytes = (i : ℕ) → i < length bytes → get_or bytes i 0 ≡ 0
 
--- words with something behind the bytes hold nothing
+-- words with something after the bytes hold nothing
 pub not_filled : (words : List ℕ) (h : ℕ) (rest all : List ℕ) → words ≡ h ∷ rest → all ≡ flat_map be64 rest → (IsZero (drop (head_len h) all) → ⊥) → (kind : ℕ) (bytes : List ℕ) → HoldsBytes words kind bytes → ⊥
 not_filled words h rest all e a not kind bytes p =
     let s = same_words _ _ _ _ (sym e ∙ p.spelled) in
@@ -180,7 +180,7 @@ not_filled words h rest all e a not kind bytes p =
     let behind : drop (head_len h) all ≡ ends = ap (λ (k : ℕ). drop k all) len ∙ ap (drop (length bytes)) filled ∙ drop_at bytes ends (length bytes) refl in
     not (λ i lt. ap (λ (t : List ℕ). get_or t i 0) behind ∙ zero_at (8 * words_for (length bytes) - length bytes) i)
 
--- bytes with zeros behind them are held
+-- bytes with zeros after them are held
 pub found_held : (words : List ℕ) (h : ℕ) (rest all : List ℕ) → words ≡ h ∷ rest → AreWords rest → AreBytes all → all ≡ flat_map be64 rest → head_len h ≤ 131072 → length rest ≡ words_for (head_len h)
     → IsZero (drop (head_len h) all) → HoldsBytes words (head_kind h) (take (head_len h) all)
 found_held words h rest all e fit small a short count empty =
@@ -201,7 +201,7 @@ found_held words h rest all e fit small a short count empty =
       spelled = e ∙ ap (λ (k : ℕ). k ∷ rest) whole ∙ ap (λ (t : List ℕ). head (head_kind h) (length (take len all)) ∷ t) (sym same);
     }
 
--- ---- a head and the words behind it
+-- ---- a head word and the words after it
 
 pub parts : (words : List ℕ) → 1 ≤ length words → words ≡ get_or words 0 0 ∷ take (length words - 1) (drop 1 words)
 parts [] le = absurd (omega arith)

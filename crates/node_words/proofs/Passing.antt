@@ -6,7 +6,7 @@ use Rattle.ix_base.specs.Spelling.{be32}
 use Rattle.ix_base.specs.Tree.{Tree, all, term, phrase, bool, Trees, no_trees, tree}
 use Rattle.node_words.specs.Reads.{StandsAtStart, IsPair, pair_bytes, byte_alone, Pair}
 
--- these queries, and one more behind them
+-- these queries, and one more after them
 abbrev and_one : Trees → Tree → Trees
 and_one no_trees q = tree q no_trees
 and_one (tree r rs) q = tree r (and_one rs q)

@@ -19,7 +19,8 @@ use std::alloc::Global;
 /// bytes; no memory is taken then. `NoMemory` is returned only where it is not refused.
 pub fn encode(alloc: Global, operation: &Operation) -> Result<Vec<u64>, Refused>
     ensures words { IfOk result (λ words. Spells words.items (entry_of operation.now)) }
-    ensures refusal { MatchResult result (λ _. own_refusal operation.now ≡ None) (λ refused. Refuses refused (own_refusal operation.now)) }
+    ensures refusal { MatchResult result (λ _. own_refusal operation.now ≡ None)
+        (λ refused. Refuses refused (own_refusal operation.now)) }
 {
     if let Some(refusal) = refusal(operation) {
         return Err(Refused::For(refusal));

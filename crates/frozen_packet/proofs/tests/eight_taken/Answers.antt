@@ -1,4 +1,4 @@
-use Rattle.std.proofs.Common.{◌≤◌, arith}
+use Rattle.std.proofs.Common.{arith}
 use Rattle.frozen_packet.specs.Updates.{as_operations}
 use Rattle.frozen_packet.proofs.Taking.{within_later}
 use Rattle.frozen_packet.proofs.tests.eight_taken.Goals as goal
