@@ -6,6 +6,7 @@ use Rattle.std.proofs.lemmas.Bool.{and_parts, eqb-true, eq-eqb}
 use Rattle.std.proofs.Math.Bool.{or_assoc, or-false}
 use Rattle.std.proofs.lemmas.List.{append-nil}
 use Rattle.std.proofs.lemmas.List.Sorted.{length_permutation}
+use Rattle.std.proofs.lemmas.Bool.{and_from}
 use Rattle.ix_base.specs.declared.file_name.FileName.{FileName}
 use Rattle.ix_base.specs.declared.file_name.FileName.TheVariants.{Commit, Pending, Rows, Posts, Live, Values}
 use Rattle.ix_base.specs.declared.document.Row.{Row}
@@ -42,17 +43,14 @@ name_is (Live a v) (Live b w) e = let h = and_parts (eqb a b) (eqb v w) e in let
 name_is (Values a v) (Values b w) e = let h = and_parts (eqb a b) (eqb v w) e in let p = eqb-true _ _ h.0 in let q = eqb-true _ _ h.1 in cc
 name_is a b e = absurd cc
 
-both : (a b : Bool) → a ≡ true → b ≡ true → (a && b) ≡ true
-both a b p q = rw (p, q) refl
-
 name_itself : (a : FileName) → same_name a a ≡ true
 unfolding same_name
 name_itself (Commit a) = eq-eqb a a refl
 name_itself (Pending a) = eq-eqb a a refl
 name_itself (Rows a) = eq-eqb a a refl
 name_itself (Posts a) = eq-eqb a a refl
-name_itself (Live a v) = both (eqb a a) (eqb v v) (eq-eqb a a refl) (eq-eqb v v refl)
-name_itself (Values a v) = both (eqb a a) (eqb v v) (eq-eqb a a refl) (eq-eqb v v refl)
+name_itself (Live a v) = and_from (eqb a a) (eqb v v) (eq-eqb a a refl) (eq-eqb v v refl)
+name_itself (Values a v) = and_from (eqb a a) (eqb v v) (eq-eqb a a refl) (eq-eqb v v refl)
 
 -- the files with another content of this one
 with_file : FileName → Option (List ℕ) → Files → Files

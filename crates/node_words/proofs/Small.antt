@@ -5,6 +5,7 @@ use lib.Utf8.{scalar, scalars, next, encode, encodes, scalar_cases}
 use Rattle.std.specs.Int.{w64, cast_unsigned}
 use Rattle.std.specs.Str.{IsUtf8}
 use Rattle.std.proofs.lemmas.Bool.{cases_lt, lt-ltb, le-ltb}
+use Rattle.std.proofs.lemmas.Bool.{and_parts}
 use Rattle.ix_base.specs.Entry.{Entry, add, update, delete_term, delete_query, set_number, commit, turn, kind_of, entry_bytes, term_bytes, IsOwnTerm, IsEntry}
 use Rattle.ix_base.specs.EntryLaws.{most_bytes}
 use Rattle.ix_base.specs.QueryBytes.{count_of, query_bytes, queries_bytes, list_bytes, IsQuery, AreQueries}
@@ -55,14 +56,10 @@ encode_fits c lt =
       ])
     ]
 
-both_true : (a b : Bool) → (a && b) ≡ true → (a ≡ true) × (b ≡ true)
-both_true true b e = (refl, e)
-both_true false b e = absurd cc
-
 encodes_fit : (cs : List ℕ) → scalars cs ≡ true → AreBytes (encodes cs)
 encodes_fit [] is = nil_fits
 encodes_fit (c ∷ cs) is =
-    let both = both_true (scalar c) (scalars cs) is in
+    let both = and_parts (scalar c) (scalars cs) is in
     append_fits (encode c) (encodes cs) (encode_fits c (below_top c both.0)) (encodes_fit cs both.1)
 
 utf8_fits : (text : List ℕ) → IsUtf8 text → AreBytes text

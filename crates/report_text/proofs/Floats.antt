@@ -3,6 +3,7 @@ use Rattle.std.proofs.Common.{◌≡◌, ℕ, ℤ, pos, negsuc, List, [], ◌∷
 use Rattle.std.specs.Ordering.{nat_cmp, match_ordering}
 use Rattle.std.specs.declared.cmp.Ordering.TheVariants.{Less, Equal, Greater}
 use Rattle.std.specs.Cmp.Lexicographic.{slice_cmp}
+use Rattle.std.proofs.lemmas.Bool.{or_parts, or_from}
 use Rattle.serde_json.specs.Data.{Data, Members, member, no_members, put}
 use Rattle.serde_json.specs.Find.{is_float, of_integer}
 use Rattle.serde_json.specs.View.{items_of}
@@ -16,21 +17,14 @@ is_float-of_integer : (z : ℤ) → is_float (of_integer z) ≡ false
 is_float-of_integer (pos n) = refl
 is_float-of_integer (negsuc n) = refl
 
-parts : (a b : Bool) → (a || b) ≡ false → (a ≡ false) × (b ≡ false)
-parts true b e = cc
-parts false b e = (refl, e)
-
-both_false : (a b : Bool) → a ≡ false → b ≡ false → (a || b) ≡ false
-both_false a b e h = rw e h
-
 members_have_float-put : (k : List ℕ) (d : Data) (ms : Members) → has_float d ≡ false → members_have_float ms ≡ false → members_have_float (put k d ms) ≡ false
-members_have_float-put k d no_members plain old = both_false _ _ plain refl
-members_have_float-put k d (member l e ms) plain old = go (members_have_float-put k d ms plain (parts _ _ old).1) (slice_cmp nat_cmp k l)
+members_have_float-put k d no_members plain old = or_from _ _ plain refl
+members_have_float-put k d (member l e ms) plain old = go (members_have_float-put k d ms plain (or_parts _ _ old).1) (slice_cmp nat_cmp k l)
   where
     go : members_have_float (put k d ms) ≡ false → (o : Ordering) → members_have_float (match_ordering o (member k d (member l e ms)) (member l d ms) (member l e (put k d ms))) ≡ false
-    go later Less = both_false _ _ plain old
-    go later Equal = both_false _ _ plain (parts _ _ old).1
-    go later Greater = both_false _ _ (parts _ _ old).0 later
+    go later Less = or_from _ _ plain old
+    go later Equal = or_from _ _ plain (or_parts _ _ old).1
+    go later Greater = or_from _ _ (or_parts _ _ old).0 later
 
 numbers_plain : (ms : Members) (nums : List (List ℕ × ℤ)) → members_have_float ms ≡ false → members_have_float (fold with_number ms nums) ≡ false
 numbers_plain ms [] old = old
@@ -41,7 +35,7 @@ hit_plain row = rw (numbers_plain no_members row.doc.num refl) refl
 
 hits_plain : (rows : List Row) → items_have_float (items_of (map hit_value rows)) ≡ false
 hits_plain [] = refl
-hits_plain (row ∷ rows) = both_false _ _ (hit_plain row) (hits_plain rows)
+hits_plain (row ∷ rows) = or_from _ _ (hit_plain row) (hits_plain rows)
 
 pub search_plain : (commit : ℕ) (rows : List Row) (line : ℕ) → has_float (search_value commit rows line) ≡ false
 search_plain commit rows line = rw (hits_plain rows) refl
