@@ -14,4 +14,3 @@ pub mod CommitNumbers
 pub mod Loading
 pub mod Opening
 pub mod Telling
-pub mod ReadingLaws

@@ -1,7 +1,7 @@
 //! What each operation does to three rows, and which operations are refused, worked out by hand.
 use crate::effect::take_effect;
 use crate::refusal::refusal_of;
-use ix_base::{Document, List, Name, NoMemory, Operation, Query, Row, Term, Text};
+use ix_base::{Document, List, Name, NoMemory, Operation, Query, Refusal, Row, Term, Text};
 use std::alloc::Global;
 
 fn text(alloc: Global, bytes: &str) -> Result<Text, NoMemory> {
