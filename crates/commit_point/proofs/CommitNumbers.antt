@@ -15,6 +15,7 @@ use Rattle.ix_base.specs.declared.file_name.FileName.{FileName}
 use Rattle.ix_base.specs.declared.file_name.FileName.TheVariants.{Commit}
 use Rattle.ix_outside.specs.Files.{Files, Lists}
 use Rattle.commit_point.specs.Loading.{names_commit}
+use Rattle.commit_point.proofs.Births.{or_right}
 
 by_bool : {A : Type 0} (b : Bool) → (b ≡ true → A) → (b ≡ false → A) → A
 by_bool true yes_ no_ = yes_ refl
@@ -28,10 +29,6 @@ any_commit : (s : ℕ) (names : List FileName) → list_any (names_commit s) nam
 any_commit s [] e = absurd cc
 any_commit s (n ∷ ns) e =
     by_bool (names_commit s n) (λ h. (0, omega arith, commit_is s n h)) (λ h. let rest : list_any (names_commit s) ns ≡ true = rw h at e in let c = any_commit s ns rest in (suc c.0, omega (arith, c.1), c.2))
-
-or_right : (a b : Bool) → b ≡ true → (a || b) ≡ true
-or_right true b e = refl
-or_right false b e = e
 
 commit_any : (s : ℕ) (names : List FileName) (k : ℕ) → k < length names → get_or names k (Commit s) ≡ Commit s → list_any (names_commit s) names ≡ true
 commit_any s [] k lt e = absurd (omega arith)

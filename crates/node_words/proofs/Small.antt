@@ -4,8 +4,7 @@ use mathlib.Core.Bool.{◌&&◌}
 use lib.Utf8.{scalar, scalars, next, encode, encodes, scalar_cases}
 use Rattle.std.specs.Int.{w64, cast_unsigned}
 use Rattle.std.specs.Str.{IsUtf8}
-use Rattle.std.proofs.lemmas.Bool.{cases_lt, lt-ltb, le-ltb}
-use Rattle.std.proofs.lemmas.Bool.{and_parts}
+use Rattle.std.proofs.lemmas.Bool.{and_parts, cases_lt, lt-ltb, le-ltb}
 use Rattle.ix_base.specs.Entry.{Entry, add, update, delete_term, delete_query, set_number, commit, turn, kind_of, entry_bytes, term_bytes, IsOwnTerm, IsEntry}
 use Rattle.ix_base.specs.EntryLaws.{most_bytes}
 use Rattle.ix_base.specs.QueryBytes.{count_of, query_bytes, queries_bytes, list_bytes, IsQuery, AreQueries}

@@ -1,6 +1,7 @@
 -- Rows of two tests, and words that stand one after another.
 use Rattle.std.proofs.Common.{◌≡◌, ℕ, zero, suc, ◌+◌, ◌<◌, ◌≤◌, List, [], ◌∷◌, ◌++◌, Bool, true, false, not, ◌&&◌, ◌||◌, ◌==◌, cond, length, get_or, take, map, nat_lt, Option, Some, None, MatchOption, Vec, Global, refl, sym, ap, ◌∙◌, subst, arith}
 use Rattle.std.specs.List.{list_any, filter}
+use Rattle.std.proofs.Math.Bool.{and-true, or-false, and_assoc, or_assoc}
 use Rattle.std.proofs.lemmas.Bool.{eqb-true, ne_eqb, and_parts, ltb-true, lt-ltb}
 use Rattle.std.proofs.lemmas.List.{take_more, take_all, length-take, length-map}
 use Rattle.std.proofs.lemmas.List.Folds.{Any-from_list_any, list_any_at, list_any-append}
@@ -15,22 +16,6 @@ use Rattle.ix_base.specs.declared.query.Query.{Query}
 use Rattle.query_core.specs.Answers.{IsRising, term_of, holds_all, terms_stand_at, terms_stand, ArePositions}
 use Rattle.query_core.proofs.Rising.{has_at, same_bool, contains}
 use Rattle.query_core.proofs.Documents.{filter_rows, has_rows, rows_rise, at_row-not, at_row-and, at_row-or, at_row-agree, rows_where-agree, rows_where-none}
-
-both_true : (b : Bool) → (b && true) ≡ b
-both_true true = refl
-both_true false = refl
-
-either_false : (b : Bool) → (b || false) ≡ b
-either_false true = refl
-either_false false = refl
-
-and_assoc : (a b c : Bool) → ((a && b) && c) ≡ (a && (b && c))
-and_assoc true b c = refl
-and_assoc false b c = refl
-
-or_assoc : (a b c : Bool) → ((a || b) || c) ≡ (a || (b || c))
-or_assoc true b c = refl
-or_assoc false b c = refl
 
 -- ---- rows of two tests
 
@@ -50,7 +35,7 @@ module _ (first second : Document → Bool) (docs : List Document) (rows others 
 -- ---- one more word
 
 holds_all-push : (words : List Term) (term : Term) (doc : Document) → holds_all (words ++ term ∷ []) doc ≡ (holds_all words doc && holds_term term.field term.bytes doc)
-holds_all-push [] term doc = both_true (holds_term term.field term.bytes doc)
+holds_all-push [] term doc = and-true (holds_term term.field term.bytes doc)
 holds_all-push (word ∷ words) term doc =
     ap (λ (b : Bool). holds_term word.field word.bytes doc && b) (holds_all-push words term doc)
     ∙ sym (and_assoc (holds_term word.field word.bytes doc) (holds_all words doc) (holds_term term.field term.bytes doc))
@@ -58,7 +43,7 @@ holds_all-push (word ∷ words) term doc =
 pub holds_first : (words : List Term) (e : Term) (docs : List Document) (rows : List ℕ) → 0 < length words → rows ≡ rows_where (holds_term (get_or words 0 e).field (get_or words 0 e).bytes) docs → rows ≡ rows_where (holds_all (take 1 words)) docs
 holds_first [] e docs rows lt r = absurd (omega arith)
 holds_first (word ∷ words) e docs rows lt r =
-    r ∙ rows_where-agree (holds_term word.field word.bytes) (holds_all (word ∷ [])) docs (λ d. sym (both_true (holds_term word.field word.bytes d)))
+    r ∙ rows_where-agree (holds_term word.field word.bytes) (holds_all (word ∷ [])) docs (λ d. sym (and-true (holds_term word.field word.bytes d)))
 
 pub holds_next : (words : List Term) (i : ℕ) (e : Term) (docs : List Document) (rows others kept : List ℕ) → i < length words
     → rows ≡ rows_where (holds_all (take i words)) docs → others ≡ rows_where (holds_term (get_or words i e).field (get_or words i e).bytes) docs → (IsRising others → kept ≡ filter (has_number others) rows) → kept ≡ rows_where (holds_all (take (i + 1) words)) docs
@@ -92,7 +77,7 @@ has_filter keep (y ∷ ys) x =
     ∙ kept_where (keep y) (y == x) (has_number ys x) (keep x) (λ e. ap keep (eqb-true y x e))
 
 stand-push : (places : List Place) (words : List Term) (term : Term) (at : ℕ) → terms_stand_at places (words ++ term ∷ []) at ≡ (terms_stand_at places words at && stands_at places term.field term.bytes (at + length words))
-stand-push places [] term at = both_true (stands_at places term.field term.bytes at) ∙ ap (stands_at places term.field term.bytes) (let e : at ≡ at + 0 = omega arith in e)
+stand-push places [] term at = and-true (stands_at places term.field term.bytes at) ∙ ap (stands_at places term.field term.bytes) (let e : at ≡ at + 0 = omega arith in e)
 stand-push places (word ∷ words) term at =
     ap (λ (b : Bool). stands_at places word.field word.bytes at && b) (stand-push places words term (at + 1))
     ∙ sym (and_assoc (stands_at places word.field word.bytes at) (terms_stand_at places words (at + 1)) (stands_at places term.field term.bytes (at + 1 + length words)))
@@ -103,7 +88,7 @@ pub starts_first : (words : List Term) (e : Term) (docs : List Document) (row : 
 starts_first [] e docs row starts lt h at = absurd (omega arith)
 starts_first (word ∷ words) e docs row starts lt h at =
     h.exact at
-    ∙ at_row-agree (λ doc. stands_at (terms doc) word.field word.bytes at) (λ doc. terms_stand_at (terms doc) (word ∷ []) at) docs row (λ d. sym (both_true (stands_at (terms d) word.field word.bytes at)))
+    ∙ at_row-agree (λ doc. stands_at (terms doc) word.field word.bytes at) (λ doc. terms_stand_at (terms doc) (word ∷ []) at) docs row (λ d. sym (and-true (stands_at (terms d) word.field word.bytes at)))
 
 pub starts_next : (words : List Term) (i : ℕ) (e : Term) (docs : List Document) (row : ℕ) (starts places kept : List ℕ) → i < length words
     → ((at : ℕ) → has_number starts at ≡ at_row (λ doc. terms_stand_at (terms doc) (take i words) at) docs row) → ArePositions docs (get_or words i e) row places
@@ -187,13 +172,13 @@ phrase_rows_are field (word ∷ words) docs lt =
 -- ---- lists of queries
 
 all-push : (queries : List Query) (query : Query) (doc : Document) → all_match (trees_of (queries ++ query ∷ [])) doc ≡ (all_match (trees_of queries) doc && matches (tree_of query) doc)
-all-push [] query doc = both_true (matches (tree_of query) doc)
+all-push [] query doc = and-true (matches (tree_of query) doc)
 all-push (q ∷ queries) query doc =
     ap (λ (b : Bool). matches (tree_of q) doc && b) (all-push queries query doc)
     ∙ sym (and_assoc (matches (tree_of q) doc) (all_match (trees_of queries) doc) (matches (tree_of query) doc))
 
 any-push : (queries : List Query) (query : Query) (doc : Document) → any_matches (trees_of (queries ++ query ∷ [])) doc ≡ (any_matches (trees_of queries) doc || matches (tree_of query) doc)
-any-push [] query doc = either_false (matches (tree_of query) doc)
+any-push [] query doc = or-false (matches (tree_of query) doc)
 any-push (q ∷ queries) query doc =
     ap (λ (b : Bool). matches (tree_of q) doc || b) (any-push queries query doc)
     ∙ sym (or_assoc (matches (tree_of q) doc) (any_matches (trees_of queries) doc) (matches (tree_of query) doc))
@@ -201,7 +186,7 @@ any-push (q ∷ queries) query doc =
 pub all_first : (queries : List Query) (e : Query) (docs : List Document) (rows : List ℕ) → 0 < length queries → rows ≡ rows_where (matches (tree_of (get_or queries 0 e))) docs → rows ≡ rows_where (all_match (trees_of (take 1 queries))) docs
 all_first [] e docs rows lt r = absurd (omega arith)
 all_first (q ∷ queries) e docs rows lt r =
-    r ∙ rows_where-agree (matches (tree_of q)) (all_match (trees_of (q ∷ []))) docs (λ d. sym (both_true (matches (tree_of q) d)))
+    r ∙ rows_where-agree (matches (tree_of q)) (all_match (trees_of (q ∷ []))) docs (λ d. sym (and-true (matches (tree_of q) d)))
 
 pub all_next : (queries : List Query) (i : ℕ) (e : Query) (docs : List Document) (rows others kept : List ℕ) → i < length queries
     → rows ≡ rows_where (all_match (trees_of (take i queries))) docs → others ≡ rows_where (matches (tree_of (get_or queries i e))) docs → (IsRising others → kept ≡ filter (has_number others) rows) → kept ≡ rows_where (all_match (trees_of (take (i + 1) queries))) docs
