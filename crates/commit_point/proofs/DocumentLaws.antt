@@ -10,14 +10,14 @@ use Rattle.std.proofs.lemmas.Bool.{and_parts, or_parts, or_from, not-true}
 use Rattle.std.proofs.lemmas.Slice.Eq.{bytes_eq-Decides}
 use Rattle.ix_base.specs.Limits.{text_lt, rise_after, names_rise, is_among, share_name, names_are_apart}
 use Rattle.ix_base.specs.Documents.{Document}
-use Rattle.ix_base.specs.Codec.{◌>>=◌, number_at, signed_at, text_at, name_at}
+use Rattle.ix_base.specs.Codec.{◌>>=◌, number_at, signed_at, text_at, name_at, items_at}
 use Rattle.ix_base.specs.CodecLaws.{bind_ok, ok_is, passes, Takes, Takes-then, u32_takes, u32_again, u64_takes, u64_again, signed_takes, signed_again, text_takes, text_again}
 use Rattle.ix_base.specs.Spelling.{be32, be64, signed64, text_bytes, AreBytes}
 use Rattle.commit_point.specs.Spelling.{field, fields, number_bytes, numbers_bytes, document}
 use Rattle.commit_point.specs.Fits.{FieldFits, NumberFits, DocumentFits}
-use Rattle.commit_point.specs.Fields.{name_where, items_at, comes_after, is_key, is_free_name, may_name, field_at, fields_at, numbered_at, numbers_at, document_at}
+use Rattle.commit_point.specs.Fields.{name_where, comes_after, is_key, is_free_name, may_name, field_at, fields_at, numbered_at, numbers_at, document_at}
 use Rattle.commit_point.proofs.NumberLaws.{name_where_takes, name_where_again}
-use Rattle.commit_point.proofs.ItemLaws.{AllGood, TakesItem, GivesItem, items_take, items_again, items_have}
+use Rattle.ix_base.specs.ItemLaws.{AllGood, TakesItem, GivesItem, items_take, items_again, items_have}
 
 -- ---- each item and the one before it
 

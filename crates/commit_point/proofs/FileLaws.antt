@@ -11,16 +11,16 @@ use Rattle.ix_base.specs.declared.document.Row.{Row}
 use Rattle.commit_point.specs.declared.heads.HeadSegment.{HeadSegment}
 use Rattle.commit_point.specs.declared.heads.Head.{Head}
 use Rattle.ix_base.specs.declared.damaged.Damaged.{Damaged}
-use Rattle.commit_point.specs.declared.fault.FileFault.{FileFault}
+use Rattle.ix_base.specs.declared.damaged.FileFault.{FileFault}
 use Rattle.commit_point.specs.Spelling.{rows_mark, commit_mark, document, row, rows_file, entry, commit_file}
 use Rattle.commit_point.specs.Fits.{DocumentFits, BirthsRise, IdsRise, EntryFits, HeadFits, IsSegment}
-use Rattle.ix_base.specs.Codec.{◌>>=◌, number_at}
+use Rattle.ix_base.specs.Codec.{◌>>=◌, number_at, items_at}
 use Rattle.ix_base.specs.CodecLaws.{bind_ok, ok_is, passes, Takes, Takes-then, u64_takes, u64_again}
 use Rattle.ix_base.specs.Spelling.{be32, be64, AreBytes}
-use Rattle.commit_point.specs.Fields.{number_where, mark_at, items_at, document_at}
+use Rattle.commit_point.specs.Fields.{number_where, mark_at, document_at}
 use Rattle.commit_point.specs.Reading.{ended, row_at, rows_in, entry_at, head_in, placed, GivesFile}
 use Rattle.commit_point.proofs.NumberLaws.{u32_where_takes, u32_where_again, u64_where_takes, u64_where_again, mark_takes, mark_again}
-use Rattle.commit_point.proofs.ItemLaws.{AllGood, TakesItem, GivesItem, items_take, items_again}
+use Rattle.ix_base.specs.ItemLaws.{AllGood, TakesItem, GivesItem, items_take, items_again}
 use Rattle.commit_point.proofs.DocumentLaws.{good_each, document_takes, document_again}
 
 ended_ok : {A : Type 0} (x : A) (rest : List ℕ) (y : A) → ended x rest ≡ Ok y → (rest ≡ []) × (x ≡ y)

@@ -5,7 +5,6 @@ pub mod Making
 pub mod Readers
 pub mod Loop
 pub mod NumberLaws
-pub mod ItemLaws
 pub mod DocumentLaws
 pub mod FileLaws
 pub mod Births

@@ -1,10 +1,9 @@
 -- Reading items one after the other, as a loop does.
 use Rattle.std.proofs.Common.{◌≡◌, ℕ, suc, ◌-◌, ◌+◌, ◌≤◌, ◌<◌, List, [], ◌∷◌, ◌++◌, length, get_or, Result, Ok, Err, refl, sym, ap, subst, ◌∙◌, append_assoc, arith}
 use Rattle.std.proofs.lemmas.List.{append-nil}
-use Rattle.commit_point.specs.declared.broken.Broken.{Broken}
-use Rattle.commit_point.specs.declared.broken.Broken.TheVariants.{At, NoMemory}
-use Rattle.ix_base.specs.Codec.{◌>>=◌}
-use Rattle.commit_point.specs.Fields.{Fails, items_at, left_by}
+use Rattle.ix_base.specs.declared.broken.Broken.{Broken}
+use Rattle.ix_base.specs.declared.broken.Broken.TheVariants.{At, NoMemory}
+use Rattle.ix_base.specs.Codec.{◌>>=◌, Fails, items_at, left_by}
 
 -- what was read before, and what is still read
 abbrev pub with_front : {X : Type 0} → List X → Result (List X × List ℕ) ℕ → Result (List X × List ℕ) ℕ

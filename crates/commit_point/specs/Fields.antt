@@ -1,22 +1,11 @@
 -- Reading the fields of a file from left to right. The first broken field is told by how many bytes
 -- are left from its first byte on.
-use Rattle.std.specs.Prelude.{◌≡◌, ℕ, zero, suc, ℤ, List, [], ◌∷◌, length, take, drop, Bool, true, not, ◌&&◌, Option, Some, None, Result, Ok, Err, map, codes, if◌then◌else◌, ⊤}
+use Rattle.std.specs.Prelude.{ℕ, ℤ, List, [], length, take, drop, Bool, true, not, ◌&&◌, Option, Some, None, Result, Ok, Err, map, codes, if◌then◌else◌}
 use Rattle.std.specs.Int.{Width, w32, w64}
 use Rattle.std.specs.Str.{bytes_eq}
-use Rattle.ix_base.specs.Codec.{◌>>=◌, number_at, signed_at, text_at, name_at}
+use Rattle.ix_base.specs.Codec.{◌>>=◌, number_at, signed_at, text_at, name_at, items_at}
 use Rattle.ix_base.specs.Limits.{text_lt, is_among}
 use Rattle.ix_base.specs.Documents.{Document}
-use Rattle.commit_point.specs.declared.broken.Broken.{Broken}
-use Rattle.commit_point.specs.declared.broken.Broken.TheVariants.{At, NoMemory}
-
--- What a function returned, seen by view, is what reading gives, unless memory ran out.
-abbrev pub Fails : {Y : Type 0} → Broken → Result Y ℕ → Type 0
-Fails NoMemory read = ⊤
-Fails (At left) read = read ≡ Err left
-
-abbrev pub Gives : {X Y : Type 0} → (X → Y) → Result X Broken → Result Y ℕ → Type 0
-Gives view (Ok x) read = read ≡ Ok (view x)
-Gives view (Err e) read = Fails e read
 
 -- ---- single fields
 
@@ -35,20 +24,6 @@ abbrev pub name_where : (List ℕ → Bool) → List ℕ → Result (List ℕ ×
 name_where test bytes = do
   name ← name_at bytes
   if test name.0 then Ok name else Err (length bytes)
-
--- ---- so many items, of which each knows what the last one leaves to it
-
-unfoldable pub items_at : {X S : Type 0} → (S → List ℕ → Result (X × List ℕ) ℕ) → (X → S) → S → ℕ → List ℕ → Result (List X × List ℕ) ℕ
-items_at item leaves state zero bytes = Ok ([], bytes)
-items_at item leaves state (suc n) bytes = do
-  first ← item state bytes
-  others ← items_at item leaves (leaves first.0) n first.1
-  Ok (first.0 ∷ others.0, others.1)
-
--- what the items so far leave to the next one
-abbrev pub left_by : {X S : Type 0} → (X → S) → S → List X → S
-left_by leaves state [] = state
-left_by leaves state (x ∷ xs) = left_by leaves (leaves x) xs
 
 -- ---- documents
 

@@ -7,13 +7,13 @@ use Rattle.ix_base.specs.declared.file_name.FileName.TheVariants.{Commit, Rows}
 use Rattle.ix_base.specs.declared.document.Row.{Row}
 use Rattle.ix_outside.specs.Files.{Files}
 use Rattle.ix_base.specs.declared.damaged.Damaged.{Damaged}
-use Rattle.commit_point.specs.declared.fault.FileFault.{FileFault}
-use Rattle.commit_point.specs.declared.fault.FileFault.TheVariants as faults
+use Rattle.ix_base.specs.declared.damaged.FileFault.{FileFault}
+use Rattle.ix_base.specs.declared.damaged.FileFault.TheVariants as faults
 use Rattle.commit_point.specs.declared.heads.HeadSegment.{HeadSegment}
 use Rattle.commit_point.specs.declared.heads.Head.{Head}
 use Rattle.commit_point.specs.Spelling.{rows_mark, commit_mark}
-use Rattle.ix_base.specs.Codec.{◌>>=◌, number_at}
-use Rattle.commit_point.specs.Fields.{number_where, mark_at, items_at, document_at}
+use Rattle.ix_base.specs.Codec.{◌>>=◌, number_at, items_at}
+use Rattle.commit_point.specs.Fields.{number_where, mark_at, document_at}
 
 -- a file ends right after its last field
 abbrev pub ended : {A : Type 0} → A → List ℕ → Result A ℕ

@@ -5,19 +5,16 @@ ghost use Rattle.std.specs.Ordering.{nat_cmp};
 ghost use Rattle.ix_base.specs.declared.document.Row.{Row};
 ghost use Rattle.ix_base.specs.declared.file_name.FileName.TheVariants.{Commit, Rows};
 ghost use Rattle.commit_point.specs.declared.heads.Head.{Head};
-ghost use Rattle.ix_base.specs.Codec.{GivesExactly};
-ghost use Rattle.commit_point.specs.Fields.{Gives, Fails, items_at};
+ghost use Rattle.ix_base.specs.Codec.{GivesExactly, Gives, Fails, items_at};
 ghost use Rattle.commit_point.specs.Fits.{HeadFits, IsSegment};
 ghost use Rattle.commit_point.specs.Reading.{GivesFile, FailsFile, row_at, rows_in, entry_at, head_in, placed};
 ghost use Rattle.commit_point.specs.Spelling.{rows_file, commit_file};
 
-use crate::broken::Broken;
-use crate::fault::FileFault;
 use crate::heads::{Head, HeadSegment};
 use crate::marks::{commit_mark_at, rows_mark_at};
 use crate::read_documents::row_of;
-use ix_base::codec::{BrokenField, u32_at, u64_at};
-use ix_base::{Damaged, FileName, List, Row};
+use ix_base::codec::{Broken, BrokenField, u32_at, u64_at};
+use ix_base::{Damaged, FileFault, FileName, List, Row};
 use std::alloc::Global;
 use std::collections::BTreeSet;
 

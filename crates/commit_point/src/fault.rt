@@ -5,15 +5,6 @@ ghost use Rattle.commit_point.specs.declared.fault.OpenFault.TheVariants.{NoMemo
 use ix_base::Damaged;
 use ix_outside::StoreFault;
 
-/// Why a file's bytes were not read.
-#[derive(Clone, Copy, Debug, PartialEq, Eq)]
-pub enum FileFault {
-    /// The bytes are not in the grammar.
-    Damaged(Damaged),
-    /// Memory ran out.
-    NoMemory,
-}
-
 /// Why a commit was not opened.
 #[derive(Clone, Copy, Debug, PartialEq, Eq)]
 pub enum OpenFault {

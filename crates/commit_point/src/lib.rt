@@ -2,7 +2,6 @@
 //! not at all, and how it is read back.
 #![tactic(auto)]
 
-mod broken;
 mod decode;
 mod documents;
 mod encode;
@@ -18,7 +17,7 @@ mod write;
 
 pub use decode::{decode_commit, decode_row};
 pub use encode::{encode_commit, encode_row};
-pub use fault::{CommitRefused, FileFault, OpenFault};
+pub use fault::{CommitRefused, OpenFault};
 pub use heads::{Head, HeadSegment};
 pub use listing::list_commits;
 pub use open::{Opened, head, open_commit, read_commit};

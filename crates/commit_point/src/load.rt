@@ -13,9 +13,9 @@ ghost use Rattle.commit_point.specs.Reading.{head_in, rows_in, has_birth};
 ghost use Rattle.commit_point.specs.Spelling.{rows_file, commit_file};
 
 use crate::decode::{decode_commit, decode_row};
-use crate::fault::{FileFault, OpenFault};
+use crate::fault::OpenFault;
 use crate::heads::{Head, HeadSegment};
-use ix_base::{Damaged, FileName, List, NoMemory, Row};
+use ix_base::{Damaged, FileFault, FileName, List, NoMemory, Row};
 use ix_outside::{Store, StoreFault};
 use std::alloc::Global;
 use std::collections::BTreeSet;

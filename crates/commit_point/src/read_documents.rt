@@ -2,12 +2,11 @@
 ghost use Rattle.std.specs.Prelude.{◌≡◌, ◌+◌, map, length, true, Option, Some, None, IfOk};
 ghost use Rattle.std.specs.BTreeSet.{contains};
 ghost use Rattle.std.specs.Ordering.{nat_cmp};
-ghost use Rattle.ix_base.specs.Codec.{text_at, name_at};
-ghost use Rattle.commit_point.specs.Fields.{Gives, field_at, fields_at, numbered_at, numbers_at, document_at, items_at, left_by, comes_after, is_free_name, may_name};
+ghost use Rattle.ix_base.specs.Codec.{text_at, name_at, Gives, items_at, left_by};
+ghost use Rattle.commit_point.specs.Fields.{field_at, fields_at, numbered_at, numbers_at, document_at, comes_after, is_free_name, may_name};
 ghost use Rattle.commit_point.specs.Reading.{row_at};
 
-use crate::broken::Broken;
-use ix_base::codec::{i64_at, name_at, text_at, u32_at, u64_at};
+use ix_base::codec::{Broken, i64_at, name_at, text_at, u32_at, u64_at};
 use ix_base::{Document, Fields, Name, Numbers, Row, Text};
 use std::alloc::Global;
 use std::collections::BTreeSet;

@@ -1,5 +1,5 @@
 use super::*;
-use ix_base::{Damaged, Document, List, Row, Text};
+use ix_base::{Damaged, Document, FileFault, List, Row, Text};
 use std::alloc::Global;
 use std::collections::BTreeSet;
 use std::test::*;

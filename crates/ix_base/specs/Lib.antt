@@ -10,6 +10,7 @@ pub mod Steps
 pub mod Spelling
 pub mod Codec
 pub mod CodecLaws
+pub mod ItemLaws
 pub mod QueryBytes
 pub mod Entry
 pub mod Words

@@ -11,6 +11,7 @@ ghost use Rattle.ix_base.specs.Codec.{GivesExactly, byte_at, number_at, signed_a
 ghost use Rattle.ix_base.specs.Limits.{is_name};
 ghost use Rattle.ix_base.specs.Spelling.{be32, be64, signed64, text_bytes, IsText, IsName};
 
+pub use crate::broken::Broken;
 use crate::memory::NoMemory;
 use crate::text::Name;
 use std::str;

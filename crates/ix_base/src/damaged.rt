@@ -1,4 +1,4 @@
-//! The first broken place of a file.
+//! The first broken place of a file, and why a file is not read.
 use crate::file_name::FileName;
 
 /// A file whose bytes are not in the grammar, and the first broken place: the offset of the first
@@ -7,4 +7,13 @@ use crate::file_name::FileName;
 pub struct Damaged {
     pub file: FileName,
     pub at: u64,
+}
+
+/// Why a file's bytes were not read.
+#[derive(Clone, Copy, Debug, PartialEq, Eq)]
+pub enum FileFault {
+    /// The bytes are not in the grammar.
+    Damaged(Damaged),
+    /// Memory ran out.
+    NoMemory,
 }

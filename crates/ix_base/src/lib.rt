@@ -6,6 +6,7 @@
 //! where a user would call them equal.
 #![tactic(auto)]
 
+mod broken;
 pub mod codec;
 mod damaged;
 mod document;
@@ -18,7 +19,7 @@ mod query;
 mod refusal;
 mod text;
 
-pub use damaged::Damaged;
+pub use damaged::{Damaged, FileFault};
 pub use document::{Document, Operation, Row, Term};
 pub use fields::{Fields, Numbers};
 pub use file_name::FileName;

@@ -1,6 +1,6 @@
 use Rattle.std.proofs.Common.{◌+◌, sym}
 use Rattle.std.proofs.lemmas.Result.{err_from_is_err_and}
-use Rattle.commit_point.specs.declared.broken.Broken.TheVariants.{At}
+use Rattle.ix_base.specs.declared.broken.Broken.TheVariants.{At}
 use Rattle.commit_point.specs.declared.heads.HeadSegment.{HeadSegment}
 use Rattle.commit_point.specs.Reading.{entry_at}
 use Rattle.commit_point.proofs.Loop.{goes_on_from, ends_from, is_done, left_by-push}

@@ -2,7 +2,7 @@ use Rattle.std.proofs.Common.{◌≡◌, ◌-◌, ◌+◌}
 use Rattle.std.specs.BTreeSet.{contains}
 use Rattle.std.specs.Ordering.{nat_cmp}
 use Rattle.ix_base.specs.declared.document.Row.{Row}
-use Rattle.commit_point.specs.Fields.{items_at, left_by}
+use Rattle.ix_base.specs.Codec.{items_at, left_by}
 use Rattle.commit_point.specs.Reading.{row_at}
 use Rattle.commit_point.proofs.Loop.{so_far}
 use Rattle.commit_point.proofs.decode.row_list.Given as goal

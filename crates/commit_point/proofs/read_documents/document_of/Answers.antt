@@ -1,4 +1,4 @@
-use Rattle.std.proofs.Common.{◌≡◌, Ok, List, ℕ, map, ap, sym, ◌∙◌}
+use Rattle.std.proofs.Common.{List, ℕ, map, ap, sym, ◌∙◌}
 use Rattle.commit_point.specs.Fields.{fields_at}
 use Rattle.commit_point.proofs.DocumentLaws.{read_apart}
 use Rattle.commit_point.proofs.read_documents.document_of.Goals as goal

@@ -1,7 +1,7 @@
 use Rattle.std.proofs.Common.{◌≡◌, ℕ, List, length, arith, map, Some, None}
 use Rattle.std.proofs.lemmas.Result.{err_from_is_err_and}
 use Rattle.commit_point.specs.Fields.{field_at}
-use Rattle.commit_point.proofs.ItemLaws.{items_count}
+use Rattle.ix_base.specs.ItemLaws.{items_count}
 use Rattle.commit_point.proofs.DocumentLaws.{field_list_rises}
 use Rattle.commit_point.proofs.Loop.{goes_on_seen, ends_seen, is_done}
 use Rattle.commit_point.proofs.read_documents.field_list.Goals as goal

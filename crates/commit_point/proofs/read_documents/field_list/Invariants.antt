@@ -1,5 +1,6 @@
 use Rattle.std.proofs.Common.{◌≡◌, ◌-◌, ℕ, List, map, Some, None}
-use Rattle.commit_point.specs.Fields.{field_at, items_at}
+use Rattle.ix_base.specs.Codec.{items_at}
+use Rattle.commit_point.specs.Fields.{field_at}
 use Rattle.commit_point.proofs.Loop.{so_far}
 use Rattle.commit_point.proofs.read_documents.field_list.Given as goal
 

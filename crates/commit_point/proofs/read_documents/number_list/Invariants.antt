@@ -1,6 +1,7 @@
 use Rattle.std.proofs.Common.{◌≡◌, ◌-◌, ℕ, List, Some, None}
 use Rattle.std.specs.Prelude.{ℤ}
-use Rattle.commit_point.specs.Fields.{numbered_at, items_at}
+use Rattle.ix_base.specs.Codec.{items_at}
+use Rattle.commit_point.specs.Fields.{numbered_at}
 use Rattle.commit_point.proofs.Loop.{so_far}
 use Rattle.commit_point.proofs.read_documents.number_list.Given as goal
 

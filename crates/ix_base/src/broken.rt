@@ -1,13 +1,14 @@
-//! Why a field was not read.
+//! Why a field was not read, where reading it takes memory.
 ghost use Rattle.std.specs.Prelude.{◌≡◌};
-ghost use Rattle.commit_point.specs.declared.broken.Broken.TheVariants.{NoMemory, At};
+ghost use Rattle.ix_base.specs.declared.broken.Broken.TheVariants.{NoMemory, At};
 
-use ix_base::codec::BrokenField;
+use crate::codec::BrokenField;
+use crate::memory::NoMemory as OutOfMemory;
 use std::alloc::{AllocError, AllocFailed};
 
 /// Why a field was not read, where reading it takes memory.
 #[derive(Clone, Copy, Debug, PartialEq, Eq)]
-pub(crate) enum Broken {
+pub enum Broken {
     /// Memory ran out.
     NoMemory,
     /// A field is cut short or breaks a rule: how many bytes are left from its first byte on.
@@ -22,10 +23,10 @@ impl From<BrokenField> for Broken {
     }
 }
 
-impl From<ix_base::NoMemory> for Broken {
+impl From<OutOfMemory> for Broken {
     ghost from_gives = { λ _ e. e ≡ NoMemory };
 
-    fn from(_error: ix_base::NoMemory) -> Broken {
+    fn from(_error: OutOfMemory) -> Broken {
         Broken::NoMemory
     }
 }

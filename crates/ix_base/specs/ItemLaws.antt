@@ -3,8 +3,7 @@ use Rattle.std.proofs.Common.{◌≡◌, ℕ, zero, suc, List, [], ◌∷◌, �
 use Rattle.std.specs.Prelude.{⊤}
 use Rattle.std.specs.List.{flat_map}
 use Rattle.std.proofs.lemmas.List.Concat.{flat_map-cons}
-use Rattle.commit_point.specs.Fields.{items_at}
-use Rattle.ix_base.specs.Codec.{◌>>=◌}
+use Rattle.ix_base.specs.Codec.{◌>>=◌, items_at}
 use Rattle.ix_base.specs.CodecLaws.{bind_ok, ok_is, Takes, Takes-then}
 use Rattle.ix_base.specs.Spelling.{AreBytes}
 
