@@ -20,7 +20,7 @@ use Rattle.ix_base.specs.declared.postings.TermPostings.{TermPostings}
 use Rattle.analysis.specs.Occurrences.{is_at, occurrence_cmp}
 use Rattle.analysis.specs.Grouping.{RowsUpto, AddsPlace, EntryUpto, EntriesUpto, AddsOccurrence, EndsInOtherTerm, Groups}
 use Rattle.analysis.specs.declared.occurrence.Occurrence.{Occurrence}
-use Rattle.analysis.proofs.Ends.{ends, All-front, All-last, All-push, pairs_front, pairs_last, pairs_push}
+use Rattle.ix_base.proofs.Ends.{ends, All-front, All-last, All-push, pairs_front, pairs_last, pairs_push}
 use Rattle.analysis.proofs.Growth.{any_push, regroup, rows_later}
 
 -- ---- orders
@@ -77,7 +77,7 @@ entries_with : (o : Occurrence) (base : List TermPostings) (entry : TermPostings
 entries_with o base entry old rise each up below is adds = record {
   ordered = record {
     rise = pairs_push (λ a b. term_cmp a.term b.term ≡ Less) base entry rise (All-weaker (λ e. term_cmp e.term o.term ≡ Less) (λ e. term_cmp e.term entry.term ≡ Less) (λ e l. ap (term_cmp e.term) is ∙ l) base below);
-    each = All-push IsTermPostings base entry each (record { some = adds.some; rise = adds.order.rise; each = adds.order.each });
+    each = All-push IsTermPostings base entry each (record { some = adds.some; rise = adds.order.ordered.rise; each = adds.order.ordered.each });
   };
   upto = All-push (EntryUpto o) base entry up (record { upto = term_itself entry.term o.term is; same = λ _. adds.order });
 }
@@ -120,7 +120,7 @@ pub entry_rows : (o : Occurrence) (entries front : List TermPostings) (last : Te
 entry_rows o entries front last h is same = (All-last (EntryUpto o) front last (subst (All (EntryUpto o)) is h.upto)).same same
 
 pub no_rows : (row position : ℕ) → RowsUpto row position []
-no_rows row position = record { rise = λ i j d lt long. absurd (omega arith); each = λ k d long. absurd (omega arith); upto = λ k d long. absurd (omega arith) }
+no_rows row position = record { ordered = record { rise = λ i j d lt long. absurd (omega arith); each = λ k d long. absurd (omega arith) }; upto = λ r x h. cc }
 
 -- ---- a later place
 

@@ -1,34 +1,19 @@
 -- Postings that grow by places in order.
-use Rattle.std.specs.Prelude.{◌≡◌, ◌≢◌, ℕ, ◌<◌, ◌≤◌, List, [], ◌∷◌, ◌++◌, false, ◌&&◌, ◌||◌, ◌==◌, length, AllPairs, All}
+use Rattle.std.specs.Prelude.{◌≡◌, ◌≢◌, ℕ, ◌<◌, List, [], ◌∷◌, ◌++◌, false, ◌&&◌, ◌||◌, ◌==◌, length, All}
 use Rattle.std.specs.List.{list_any}
 use Rattle.std.specs.Ordering.{is_gt}
-use Rattle.ix_base.specs.Inversion.{term_cmp, has_number, posted_at, posted, IsPosting, IsPostings}
+use Rattle.ix_base.specs.Grouped.{ArePostings, IsUpto}
+use Rattle.ix_base.specs.Inversion.{term_cmp, posted_at, posted, IsPostings}
 use Rattle.ix_base.specs.declared.document.Term.{Term}
 use Rattle.ix_base.specs.declared.postings.Posting.{Posting}
 use Rattle.ix_base.specs.declared.postings.TermPostings.{TermPostings}
 use Rattle.analysis.specs.Occurrences.{is_at}
 use Rattle.analysis.specs.declared.occurrence.Occurrence.{Occurrence}
 
--- the positions rise up to this one
-pub record PositionsUpto (position : ℕ) (positions : List ℕ) : Type 0 where
-  pub rise : AllPairs (λ a b. a < b) positions
-  pub upto : All (λ x. x ≤ position) positions
-
-pub record AddsPosition (position : ℕ) (old new : List ℕ) : Type 0 where
-  pub order : PositionsUpto position new
-  pub some : 0 < length new
-  pub exact : (x : ℕ) → has_number new x ≡ (has_number old x || (position == x))
-
--- a posting of an earlier row, or of this row with positions up to this one
-pub record PostingUpto (row position : ℕ) (posting : Posting) : Type 0 where
-  pub upto : posting.row ≤ row
-  pub same : posting.row ≡ row → PositionsUpto position posting.positions
-
--- the rows rise up to this one
+-- rows and their positions, up to this place
 pub record RowsUpto (row position : ℕ) (rows : List Posting) : Type 0 where
-  pub rise : AllPairs (λ a b. a.row < b.row) rows
-  pub each : All IsPosting rows
-  pub upto : All (PostingUpto row position) rows
+  pub ordered : ArePostings rows
+  pub upto : IsUpto row position rows
 
 pub record AddsPlace (row position : ℕ) (old new : List Posting) : Type 0 where
   pub order : RowsUpto row position new
@@ -53,10 +38,6 @@ pub record AddsOccurrence (o : Occurrence) (old new : List TermPostings) : Type 
 pub record Groups (found : List Occurrence) (entries : List TermPostings) : Type 0 where
   pub ordered : IsPostings entries
   pub exact : (field bytes : List ℕ) (row at : ℕ) → posted entries field bytes row at ≡ list_any (is_at field bytes row at) found
-
--- the last posting, if there is one, is of another row
-abbrev pub EndsInOtherRow : ℕ → List Posting → Type 0
-EndsInOtherRow row rows = (front : List Posting) (last : Posting) → rows ≡ front ++ last ∷ [] → last.row ≢ row
 
 -- the last postings, if there are any, are of another term
 abbrev pub EndsInOtherTerm : Term → List TermPostings → Type 0

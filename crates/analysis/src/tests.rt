@@ -34,10 +34,9 @@ fn shown(alloc: Global, postings: &Postings) -> Result<String, Fail> {
         let field = entry.term.field.as_str();
         let bytes = entry.term.bytes.as_str();
         write!(joined, "{field}:{bytes}")?;
-        for posting in entry.rows.as_slice() {
-            let row = posting.row;
+        for row in entry.rows.rows(alloc)? {
             write!(joined, " {row}@")?;
-            for position in posting.positions.as_slice() {
+            for position in entry.rows.positions(alloc, row)? {
                 write!(joined, "{position},")?;
             }
         }

@@ -2,3 +2,7 @@ pub mod TermOrder
 mod Examples
 pub mod FileSpelling
 mod NameSearch
+pub mod Ends
+mod Grouping
+mod Ordering
+mod Searching

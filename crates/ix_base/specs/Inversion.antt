@@ -1,5 +1,5 @@
 -- When postings are the inversion of a list of documents.
-use Rattle.std.specs.Prelude.{◌≡◌, ℕ, ◌<◌, List, [], ◌∷◌, Bool, false, ◌&&◌, ◌==◌, if◌then◌else◌, length, ◌+◌, AllPairs, All}
+use Rattle.std.specs.Prelude.{◌≡◌, ℕ, ◌<◌, List, [], ◌∷◌, Bool, false, ◌&&◌, if◌then◌else◌, length, ◌+◌, AllPairs, All}
 use Rattle.std.specs.List.{list_any, slice_get}
 use Rattle.std.specs.Option.{option_map_or}
 use Rattle.std.specs.Str.{bytes_eq}
@@ -11,16 +11,13 @@ use Rattle.ix_base.specs.Terms.{terms}
 use Rattle.ix_base.specs.Matches.{stands_at}
 use Rattle.ix_base.specs.Documents.{Document}
 use Rattle.ix_base.specs.declared.document.Term.{Term}
-use Rattle.ix_base.specs.declared.postings.Posting.{Posting}
+pub use Rattle.ix_base.specs.Posted.{has_number, posted_at, IsPosting}
 use Rattle.ix_base.specs.declared.postings.TermPostings.{TermPostings}
 use Rattle.ix_base.specs.declared.postings.Postings.{Postings}
 
 -- terms are ordered by their fields' bytes, and then by their own
 abbrev pub term_cmp : Term → Term → Ordering
 term_cmp a b = ordering_then (slice_cmp nat_cmp a.field b.field) (slice_cmp nat_cmp a.bytes b.bytes)
-
-abbrev pub has_number : List ℕ → ℕ → Bool
-has_number xs x = list_any (λ y. y == x) xs
 
 -- ---- in documents: row i is the i-th
 
@@ -42,18 +39,10 @@ rows_where = rows_from 0
 
 -- ---- in postings
 
-abbrev pub posted_at : List Posting → ℕ → ℕ → Bool
-posted_at rows row at = list_any (λ posting. (posting.row == row) && has_number posting.positions at) rows
-
 -- the postings have the term in the row at the position
 abbrev pub posted : List TermPostings → List ℕ → List ℕ → ℕ → ℕ → Bool
 posted entries field bytes row at =
     list_any (λ entry. (bytes_eq entry.term.field field && bytes_eq entry.term.bytes bytes) && posted_at entry.rows row at) entries
-
--- a row of a term has a position at least, and its positions rise
-pub record IsPosting (posting : Posting) : Type 0 where
-  pub some : 0 < length posting.positions
-  pub rise : AllPairs (λ a b. a < b) posting.positions
 
 -- a term has a row at least, and its rows rise
 pub record IsTermPostings (entry : TermPostings) : Type 0 where

@@ -16,4 +16,6 @@ pub mod Entry
 pub mod Words
 pub mod EntryLaws
 pub mod Refusals
+pub mod Posted
+pub mod Grouped
 pub mod Inversion

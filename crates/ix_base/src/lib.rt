@@ -17,6 +17,7 @@ mod memory;
 mod postings;
 mod query;
 mod refusal;
+mod spots;
 mod text;
 
 pub use damaged::{Damaged, FileFault};
@@ -28,6 +29,7 @@ pub use memory::NoMemory;
 pub use postings::{Analysed, Posting, Postings, TermPostings};
 pub use query::{Queries, Query};
 pub use refusal::{Refusal, Refused};
+pub use spots::{Spot, Spots};
 pub use text::{Name, PhraseText, Text};
 
 #[cfg(test)]

@@ -4,9 +4,11 @@ ghost use Rattle.std.specs.Prelude.{◌≡◌, IfOk};
 use crate::document::{Document, Term};
 use crate::list::List;
 use crate::memory::NoMemory;
+use crate::spots::Spots;
 use std::alloc::Global;
 
-/// A row that holds a term, and the positions at which it does, rising.
+/// A row that holds a term, and the positions at which it does, rising. Contracts see the places of
+/// a term as a list of these.
 #[derive(Drop)]
 pub struct Posting {
     pub row: u32,
@@ -17,7 +19,7 @@ pub struct Posting {
 #[derive(Drop)]
 pub struct TermPostings {
     pub term: Term,
-    pub rows: List<Posting>,
+    pub rows: Spots,
 }
 
 /// The terms of some rows, rising by field and then by bytes.
@@ -33,30 +35,14 @@ pub struct Analysed {
     pub postings: Postings,
 }
 
-impl Posting {
-    /// A copy of this posting.
-    pub fn clone_in(&self, alloc: Global) -> Result<Posting, NoMemory>
-        ensures { IfOk result (λ posting. posting ≡ self.now) }
-    {
-        Ok(Posting {
-            row: self.row,
-            positions: List::from_vec(self.positions.as_slice().to_vec(alloc)?),
-        })
-    }
-}
-
 impl TermPostings {
     /// A copy of these postings of one term.
     pub fn clone_in(&self, alloc: Global) -> Result<TermPostings, NoMemory>
         ensures { IfOk result (λ postings. postings ≡ self.now) }
     {
-        let mut rows = Vec::new(alloc);
-        for posting in self.rows.as_slice() {
-            rows.push(posting.clone_in(alloc)?)?;
-        }
         Ok(TermPostings {
             term: self.term.clone_in(alloc)?,
-            rows: List::from_vec(rows),
+            rows: self.rows.clone_in(alloc)?,
         })
     }
 }

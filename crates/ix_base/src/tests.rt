@@ -5,8 +5,8 @@ use crate::codec::{
     u32_at, u64_at,
 };
 use crate::{
-    Analysed, Document, Fields, FileName, List, Name, Numbers, Operation, PhraseText, Posting,
-    Postings, Queries, Query, Row, Term, TermPostings, Text,
+    Analysed, Document, Fields, FileName, List, Name, Numbers, Operation, PhraseText, Postings,
+    Queries, Query, Row, Spots, Term, TermPostings, Text,
 };
 use std::alloc::Global;
 use std::fmt::Write;
@@ -49,13 +49,13 @@ fn letter(alloc: Global) -> Result<Document, Fail> {
 
 /// The term `key:a1` in row 3 at the positions 0 and 2.
 fn key_postings(alloc: Global) -> Result<TermPostings, Fail> {
-    let posting = Posting {
-        row: 3,
-        positions: List::from_vec(vec![in alloc; 0, 2]?),
-    };
+    let mut rows = Spots::new(alloc);
+    rows.push(3, 0)?;
+    rows.add(3, 2)?;
+    rows.add(3, 2)?;
     Ok(TermPostings {
         term: term_of(alloc, "key", "a1")?,
-        rows: List::from_vec(vec![in alloc; posting]?),
+        rows,
     })
 }
 
@@ -109,19 +109,19 @@ fn show_document(out: &mut String, doc: &Document) -> Result<(), Fail> {
     show_numbers(out, &doc.num)
 }
 
-fn show_term_postings(out: &mut String, entry: &TermPostings) -> Result<(), Fail> {
+fn show_term_postings(alloc: Global, out: &mut String, entry: &TermPostings) -> Result<(), Fail> {
     show_term(out, &entry.term)?;
-    for posting in entry.rows.as_slice() {
-        let row = posting.row;
-        let positions = posting.positions.as_slice();
+    for row in entry.rows.rows(alloc)? {
+        let positions = entry.rows.positions(alloc, row)?;
+        let positions = positions.as_slice();
         write!(out, " {row}@{positions:?}")?;
     }
     Ok(())
 }
 
-fn show_postings(out: &mut String, postings: &Postings) -> Result<(), Fail> {
+fn show_postings(alloc: Global, out: &mut String, postings: &Postings) -> Result<(), Fail> {
     for entry in postings.terms.as_slice() {
-        show_term_postings(out, entry)?;
+        show_term_postings(alloc, out, entry)?;
         out.push_str(";")?;
     }
     Ok(())
@@ -271,7 +271,7 @@ fn copies_of_queries_and_postings(rt: HostRuntime) -> Result<(), Fail> {
         postings,
     };
     let analysed = analysed.clone_in(alloc)?;
-    show_postings(&mut out, &analysed.postings)?;
+    show_postings(alloc, &mut out, &analysed.postings)?;
     show_document(&mut out, &analysed.doc)?;
     let want =
         "all +(key:a1)(+|(all)-(body~a b))|(all)- key:a1 3@[0, 2];a1 text body=Quick FOX exact tag=x num price=-7";

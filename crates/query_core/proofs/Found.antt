@@ -11,22 +11,6 @@ use Rattle.std.proofs.lemmas.Bool.{cases_lt}
 use Rattle.std.proofs.lemmas.Cmp.{ranked}
 use Rattle.std.proofs.lemmas.List.Sorted.{searchable_from_sorted}
 
-pub number_less : (a b : ℕ) → a < b → nat_cmp a b ≡ Less
-number_less a b lt = go (nat_cmp a b) (ranked a b (nat_cmp a b) refl)
-  where
-    go : (o : Ordering) → MatchOrdering o (a < b) (a ≡ b) (b < a) → o ≡ Less
-    go Less l = refl
-    go Equal e = absurd (omega arith)
-    go Greater g = absurd (omega arith)
-
-pub number_equal : (a b : ℕ) → nat_cmp a b ≡ Equal → a ≡ b
-number_equal a b e = go (nat_cmp a b) (ranked a b (nat_cmp a b) refl) e
-  where
-    go : (o : Ordering) → MatchOrdering o (a < b) (a ≡ b) (b < a) → o ≡ Equal → a ≡ b
-    go Less l q = cc
-    go Equal l q = l
-    go Greater l q = cc
-
 turned : (o : Ordering) → o ≡ Less → is_lt (ordering_reverse o) ≡ false
 turned o e = ap (λ (r : Ordering). is_lt (ordering_reverse r)) e
 

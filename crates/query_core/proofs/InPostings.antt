@@ -1,13 +1,13 @@
 -- What postings say of one term.
-use Rattle.std.proofs.Common.{◌≡◌, ◌≢◌, ℕ, zero, suc, ◌<◌, List, [], ◌∷◌, Bool, true, false, ◌&&◌, ◌||◌, ◌==◌, length, get_or, map, ◌⊎◌, inl, inr, refl, sym, ap, ◌∙◌, subst, arith}
+use Rattle.std.proofs.Common.{◌≡◌, ◌≢◌, ℕ, zero, suc, ◌<◌, List, [], ◌∷◌, ◌++◌, Bool, true, false, ◌&&◌, ◌||◌, ◌==◌, if◌then◌else◌, length, get_or, map, ◌⊎◌, inl, inr, refl, sym, ap, ◌∙◌, subst, arith}
 use Rattle.std.specs.List.{All, AllPairs, list_any}
 use Rattle.std.specs.Str.{bytes_eq}
 use Rattle.std.specs.declared.cmp.Ordering.TheVariants.{Less, Equal}
 use Rattle.std.proofs.lemmas.Bool.{eq-eqb, ne_eqb, eqb-true, and_parts, and_from, false_from_ne_true, cases_order}
 use Rattle.std.proofs.lemmas.Cmp.{tied_itself}
-use Rattle.std.proofs.lemmas.List.{length-map, get_or-map, get_or_default}
-use Rattle.std.proofs.lemmas.List.Elements.{All-weaker}
-use Rattle.std.proofs.lemmas.List.Folds.{Any-from_list_any, list_any_at, list_any_none}
+use Rattle.std.proofs.lemmas.List.{length-map, get_or-map, get_or_default, append-nil}
+use Rattle.std.proofs.lemmas.List.Elements.{All-weaker, All-head, All-tail}
+use Rattle.std.proofs.lemmas.List.Folds.{Any-from_list_any, list_any_at, list_any_none, list_any-append}
 use Rattle.std.proofs.lemmas.Slice.Eq.{bytes_eq-Decides}
 use Rattle.ix_base.specs.Terms.{Place, terms}
 use Rattle.ix_base.specs.Matches.{is_term, holds_term}
@@ -19,7 +19,8 @@ use Rattle.ix_base.specs.declared.postings.Posting.{Posting}
 use Rattle.ix_base.specs.declared.postings.Postings.{Postings}
 use Rattle.ix_base.specs.declared.postings.TermPostings.{TermPostings}
 use Rattle.query_core.specs.Answers.{IsRising, ArePositions}
-use Rattle.query_core.proofs.Rising.{has_at, same_bool, contains}
+use Rattle.ix_base.specs.Grouped.{positions_in}
+use Rattle.query_core.proofs.Rising.{has_at, same_bool, contains, pairs_head, pairs_tail}
 use Rattle.query_core.proofs.Documents.{rows_are}
 
 -- where one element alone has the name, it alone tells
@@ -159,24 +160,43 @@ rows_of_none docs postings term inversion none =
     let s = holds_stands docs term.field term.bytes r h in
     let q : false ≡ true = sym (posted_nowhere postings.terms term r s.0 none) ∙ inversion.exact term.field term.bytes r s.0 ∙ s.1 in cc)))
 
-pub places_of_row : (docs : List Document) (postings : Postings) (i : ℕ) (d : TermPostings) (term : Term) (j : ℕ) (e : Posting) (row : ℕ) → IsInversion docs postings → i < length postings.terms → (get_or postings.terms i d).term ≡ term
-    → j < length (get_or postings.terms i d).rows → (get_or (get_or postings.terms i d).rows j e).row ≡ row → ArePositions docs term row (get_or (get_or postings.terms i d).rows j e).positions
-places_of_row docs postings i d term j e row inversion in' is on here =
-    let entry = get_or postings.terms i d in
-    let lawful : IsTermPostings entry = inversion.ordered.each i d in' in
-    record {
-      rise = (lawful.each j e on).rise;
-      exact = λ at. sym (row_found entry.rows j e row at lawful.rise on here) ∙ sym (posted_found postings.terms i d term row at inversion.ordered in' is) ∙ inversion.exact term.field term.bytes row at;
-    }
+-- the positions in a row are those at which it is posted
+positions_has : (rows : List Posting) (row at : ℕ) → has_number (positions_in row rows) at ≡ posted_at rows row at
+positions_has [] row at = refl
+positions_has (g ∷ rows) row at =
+    list_any-append (λ y. y == at) (if g.row == row then g.positions else []) (positions_in row rows)
+    ∙ ap (λ (b : Bool). has_number (if g.row == row then g.positions else []) at || b) (positions_has rows row at)
+    ∙ ap (λ (b : Bool). b || posted_at rows row at) (chosen (g.row == row))
+  where
+    chosen : (b : Bool) → has_number (if b then g.positions else []) at ≡ (b && has_number g.positions at)
+    chosen true = refl
+    chosen false = refl
 
-pub places_of_no_row : (docs : List Document) (postings : Postings) (i : ℕ) (d : TermPostings) (term : Term) (row : ℕ) → IsInversion docs postings → i < length postings.terms → (get_or postings.terms i d).term ≡ term
-    → (AllPairs (λ a b. a.row < b.row) (get_or postings.terms i d).rows → All (λ p. p.row ≢ row) (get_or postings.terms i d).rows) → ArePositions docs term row []
-places_of_no_row docs postings i d term row inversion in' is none =
+positions_nowhere : (rows : List Posting) (row : ℕ) → All (λ p. p.row ≢ row) rows → positions_in row rows ≡ []
+positions_nowhere [] row none = refl
+positions_nowhere (g ∷ rows) row none =
+    ap (λ (b : Bool). (if b then g.positions else []) ++ positions_in row rows) (ne_eqb g.row row (All-head (λ p. p.row ≢ row) g rows none))
+    ∙ positions_nowhere rows row (All-tail (λ p. p.row ≢ row) g rows none)
+
+positions_rise : (rows : List Posting) (row : ℕ) → AllPairs (λ a b. a.row < b.row) rows → All IsPosting rows → IsRising (positions_in row rows)
+positions_rise [] row rise each = λ i j d lt in'. absurd (omega arith)
+positions_rise (g ∷ rows) row rise each = go (positions_rise rows row (pairs_tail (λ a b. a.row < b.row) g rows rise) (All-tail IsPosting g rows each)) (g.row == row) refl
+  where
+    go : IsRising (positions_in row rows) → (b : Bool) → (g.row == row) ≡ b → IsRising ((if b then g.positions else []) ++ positions_in row rows)
+    go later true e =
+        let is : g.row ≡ row = eqb-true g.row row e in
+        let none : positions_in row rows ≡ [] = positions_nowhere rows row (All-weaker (λ p. g.row < p.row) (λ p. p.row ≢ row) (λ p l q. omega arith) rows (pairs_head (λ a b. a.row < b.row) g rows rise)) in
+        subst IsRising (sym (ap (λ (l : List ℕ). g.positions ++ l) none ∙ append-nil g.positions)) (All-head IsPosting g rows each).rise
+    go later false e = later
+
+pub places_of_row : (docs : List Document) (postings : Postings) (i : ℕ) (d : TermPostings) (term : Term) (row : ℕ) → IsInversion docs postings → i < length postings.terms → (get_or postings.terms i d).term ≡ term
+    → ArePositions docs term row (positions_in row (get_or postings.terms i d).rows)
+places_of_row docs postings i d term row inversion in' is =
     let entry = get_or postings.terms i d in
     let lawful : IsTermPostings entry = inversion.ordered.each i d in' in
     record {
-      rise = λ k l c lt in''. absurd (omega arith);
-      exact = λ at. sym (row_nowhere entry.rows row at (none lawful.rise)) ∙ sym (posted_found postings.terms i d term row at inversion.ordered in' is) ∙ inversion.exact term.field term.bytes row at;
+      rise = positions_rise entry.rows row lawful.rise lawful.each;
+      exact = λ at. positions_has entry.rows row at ∙ sym (posted_found postings.terms i d term row at inversion.ordered in' is) ∙ inversion.exact term.field term.bytes row at;
     }
 
 pub places_of_none : (docs : List Document) (postings : Postings) (term : Term) (row : ℕ) → IsInversion docs postings → All (λ e. e.term ≢ term) postings.terms → ArePositions docs term row []
@@ -192,19 +212,10 @@ pub rows_of_term_in : (docs : List Document) (postings : Postings) (entries : Li
 rows_of_term_in docs postings entries i d term inversion e =
     subst (λ (l : List TermPostings). i < length l → (get_or l i d).term ≡ term → map (λ (p : Posting). p.row) (get_or l i d).rows ≡ rows_where (holds_term term.field term.bytes) docs) (sym e) (rows_of_term docs postings i d term inversion)
 
-pub places_of_row_in : (docs : List Document) (postings : Postings) (entries : List TermPostings) (i : ℕ) (d : TermPostings) (term : Term) (rows : List Posting) (j : ℕ) (g : Posting) (row : ℕ) → IsInversion docs postings → entries ≡ postings.terms → i < length entries → (get_or entries i d).term ≡ term
-    → rows ≡ (get_or entries i d).rows → j < length rows → (get_or rows j g).row ≡ row → ArePositions docs term row (get_or rows j g).positions
-places_of_row_in docs postings entries i d term rows j g row inversion e in' is r =
-    subst (λ (l : List Posting). j < length l → (get_or l j g).row ≡ row → ArePositions docs term row (get_or l j g).positions) (sym r)
-    (subst (λ (l : List TermPostings). i < length l → (get_or l i d).term ≡ term → j < length (get_or l i d).rows → (get_or (get_or l i d).rows j g).row ≡ row → ArePositions docs term row (get_or (get_or l i d).rows j g).positions) (sym e)
-    (λ on same. places_of_row docs postings i d term j g row inversion on same) in' is)
-
-pub places_of_no_row_in : (docs : List Document) (postings : Postings) (entries : List TermPostings) (i : ℕ) (d : TermPostings) (term : Term) (rows : List Posting) (row : ℕ) → IsInversion docs postings → entries ≡ postings.terms → i < length entries → (get_or entries i d).term ≡ term
-    → rows ≡ (get_or entries i d).rows → (AllPairs (λ a b. a.row < b.row) rows → All (λ p. p.row ≢ row) rows) → ArePositions docs term row []
-places_of_no_row_in docs postings entries i d term rows row inversion e in' is r =
-    subst (λ (l : List Posting). (AllPairs (λ (a : Posting) (b : Posting). a.row < b.row) l → All (λ (p : Posting). p.row ≢ row) l) → ArePositions docs term row []) (sym r)
-    (subst (λ (l : List TermPostings). i < length l → (get_or l i d).term ≡ term → (AllPairs (λ (a : Posting) (b : Posting). a.row < b.row) (get_or l i d).rows → All (λ (p : Posting). p.row ≢ row) (get_or l i d).rows) → ArePositions docs term row []) (sym e)
-    (λ on same. places_of_no_row docs postings i d term row inversion on same) in' is)
+pub places_of_row_in : (docs : List Document) (postings : Postings) (entries : List TermPostings) (i : ℕ) (d : TermPostings) (term : Term) (row : ℕ) → IsInversion docs postings → entries ≡ postings.terms → i < length entries → (get_or entries i d).term ≡ term
+    → ArePositions docs term row (positions_in row (get_or entries i d).rows)
+places_of_row_in docs postings entries i d term row inversion e =
+    subst (λ (l : List TermPostings). i < length l → (get_or l i d).term ≡ term → ArePositions docs term row (positions_in row (get_or l i d).rows)) (sym e) (places_of_row docs postings i d term row inversion)
 
 pub none_among : (postings : Postings) (entries : List TermPostings) (term : Term) → entries ≡ postings.terms → IsPostings postings.terms → (IsPostings entries → All (λ e. e.term ≢ term) entries) → All (λ e. e.term ≢ term) postings.terms
 none_among postings entries term e lawful none = subst (λ (l : List TermPostings). All (λ (g : TermPostings). g.term ≢ term) l) e (none (subst IsPostings (sym e) lawful))

@@ -1,12 +1,12 @@
 //! An inverted index over postings in memory.
-ghost use Rattle.std.specs.Prelude.{◌≡◌, ◌≢◌, ◌<◌, ◌^◌, length, map, All, AllPairs, IfOk, IfSome, IfNone, slice_index_or};
+ghost use Rattle.std.specs.Prelude.{◌≡◌, ◌≢◌, ◌<◌, ◌^◌, length, map, All, IfOk, IfSome, IfNone, slice_index_or};
 ghost use Rattle.ix_base.specs.Matches.{holds_term};
 ghost use Rattle.ix_base.specs.Inversion.{IsInversion, IsPostings};
 ghost use Rattle.query_core.specs.Answers.{AreRowsWhere, ArePositions};
 
 use crate::inverted::Inverted;
 use analysis::{compare_terms, invert};
-use ix_base::{NoMemory, Posting, Postings, Row, Term, TermPostings};
+use ix_base::{NoMemory, Postings, Row, Term, TermPostings};
 use std::alloc::Global;
 
 /// The place of a term's postings.
@@ -19,24 +19,6 @@ fn find_term(entries: &[TermPostings], term: &Term) -> Option<usize>
         .ok()
 }
 
-/// The place of a row's posting.
-fn find_row(rows: &[Posting], row: u32) -> Option<usize>
-    ensures found { IfSome result (λ i. (i < length rows.now) × ((d : _) → (slice_index_or rows.now i d).row ≡ row)) }
-    ensures none { IfNone result (AllPairs (λ a b. a.row < b.row) rows.now → All (λ posting. posting.row ≢ row) rows.now) }
-{
-    rows.binary_search_by(|posting| posting.row.cmp(&row)).ok()
-}
-
-fn row_numbers(alloc: Global, rows: &[Posting]) -> Result<Vec<u32>, NoMemory>
-    ensures { IfOk result (λ numbers. numbers.items ≡ map (λ posting. posting.row) rows.now) }
-{
-    let mut numbers = Vec::new(alloc);
-    for posting in rows {
-        numbers.push(posting.row)?;
-    }
-    Ok(numbers)
-}
-
 /// The rows that hold a term by the postings, rising: where these are the inversion of documents,
 /// the rows whose documents hold it. It refuses for memory only.
 pub fn holding_in(alloc: Global, postings: &Postings, term: &Term) -> Result<Vec<u32>, NoMemory>
@@ -44,7 +26,7 @@ pub fn holding_in(alloc: Global, postings: &Postings, term: &Term) -> Result<Vec
 {
     let entries = postings.terms.as_slice();
     match find_term(entries, term) {
-        Some(i) => row_numbers(alloc, entries[i].rows.as_slice()),
+        Some(i) => entries[i].rows.rows(alloc),
         None => Ok(Vec::new(alloc)),
     }
 }
@@ -60,12 +42,8 @@ pub fn places_in(
     ensures { IfOk result (λ places. (docs : _) → IsInversion docs postings.now → ArePositions docs term.now row places.items) }
 {
     let entries = postings.terms.as_slice();
-    let Some(i) = find_term(entries, term) else {
-        return Ok(Vec::new(alloc));
-    };
-    let rows = entries[i].rows.as_slice();
-    match find_row(rows, row) {
-        Some(j) => Ok(rows[j].positions.as_slice().to_vec(alloc)?),
+    match find_term(entries, term) {
+        Some(i) => entries[i].rows.positions(alloc, row),
         None => Ok(Vec::new(alloc)),
     }
 }

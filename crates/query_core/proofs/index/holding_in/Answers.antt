@@ -1,7 +1,6 @@
-use Rattle.std.proofs.Common.{◌∙◌, map, ap}
+use Rattle.std.proofs.Common.{◌∙◌}
 use Rattle.ix_base.specs.Inversion.{IsInversion}
 use Rattle.ix_base.specs.Matches.{holds_term}
-use Rattle.ix_base.specs.declared.postings.Posting.{Posting}
 use Rattle.query_core.specs.Answers.{AreRowsWhere}
 use Rattle.std.proofs.lemmas.Result.{IfOk-weaker}
 use Rattle.query_core.proofs.InPostings.{rows_of_term_in, rows_of_none, none_among}
@@ -15,9 +14,9 @@ returns-in-Some c =
     let i = c.in-Some.i in
     let d = c.index-entries-i.result in
     let found = c.in-Some.ensures.found in
-    IfOk-weaker c.row_numbers.result _ (λ rows. AreRowsWhere (λ docs. IsInversion docs postings) (holds_term term.field term.bytes) rows.items)
-    (λ rows is docs inversion. is ∙ ap (map (λ (p : Posting). p.row)) c.as_slice.ensures ∙ rows_of_term_in docs postings entries i d term inversion c.as_slice-entries.ensures found.0 (found.1 d))
-    c.row_numbers.ensures
+    IfOk-weaker c.rows.result _ (λ rows. AreRowsWhere (λ docs. IsInversion docs postings) (holds_term term.field term.bytes) rows.items)
+    (λ rows is docs inversion. is ∙ rows_of_term_in docs postings entries i d term inversion c.as_slice-entries.ensures found.0 (found.1 d))
+    c.rows.ensures.rows
 
 pub returns-in-None : goal.returns-in-None
 returns-in-None c = λ docs inversion.

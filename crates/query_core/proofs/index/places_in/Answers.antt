@@ -1,34 +1,26 @@
-use Rattle.std.proofs.Common.{◌≡◌, ◌∙◌, sym, subst, rules}
+use Rattle.std.proofs.Common.{sym, subst, List}
+use Rattle.ix_base.specs.Inversion.{IsInversion}
+use Rattle.ix_base.specs.Documents.{Document}
 use Rattle.query_core.specs.Answers.{ArePositions}
-use Rattle.query_core.proofs.InPostings.{places_of_row_in, places_of_no_row_in, places_of_none, none_among}
+use Rattle.std.proofs.lemmas.Result.{IfOk-weaker}
+use Rattle.query_core.proofs.InPostings.{places_of_row_in, places_of_none, none_among}
 use Rattle.query_core.proofs.index.places_in.Goals as goal
 
-pub returns-in_default : goal.returns-in_default
-returns-in_default c = λ docs inversion.
+pub returns-in-Some : goal.returns-in-Some
+returns-in-Some c =
     let postings = c.args.postings.now in
     let term = c.args.term.now in
-    subst (ArePositions docs term c.args.row) (sym c.new.ensures.items) (places_of_none docs postings term c.args.row inversion (none_among postings c.as_slice-entries.result.now term c.as_slice-entries.ensures inversion.ordered c.in_default.ensures.none))
-
-pub returns-in_ok-to_vec-in-Some-find_row : goal.returns-in_ok-to_vec-in-Some-find_row
-returns-in_ok-to_vec-in-Some-find_row c = λ docs inversion.
-    let postings = c.args.postings.now in
-    let term = c.args.term.now in
+    let row = c.args.row in
     let entries = c.as_slice-entries.result.now in
-    let found = c.in-Some.ensures.found in
+    let i = c.in-Some.i in
     let d = c.index-entries-i.result in
-    let rows = c.as_slice-rows.result.now in
-    let at = c.in-Some-find_row.ensures.found in
-    let g = c.index-rows-j.result in
-    let copied : c.in_ok-to_vec-in-Some-find_row.field-0.items ≡ c.as_slice.result.now = search rules in
-    subst (ArePositions docs term c.args.row) (sym (copied ∙ c.as_slice.ensures))
-    (places_of_row_in docs postings entries c.in-Some.i d term rows c.in-Some-find_row.j g c.args.row inversion c.as_slice-entries.ensures found.0 (found.1 d) c.as_slice-rows.ensures at.0 (at.1 g))
+    let found = c.in-Some.ensures.found in
+    IfOk-weaker c.positions.result _ (λ places. (docs : List Document) → IsInversion docs postings → ArePositions docs term row places.items)
+    (λ places is docs inversion. subst (ArePositions docs term row) (sym is) (places_of_row_in docs postings entries i d term row inversion c.as_slice-entries.ensures found.0 (found.1 d)))
+    c.positions.ensures
 
 pub returns-in-None : goal.returns-in-None
 returns-in-None c = λ docs inversion.
     let postings = c.args.postings.now in
     let term = c.args.term.now in
-    let entries = c.as_slice-entries.result.now in
-    let found = c.in-Some.ensures.found in
-    let d = c.index-entries-i.result in
-    subst (ArePositions docs term c.args.row) (sym c.new-in-None.ensures.items)
-    (places_of_no_row_in docs postings entries c.in-Some.i d term c.as_slice-rows.result.now c.args.row inversion c.as_slice-entries.ensures found.0 (found.1 d) c.as_slice-rows.ensures c.in-None.ensures.none)
+    subst (ArePositions docs term c.args.row) (sym c.new.ensures.items) (places_of_none docs postings term c.args.row inversion (none_among postings c.as_slice-entries.result.now term c.as_slice-entries.ensures inversion.ordered c.in-None.ensures.none))
