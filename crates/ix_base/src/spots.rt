@@ -1,6 +1,6 @@
 //! The places of one term, in one flat list.
 ghost use Rattle.std.specs.Prelude.{◌≡◌, ◌<◌, ◌≤◌, ◌-◌, ◌↔◌, ◌++◌, ◌&&◌, ◌||◌, ◌==◌, ℕ, [], length, map, slice_get, All, Some, IsTrue, IfOk, OnOk, OnErr};
-ghost use Rattle.ix_base.specs.Grouped.{with_spot, with_row, grouped, positions_at, positions_in, IsByRow, IsAfter, IsUpto, ArePostings};
+ghost use Rattle.ix_base.specs.Grouped.{with_spot, with_row, grouped, positions_at, positions_in, IsByRow, IsAfter, IsUpto, ArePostings, AreSpots};
 ghost use Rattle.ix_base.specs.Posted.{posted_at};
 
 use crate::memory::NoMemory;
@@ -141,6 +141,14 @@ impl Spots {
             return Ok(());
         }
         self.push(row, position)
+    }
+
+    /// The places, rising by row and then by position.
+    pub fn as_slice(&self) -> &[Spot]
+        ensures places { self.now ≡ grouped result.now }
+        ensures rise { AreSpots result.now }
+    {
+        self.spots.as_slice()
     }
 
     /// The positions in a row, rising; none where the row isn't there. It is found by halving.
