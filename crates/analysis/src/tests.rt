@@ -1,7 +1,5 @@
 use crate::{analyse, invert, long_term, phrase_terms};
-use ix_base::{
-    Document, Fields, Name, Numbers, PhraseText, Postings, Refusal, Refused, Row, Text,
-};
+use ix_base::{Document, Fields, Name, Numbers, PhraseText, Postings, Refusal, Refused, Row, Text};
 use std::alloc::Global;
 use std::fmt::Write;
 use std::test::Fail;
