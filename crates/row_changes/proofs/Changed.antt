@@ -16,7 +16,6 @@ use Rattle.ix_base.specs.declared.query.Query.TheVariants as q_of
 use Rattle.row_changes.specs.Verdicts.{changed, verdict_by, in_place_of, rows_left, rows_changed}
 use Rattle.row_changes.specs.declared.verdicts.Change.{Change}
 use Rattle.row_changes.specs.declared.verdicts.Change.TheVariants.{Remove, SetNumber}
-use Rattle.row_changes.specs.declared.verdicts.Verdict.{Verdict}
 use Rattle.row_changes.specs.declared.verdicts.Verdict.TheVariants.{Kept, Removed}
 
 -- a verdict on each row leaves what the change leaves
