@@ -14,7 +14,6 @@ use Rattle.ix_outside.specs.Files.{Files, Changes, onto, stays}
 use Rattle.commit_point.specs.Fits.{BirthsRise}
 use Rattle.commit_point.specs.Holds.{KeepsCommits}
 use Rattle.commit_point.specs.Writing.{Commits, SameElsewhere, next_after}
-use Rattle.op_script.specs.Shape.{AreScriptLines}
 use Rattle.op_script.specs.declared.script.Line.{Line}
 use Rattle.op_script.specs.declared.script.Act.{Act}
 use Rattle.op_script.specs.declared.script.Act.TheVariants.{Do, Search}

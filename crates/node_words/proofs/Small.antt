@@ -1,6 +1,5 @@
 -- The bytes of an entry are bytes.
-use Rattle.std.proofs.Common.{◌≡◌, ℕ, zero, suc, ◌+◌, ◌/◌, ◌<◌, Bool, true, false, ℤ, List, [], ◌∷◌, ◌++◌, length, refl, subst, arith, inl, inr}
-use mathlib.Core.Bool.{◌&&◌}
+use Rattle.std.proofs.Common.{◌≡◌, ℕ, zero, suc, ◌+◌, ◌/◌, ◌<◌, true, ℤ, List, [], ◌∷◌, ◌++◌, length, subst, arith, inl, inr}
 use lib.Utf8.{scalar, scalars, next, encode, encodes, scalar_cases}
 use Rattle.std.specs.Int.{w64, cast_unsigned}
 use Rattle.std.specs.Str.{IsUtf8}
