@@ -1,5 +1,8 @@
 use crate::{analyse, invert, long_term, phrase_terms};
-use ix_base::{Document, Fields, Name, Numbers, PhraseText, Postings, Refusal, Refused, Row, Text};
+use ix_base::{
+    Document, Fields, Name, Numbers, PhraseText, Postings, Refusal, Refused, Row, Spots,
+    TermPostings, Text,
+};
 use std::alloc::Global;
 use std::fmt::Write;
 use std::test::Fail;
@@ -28,19 +31,35 @@ fn words_of(alloc: Global, text: &str) -> Result<String, Fail> {
     Ok(joined)
 }
 
+fn show_positions(out: &mut String, positions: &[u32]) -> Result<(), Fail> {
+    for position in positions {
+        write!(out, "{position},")?;
+    }
+    Ok(())
+}
+
+fn show_row(alloc: Global, out: &mut String, places: &Spots, row: u32) -> Result<(), Fail> {
+    write!(out, " {row}@")?;
+    let positions = places.positions(alloc, row)?;
+    show_positions(out, positions.as_slice())
+}
+
+fn show_entry(alloc: Global, out: &mut String, entry: &TermPostings) -> Result<(), Fail> {
+    let field = entry.term.field.as_str();
+    let bytes = entry.term.bytes.as_str();
+    write!(out, "{field}:{bytes}")?;
+    let rows = entry.rows.rows(alloc)?;
+    for row in rows.as_slice() {
+        show_row(alloc, out, &entry.rows, *row)?;
+    }
+    write!(out, ";")?;
+    Ok(())
+}
+
 fn shown(alloc: Global, postings: &Postings) -> Result<String, Fail> {
     let mut joined = String::new(alloc);
     for entry in postings.terms.as_slice() {
-        let field = entry.term.field.as_str();
-        let bytes = entry.term.bytes.as_str();
-        write!(joined, "{field}:{bytes}")?;
-        for row in entry.rows.rows(alloc)? {
-            write!(joined, " {row}@")?;
-            for position in entry.rows.positions(alloc, row)? {
-                write!(joined, "{position},")?;
-            }
-        }
-        write!(joined, ";")?;
+        show_entry(alloc, &mut joined, entry)?;
     }
     Ok(joined)
 }
@@ -78,40 +97,74 @@ fn words_and_their_foldings(rt: HostRuntime) -> Result<(), Fail> {
     Ok(())
 }
 
-/// Terms by field and bytes, with rows and positions.
+/// A document with two words twice, and an exact field.
+fn quotation(alloc: Global) -> Result<Document, Fail> {
+    let body = field_of(alloc, "body", text_of(alloc, "To be, or NOT to Be")?)?;
+    let tag = field_of(alloc, "tag", text_of(alloc, "To Be")?)?;
+    document_of(alloc, "k1", body, tag)
+}
+
+/// A document with one word.
+fn remark(alloc: Global) -> Result<Document, Fail> {
+    let body = field_of(alloc, "body", text_of(alloc, "be")?)?;
+    document_of(alloc, "k1", body, Fields::none(alloc))
+}
+
+/// Terms by field and bytes, with positions.
 #[test]
-fn terms_of_documents(rt: HostRuntime) -> Result<(), Fail> {
+fn terms_of_a_document(rt: HostRuntime) -> Result<(), Fail> {
     let alloc = rt.alloc();
-    let first = document_of(
-        alloc,
-        "k1",
-        field_of(alloc, "body", text_of(alloc, "To be, or NOT to Be")?)?,
-        field_of(alloc, "tag", text_of(alloc, "To Be")?)?,
-    )?;
-    let analysed = analyse(alloc, first.clone_in(alloc)?)?;
+    let analysed = analyse(alloc, quotation(alloc)?)?;
     let terms = shown(alloc, &analysed.postings)?;
     let want =
         "body:be 0@1,5,;body:not 0@3,;body:or 0@2,;body:to 0@0,4,;key:k1 0@0,;tag:To Be 0@0,;";
     assert_eq!(rt; terms.as_str(), want);
     assert_eq!(rt; analysed.doc.key.as_str(), "k1");
+    Ok(())
+}
 
-    let body = field_of(alloc, "body", text_of(alloc, "be")?)?;
-    let second = document_of(alloc, "k1", body, Fields::none(alloc))?;
-    let rows = vec![in alloc;
-        Row {
-            birth: 1,
-            doc: first
-        },
-        Row {
-            birth: 2,
-            doc: second
-        },
-    ]?;
+/// Terms by field and bytes, with rows and positions.
+#[test]
+fn terms_of_two_rows(rt: HostRuntime) -> Result<(), Fail> {
+    let alloc = rt.alloc();
+    let first = Row {
+        birth: 1,
+        doc: quotation(alloc)?,
+    };
+    let second = Row {
+        birth: 2,
+        doc: remark(alloc)?,
+    };
+    let rows = vec![in alloc; first, second]?;
     let terms = shown(alloc, &invert(alloc, rows.as_slice())?)?;
     let want =
         "body:be 0@1,5, 1@0,;body:not 0@3,;body:or 0@2,;body:to 0@0,4,;key:k1 0@0, 1@0,;tag:To Be 0@0,;";
     assert_eq!(rt; terms.as_str(), want);
     Ok(())
+}
+
+/// A document with a text and an exact text of so many repeated letters.
+fn long_document(
+    alloc: Global,
+    word: &str,
+    times: usize,
+    exact: &str,
+    exact_times: usize,
+) -> Result<Document, Fail> {
+    let body = text_of(alloc, word.repeat(alloc, times)?.as_str())?;
+    let tag = text_of(alloc, exact.repeat(alloc, exact_times)?.as_str())?;
+    let body = field_of(alloc, "body", body)?;
+    let tag = field_of(alloc, "tag", tag)?;
+    document_of(alloc, "k", body, tag)
+}
+
+/// The size for which a document is refused.
+fn refused_size(alloc: Global, doc: Document) -> Option<u64> {
+    match analyse(alloc, doc) {
+        Ok(_) => None,
+        Err(Refused::For(Refusal::Term { size })) => Some(size),
+        Err(Refused::For(Refusal::Query { .. }) | Refused::NoMemory) => Some(0),
+    }
 }
 
 /// A term may have 32,766 bytes; the size of the first that has more is told.
@@ -126,21 +179,9 @@ fn sizes_of_terms(rt: HostRuntime) -> Result<(), Fail> {
         ("\u{390}", 5_462, "b", 1, Some(32_772)),
     ];
     for (word, times, exact, exact_times, want) in cases {
-        let body = text_of(alloc, word.repeat(alloc, times)?.as_str())?;
-        let tag = text_of(alloc, exact.repeat(alloc, exact_times)?.as_str())?;
-        let doc = document_of(
-            alloc,
-            "k",
-            field_of(alloc, "body", body)?,
-            field_of(alloc, "tag", tag)?,
-        )?;
+        let doc = long_document(alloc, word, times, exact, exact_times)?;
         assert_eq!(rt; long_term(alloc, &doc)?, want);
-        let refused = match analyse(alloc, doc) {
-            Ok(_) => None,
-            Err(Refused::For(Refusal::Term { size })) => Some(size),
-            Err(Refused::For(Refusal::Query { .. }) | Refused::NoMemory) => Some(0),
-        };
-        assert_eq!(rt; refused, want);
+        assert_eq!(rt; refused_size(alloc, doc), want);
     }
     Ok(())
 }
