@@ -1,0 +1,67 @@
+-- What a buffer keeps: the places of each term, by marks.
+use Rattle.std.specs.Prelude.{◌≡◌, ℕ, ◌<◌, ◌≤◌, List, [], ◌∷◌, Bool, true, false, Option, Some, None, ⊥, All, AllPairs, map, length, ◌^◌}
+use Rattle.std.specs.List.{slice_index_or}
+use Rattle.std.specs.Option.{option_map_or}
+use Rattle.std.specs.Map.{lookup}
+use Rattle.std.specs.BTreeMap.{is_at}
+use Rattle.ix_base.specs.Inversion.{term_cmp, posted_at}
+use Rattle.ix_base.specs.Matches.{stands_at}
+use Rattle.ix_base.specs.Terms.{terms}
+use Rattle.ix_base.specs.declared.document.Term.{Term}
+use Rattle.ix_base.specs.declared.postings.Posting.{Posting}
+use Rattle.ram_postings.specs.Buffer.{Staged, born_rows}
+use Rattle.ram_postings.specs.declared.entry.Entry.{Entry}
+
+-- the lists have the term under the mark at the position
+abbrev pub kept : List (Term × List Posting) → Term → ℕ → ℕ → Bool
+kept lists t mark x = option_map_or (λ rows. posted_at rows mark x) (lookup (is_at (term_cmp t)) lists) false
+
+-- all marks in the lists are below this one
+abbrev pub IsKeptBelow : ℕ → List (Term × List Posting) → Type 0
+IsKeptBelow mark lists = (t : Term) (m x : ℕ) → kept lists t m x ≡ true → m < mark
+
+-- ---- numbers of rows
+
+-- the number of a row, where it has one
+abbrev pub number_of : List (Option ℕ) → ℕ → Option ℕ
+number_of numbers row = slice_index_or numbers row None
+
+-- later rows have higher numbers
+abbrev pub NumbersRise : List (Option ℕ) → Type 0
+NumbersRise numbers = (m n r s : ℕ) → number_of numbers m ≡ Some r → number_of numbers n ≡ Some s → m < n → r < s
+
+-- no row has this number
+abbrev pub HasNoNumber : List (Option ℕ) → ℕ → Type 0
+HasNoNumber numbers r = (m : ℕ) → number_of numbers m ≡ Some r → ⊥
+
+-- all rows of the postings are below all of these numbers
+abbrev pub IsBelowNumbers : List Posting → List (Option ℕ) → Type 0
+IsBelowNumbers rows numbers = (r x m s : ℕ) → posted_at rows r x ≡ true → number_of numbers m ≡ Some s → r < s
+
+-- ---- the documents
+
+abbrev pub staged_of : Entry → Staged
+staged_of e = record { doc = e.doc; birth = e.birth }
+
+-- the marks of those that have their number
+abbrev pub born_marks : List Entry → List ℕ
+born_marks [] = []
+born_marks (e ∷ es) = by_birth e.birth
+  where
+    by_birth : Option ℕ → List ℕ
+    by_birth None = born_marks es
+    by_birth (Some n) = e.mark ∷ born_marks es
+
+-- the document's terms are kept under its mark exactly where they stand in it
+abbrev pub IsKept : List (Term × List Posting) → Entry → Type 0
+IsKept lists e = (t : Term) (x : ℕ) → kept lists t e.mark x ≡ stands_at (terms e.doc) t.field t.bytes x
+
+-- Marks rise and are below the next one, each document's terms are kept under its mark, and numbers rise from 1 at least.
+pub record IsBuffer (staged : List Entry) (next : ℕ) (lists : List (Term × List Posting)) : Type 0 where
+  pub marks_rise : AllPairs (λ a b. a.mark < b.mark) staged
+  pub marks_below : All (λ e. e.mark < next) staged
+  pub kept_below : IsKeptBelow next lists
+  pub exact : All (IsKept lists) staged
+  pub few : length staged < 2 ^ 31
+  pub births_rise : AllPairs (λ a b. a.birth < b.birth) (born_rows (map staged_of staged))
+  pub births_positive : All (λ row. 1 ≤ row.birth) (born_rows (map staged_of staged))
