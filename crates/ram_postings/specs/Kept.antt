@@ -1,5 +1,5 @@
 -- What a buffer keeps: the places of each term, by marks.
-use Rattle.std.specs.Prelude.{◌≡◌, ℕ, ◌<◌, ◌≤◌, List, [], ◌∷◌, Bool, true, false, Option, Some, None, ⊥, All, AllPairs, map, length, ◌^◌}
+use Rattle.std.specs.Prelude.{◌≡◌, ℕ, ◌<◌, ◌≤◌, List, [], ◌∷◌, Bool, true, false, Option, Some, None, ◌++◌, All, AllPairs, map, length, ◌^◌}
 use Rattle.std.specs.List.{slice_index_or}
 use Rattle.std.specs.Option.{option_map_or}
 use Rattle.std.specs.Map.{lookup}
@@ -43,14 +43,15 @@ IsBelowNumbers rows numbers = (r x m s : ℕ) → posted_at rows r x ≡ true �
 abbrev pub staged_of : Entry → Staged
 staged_of e = record { doc = e.doc; birth = e.birth }
 
+-- the mark of a document that has its number
+abbrev pub mark_of : ℕ → Option ℕ → List ℕ
+mark_of mark None = []
+mark_of mark (Some n) = mark ∷ []
+
 -- the marks of those that have their number
 abbrev pub born_marks : List Entry → List ℕ
 born_marks [] = []
-born_marks (e ∷ es) = by_birth e.birth
-  where
-    by_birth : Option ℕ → List ℕ
-    by_birth None = born_marks es
-    by_birth (Some n) = e.mark ∷ born_marks es
+born_marks (e ∷ es) = mark_of e.mark e.birth ++ born_marks es
 
 -- the document's terms are kept under its mark exactly where they stand in it
 abbrev pub IsKept : List (Term × List Posting) → Entry → Type 0

@@ -1,5 +1,5 @@
 //! Freezing a buffer.
-ghost use Rattle.std.specs.Prelude.{◌≡◌, ◌<◌, ◌×◌, ℕ, Some, false, map, length, IfOk, AllPairs};
+ghost use Rattle.std.specs.Prelude.{◌≡◌, ◌<◌, ℕ, Some, false, map, length, IfOk, AllPairs};
 ghost use Rattle.std.specs.BTreeMap.{IsOrdered};
 ghost use Rattle.ix_base.specs.Inversion.{posted, posted_at, term_cmp, IsPostings, IsInversion};
 ghost use Rattle.ix_base.specs.declared.document.Term.{Term};

@@ -1,5 +1,5 @@
 //! The places of a document's terms, put into the lists of these terms.
-ghost use Rattle.std.specs.Prelude.{◌≡◌, ◌<◌, ℕ, ⊥, OnOk, true, AllPairs};
+ghost use Rattle.std.specs.Prelude.{◌≡◌, ◌<◌, ℕ, OnOk, true, AllPairs};
 ghost use Rattle.std.specs.declared.cmp.Ordering.TheVariants.{Less};
 ghost use Rattle.ix_base.specs.Inversion.{posted, posted_at, term_cmp};
 ghost use Rattle.ix_base.specs.declared.document.Term.{Term};

@@ -1,0 +1,3 @@
+mod PostedSpots
+mod MovedSpots
+mod KeptLists
