@@ -1,3 +1,6 @@
 mod PostedSpots
 mod MovedSpots
 mod KeptLists
+mod BornRows
+mod KeptDocuments
+mod WholeBuffer

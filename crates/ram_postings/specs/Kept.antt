@@ -1,5 +1,5 @@
 -- What a buffer keeps: the places of each term, by marks.
-use Rattle.std.specs.Prelude.{◌≡◌, ℕ, ◌<◌, ◌≤◌, List, [], ◌∷◌, Bool, true, false, Option, Some, None, ◌++◌, All, AllPairs, map, length, ◌^◌}
+use Rattle.std.specs.Prelude.{◌≡◌, ℕ, ◌<◌, ◌≤◌, List, [], ◌∷◌, Bool, true, false, Option, Some, None, ◌++◌, All, AllPairs, map, length}
 use Rattle.std.specs.List.{slice_index_or}
 use Rattle.std.specs.Option.{option_map_or}
 use Rattle.std.specs.Map.{lookup}
@@ -7,6 +7,8 @@ use Rattle.std.specs.BTreeMap.{is_at}
 use Rattle.ix_base.specs.Inversion.{term_cmp, posted_at}
 use Rattle.ix_base.specs.Matches.{stands_at}
 use Rattle.ix_base.specs.Terms.{terms}
+use Rattle.ix_base.specs.Documents.{Document}
+use Rattle.ix_base.specs.declared.document.Row.{Row}
 use Rattle.ix_base.specs.declared.document.Term.{Term}
 use Rattle.ix_base.specs.declared.postings.Posting.{Posting}
 use Rattle.ram_postings.specs.Buffer.{Staged, born_rows}
@@ -53,16 +55,27 @@ abbrev pub born_marks : List Entry → List ℕ
 born_marks [] = []
 born_marks (e ∷ es) = mark_of e.mark e.birth ++ born_marks es
 
--- the document's terms are kept under its mark exactly where they stand in it
-abbrev pub IsKept : List (Term × List Posting) → Entry → Type 0
-IsKept lists e = (t : Term) (x : ℕ) → kept lists t e.mark x ≡ stands_at (terms e.doc) t.field t.bytes x
+-- a document, and its mark
+abbrev pub placed_of : Entry → Document × ℕ
+placed_of e = (e.doc, e.mark)
 
--- Marks rise and are below the next one, each document's terms are kept under its mark, and numbers rise from 1 at least.
+-- the document's terms are kept under its mark exactly where they stand in it
+abbrev pub IsKept : List (Term × List Posting) → Document × ℕ → Type 0
+IsKept lists p = (t : Term) (x : ℕ) → kept lists t p.1 x ≡ stands_at (terms p.0) t.field t.bytes x
+
+-- Marks rise, all are below the next one, and each document's terms are kept under its mark.
+pub record AreKept (docs : List (Document × ℕ)) (next : ℕ) (lists : List (Term × List Posting)) : Type 0 where
+  pub rise : AllPairs (λ a b. a.1 < b.1) docs
+  pub below : All (λ p. p.1 < next) docs
+  pub lists_below : IsKeptBelow next lists
+  pub exact : All (IsKept lists) docs
+
+-- the numbers of the operations rise from 1 at least
+pub record AreBirths (rows : List Row) : Type 0 where
+  pub rise : AllPairs (λ a b. a.birth < b.birth) rows
+  pub positive : All (λ row. 1 ≤ row.birth) rows
+
 pub record IsBuffer (staged : List Entry) (next : ℕ) (lists : List (Term × List Posting)) : Type 0 where
-  pub marks_rise : AllPairs (λ a b. a.mark < b.mark) staged
-  pub marks_below : All (λ e. e.mark < next) staged
-  pub kept_below : IsKeptBelow next lists
-  pub exact : All (IsKept lists) staged
-  pub few : length staged < 2 ^ 31
-  pub births_rise : AllPairs (λ a b. a.birth < b.birth) (born_rows (map staged_of staged))
-  pub births_positive : All (λ row. 1 ≤ row.birth) (born_rows (map staged_of staged))
+  pub few : length staged < 2147483648
+  pub documents : AreKept (map placed_of staged) next lists
+  pub births : AreBirths (born_rows (map staged_of staged))
