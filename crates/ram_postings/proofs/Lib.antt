@@ -4,3 +4,4 @@ mod KeptLists
 mod BornRows
 mod KeptDocuments
 mod WholeBuffer
+mod MarksPlaced

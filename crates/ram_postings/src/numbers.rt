@@ -29,7 +29,7 @@ fn marks_of(alloc: Global, staged: &[Entry]) -> Result<Vec<u32>, NoMemory>
 {
     let mut marks = Vec::new(alloc);
     for entry in staged {
-        if entry.birth.is_some() {
+        if let Some(_birth) = entry.birth {
             marks.push(entry.mark)?;
         }
     }
