@@ -5,3 +5,4 @@ mod BornRows
 mod KeptDocuments
 mod WholeBuffer
 mod MarksPlaced
+mod FrozenTerms

@@ -1,7 +1,7 @@
 //! Freezing a buffer.
-ghost use Rattle.std.specs.Prelude.{◌≡◌, ◌<◌, ℕ, Some, false, map, length, IfOk, AllPairs};
-ghost use Rattle.std.specs.BTreeMap.{IsOrdered};
-ghost use Rattle.ix_base.specs.Inversion.{posted, posted_at, term_cmp, IsPostings, IsInversion};
+ghost use Rattle.std.specs.Prelude.{◌≡◌, ◌↔◌, ℕ, [], Some, false, map, IsTrue, IfOk};
+ghost use Rattle.ix_base.specs.Grouped.{ArePostings};
+ghost use Rattle.ix_base.specs.Inversion.{posted, posted_at, IsPostings, IsInversion};
 ghost use Rattle.ix_base.specs.declared.document.Term.{Term};
 ghost use Rattle.ram_postings.specs.Buffer.{born_rows};
 ghost use Rattle.ram_postings.specs.Kept.{kept, number_of, staged_of, NumbersRise, HasNoNumber, IsBuffer};
@@ -24,12 +24,20 @@ pub struct Frozen {
 /// The places of a list in rows that have a number, at the rows of these numbers.
 fn renumbered(alloc: Global, list: &Spots, numbers: &[Option<u32>]) -> Result<Spots, NoMemory>
     requires { NumbersRise numbers.now }
+    ensures ordered { IfOk result (λ rows. ArePostings rows) }
     ensures others { IfOk result (λ rows. (r x : ℕ) → HasNoNumber numbers.now r → posted_at rows r x ≡ false) }
     ensures ok { IfOk result (λ rows. (m r x : ℕ) → number_of numbers.now m ≡ Some r → posted_at rows r x ≡ posted_at list.now m x) }
 {
     let mut rows = Spots::new(alloc);
     put_renumbered(&mut rows, list.as_slice(), numbers)?;
     Ok(rows)
+}
+
+/// Whether a list has no place.
+fn has_no_place(rows: &Spots) -> bool
+    ensures { IsTrue result ↔ (rows.now ≡ []) }
+{
+    rows.as_slice().is_empty()
 }
 
 /// The terms that stand in rows that have a number, at the rows of these numbers.
@@ -46,7 +54,7 @@ fn terms_of(
     let mut terms = Vec::new(alloc);
     for (key, list) in lists {
         let rows = renumbered(alloc, list, numbers)?;
-        if !rows.as_slice().is_empty() {
+        if !has_no_place(&rows) {
             terms.push(TermPostings {
                 term: key.term().clone_in(alloc)?,
                 rows,
