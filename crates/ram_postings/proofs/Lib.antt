@@ -6,3 +6,4 @@ mod KeptDocuments
 mod WholeBuffer
 mod MarksPlaced
 mod FrozenTerms
+mod FrozenRows
