@@ -1,10 +1,9 @@
 -- The rows of a buffer against what is kept of its documents.
-use Rattle.std.proofs.Common.{◌≡◌, ℕ, zero, suc, ◌<◌, ◌≤◌, Option, Some, None, List, [], ◌∷◌, ◌++◌, Bool, false, length, map, get_or, ◌⊎◌, inl, inr, refl, sym, ap, ◌∙◌, subst, arith}
+use Rattle.std.proofs.Common.{◌≡◌, ℕ, zero, suc, ◌<◌, ◌≤◌, Option, Some, None, List, [], ◌∷◌, ◌++◌, false, length, map, get_or, ◌⊎◌, inl, inr, refl, sym, ap, ◌∙◌, arith}
 use Rattle.std.specs.List.{All, AllPairs, slice_get}
 use Rattle.std.specs.Option.{option_map_or}
 use Rattle.std.proofs.lemmas.Bool.{cases_lt}
 use Rattle.std.proofs.lemmas.Option.{slice_get_within, get_or_from_slice_get}
-use Rattle.std.proofs.lemmas.List.{length-map}
 use Rattle.std.proofs.lemmas.List.Elements.{All-head, All-tail, All-cons, All-nil}
 use Rattle.ix_base.specs.Documents.{Document}
 use Rattle.ix_base.specs.Inversion.{posted, stands_in_row, IsPostings, IsInversion}
@@ -14,9 +13,8 @@ use Rattle.ix_base.specs.declared.document.Row.{Row}
 use Rattle.ix_base.specs.declared.document.Term.{Term}
 use Rattle.ix_base.specs.declared.postings.Posting.{Posting}
 use Rattle.ix_base.specs.declared.postings.TermPostings.{TermPostings}
-use Rattle.ix_base.specs.declared.postings.Postings.{Postings}
-use Rattle.ram_postings.specs.Buffer.{Staged, row_of, born_rows}
-use Rattle.ram_postings.specs.Kept.{kept, number_of, NumbersRise, HasNoNumber, staged_of, placed_of, mark_of, born_marks, IsKept, AreKept, IsBuffer}
+use Rattle.ram_postings.specs.Buffer.{row_of, born_rows}
+use Rattle.ram_postings.specs.Kept.{kept, number_of, NumbersRise, HasNoNumber, staged_of, placed_of, mark_of, born_marks, IsKept, IsBuffer}
 use Rattle.ram_postings.specs.declared.entry.Entry.{Entry}
 use Rattle.ram_postings.proofs.MarksPlaced.{Placed}
 

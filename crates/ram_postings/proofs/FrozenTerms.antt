@@ -1,12 +1,11 @@
 -- The terms of a buffer, in the order of its lists.
-use Rattle.std.proofs.Common.{◌≡◌, ◌≢◌, ℕ, zero, suc, ◌<◌, ◌+◌, Option, Some, None, List, [], ◌∷◌, ◌++◌, Bool, true, false, ◌&&◌, ◌||◌, ◌==◌, ◌↔◌, IsTrue, cond, length, map, get_or, ◌⊎◌, inl, inr, refl, sym, ap, ◌∙◌, subst, arith}
-use Rattle.std.specs.List.{list_any, AllPairs, All, AllByRecursion}
+use Rattle.std.proofs.Common.{◌≡◌, ℕ, zero, suc, ◌<◌, Option, Some, List, [], ◌∷◌, ◌++◌, Bool, true, false, ◌&&◌, ◌||◌, ◌==◌, ◌↔◌, IsTrue, cond, length, map, get_or, refl, sym, ap, ◌∙◌, subst, arith}
+use Rattle.std.specs.List.{list_any, AllPairs, AllByRecursion}
 use Rattle.std.specs.List.Sorted.{IsStrictlySortedBy}
 use Rattle.std.specs.Option.{option_map_or}
 use Rattle.std.specs.Map.{lookup}
 use Rattle.std.specs.BTreeMap.{is_at}
 use Rattle.std.specs.Ordering.{is_eq}
-use Rattle.std.specs.declared.cmp.Ordering.{Ordering}
 use Rattle.std.specs.declared.cmp.Ordering.TheVariants.{Less}
 use Rattle.std.proofs.lemmas.Bool.{eqb-true}
 use Rattle.std.proofs.lemmas.List.{append_assoc, append-nil, map-append, length-map}
@@ -104,11 +103,11 @@ taken_term all numbers seen rest made k t' list rows h same some are others ok =
       each = each_push made entry h.each (record { some = some_place rows some; rise = are.rise; each = are.each });
       others = λ t r x free. posted_more made entry t r x ∙ ap (λ (b : Bool). b || (is_term t t' && posted_at rows r x)) (h.others t r x free) ∙ ap (λ (b : Bool). is_term t t' && b) (others r x free) ∙ and_false (is_term t t');
       ok = λ t m r x has.
-        posted_more made entry t r x
-        ∙ ap (λ (b : Bool). b || (is_term t t' && posted_at rows r x)) (h.ok t m r x has)
-        ∙ ap (λ (b : Bool). held seen t m x || (is_term t t' && b)) (ok m r x has)
-        ∙ ap (λ (u : Term). held seen t m x || (is_term t u && posted_at list m x)) same
-        ∙ sym (held_more seen k list t m x);
+          posted_more made entry t r x
+          ∙ ap (λ (b : Bool). b || (is_term t t' && posted_at rows r x)) (h.ok t m r x has)
+          ∙ ap (λ (b : Bool). held seen t m x || (is_term t t' && b)) (ok m r x has)
+          ∙ ap (λ (u : Term). held seen t m x || (is_term t u && posted_at list m x)) same
+          ∙ sym (held_more seen k list t m x);
     }
   where
     and_false : (b : Bool) → (b && false) ≡ false
@@ -136,10 +135,10 @@ taken_nothing all numbers seen rest made k list rows h none ok = record {
   each = h.each;
   others = h.others;
   ok = λ t m r x has.
-    h.ok t m r x has
-    ∙ or_false (held seen t m x)
-    ∙ ap (λ (b : Bool). held seen t m x || b) (sym (and_none (is_term t k) (posted_at list m x) (sym (ok m r x has) ∙ ap (λ (l : List Posting). posted_at l r x) none)))
-    ∙ sym (held_more seen k list t m x);
+      h.ok t m r x has
+      ∙ or_false (held seen t m x)
+      ∙ ap (λ (b : Bool). held seen t m x || b) (sym (and_none (is_term t k) (posted_at list m x) (sym (ok m r x has) ∙ ap (λ (l : List Posting). posted_at l r x) none)))
+      ∙ sym (held_more seen k list t m x);
 }
   where
     and_none : (a b : Bool) → b ≡ false → (a && b) ≡ false

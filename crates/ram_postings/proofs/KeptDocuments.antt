@@ -1,17 +1,14 @@
 -- Documents whose terms are kept, as lists grow.
-use Rattle.std.proofs.Common.{◌≡◌, ℕ, zero, suc, ◌<◌, ◌≤◌, ◌+◌, ◌==◌, Bool, true, false, Option, Some, None, List, [], ◌∷◌, ◌++◌, length, map, get_or, set, refl, sym, ap, ◌∙◌, subst, arith}
-use Rattle.std.specs.List.{All, AllPairs}
+use Rattle.std.proofs.Common.{◌≡◌, ℕ, zero, suc, ◌<◌, ◌+◌, ◌==◌, Bool, true, false, List, [], ◌∷◌, ◌++◌, map, get_or, set, refl, sym, ap, ◌∙◌, arith}
 use Rattle.std.proofs.lemmas.Bool.{eqb-true, eq-eqb}
 use Rattle.std.proofs.lemmas.List.Quantifiers.{all_pairs_push}
 use Rattle.std.proofs.lemmas.List.Elements.{All-weaker, All-push, All-nil}
 use Rattle.ix_base.specs.Documents.{Document}
 use Rattle.ix_base.specs.Inversion.{IsInversion, posted}
-use Rattle.ix_base.specs.Matches.{stands_at}
-use Rattle.ix_base.specs.Terms.{terms}
 use Rattle.ix_base.specs.declared.document.Term.{Term}
 use Rattle.ix_base.specs.declared.postings.Posting.{Posting}
 use Rattle.ix_base.specs.declared.postings.Postings.{Postings}
-use Rattle.ram_postings.specs.Kept.{kept, IsKept, IsKeptBelow, AreKept, placed_of}
+use Rattle.ram_postings.specs.Kept.{kept, IsKept, AreKept, placed_of}
 use Rattle.ram_postings.specs.declared.entry.Entry.{Entry}
 
 -- the lists are the same but for one mark

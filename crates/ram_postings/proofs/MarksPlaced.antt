@@ -1,12 +1,12 @@
 -- The rows of marks, and the marks of rows.
-use Rattle.std.proofs.Common.{◌≡◌, ℕ, zero, suc, ◌<◌, ◌≤◌, ◌+◌, ◌==◌, ◌↔◌, Bool, true, false, Option, Some, None, List, [], ◌∷◌, ◌++◌, length, map, take, get_or, set, ◌⊎◌, inl, inr, refl, sym, ap, ◌∙◌, subst, arith}
-use Rattle.std.specs.List.{All, AllPairs, slice_get}
-use Rattle.std.proofs.lemmas.Bool.{eqb-true, eq-eqb, cases_eq}
+use Rattle.std.proofs.Common.{◌≡◌, ℕ, zero, suc, ◌<◌, ◌+◌, ◌↔◌, Option, Some, None, List, [], ◌∷◌, ◌++◌, length, map, take, get_or, set, ◌⊎◌, inl, inr, refl, sym, ap, ◌∙◌, subst, arith}
+use Rattle.std.specs.List.{AllPairs, slice_get}
+use Rattle.std.proofs.lemmas.Bool.{cases_eq}
 use Rattle.std.proofs.lemmas.Option.{slice_get_within, get_or_from_slice_get}
 use Rattle.std.proofs.lemmas.List.{append_assoc, append-nil, map-append, take_more, length-take, length-take-le, get_or-take}
 use Rattle.ix_base.specs.Documents.{Document}
 use Rattle.ix_base.specs.declared.document.Row.{Row}
-use Rattle.ram_postings.specs.Buffer.{Staged, row_of, born_rows}
+use Rattle.ram_postings.specs.Buffer.{row_of, born_rows}
 use Rattle.ram_postings.specs.Kept.{staged_of, mark_of, born_marks, number_of}
 use Rattle.ram_postings.specs.declared.entry.Entry.{Entry}
 use Rattle.ram_postings.proofs.BornRows.{rows_push}

@@ -1,16 +1,16 @@
 -- Places copied from rows that have a number to the rows of these numbers.
-use Rattle.std.proofs.Common.{◌≡◌, ◌≢◌, ℕ, suc, zero, ◌<◌, ◌+◌, Option, Some, None, List, [], ◌∷◌, Bool, true, false, ◌&&◌, ◌||◌, ◌==◌, length, take, get_or, ◌⊎◌, inl, inr, refl, sym, ap, ◌∙◌, subst, arith}
-use Rattle.std.specs.List.{list_any, AllPairs}
+use Rattle.std.proofs.Common.{◌≡◌, ◌≢◌, ℕ, ◌<◌, Option, Some, None, List, [], ◌∷◌, Bool, true, false, ◌&&◌, ◌||◌, ◌==◌, length, take, get_or, ◌⊎◌, inl, inr, refl, sym, ap, ◌∙◌, subst, arith}
+use Rattle.std.specs.List.{list_any}
 use Rattle.std.specs.Option.{option_map_or}
 use Rattle.std.proofs.lemmas.Bool.{eqb-true, eq-eqb, and_parts, cases_lt}
 use Rattle.std.proofs.lemmas.List.{get_or-take, get_or_default, length-take}
-use Rattle.std.proofs.lemmas.List.Folds.{list_any_more, list_any_none, Any-from_list_any}
+use Rattle.std.proofs.lemmas.List.Folds.{Any-from_list_any}
 use Rattle.ix_base.specs.Posted.{posted_at}
 use Rattle.ix_base.specs.declared.postings.Posting.{Posting}
 use Rattle.ix_base.specs.declared.spots.Spot.{Spot}
 use Rattle.ix_base.specs.Grouped.{grouped, AreSpots, IsBefore, IsAfter}
 use Rattle.ram_postings.specs.Kept.{number_of, NumbersRise, IsBelowNumbers, HasNoNumber}
-use Rattle.ram_postings.proofs.PostedSpots.{or_false, or_assoc, is_spot, posted_are}
+use Rattle.ram_postings.proofs.PostedSpots.{or_false, is_spot, posted_are}
 
 -- a place whose row has the number r, at the position x
 abbrev pub moves : List (Option ℕ) → ℕ → ℕ → Spot → Bool

@@ -1,6 +1,6 @@
 -- The parts of a buffer, together.
 use Rattle.std.proofs.Common.{◌≡◌, ℕ, ◌<◌, ◌≤◌, ◌+◌, Option, Some, None, List, [], ◌∷◌, ◌++◌, length, map, drop, get_or, set, refl, sym, ap, ◌∙◌, subst, arith}
-use Rattle.std.specs.List.{All, AllPairs}
+use Rattle.std.specs.List.{All}
 use Rattle.std.proofs.lemmas.List.{map-append, length-append, length-map, length-set, get_or_default}
 use Rattle.std.proofs.lemmas.List.Elements.{All-nil}
 use Rattle.ix_base.specs.Documents.{Document}
@@ -9,7 +9,7 @@ use Rattle.ix_base.specs.declared.document.Row.{Row}
 use Rattle.ix_base.specs.declared.document.Term.{Term}
 use Rattle.ix_base.specs.declared.postings.Posting.{Posting}
 use Rattle.ix_base.specs.declared.postings.Postings.{Postings}
-use Rattle.ram_postings.specs.Buffer.{Staged, waiting, row_of, born_rows, with_birth}
+use Rattle.ram_postings.specs.Buffer.{Staged, born_rows, with_birth}
 use Rattle.ram_postings.specs.Kept.{kept, AreBirths, AreKept, IsBuffer, staged_of, placed_of}
 use Rattle.ram_postings.specs.declared.entry.Entry.{Entry}
 use Rattle.ram_postings.proofs.BornRows.{rows_waiting, rows_born, births_more, staged_born}

@@ -1,4 +1,4 @@
-use Rattle.std.proofs.Common.{◌≡◌, ◌<◌, ℕ, Option, List, map, length, sym, subst, arith}
+use Rattle.std.proofs.Common.{◌<◌, ℕ, List, sym, subst, arith}
 use Rattle.ix_base.specs.Inversion.{IsInversion}
 use Rattle.ix_base.specs.declared.postings.TermPostings.{TermPostings}
 use Rattle.ram_postings.specs.Kept.{born_marks}

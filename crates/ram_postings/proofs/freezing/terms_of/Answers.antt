@@ -1,9 +1,8 @@
-use Rattle.std.proofs.Common.{◌≡◌, ℕ, List, [], ◌∷◌, ◌++◌, map, refl, sym, ap, ◌∙◌, subst}
+use Rattle.std.proofs.Common.{List, [], ◌∷◌, ◌++◌, map, refl, sym, ◌∙◌, subst}
 use Rattle.std.specs.Map.Iter.{deref_pair}
 use Rattle.std.proofs.lemmas.List.{map-append}
 use Rattle.ix_base.specs.declared.document.Term.{Term}
 use Rattle.ix_base.specs.declared.postings.Posting.{Posting}
-use Rattle.ix_base.specs.declared.postings.TermPostings.{TermPostings}
 use Rattle.ram_postings.proofs.FrozenTerms.{AreTaken, taken_term, taken_nothing, taken_ordered, taken_exact}
 use Rattle.ram_postings.proofs.freezing.terms_of.Goals as goal
 

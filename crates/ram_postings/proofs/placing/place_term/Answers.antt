@@ -1,4 +1,4 @@
-use Rattle.std.proofs.Common.{rules, ◌≡◌, ◌<◌, ℕ, zero, suc, Option, Some, None, true, false, List, ◌∷◌, [], refl, sym, ap, ◌∙◌, subst, arith}
+use Rattle.std.proofs.Common.{rules, ◌≡◌, ◌<◌, ℕ, zero, suc, Option, Some, None, true, false, List, ◌∷◌, [], sym, ap, ◌∙◌, subst, arith}
 use Rattle.std.specs.Option.{option_map_or, option_copied_mut}
 use Rattle.std.specs.Map.{lookup}
 use Rattle.std.specs.BTreeMap.{BTreeMap, is_at}

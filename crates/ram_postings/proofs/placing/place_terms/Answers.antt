@@ -1,4 +1,4 @@
-use Rattle.std.proofs.Common.{◌≡◌, ◌++◌, ◌∷◌, [], List, refl, sym, ap, ◌∙◌, arith}
+use Rattle.std.proofs.Common.{◌++◌, ◌∷◌, [], List, sym, ap, ◌∙◌}
 use Rattle.std.proofs.lemmas.List.{append_assoc}
 use Rattle.ix_base.specs.declared.postings.TermPostings.{TermPostings}
 use Rattle.ram_postings.proofs.KeptLists.{low_step, placed_step}
@@ -19,5 +19,5 @@ loop-entry-preserved c =
       all = all ∙ sym (append_assoc front (c.in-Some.entry ∷ []) c.next.new.self.rest.items);
       others = λ t r x ne. c.place_term.ensures.others t r x ne ∙ c.loop-entry.invariant.others t r x ne;
       placed = placed_step c.args.postings.terms front c.next.new.self.rest.items c.in-Some.entry c.loop-entry.lists.entries c.place_term.new.lists.entries c.args.mark
-        all c.requires.rise c.loop-entry.invariant.placed c.place_term.ensures.other_terms c.in_ok-place_term.ensures.ok;
+          all c.requires.rise c.loop-entry.invariant.placed c.place_term.ensures.other_terms c.in_ok-place_term.ensures.ok;
     }

@@ -1,4 +1,4 @@
-use Rattle.std.proofs.Common.{◌≡◌, ◌<◌, ℕ, List, take, length, refl, sym, ap, ◌∙◌, subst, arith}
+use Rattle.std.proofs.Common.{◌≡◌, List, take, sym, ap, ◌∙◌, subst}
 use Rattle.ix_base.specs.Posted.{posted_at}
 use Rattle.ix_base.specs.declared.postings.Posting.{Posting}
 use Rattle.std.proofs.lemmas.List.{take_all}

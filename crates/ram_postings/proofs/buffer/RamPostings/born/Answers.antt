@@ -1,4 +1,4 @@
-use Rattle.std.proofs.Common.{◌≡◌, ◌<◌, List, map, length, ap, ◌∙◌, arith}
+use Rattle.std.proofs.Common.{◌<◌, List, length, ap, ◌∙◌, arith}
 use Rattle.std.proofs.lemmas.List.{length-map}
 use Rattle.ram_postings.specs.Buffer.{Staged, with_birth}
 use Rattle.ram_postings.specs.Kept.{staged_of}

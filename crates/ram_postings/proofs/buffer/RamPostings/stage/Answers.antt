@@ -1,4 +1,4 @@
-use Rattle.std.proofs.Common.{◌≡◌, ◌<◌, ◌+◌, List, None, map, length, refl, sym, ap, subst, arith}
+use Rattle.std.proofs.Common.{◌<◌, ◌+◌, List, None, length, refl, sym, ap, subst, arith}
 use Rattle.std.proofs.lemmas.List.{length-map}
 use Rattle.ram_postings.specs.Kept.{staged_of, IsBuffer}
 use Rattle.ram_postings.specs.declared.entry.Entry.{Entry}
