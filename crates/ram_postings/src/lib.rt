@@ -1,0 +1,19 @@
+//! The private buffer of one writer: documents with their postings, before they are a segment.
+//!
+//! A document is staged first, and gets the number of the operation that adds it later. One that
+//! never gets a number is void: it keeps its place, and is in no row. A freeze copies the documents
+//! that have a number, as rows, with the inversion of them. The buffer isn't changed by it.
+#![tactic(auto)]
+
+mod buffer;
+mod entry;
+mod freezing;
+mod numbers;
+mod placing;
+mod renumbering;
+mod term_key;
+#[cfg(test)]
+mod tests;
+
+pub use buffer::{RamPostings, RowId};
+pub use freezing::Frozen;

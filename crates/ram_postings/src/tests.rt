@@ -1,0 +1,78 @@
+//! Three documents, the second of them void, against the inversion of the other two.
+use crate::RamPostings;
+use analysis::{analyse, invert};
+use ix_base::{Analysed, Document, Fields, Name, Numbers, Postings, Text};
+use std::alloc::Global;
+use std::fmt::Write;
+use std::test::Fail;
+
+fn text_of(alloc: Global, text: &str) -> Result<Text, Fail> {
+    Ok(Text::new(String::from_str(alloc, text)?).ok_or("long")?)
+}
+
+fn fields_of(alloc: Global, name: &str, text: &str) -> Result<Fields, Fail> {
+    let name = Name::new(text_of(alloc, name)?).ok_or("name")?;
+    Ok(Fields::from_vec(vec![in alloc; (name, text_of(alloc, text)?)]?))
+}
+
+fn document_of(alloc: Global, key: &str, body: &str, tag: &str) -> Result<Document, Fail> {
+    let text = fields_of(alloc, "body", body)?;
+    let exact = fields_of(alloc, "tag", tag)?;
+    let doc = Document::new(text_of(alloc, key)?, text, exact, Numbers::none(alloc));
+    Ok(doc.ok_or("names aren't apart")?)
+}
+
+fn shown(alloc: Global, postings: &Postings) -> Result<String, Fail> {
+    let mut joined = String::new(alloc);
+    for entry in postings.terms.as_slice() {
+        let field = entry.term.field.as_str();
+        let bytes = entry.term.bytes.as_str();
+        write!(joined, "{field}:{bytes}")?;
+        for row in entry.rows.rows(alloc)? {
+            write!(joined, " {row}@")?;
+            for position in entry.rows.positions(alloc, row)? {
+                write!(joined, "{position},")?;
+            }
+        }
+        write!(joined, ";")?;
+    }
+    Ok(joined)
+}
+
+/// No document: nothing is there, and nothing is in the postings.
+#[test]
+fn nothing_staged(rt: HostRuntime) -> Result<(), Fail> {
+    let alloc = rt.alloc();
+    let buffer = RamPostings::new(alloc);
+    assert_eq!(rt; buffer.rows(), 0);
+    let frozen = buffer.freeze(alloc)?;
+    assert_eq!(rt; frozen.rows.len(), 0);
+    assert_eq!(rt; frozen.postings.terms.len(), 0);
+    Ok(())
+}
+
+/// A void document keeps its place and is in no row; its own terms are in no postings.
+#[test]
+fn void_document_between(rt: HostRuntime) -> Result<(), Fail> {
+    let alloc = rt.alloc();
+    let mut buffer = RamPostings::new(alloc);
+    let first = buffer.stage(analyse(alloc, document_of(alloc, "a", "fish dog fish", "red")?)?)?;
+    let second = buffer.stage(analyse(alloc, document_of(alloc, "b", "fish owl", "blue")?)?)?;
+    let third = buffer.stage(analyse(
+        alloc,
+        document_of(alloc, "c", "the dog saw the fish", "red")?,
+    )?)?;
+    assert_eq!(rt; (first.0, second.0, third.0), (0, 1, 2));
+    assert_eq!(rt; buffer.rows(), 3);
+    buffer.born(first, 4);
+    buffer.born(third, 9);
+    let frozen = buffer.freeze(alloc)?;
+    assert_eq!(rt; frozen.rows.len(), 2);
+    let found = shown(alloc, &frozen.postings)?;
+    let inverted = shown(alloc, &invert(alloc, frozen.rows.as_slice())?)?;
+    assert_eq!(rt; found.as_str(), inverted.as_str());
+    let expected =
+        "body:dog 0@1, 1@1,;body:fish 0@0,2, 1@4,;body:saw 1@2,;body:the 1@0,3,;key:a 0@0,;key:c 1@0,;tag:red 0@0, 1@0,;";
+    assert_eq!(rt; found.as_str(), expected);
+    Ok(())
+}
