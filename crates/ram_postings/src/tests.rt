@@ -1,7 +1,9 @@
 //! Three documents, the second of them void, against the inversion of the other two.
+ghost use Rattle.std.specs.Prelude.{◌<◌, ◌^◌, length};
+
 use crate::RamPostings;
 use analysis::{analyse, invert};
-use ix_base::{Analysed, Document, Fields, Name, Numbers, Postings, Text};
+use ix_base::{Document, Fields, Name, Numbers, Postings, Row, Spots, TermPostings, Text};
 use std::alloc::Global;
 use std::fmt::Write;
 use std::test::Fail;
@@ -22,21 +24,43 @@ fn document_of(alloc: Global, key: &str, body: &str, tag: &str) -> Result<Docume
     Ok(doc.ok_or("names aren't apart")?)
 }
 
+fn show_positions(out: &mut String, positions: &[u32]) -> Result<(), Fail> {
+    for position in positions {
+        write!(out, "{position},")?;
+    }
+    Ok(())
+}
+
+fn show_row(alloc: Global, out: &mut String, places: &Spots, row: u32) -> Result<(), Fail> {
+    write!(out, " {row}@")?;
+    let positions = places.positions(alloc, row)?;
+    show_positions(out, positions.as_slice())
+}
+
+fn show_entry(alloc: Global, out: &mut String, entry: &TermPostings) -> Result<(), Fail> {
+    let field = entry.term.field.as_str();
+    let bytes = entry.term.bytes.as_str();
+    write!(out, "{field}:{bytes}")?;
+    let rows = entry.rows.rows(alloc)?;
+    for row in rows.as_slice() {
+        show_row(alloc, out, &entry.rows, *row)?;
+    }
+    write!(out, ";")?;
+    Ok(())
+}
+
 fn shown(alloc: Global, postings: &Postings) -> Result<String, Fail> {
     let mut joined = String::new(alloc);
     for entry in postings.terms.as_slice() {
-        let field = entry.term.field.as_str();
-        let bytes = entry.term.bytes.as_str();
-        write!(joined, "{field}:{bytes}")?;
-        for row in entry.rows.rows(alloc)? {
-            write!(joined, " {row}@")?;
-            for position in entry.rows.positions(alloc, row)? {
-                write!(joined, "{position},")?;
-            }
-        }
-        write!(joined, ";")?;
+        show_entry(alloc, &mut joined, entry)?;
     }
     Ok(joined)
+}
+
+fn inverted(alloc: Global, rows: &[Row]) -> Result<String, Fail>
+    requires { length rows.now < 2 ^ 32 }
+{
+    shown(alloc, &invert(alloc, rows)?)
 }
 
 /// No document: nothing is there, and nothing is in the postings.
@@ -69,8 +93,10 @@ fn void_document_between(rt: HostRuntime) -> Result<(), Fail> {
     let frozen = buffer.freeze(alloc)?;
     assert_eq!(rt; frozen.rows.len(), 2);
     let found = shown(alloc, &frozen.postings)?;
-    let inverted = shown(alloc, &invert(alloc, frozen.rows.as_slice())?)?;
-    assert_eq!(rt; found.as_str(), inverted.as_str());
+    assert_eq!(rt;
+        found.as_str(),
+        inverted(alloc, frozen.rows.as_slice())?.as_str()
+    );
     let expected =
         "body:dog 0@1, 1@1,;body:fish 0@0,2, 1@4,;body:saw 1@2,;body:the 1@0,3,;key:a 0@0,;key:c 1@0,;tag:red 0@0, 1@0,;";
     assert_eq!(rt; found.as_str(), expected);
