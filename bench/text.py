@@ -73,10 +73,11 @@ def write_documents(count, path):
         print(line_of(c=0, op="commit"), file=out)
 
 
-def write_questions(count, path):
-    with open(path, "w") as out:
-        for query, _ in questions(count):
-            print(line_of(c=0, op="search", query=query), file=out)
+def write_questions(count, ours, theirs):
+    with open(ours, "w") as script, open(theirs, "w") as lines:
+        for query, question in questions(count):
+            print(line_of(c=0, op="search", query=query), file=script)
+            print(question, file=lines)
 
 
 def measured(words, script, report):
@@ -106,11 +107,11 @@ def sqlite_write(database, script):
     store.commit()
 
 
-def sqlite_ask(database, count):
+def sqlite_ask(database):
     store = sqlite3.connect(database)
-    for _, question in questions(count):
-        keys = [key for key, in store.execute("select key from docs where body match ? order by rowid", (question,))]
-        print(json.dumps({"hits": keys}))
+    for question in sys.stdin:
+        found = store.execute("select key from docs where body match ? order by rowid", (question.rstrip("\n"),))
+        print(json.dumps({"hits": [key for key, in found]}))
 
 
 def size_of(folder):
@@ -137,12 +138,12 @@ def main():
         row(f"write {documents:,}", "`index_run`", measured([program, index, "run"], script, report), size_of(index), 0)
         row(f"write {documents:,}", "FTS5", measured([*python, "--write", database, script], script, report), size_of(other), 0)
         for count in (1, many):
-            asked = os.path.join(room, "questions")
-            write_questions(count, asked)
-            figures = measured([program, index, "run"], asked, report)
+            ours, theirs = os.path.join(room, "questions"), os.path.join(room, "queries")
+            write_questions(count, ours, theirs)
+            figures = measured([program, index, "run"], ours, report)
             hits = hits_in(report)
             row(f"ask {count:,}", "`index_run`", figures, size_of(index), hits)
-            figures = measured([*python, "--ask", database, str(count)], asked, report)
+            figures = measured([*python, "--ask", database], theirs, report)
             row(f"ask {count:,}", "FTS5", figures, size_of(other), hits_in(report))
             if hits != hits_in(report):
                 sys.exit(f"{hits} hits and {hits_in(report)}")
@@ -152,6 +153,6 @@ if __name__ == "__main__":
     if sys.argv[1] == "--write":
         sqlite_write(sys.argv[2], sys.argv[3])
     elif sys.argv[1] == "--ask":
-        sqlite_ask(sys.argv[2], int(sys.argv[3]))
+        sqlite_ask(sys.argv[2])
     else:
         main()
