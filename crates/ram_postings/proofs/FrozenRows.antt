@@ -14,9 +14,8 @@ use Rattle.ix_base.specs.declared.document.Term.{Term}
 use Rattle.ix_base.specs.declared.postings.Posting.{Posting}
 use Rattle.ix_base.specs.declared.postings.TermPostings.{TermPostings}
 use Rattle.ram_postings.specs.Buffer.{row_of, born_rows}
-use Rattle.ram_postings.specs.Kept.{kept, number_of, NumbersRise, HasNoNumber, staged_of, placed_of, mark_of, born_marks, IsKept, IsBuffer}
+use Rattle.ram_postings.specs.Kept.{kept, number_of, NumbersRise, HasNoNumber, staged_of, placed_of, mark_of, born_marks, IsKept, ArePlaces, IsBuffer}
 use Rattle.ram_postings.specs.declared.entry.Entry.{Entry}
-use Rattle.ram_postings.proofs.MarksPlaced.{Placed}
 
 pub marks_all : (P : ℕ → Type 0) (es : List Entry) → All (λ p. P p.1) (map placed_of es) → All P (born_marks es)
 marks_all P [] h = All-nil P
@@ -57,7 +56,7 @@ marks_few (e ∷ es) = go e.birth (marks_few es)
     go (Some n) h = omega arith
 
 -- places of marks that rise, rise
-pub numbers_rise : (marks : List ℕ) (numbers : List (Option ℕ)) → Placed marks numbers → AllPairs (λ a b. a < b) marks → NumbersRise numbers
+pub numbers_rise : (marks : List ℕ) (numbers : List (Option ℕ)) → ArePlaces marks numbers → AllPairs (λ a b. a < b) marks → NumbersRise numbers
 numbers_rise marks numbers placed rise m n r s has has' low = go (cases_lt r s)
   where
     at : slice_get marks r ≡ Some m
@@ -112,7 +111,7 @@ row_at P (e ∷ es) h r = go e.birth (row_at P es (All-tail P (placed_of e) (map
 
 -- the terms that were made are the inversion of the rows
 pub rows_inverted : (es : List Entry) (next : ℕ) (lists : List (Term × List Posting)) (numbers : List (Option ℕ)) (made : List TermPostings)
-    → IsBuffer es next lists → Placed (born_marks es) numbers → IsPostings made
+    → IsBuffer es next lists → ArePlaces (born_marks es) numbers → IsPostings made
     → ((t : Term) (r x : ℕ) → HasNoNumber numbers r → posted made t.field t.bytes r x ≡ false)
     → ((t : Term) (m r x : ℕ) → number_of numbers m ≡ Some r → posted made t.field t.bytes r x ≡ kept lists t m x)
     → IsInversion (docs_of es) (record { terms = made })

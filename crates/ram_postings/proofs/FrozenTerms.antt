@@ -70,16 +70,6 @@ pub record AreTaken (all : List (Term × List Posting)) (numbers : List (Option 
   pub others : (t : Term) (r x : ℕ) → HasNoNumber numbers r → posted made t.field t.bytes r x ≡ false
   pub ok : (t : Term) (m r x : ℕ) → number_of numbers m ≡ Some r → posted made t.field t.bytes r x ≡ held seen t m x
 
-pub taken_none : (all rest : List (Term × List Posting)) (numbers : List (Option ℕ)) → rest ≡ all → IsStrictlySortedBy term_cmp (map (λ (e : Term × List Posting). e.0) all) → AreTaken all numbers [] rest []
-taken_none all rest numbers is sorted = record {
-  whole = is;
-  ordered = sorted;
-  sorted = subst (λ (l : List (Term × List Posting)). IsStrictlySortedBy term_cmp (map (λ (e : Term × List Posting). e.0) l)) (sym is) sorted;
-  each = tt;
-  others = λ t r x free. refl;
-  ok = λ t m r x has. refl;
-}
-
 each_push : (xs : List TermPostings) (y : TermPostings) → AllByRecursion IsTermPostings xs → IsTermPostings y → AllByRecursion IsTermPostings (xs ++ y ∷ [])
 each_push [] y h p = (p, tt)
 each_push (x ∷ xs) y h p = (h.0, each_push xs y h.1 p)

@@ -8,15 +8,11 @@ use Rattle.ix_base.specs.Inversion.{IsInversion, posted}
 use Rattle.ix_base.specs.declared.document.Term.{Term}
 use Rattle.ix_base.specs.declared.postings.Posting.{Posting}
 use Rattle.ix_base.specs.declared.postings.Postings.{Postings}
-use Rattle.ram_postings.specs.Kept.{kept, IsKept, AreKept, placed_of}
+use Rattle.ram_postings.specs.Kept.{kept, SameButFor, IsKept, AreKept, placed_of}
 use Rattle.ram_postings.specs.declared.entry.Entry.{Entry}
 
--- the lists are the same but for one mark
-abbrev pub Others : ℕ → List (Term × List Posting) → List (Term × List Posting) → Type 0
-Others mark old new = (t : Term) (r x : ℕ) → (r ≡ mark → ⊥) → kept new t r x ≡ kept old t r x
-
 -- no document has the mark that was taken
-pub kept_grows : (docs : List (Document × ℕ)) (next : ℕ) (old new : List (Term × List Posting)) → AreKept docs next old → Others next old new → AreKept docs (next + 1) new
+pub kept_grows : (docs : List (Document × ℕ)) (next : ℕ) (old new : List (Term × List Posting)) → AreKept docs next old → SameButFor next old new → AreKept docs (next + 1) new
 kept_grows docs next old new h others = record {
   rise = h.rise;
   below = All-weaker (λ (p : Document × ℕ). p.1 < next) (λ p. p.1 < next + 1) (λ p l. omega arith) docs h.below;
@@ -32,7 +28,7 @@ kept_grows docs next old new h others = record {
 
 -- one more document, under the mark that was taken
 pub kept_more : (docs : List (Document × ℕ)) (next : ℕ) (old new : List (Term × List Posting)) (doc : Document) (postings : Postings)
-    → AreKept docs next old → Others next old new
+    → AreKept docs next old → SameButFor next old new
     → ((t : Term) (x : ℕ) → kept new t next x ≡ posted postings.terms t.field t.bytes 0 x)
     → IsInversion (doc ∷ []) postings
     → AreKept (docs ++ (doc, next) ∷ []) (next + 1) new

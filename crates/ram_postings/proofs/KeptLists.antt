@@ -63,10 +63,6 @@ put_other_terms old new key rows put t r x ne = kept_put old new key rows put t 
     go true e = absurd (ne (sym (term_equal key t e)))
     go false e = refl
 
-pub put_here : (old new : List (Term × List Posting)) (key : Term) (rows : List Posting) → Puts old new key rows
-    → (r x : ℕ) → kept new key r x ≡ posted_at rows r x
-put_here old new key rows put r x = kept_put old new key rows put key r x ∙ ap (λ (b : Bool). cond b (posted_at rows r x) (kept old key r x)) (term_itself key)
-
 -- ---- terms taken one after another
 
 abbrev pub is_term : Term → Term → Bool
@@ -81,13 +77,6 @@ is_term_same t u h =
 
 pub is_term_itself : (t : Term) → is_term t t ≡ true
 is_term_itself t = and_from (bytes_eq t.field t.field) (bytes_eq t.bytes t.bytes) ((bytes_eq-Decides t.field t.field).1 refl) ((bytes_eq-Decides t.bytes t.bytes).1 refl)
-
-pub is_term_other : (t u : Term) → (t ≡ u → ⊥) → is_term t u ≡ false
-is_term_other t u ne = go (is_term t u) refl
-  where
-    go : (b : Bool) → is_term t u ≡ b → b ≡ false
-    go true e = absurd (ne (sym (is_term_same t u e)))
-    go false e = refl
 
 pub posted_more : (front : List TermPostings) (entry : TermPostings) (t : Term) (r x : ℕ)
     → posted (front ++ entry ∷ []) t.field t.bytes r x ≡ (posted front t.field t.bytes r x || (is_term t entry.term && posted_at entry.rows r x))

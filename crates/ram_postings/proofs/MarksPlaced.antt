@@ -1,5 +1,5 @@
 -- The rows of marks, and the marks of rows.
-use Rattle.std.proofs.Common.{◌≡◌, ℕ, zero, suc, ◌<◌, ◌+◌, ◌↔◌, Option, Some, None, List, [], ◌∷◌, ◌++◌, length, map, take, get_or, set, ◌⊎◌, inl, inr, refl, sym, ap, ◌∙◌, subst, arith}
+use Rattle.std.proofs.Common.{◌≡◌, ℕ, zero, suc, ◌<◌, ◌+◌, Option, Some, None, List, [], ◌∷◌, ◌++◌, length, map, take, get_or, set, ◌⊎◌, inl, inr, refl, sym, ap, ◌∙◌, subst, arith}
 use Rattle.std.specs.List.{AllPairs, slice_get}
 use Rattle.std.proofs.lemmas.Bool.{cases_eq}
 use Rattle.std.proofs.lemmas.Option.{slice_get_within, get_or_from_slice_get}
@@ -7,7 +7,7 @@ use Rattle.std.proofs.lemmas.List.{append_assoc, append-nil, map-append, take_mo
 use Rattle.ix_base.specs.Documents.{Document}
 use Rattle.ix_base.specs.declared.document.Row.{Row}
 use Rattle.ram_postings.specs.Buffer.{row_of, born_rows}
-use Rattle.ram_postings.specs.Kept.{staged_of, mark_of, born_marks, number_of}
+use Rattle.ram_postings.specs.Kept.{staged_of, mark_of, born_marks, number_of, ArePlaces}
 use Rattle.ram_postings.specs.declared.entry.Entry.{Entry}
 use Rattle.ram_postings.proofs.BornRows.{rows_push}
 
@@ -78,12 +78,8 @@ set_else (x ∷ xs) zero (suc m) v ne = refl
 set_else (x ∷ xs) (suc i) zero v ne = refl
 set_else (x ∷ xs) (suc i) (suc m) v ne = set_else xs i m v (λ e. ne (ap suc e))
 
--- the number of each mark is its place
-abbrev pub Placed : List ℕ → List (Option ℕ) → Type 0
-Placed marks places = (m r : ℕ) → (number_of places m ≡ Some r) ↔ (slice_get marks r ≡ Some m)
-
 placed_push : (marks : List ℕ) (places : List (Option ℕ)) (mark : ℕ) → mark < length places → ((r m : ℕ) → slice_get marks r ≡ Some m → m < mark)
-    → Placed marks places → Placed (marks ++ mark ∷ []) (set places mark (Some (length marks)))
+    → ArePlaces marks places → ArePlaces (marks ++ mark ∷ []) (set places mark (Some (length marks)))
 placed_push marks places mark lt low h m r = (there, back)
   where
     there : number_of (set places mark (Some (length marks))) m ≡ Some r → slice_get (marks ++ mark ∷ []) r ≡ Some m
@@ -106,12 +102,12 @@ placed_push marks places mark lt low h m r = (there, back)
         go (inr q) = ap (number_of (set places mark (Some (length marks)))) (sym q.1) ∙ set_here places mark (Some (length marks)) lt ∙ ap (λ (n : ℕ). Some n) (sym q.0)
 
 pub placed_more : (marks : List ℕ) (places : List (Option ℕ)) (i d : ℕ) → i < length marks → get_or marks i d < length places → AllPairs (λ a b. a < b) marks
-    → Placed (take i marks) places → Placed (take (i + 1) marks) (set places (get_or marks i d) (Some i))
+    → ArePlaces (take i marks) places → ArePlaces (take (i + 1) marks) (set places (get_or marks i d) (Some i))
 placed_more marks places i d lt in' rise h =
     let mark : ℕ = get_or marks i d in
     let long : length (take i marks) ≡ i = length-take-le i marks (omega arith) in
-    subst (λ (l : List ℕ). Placed l (set places mark (Some i))) (sym (take_more marks i d lt))
-    (subst (λ (n : ℕ). Placed (take i marks ++ mark ∷ []) (set places mark (Some n))) long (placed_push (take i marks) places mark in' low h))
+    subst (λ (l : List ℕ). ArePlaces l (set places mark (Some i))) (sym (take_more marks i d lt))
+    (subst (λ (n : ℕ). ArePlaces (take i marks ++ mark ∷ []) (set places mark (Some n))) long (placed_push (take i marks) places mark in' low h))
   where
     low : (r m : ℕ) → slice_get (take i marks) r ≡ Some m → m < get_or marks i d
     low r m e =

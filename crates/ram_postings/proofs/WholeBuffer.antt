@@ -10,10 +10,10 @@ use Rattle.ix_base.specs.declared.document.Term.{Term}
 use Rattle.ix_base.specs.declared.postings.Posting.{Posting}
 use Rattle.ix_base.specs.declared.postings.Postings.{Postings}
 use Rattle.ram_postings.specs.Buffer.{Staged, born_rows, with_birth}
-use Rattle.ram_postings.specs.Kept.{kept, AreBirths, AreKept, IsBuffer, staged_of, placed_of}
+use Rattle.ram_postings.specs.Kept.{kept, SameButFor, AreBirths, AreKept, IsBuffer, staged_of, placed_of}
 use Rattle.ram_postings.specs.declared.entry.Entry.{Entry}
 use Rattle.ram_postings.proofs.BornRows.{rows_waiting, rows_born, births_more, staged_born}
-use Rattle.ram_postings.proofs.KeptDocuments.{Others, kept_none, kept_grows, kept_more, placed_born}
+use Rattle.ram_postings.proofs.KeptDocuments.{kept_none, kept_grows, kept_more, placed_born}
 
 no_births : AreBirths []
 no_births = record { rise = λ i j d lt in'. absurd (omega arith); positive = All-nil (λ (row : Row). 1 ≤ row.birth) }
@@ -22,11 +22,11 @@ pub buffer_empty : (es : List Entry) (lists : List (Term × List Posting)) → e
 buffer_empty es lists e l = subst (λ (es : List Entry). IsBuffer es 0 lists) (sym e) (subst (IsBuffer [] 0) (sym l) (record { few = omega arith; documents = kept_none; births = no_births }))
 
 -- an attempt to stage that ran out of memory
-pub buffer_failed : (es : List Entry) (next : ℕ) (old new : List (Term × List Posting)) → IsBuffer es next old → Others next old new → IsBuffer es (next + 1) new
+pub buffer_failed : (es : List Entry) (next : ℕ) (old new : List (Term × List Posting)) → IsBuffer es next old → SameButFor next old new → IsBuffer es (next + 1) new
 buffer_failed es next old new h others = record { few = h.few; documents = kept_grows (map placed_of es) next old new h.documents others; births = h.births }
 
 pub buffer_staged : (es : List Entry) (next : ℕ) (old new : List (Term × List Posting)) (e : Entry) (postings : Postings)
-    → IsBuffer es next old → length es < 2147483647 → e.birth ≡ None → e.mark ≡ next → Others next old new
+    → IsBuffer es next old → length es < 2147483647 → e.birth ≡ None → e.mark ≡ next → SameButFor next old new
     → ((t : Term) (x : ℕ) → kept new t next x ≡ posted postings.terms t.field t.bytes 0 x)
     → IsInversion (e.doc ∷ []) postings
     → IsBuffer (es ++ e ∷ []) (next + 1) new

@@ -1,10 +1,9 @@
 //! Freezing a buffer.
-ghost use Rattle.std.specs.Prelude.{◌≡◌, ◌↔◌, ℕ, [], Some, false, map, IsTrue, IfOk};
+ghost use Rattle.std.specs.Prelude.{◌≡◌, ◌↔◌, [], map, IsTrue, IfOk};
 ghost use Rattle.ix_base.specs.Grouped.{ArePostings};
-ghost use Rattle.ix_base.specs.Inversion.{posted, posted_at, IsPostings, IsInversion};
-ghost use Rattle.ix_base.specs.declared.document.Term.{Term};
+ghost use Rattle.ix_base.specs.Inversion.{IsPostings, IsInversion};
 ghost use Rattle.ram_postings.specs.Buffer.{born_rows};
-ghost use Rattle.ram_postings.specs.Kept.{kept, number_of, staged_of, NumbersRise, HasNoNumber, IsBuffer};
+ghost use Rattle.ram_postings.specs.Kept.{staged_of, NumbersRise, IsRenumbered, StandsInNumbers, AreRenumbered, StandInNumbers, IsBuffer};
 
 use crate::entry::Entry;
 use crate::numbers::{numbers_of, rows_of};
@@ -25,8 +24,8 @@ pub struct Frozen {
 fn renumbered(alloc: Global, list: &Spots, numbers: &[Option<u32>]) -> Result<Spots, NoMemory>
     requires { NumbersRise numbers.now }
     ensures ordered { IfOk result (λ rows. ArePostings rows) }
-    ensures others { IfOk result (λ rows. (r x : ℕ) → HasNoNumber numbers.now r → posted_at rows r x ≡ false) }
-    ensures ok { IfOk result (λ rows. (m r x : ℕ) → number_of numbers.now m ≡ Some r → posted_at rows r x ≡ posted_at list.now m x) }
+    ensures others { IfOk result (λ rows. StandsInNumbers numbers.now rows) }
+    ensures ok { IfOk result (λ rows. IsRenumbered numbers.now list.now rows) }
 {
     let mut rows = Spots::new(alloc);
     put_renumbered(&mut rows, list.as_slice(), numbers)?;
@@ -48,8 +47,8 @@ fn terms_of(
 ) -> Result<Vec<TermPostings>, NoMemory>
     requires { NumbersRise numbers.now }
     ensures ordered { IfOk result (λ terms. IsPostings terms.items) }
-    ensures others { IfOk result (λ terms. (t : Term) (r x : ℕ) → HasNoNumber numbers.now r → posted terms.items t.field t.bytes r x ≡ false) }
-    ensures ok { IfOk result (λ terms. (t : Term) (m r x : ℕ) → number_of numbers.now m ≡ Some r → posted terms.items t.field t.bytes r x ≡ kept lists.now.entries t m x) }
+    ensures others { IfOk result (λ terms. StandInNumbers numbers.now terms.items) }
+    ensures ok { IfOk result (λ terms. AreRenumbered numbers.now lists.now.entries terms.items) }
 {
     let mut terms = Vec::new(alloc);
     for (key, list) in lists {

@@ -1,7 +1,7 @@
 //! The rows of a buffer's documents.
-ghost use Rattle.std.specs.Prelude.{◌≡◌, ◌<◌, ◌^◌, ◌↔◌, ℕ, Some, map, length, All, AllPairs, slice_get, IfOk};
+ghost use Rattle.std.specs.Prelude.{◌≡◌, ◌<◌, ◌^◌, map, length, All, AllPairs, IfOk};
 ghost use Rattle.ram_postings.specs.Buffer.{born_rows};
-ghost use Rattle.ram_postings.specs.Kept.{staged_of, born_marks, number_of};
+ghost use Rattle.ram_postings.specs.Kept.{staged_of, born_marks, ArePlaces};
 
 use crate::entry::Entry;
 use ix_base::{NoMemory, Row};
@@ -41,7 +41,7 @@ fn places_of(alloc: Global, marks: &[u32], bound: u32) -> Result<Vec<Option<u32>
     requires rise { AllPairs (λ a b. a < b) marks.now }
     requires below { All (λ mark. mark < bound) marks.now }
     requires few { length marks.now < 2 ^ 32 }
-    ensures { IfOk result (λ places. (m r : ℕ) → (number_of places.items m ≡ Some r) ↔ (slice_get marks.now r ≡ Some m)) }
+    ensures { IfOk result (λ places. ArePlaces marks.now places.items) }
 {
     let mut places = vec![in alloc; None; bound as usize]?;
     let mut place = 0;
@@ -57,7 +57,7 @@ pub fn numbers_of(alloc: Global, staged: &[Entry], bound: u32) -> Result<Vec<Opt
     requires rise { AllPairs (λ a b. a < b) (born_marks staged.now) }
     requires below { All (λ mark. mark < bound) (born_marks staged.now) }
     requires few { length (born_marks staged.now) < 2 ^ 32 }
-    ensures { IfOk result (λ numbers. (m r : ℕ) → (number_of numbers.items m ≡ Some r) ↔ (slice_get (born_marks staged.now) r ≡ Some m)) }
+    ensures { IfOk result (λ numbers. ArePlaces (born_marks staged.now) numbers.items) }
 {
     let marks = marks_of(alloc, staged)?;
     places_of(alloc, marks.as_slice(), bound)

@@ -1,9 +1,9 @@
 //! The places of a document's terms, put into the lists of these terms.
 ghost use Rattle.std.specs.Prelude.{◌≡◌, ◌<◌, ℕ, OnOk, true, AllPairs};
 ghost use Rattle.std.specs.declared.cmp.Ordering.TheVariants.{Less};
-ghost use Rattle.ix_base.specs.Inversion.{posted, posted_at, term_cmp};
+ghost use Rattle.ix_base.specs.Inversion.{posted_at, term_cmp};
 ghost use Rattle.ix_base.specs.declared.document.Term.{Term};
-ghost use Rattle.ram_postings.specs.Kept.{kept, IsKeptBelow};
+ghost use Rattle.ram_postings.specs.Kept.{kept, IsKeptBelow, SameButFor, HasUnder};
 
 use crate::renumbering::put_renumbered;
 use crate::term_key::TermKey;
@@ -19,7 +19,7 @@ fn place_term(
     entry: TermPostings,
 ) -> Result<(), NoMemory>
     requires { (r x : ℕ) → kept lists.old.entries entry.term r x ≡ true → r < mark }
-    ensures others { (t : Term) (r x : ℕ) → (r ≡ mark → ⊥) → kept lists.new.entries t r x ≡ kept lists.old.entries t r x }
+    ensures others { SameButFor mark lists.old.entries lists.new.entries }
     ensures other_terms { (t : Term) (x : ℕ) → (t ≡ entry.term → ⊥) → kept lists.new.entries t mark x ≡ kept lists.old.entries t mark x }
     ensures ok { OnOk result ((x : ℕ) → kept lists.new.entries entry.term mark x ≡ posted_at entry.rows 0 x) }
 {
@@ -45,8 +45,8 @@ pub fn place_terms(
 ) -> Result<(), NoMemory>
     requires below { IsKeptBelow mark lists.old.entries }
     requires rise { AllPairs (λ a b. term_cmp a.term b.term ≡ Less) postings.terms }
-    ensures others { (t : Term) (r x : ℕ) → (r ≡ mark → ⊥) → kept lists.new.entries t r x ≡ kept lists.old.entries t r x }
-    ensures ok { OnOk result ((t : Term) (x : ℕ) → kept lists.new.entries t mark x ≡ posted postings.terms t.field t.bytes 0 x) }
+    ensures others { SameButFor mark lists.old.entries lists.new.entries }
+    ensures ok { OnOk result (HasUnder mark postings.terms lists.new.entries) }
 {
     for entry in postings.terms.into_vec() {
         place_term(alloc, lists, mark, entry)?;

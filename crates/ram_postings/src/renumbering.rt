@@ -1,8 +1,8 @@
 //! Places copied from rows that have a number to the rows of these numbers.
-ghost use Rattle.std.specs.Prelude.{◌≡◌, ◌<◌, ℕ, Some, OnOk, true};
+ghost use Rattle.std.specs.Prelude.{◌≡◌, ℕ, OnOk};
 ghost use Rattle.ix_base.specs.Grouped.{grouped, AreSpots};
 ghost use Rattle.ix_base.specs.Posted.{posted_at};
-ghost use Rattle.ram_postings.specs.Kept.{number_of, NumbersRise, IsBelowNumbers, HasNoNumber};
+ghost use Rattle.ram_postings.specs.Kept.{number_of, NumbersRise, IsBelowNumbers, HasNoNumber, IsRenumbered};
 
 use ix_base::{NoMemory, Spot, Spots};
 
@@ -29,7 +29,7 @@ pub fn put_renumbered(
     requires spots { AreSpots spots.now }
     requires below { IsBelowNumbers list.old numbers.now }
     ensures others { (r x : ℕ) → HasNoNumber numbers.now r → posted_at list.new r x ≡ posted_at list.old r x }
-    ensures ok { OnOk result ((m r x : ℕ) → number_of numbers.now m ≡ Some r → posted_at list.new r x ≡ posted_at (grouped spots.now) m x) }
+    ensures ok { OnOk result (IsRenumbered numbers.now (grouped spots.now) list.new) }
 {
     for spot in spots {
         if let Some(row) = number_at(numbers, spot.row) {

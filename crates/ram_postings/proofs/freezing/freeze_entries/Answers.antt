@@ -1,8 +1,7 @@
 use Rattle.std.proofs.Common.{◌<◌, ℕ, List, sym, subst, arith}
 use Rattle.ix_base.specs.Inversion.{IsInversion}
 use Rattle.ix_base.specs.declared.postings.TermPostings.{TermPostings}
-use Rattle.ram_postings.specs.Kept.{born_marks}
-use Rattle.ram_postings.proofs.MarksPlaced.{Placed}
+use Rattle.ram_postings.specs.Kept.{born_marks, ArePlaces}
 use Rattle.ram_postings.proofs.FrozenRows.{docs_of, marks_all, marks_rise, marks_few, numbers_rise, rows_inverted}
 use Rattle.ram_postings.proofs.freezing.freeze_entries.Goals as goal
 
@@ -18,11 +17,11 @@ numbers_of-requires-clause-few c = omega (arith, marks_few c.args.staged.now, c.
 pub terms_of-requires : goal.terms_of-requires
 terms_of-requires c =
     let marks : List ℕ = born_marks c.args.staged.now in
-    numbers_rise marks c.as_slice.result.now (subst (Placed marks) (sym c.as_slice.ensures.value) c.in_ok-numbers.ensures) (marks_rise c.args.staged.now c.requires.documents.rise)
+    numbers_rise marks c.as_slice.result.now (subst (ArePlaces marks) (sym c.as_slice.ensures.value) c.in_ok-numbers.ensures) (marks_rise c.args.staged.now c.requires.documents.rise)
 
 pub returns-clause-inversion : goal.returns-clause-inversion
 returns-clause-inversion c =
     let marks : List ℕ = born_marks c.args.staged.now in
     subst (λ (made : List TermPostings). IsInversion (docs_of c.args.staged.now) (record { terms = made })) (sym c.from_vec.ensures)
     (rows_inverted c.args.staged.now c.args.next_mark c.args.lists.now.entries c.as_slice.result.now c.in_ok-terms.terms.items c.requires
-    (subst (Placed marks) (sym c.as_slice.ensures.value) c.in_ok-numbers.ensures) c.in_ok-terms.ensures.ordered c.in_ok-terms.ensures.others c.in_ok-terms.ensures.ok)
+    (subst (ArePlaces marks) (sym c.as_slice.ensures.value) c.in_ok-numbers.ensures) c.in_ok-terms.ensures.ordered c.in_ok-terms.ensures.others c.in_ok-terms.ensures.ok)
