@@ -9,11 +9,13 @@ mod grouping;
 mod inverse;
 mod occurrence;
 mod sizes;
+mod term_key;
 mod words;
 
 pub use inverse::{analyse, invert};
 pub use occurrence::compare_terms;
 pub use sizes::long_term;
+pub use term_key::TermKey;
 pub use words::phrase_terms;
 
 #[cfg(test)]

@@ -10,7 +10,7 @@ mod packet;
 mod tests;
 mod updates;
 
-pub use deleted_terms::{DeletedTerms, TermKey};
+pub use deleted_terms::DeletedTerms;
 pub use laws::{stands_for_itself, taking_stands};
 pub use packet::{Packet, freeze};
 pub use updates::{QueryDelete, Setting, Updates};

@@ -1,16 +1,12 @@
 -- Places put one after another.
-use Rattle.std.proofs.Common.{◌≡◌, ◌≢◌, ℕ, suc, ◌<◌, ◌-◌, ◌+◌, Some, List, [], ◌∷◌, ◌++◌, Bool, true, false, ◌&&◌, ◌||◌, ◌==◌, if◌then◌else◌, length, map, take, get_or, refl, sym, ap, ◌∙◌, subst, arith}
-use Rattle.std.specs.List.{slice_get, list_any}
+use Rattle.std.proofs.Common.{◌≡◌, ◌≢◌, ℕ, suc, ◌<◌, ◌-◌, ◌+◌, Some, List, [], ◌∷◌, ◌++◌, Bool, true, false, ◌==◌, if◌then◌else◌, length, map, take, get_or, refl, sym, ap, ◌∙◌, subst, arith}
+use Rattle.std.specs.List.{slice_get}
 use Rattle.std.proofs.lemmas.Bool.{eqb-true}
 use Rattle.std.proofs.lemmas.List.{take_more, append-nil, append_assoc}
-use Rattle.ix_base.specs.Inversion.{has_number, posted_at}
 use Rattle.ix_base.specs.declared.postings.Posting.{Posting}
 use Rattle.ix_base.specs.declared.spots.Spot.{Spot}
+use Rattle.ix_base.specs.GroupedLaws.{grouped_push}
 use Rattle.ix_base.specs.Grouped.{joined, with_spot, grouped_from, grouped, with_row, position_in, positions_at, positions_in}
-
-pub grouped_push : (gs : List Posting) (xs : List Spot) (y : Spot) → grouped_from gs (xs ++ y ∷ []) ≡ with_spot (grouped_from gs xs) y
-grouped_push gs [] y = refl
-grouped_push gs (x ∷ xs) y = grouped_push (with_spot gs x) xs y
 
 -- ---- rows
 
@@ -47,44 +43,6 @@ row_comes (q ∷ p ∷ xs) row h = ap (λ (l : List ℕ). q ∷ l) (row_comes (p
 
 -- ---- positions
 
-has_push : (xs : List ℕ) (y x : ℕ) → has_number (xs ++ y ∷ []) x ≡ (has_number xs x || (y == x))
-has_push [] y x = ends (y == x)
-  where
-    ends : (b : Bool) → (b || false) ≡ (false || b)
-    ends true = refl
-    ends false = refl
-has_push (z ∷ xs) y x = ap (λ (b : Bool). (z == x) || b) (has_push xs y x) ∙ assoc (z == x) (has_number xs x) (y == x)
-  where
-    assoc : (a b c : Bool) → (a || (b || c)) ≡ ((a || b) || c)
-    assoc true b c = refl
-    assoc false b c = refl
-
-parted : (a b c d : Bool) → ((a && (b || c)) || d) ≡ ((a && b || d) || (a && c))
-parted true true c d = refl
-parted true false true true = refl
-parted true false true false = refl
-parted true false false true = refl
-parted true false false false = refl
-parted false b c true = refl
-parted false b c false = refl
-
-joined_exact : (g : Posting) (s : Spot) (same : Bool) → (g.row == s.row) ≡ same → (r x : ℕ) → posted_at (joined same g s) r x ≡ (posted_at (g ∷ []) r x || ((s.row == r) && (s.position == x)))
-joined_exact g s true e r x =
-    let is : g.row ≡ s.row = eqb-true g.row s.row e in
-    ap (λ (b : Bool). ((g.row == r) && b) || false) (has_push g.positions s.position x)
-    ∙ parted (g.row == r) (has_number g.positions x) (s.position == x) false
-    ∙ ap (λ (n : ℕ). ((g.row == r) && has_number g.positions x || false) || ((n == r) && (s.position == x))) is
-joined_exact g s false e r x = grind arith
-
-pub spot_exact : (gs : List Posting) (s : Spot) (r x : ℕ) → posted_at (with_spot gs s) r x ≡ (posted_at gs r x || ((s.row == r) && (s.position == x)))
-spot_exact [] s r x = grind arith
-spot_exact (g ∷ []) s r x = joined_exact g s (g.row == s.row) refl r x
-spot_exact (g ∷ h ∷ gs) s r x = ap (λ (b : Bool). ((g.row == r) && has_number g.positions x) || b) (spot_exact (h ∷ gs) s r x) ∙ assoc ((g.row == r) && has_number g.positions x) (posted_at (h ∷ gs) r x) ((s.row == r) && (s.position == x))
-  where
-    assoc : (a b c : Bool) → (a || (b || c)) ≡ ((a || b) || c)
-    assoc true b c = refl
-    assoc false b c = refl
-
 pub last_of : {xs ys : List ℕ} {row : ℕ} → ys ≡ xs → slice_get ys (length ys - 1) ≡ Some row → slice_get xs (length xs - 1) ≡ Some row
 last_of {xs} {ys} {row} e h = subst (λ (l : List ℕ). slice_get l (length l - 1) ≡ Some row) e h
 
@@ -120,22 +78,3 @@ positions_are row gs (s ∷ rest) =
     positions_are row (with_spot gs s) rest
     ∙ ap (λ (l : List ℕ). l ++ positions_at row rest) (positions_with row gs s)
     ∙ append_assoc (positions_in row gs) (position_in row s) (positions_at row rest)
-
-abbrev pub is_spot : ℕ → ℕ → Spot → Bool
-is_spot r x s = (s.row == r) && (s.position == x)
-
--- the postings of places have these places alone
-pub posted_are : (gs : List Posting) (spots : List Spot) (r x : ℕ) → posted_at (grouped_from gs spots) r x ≡ (posted_at gs r x || list_any (is_spot r x) spots)
-posted_are gs [] r x = ends (posted_at gs r x)
-  where
-    ends : (b : Bool) → b ≡ (b || false)
-    ends true = refl
-    ends false = refl
-posted_are gs (s ∷ rest) r x =
-    posted_are (with_spot gs s) rest r x
-    ∙ ap (λ (b : Bool). b || list_any (is_spot r x) rest) (spot_exact gs s r x)
-    ∙ sym (assoc (posted_at gs r x) (is_spot r x s) (list_any (is_spot r x) rest))
-  where
-    assoc : (a b c : Bool) → (a || (b || c)) ≡ ((a || b) || c)
-    assoc true b c = refl
-    assoc false b c = refl

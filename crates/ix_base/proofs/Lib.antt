@@ -6,3 +6,4 @@ pub mod Ends
 mod Grouping
 mod Ordering
 mod Searching
+mod Marks

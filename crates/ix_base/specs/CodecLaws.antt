@@ -188,3 +188,12 @@ not_utf8 bytes isnt = false_from_ne_true (is_utf8 bytes) (λ e. isnt (IsUtf8-fro
 
 pub utf8_found : (bytes : List ℕ) → IsUtf8 bytes → is_utf8 bytes ≡ true
 utf8_found bytes is = is_utf8-from_IsUtf8 bytes is
+
+-- ---- forms of one length
+
+-- two prefixes of one length are one
+pub same_front : (a b x y : List ℕ) → length a ≡ length b → a ++ x ≡ b ++ y → (a ≡ b) × (x ≡ y)
+same_front a b x y len e = (
+  sym (take_at a x (length b) len) ∙ ap (take (length b)) e ∙ take_at b y (length b) refl,
+  sym (drop_at a x (length b) len) ∙ ap (drop (length b)) e ∙ drop_at b y (length b) refl,
+)

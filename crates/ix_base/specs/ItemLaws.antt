@@ -1,7 +1,7 @@
 -- Items that are read are the items that were written, and what was written is read again.
 use Rattle.std.proofs.Common.{◌≡◌, ℕ, zero, suc, List, [], ◌∷◌, ◌++◌, length, Result, Ok, refl, sym, ap, subst, ◌∙◌, append_assoc}
 use Rattle.std.specs.Prelude.{⊤}
-use Rattle.std.specs.List.{flat_map}
+use Rattle.std.specs.List.{flat_map, AllByRecursion}
 use Rattle.std.proofs.lemmas.List.Concat.{flat_map-cons}
 use Rattle.ix_base.specs.Codec.{◌>>=◌, items_at}
 use Rattle.ix_base.specs.CodecLaws.{bind_ok, ok_is, Takes, Takes-then}
@@ -62,3 +62,21 @@ items_have {X} {S} item leaves has each state (suc n) bytes x e =
     let b = bind_ok (items_at item leaves (leaves a.0.0) n a.0.1) (λ others. Ok (a.0.0 ∷ others.0, others.1)) x a.2 in
     let made : List X × List ℕ = (a.0.0 ∷ b.0.0, b.0.1) in
     subst (λ (y : List X × List ℕ). AllGood has leaves state y.0) (ok_is made x b.2) (each state bytes a.0 a.1, items_have item leaves has each (leaves a.0.0) n a.0.1 b.0 b.1)
+
+-- ---- each item and the one before it
+
+pub good_onto : {X S : Type 0} (P Q : S → X → Type 0) (leaves : X → S) → ((s : S) (x : X) → P s x → Q s x) → (s : S) (xs : List X) → AllGood P leaves s xs → AllGood Q leaves s xs
+good_onto P Q leaves implies s [] all = tt
+good_onto P Q leaves implies s (x ∷ xs) all = (implies s x all.0, good_onto P Q leaves implies (leaves x) xs all.1)
+
+pub good_each : {X S : Type 0} (P : S → X → Type 0) (R : X → Type 0) (leaves : X → S) → ((s : S) (x : X) → P s x → R x) → (s : S) (xs : List X) → AllGood P leaves s xs → AllByRecursion R xs
+good_each P R leaves implies s [] all = tt
+good_each P R leaves implies s (x ∷ xs) all = (implies s x all.0, good_each P R leaves implies (leaves x) xs all.1)
+
+pub good_both : {X S : Type 0} (P Q : S → X → Type 0) (R : X → Type 0) (leaves : X → S) → ((s : S) (x : X) → R x → Q s x → P s x) → (s : S) (xs : List X) → AllByRecursion R xs → AllGood Q leaves s xs → AllGood P leaves s xs
+good_both P Q R leaves joined s [] all good = tt
+good_both P Q R leaves joined s (x ∷ xs) all good = (joined s x all.0 good.0, good_both P Q R leaves joined (leaves x) xs all.1 good.1)
+
+pub all_both : {X : Type 0} (P Q R : X → Type 0) → ((x : X) → P x → Q x → R x) → (xs : List X) → AllByRecursion P xs → AllByRecursion Q xs → AllByRecursion R xs
+all_both P Q R joined [] p q = tt
+all_both P Q R joined (x ∷ xs) p q = (joined x p.0 q.0, all_both P Q R joined xs p.1 q.1)

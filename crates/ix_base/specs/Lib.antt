@@ -6,11 +6,14 @@ pub mod Query
 pub mod QueryFalls
 pub mod Terms
 pub mod Matches
+pub mod Hits
 pub mod Steps
 pub mod Spelling
 pub mod Codec
 pub mod CodecLaws
 pub mod ItemLaws
+pub mod FileReading
+pub mod FileLaws
 pub mod QueryBytes
 pub mod Entry
 pub mod Words
@@ -18,4 +21,5 @@ pub mod EntryLaws
 pub mod Refusals
 pub mod Posted
 pub mod Grouped
+pub mod GroupedLaws
 pub mod Inversion

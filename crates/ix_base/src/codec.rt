@@ -8,6 +8,7 @@ ghost use Rattle.std.specs.Prelude.{◌≡◌, ◌<◌, ◌^◌, ◌++◌, lengt
 ghost use Rattle.std.specs.Int.{w32, w64};
 ghost use Rattle.std.specs.Str.{is_utf8};
 ghost use Rattle.ix_base.specs.Codec.{GivesExactly, byte_at, number_at, signed_at, text_at, name_at};
+ghost use Rattle.ix_base.specs.FileReading.{mark_at};
 ghost use Rattle.ix_base.specs.Limits.{is_name};
 ghost use Rattle.ix_base.specs.Spelling.{be32, be64, signed64, text_bytes, IsText, IsName};
 
@@ -67,6 +68,18 @@ pub fn put_name(out: &mut Vec<u8>, name: &Name) -> Result<(), NoMemory>
     ensures name { IsName name.now }
 {
     put_text(out, name.as_str())
+}
+
+/// The bytes after a mark: the eight bytes that each kind of file begins with.
+pub fn after_mark<'a>(mark: &[u8], bytes: &'a [u8]) -> Result<&'a [u8], BrokenField>
+    requires { length mark.now ≡ 8 }
+    ensures { GivesExactly (λ rest. rest.now) result (mark_at mark.now bytes.now) }
+{
+    let left = bytes.len();
+    match bytes.strip_prefix(mark) {
+        Some(rest) => Ok(rest),
+        None => Err(BrokenField { left }),
+    }
 }
 
 /// The first byte.

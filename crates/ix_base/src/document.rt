@@ -1,6 +1,7 @@
 //! Documents, the rows of an index, and the operations on it.
 ghost use Rattle.std.specs.Prelude.{◌≡◌, ◌↔◌, [], map, IfOk, IfSome, IsSome, IsTrue};
 ghost use Rattle.ix_base.specs.Documents.{is_apart};
+ghost use Rattle.ix_base.specs.Hits.{hit_of};
 ghost use Rattle.ix_base.specs.Limits.{share_name};
 
 use crate::fields::{Fields, Numbers};
@@ -44,6 +45,13 @@ impl Model for Document {
 pub struct Row {
     pub birth: u64,
     pub doc: Document,
+}
+
+/// What a search tells of a row that matches: its key and its numbers.
+#[derive(Drop)]
+pub struct Hit {
+    pub key: Text,
+    pub num: Numbers,
 }
 
 /// An operation on an index.
@@ -114,6 +122,18 @@ impl Document {
             text: self.text.clone_in(alloc)?,
             exact: self.exact.clone_in(alloc)?,
             num: self.num.clone_in(alloc)?,
+        })
+    }
+}
+
+impl Hit {
+    /// What a search tells of a row.
+    pub fn of_row(alloc: Global, row: &Row) -> Result<Hit, NoMemory>
+        ensures { IfOk result (λ hit. hit ≡ hit_of row.now) }
+    {
+        Ok(Hit {
+            key: row.doc.key.clone_in(alloc)?,
+            num: row.doc.num.clone_in(alloc)?,
         })
     }
 }

@@ -21,7 +21,7 @@ mod spots;
 mod text;
 
 pub use damaged::{Damaged, FileFault};
-pub use document::{Document, Operation, Row, Term};
+pub use document::{Document, Hit, Operation, Row, Term};
 pub use fields::{Fields, Numbers};
 pub use file_name::FileName;
 pub use list::List;

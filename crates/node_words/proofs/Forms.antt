@@ -1,8 +1,7 @@
 -- Values that the codec writes and reads: what is found at the start of bytes is the one value there.
-use Rattle.std.proofs.Common.{◌≡◌, ℕ, ◌<◌, ◌^◌, List, ◌++◌, length, take, drop, Result, Ok, Err, refl, sym, ap, ◌∙◌}
+use Rattle.std.proofs.Common.{◌≡◌, ℕ, ◌<◌, ◌^◌, List, ◌++◌, Result, Ok, Err, sym, ap, ◌∙◌}
 use Rattle.std.specs.Int.{w32, w64}
 use Rattle.std.specs.Prelude.{FitsSigned}
-use Rattle.std.proofs.lemmas.List.{take_at, drop_at}
 use Rattle.ix_base.specs.Codec.{byte_at, number_at, signed_at, text_at, name_at}
 use Rattle.ix_base.specs.CodecLaws.{Takes, ok_is, byte_takes, byte_again, u32_takes, u32_again, u64_takes, u64_again, signed_takes, signed_again, text_takes, text_again, name_takes, name_again}
 use Rattle.ix_base.specs.Spelling.{be32, be64, signed64, text_bytes, AreBytes, IsText, IsName}
@@ -11,13 +10,6 @@ use Rattle.node_words.specs.Reads.{StandsAtStart, NoneAtStart, byte_alone}
 -- no spelling of a value is a prefix of another's
 abbrev pub OneForm : {V : Type 0} → (V → Type 0) → (V → List ℕ) → Type 0
 OneForm {V} IsOne spelling = (v w : V) (x y : List ℕ) → IsOne v → IsOne w → spelling v ++ x ≡ spelling w ++ y → (v ≡ w) × (x ≡ y)
-
--- two prefixes of one length are one
-pub same_front : (a b x y : List ℕ) → length a ≡ length b → a ++ x ≡ b ++ y → (a ≡ b) × (x ≡ y)
-same_front a b x y len e = (
-  sym (take_at a x (length b) len) ∙ ap (take (length b)) e ∙ take_at b y (length b) refl,
-  sym (drop_at a x (length b) len) ∙ ap (drop (length b)) e ∙ drop_at b y (length b) refl,
-)
 
 -- the codec reads such values: the two laws
 pub record IsCodec {V : Type 0} (IsOne : V → Type 0) (spelling : V → List ℕ) (read : List ℕ → Result (V × List ℕ) ℕ) : Type 0 where

@@ -11,7 +11,8 @@ use Rattle.ix_base.specs.EntryLaws.{length-words_in, head_again}
 use Rattle.ix_base.specs.CodecLaws.{AreBytes-take, AreBytes-drop}
 use Rattle.ix_base.specs.Spelling.{be64, AreBytes}
 use Rattle.ix_base.specs.Words.{first_word, words_in, words_for, packed, head, head_len, head_kind}
-use Rattle.node_words.proofs.Forms.{same_front, one_word}
+use Rattle.ix_base.specs.CodecLaws.{same_front}
+use Rattle.node_words.proofs.Forms.{one_word}
 use Rattle.node_words.specs.Packed.{HoldsBytes, IsCountedByHead}
 
 -- ---- one word more

@@ -1,4 +1,3 @@
-mod PostedSpots
 mod MovedSpots
 mod KeptLists
 mod BornRows

@@ -6,7 +6,7 @@ ghost use Rattle.ram_postings.specs.Buffer.{waiting, born_rows, with_birth};
 use crate::entry::Entry;
 use crate::freezing::{Frozen, freeze_entries};
 use crate::placing::place_terms;
-use crate::term_key::TermKey;
+use analysis::TermKey;
 use ix_base::{Analysed, NoMemory, Spots};
 use std::alloc::Global;
 use std::collections::BTreeMap;

@@ -8,7 +8,7 @@ ghost use Rattle.ram_postings.specs.Kept.{staged_of, NumbersRise, IsRenumbered, 
 use crate::entry::Entry;
 use crate::numbers::{numbers_of, rows_of};
 use crate::renumbering::put_renumbered;
-use crate::term_key::TermKey;
+use analysis::TermKey;
 use ix_base::{List, NoMemory, Postings, Row, Spots, TermPostings};
 use std::alloc::Global;
 use std::collections::BTreeMap;

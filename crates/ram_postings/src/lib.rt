@@ -11,7 +11,6 @@ mod freezing;
 mod numbers;
 mod placing;
 mod renumbering;
-mod term_key;
 #[cfg(test)]
 mod tests;
 

@@ -6,7 +6,7 @@ ghost use Rattle.ix_base.specs.declared.document.Term.{Term};
 ghost use Rattle.ram_postings.specs.Kept.{kept, IsKeptBelow, SameButFor, HasUnder};
 
 use crate::renumbering::put_renumbered;
-use crate::term_key::TermKey;
+use analysis::TermKey;
 use ix_base::{NoMemory, Postings, Spots, TermPostings};
 use std::alloc::Global;
 use std::collections::BTreeMap;

@@ -8,7 +8,7 @@ use Rattle.serde_json.specs.Data.{Data, Members, member, no_members, put}
 use Rattle.serde_json.specs.Find.{is_float, of_integer}
 use Rattle.serde_json.specs.View.{items_of}
 use Rattle.serde_json.specs.Written.{has_float, items_have_float, members_have_float}
-use Rattle.ix_base.specs.declared.document.Row.{Row}
+use Rattle.ix_base.specs.declared.document.Hit.{Hit}
 use Rattle.report_text.specs.Lines.{hit_value, search_value, with_number, write_value, commit_value, refused_value}
 use Rattle.ix_base.specs.declared.refusal.Refusal.{Refusal}
 use Rattle.ix_base.specs.declared.refusal.Refusal.TheVariants.{Term, Query}
@@ -30,15 +30,15 @@ numbers_plain : (ms : Members) (nums : List (List ℕ × ℤ)) → members_have_
 numbers_plain ms [] old = old
 numbers_plain ms (n ∷ nums) old = numbers_plain (with_number ms n) nums (members_have_float-put n.0 _ ms (is_float-of_integer n.1) old)
 
-hit_plain : (row : Row) → has_float (hit_value row) ≡ false
-hit_plain row = rw (numbers_plain no_members row.doc.num refl) refl
+hit_plain : (hit : Hit) → has_float (hit_value hit) ≡ false
+hit_plain hit = rw (numbers_plain no_members hit.num refl) refl
 
-hits_plain : (rows : List Row) → items_have_float (items_of (map hit_value rows)) ≡ false
+hits_plain : (hits : List Hit) → items_have_float (items_of (map hit_value hits)) ≡ false
 hits_plain [] = refl
-hits_plain (row ∷ rows) = or_from _ _ (hit_plain row) (hits_plain rows)
+hits_plain (hit ∷ hits) = or_from _ _ (hit_plain hit) (hits_plain hits)
 
-pub search_plain : (commit : ℕ) (rows : List Row) (line : ℕ) → has_float (search_value commit rows line) ≡ false
-search_plain commit rows line = rw (hits_plain rows) refl
+pub search_plain : (commit : ℕ) (hits : List Hit) (line : ℕ) → has_float (search_value commit hits line) ≡ false
+search_plain commit hits line = rw (hits_plain hits) refl
 
 pub write_plain : (line s : ℕ) → has_float (write_value line s) ≡ false
 write_plain line s = refl

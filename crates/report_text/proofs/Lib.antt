@@ -1,4 +1,3 @@
 mod Escapes
 mod FaultTexts
 mod Floats
-mod Hits

@@ -4,7 +4,7 @@ use Rattle.serde_json.specs.Data.{Data, object, array, string, number, unsigned,
 use Rattle.serde_json.specs.Find.{of_integer}
 use Rattle.serde_json.specs.View.{items_of}
 use Rattle.serde_json.specs.Written.{compact_text}
-use Rattle.ix_base.specs.declared.document.Row.{Row}
+use Rattle.ix_base.specs.declared.document.Hit.{Hit}
 use Rattle.ix_base.specs.declared.refusal.Refusal.{Refusal}
 use Rattle.ix_base.specs.declared.refusal.Refusal.TheVariants.{Term, Query}
 
@@ -36,9 +36,9 @@ abbrev pub with_number : Members → List ℕ × ℤ → Members
 with_number ms named = put named.0 (number (of_integer named.1)) ms
 
 -- {"key":K,"num":{..}}
-abbrev pub hit_value : Row → Data
-hit_value row = object (member (codes "key") (string row.doc.key) (member (codes "num") (object (fold with_number no_members row.doc.num)) no_members))
+abbrev pub hit_value : Hit → Data
+hit_value hit = object (member (codes "key") (string hit.key) (member (codes "num") (object (fold with_number no_members hit.num)) no_members))
 
 -- {"commit":S,"hits":[..],"line":L}
-abbrev pub search_value : ℕ → List Row → ℕ → Data
+abbrev pub search_value : ℕ → List Hit → ℕ → Data
 search_value commit hits line = object (member (codes "commit") (natural commit) (member (codes "hits") (array (items_of (map hit_value hits))) (member (codes "line") (natural line) no_members)))

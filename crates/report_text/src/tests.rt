@@ -1,5 +1,5 @@
 use super::*;
-use ix_base::{Damaged, FileName, Operation, Refusal, Row};
+use ix_base::{Damaged, FileName, Hit, Operation, Refusal};
 use op_script::{Act, BadLine, Why, read_script};
 use std::alloc::Global;
 use std::test::*;
@@ -9,17 +9,19 @@ const MAILS: &str =
      {\"c\":1,\"op\":\"add\",\"doc\":{\"key\":\"bob/1\",\"num\":{\"size\":298,\"date\":20240301}}}\n\
      {\"c\":0,\"op\":\"add\",\"doc\":{\"key\":\"say \\\"\\u00e9\\n\\\"\",\"num\":{\"n\":-7}}}\n";
 
-/// The rows that a script's lines add.
-fn rows_of(alloc: Global, script: &str) -> Result<Vec<Row>, Fail> {
+/// The hits of the documents that a script's lines add.
+fn hits_of(alloc: Global, script: &str) -> Result<Vec<Hit>, Fail> {
     let read = read_script(alloc, script.as_bytes()).ok().ok_or("memory")?;
-    let mut rows = Vec::new(alloc);
+    let mut hits = Vec::new(alloc);
     for line in read.lines.as_slice() {
         if let Act::Do(Operation::Add(doc)) = &line.act {
-            let doc = doc.clone_in(alloc).ok().ok_or("memory")?;
-            rows.push(Row { birth: 1, doc })?;
+            hits.push(Hit {
+                key: doc.key.clone_in(alloc).ok().ok_or("memory")?,
+                num: doc.num.clone_in(alloc).ok().ok_or("memory")?,
+            })?;
         }
     }
-    Ok(rows)
+    Ok(hits)
 }
 
 #[test]
@@ -128,27 +130,29 @@ fn numbered_and_refused(rt: HostRuntime) -> Result<(), Fail> {
 #[test]
 fn searches(rt: HostRuntime) -> Result<(), Fail> {
     let alloc = rt.alloc();
-    let none = search_text(alloc, 0, &[], &[], 4).ok().ok_or("memory")?;
+    let none = search_text(alloc, 0, &[], 4).ok().ok_or("memory")?;
     assert_eq!(rt;
         none.as_slice(),
         b"{\"commit\":0,\"hits\":[],\"line\":4}\n".as_slice()
     );
-    let rows = rows_of(alloc, MAILS)?;
-    if rows.len() != 3 {
-        panic!(rt; "rows");
+    let mut hits = hits_of(alloc, MAILS)?;
+    if hits.len() != 3 {
+        panic!(rt; "hits");
     }
-    let rows = rows.as_slice();
-    let some = search_text(alloc, 5, rows, &[1], 8).ok().ok_or("memory")?;
-    assert_eq!(rt;
-        some.as_slice(),
-        "{\"commit\":5,\"hits\":[{\"key\":\"bob/1\",\"num\":{\"date\":20240301,\"size\":298}}],\"line\":8}\n".as_bytes()
-    );
-    let all = search_text(alloc, 5, rows, &[2, 0], 9)
+    let one = search_text(alloc, 5, &hits.as_slice()[1..2], 8)
         .ok()
         .ok_or("memory")?;
     assert_eq!(rt;
-        all.as_slice(),
-        "{\"commit\":5,\"hits\":[{\"key\":\"say \\\"\u{e9}\\n\\\"\",\"num\":{\"n\":-7}},{\"key\":\"ann/1\",\"num\":{\"date\":20240301,\"size\":412}}],\"line\":9}\n".as_bytes()
+        one.as_slice(),
+        "{\"commit\":5,\"hits\":[{\"key\":\"bob/1\",\"num\":{\"date\":20240301,\"size\":298}}],\"line\":8}\n".as_bytes()
+    );
+    hits.reverse();
+    let two = search_text(alloc, 5, hits.as_slice(), 9)
+        .ok()
+        .ok_or("memory")?;
+    assert_eq!(rt;
+        two.as_slice(),
+        "{\"commit\":5,\"hits\":[{\"key\":\"say \\\"\u{e9}\\n\\\"\",\"num\":{\"n\":-7}},{\"key\":\"bob/1\",\"num\":{\"date\":20240301,\"size\":298}},{\"key\":\"ann/1\",\"num\":{\"date\":20240301,\"size\":412}}],\"line\":9}\n".as_bytes()
     );
     Ok(())
 }

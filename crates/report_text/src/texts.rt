@@ -1,13 +1,12 @@
 //! The texts of the report's lines, written by serde_json.
-ghost use Rattle.std.specs.Prelude.{◌≡◌, ◌<◌, ◌∷◌, [], false, fold, map, length, All, IfOk, slice_get};
-ghost use Rattle.std.specs.List.{filter_map};
+ghost use Rattle.std.specs.Prelude.{◌≡◌, ◌∷◌, [], false, fold, map, IfOk};
 ghost use Rattle.serde_json.specs.Data.{no_members};
 ghost use Rattle.serde_json.specs.View.{view, members_view};
 ghost use Rattle.serde_json.specs.Written.{has_float};
 ghost use Rattle.report_text.specs.Lines.{text_line, write_value, commit_value, refused_value, search_value, hit_value, with_number};
 ghost use Rattle.report_text.specs.Lines.{shown_refusal};
 
-use ix_base::{Name, NoMemory, Refusal, Row};
+use ix_base::{Hit, Name, NoMemory, Refusal};
 use serde_json::{Map, Value, json};
 use std::alloc::{AllocError, Global};
 
@@ -79,7 +78,7 @@ pub fn refused_text(alloc: Global, line: u32, refusal: Refusal) -> Result<Vec<u8
     text_of(alloc, &value)
 }
 
-/// The numbers of a row, by name.
+/// The numbers of a hit, by name.
 fn number_members(alloc: Global, num: &[(Name, i64)]) -> Result<Map<String, Value>, AllocError>
     ensures { IfOk result (λ found. members_view found.entries ≡ fold with_number no_members num.now) }
 {
@@ -90,54 +89,38 @@ fn number_members(alloc: Global, num: &[(Name, i64)]) -> Result<Map<String, Valu
     Ok(found)
 }
 
-/// What a search shows of a row: its key, and its numbers by name.
-fn hit_data(alloc: Global, row: &Row) -> Result<Value, AllocError>
-    ensures { IfOk result (λ value. view value ≡ hit_value row.now) }
+/// What a report shows of a hit: its key, and its numbers by name.
+fn hit_data(alloc: Global, hit: &Hit) -> Result<Value, AllocError>
+    ensures { IfOk result (λ value. view value ≡ hit_value hit.now) }
 {
-    let num = Value::Object(number_members(alloc, row.doc.num.as_slice())?);
-    json!(in alloc; {"key": row.doc.key.as_str(), "num": num})
+    let num = Value::Object(number_members(alloc, hit.num.as_slice())?);
+    json!(in alloc; {"key": hit.key.as_str(), "num": num})
 }
 
-/// What a search shows of the rows with these numbers.
-fn hit_list(alloc: Global, rows: &[Row], numbers: &[u32]) -> Result<Vec<Value>, AllocError>
-    requires { All (λ n. n < length rows.now) numbers.now }
-    ensures { IfOk result (λ values. map view values.items ≡ map hit_value (filter_map (slice_get rows.now) numbers.now)) }
+/// What a report shows of hits, in their order.
+fn hit_list(alloc: Global, hits: &[Hit]) -> Result<Vec<Value>, AllocError>
+    ensures { IfOk result (λ values. map view values.items ≡ map hit_value hits.now) }
 {
     let mut values = Vec::new(alloc);
-    for number in numbers {
-        values.push(hit_data(alloc, &rows[*number as usize])?)?;
+    for hit in hits {
+        values.push(hit_data(alloc, hit)?)?;
     }
     Ok(values)
 }
 
 /// The value of a search line.
-fn search_data(
-    alloc: Global,
-    commit: u64,
-    rows: &[Row],
-    numbers: &[u32],
-    line: u32,
-) -> Result<Value, AllocError>
-    requires { All (λ n. n < length rows.now) numbers.now }
-    ensures { IfOk result (λ value. view value ≡ search_value commit (filter_map (slice_get rows.now) numbers.now) line) }
+fn search_data(alloc: Global, commit: u64, hits: &[Hit], line: u32) -> Result<Value, AllocError>
+    ensures { IfOk result (λ value. view value ≡ search_value commit hits.now line) }
 {
-    let hits = Value::Array(hit_list(alloc, rows, numbers)?);
+    let hits = Value::Array(hit_list(alloc, hits)?);
     json!(in alloc; {"commit": commit, "hits": hits, "line": line})
 }
 
 /// The text of a search line, as `{"commit":2,"hits":[{"key":"a1","num":{}}],"line":3}`, and a line
-/// feed. The hits are the rows with these numbers, counted from 0 in the rows of the commit, in the
-/// order of the numbers; each shows its key and the numbers by name.
-pub fn search_text(
-    alloc: Global,
-    commit: u64,
-    rows: &[Row],
-    numbers: &[u32],
-    line: u32,
-) -> Result<Vec<u8>, NoMemory>
-    requires { All (λ n. n < length rows.now) numbers.now }
-    ensures { IfOk result (λ text. text.items ≡ text_line (search_value commit (filter_map (slice_get rows.now) numbers.now) line)) }
+/// feed. The hits stand in their order; each shows its key and its numbers by name.
+pub fn search_text(alloc: Global, commit: u64, hits: &[Hit], line: u32) -> Result<Vec<u8>, NoMemory>
+    ensures { IfOk result (λ text. text.items ≡ text_line (search_value commit hits.now line)) }
 {
-    let value = search_data(alloc, commit, rows, numbers, line)?;
+    let value = search_data(alloc, commit, hits, line)?;
     text_of(alloc, &value)
 }

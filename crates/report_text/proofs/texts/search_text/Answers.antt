@@ -1,6 +1,4 @@
 use Rattle.std.proofs.Common.{◌∙◌, ap}
-use Rattle.std.specs.Prelude.{slice_get}
-use Rattle.std.specs.List.{filter_map}
 use Rattle.serde_json.specs.Written.{has_float}
 use Rattle.std.proofs.lemmas.Result.{IfOk-weaker}
 use Rattle.report_text.specs.Lines.{text_line}
@@ -8,7 +6,7 @@ use Rattle.report_text.proofs.Floats.{search_plain}
 use Rattle.report_text.proofs.texts.search_text.Goals as goal
 
 pub text_of-requires : goal.text_of-requires
-text_of-requires c = ap has_float c.in_ok-value.ensures ∙ search_plain c.args.commit (filter_map (slice_get c.args.rows.now) c.args.numbers.now) c.args.line
+text_of-requires c = ap has_float c.in_ok-value.ensures ∙ search_plain c.args.commit c.args.hits.now c.args.line
 
 pub returns : goal.returns
 returns c = IfOk-weaker c.text_of.result _ _ (λ text is. is ∙ ap text_line c.in_ok-value.ensures) c.text_of.ensures

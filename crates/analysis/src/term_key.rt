@@ -5,7 +5,7 @@ ghost use Rattle.std.specs.Ordering.{eq_by_cmp};
 ghost use Rattle.ix_base.specs.Inversion.{term_cmp};
 ghost use Rattle.ix_base.proofs.TermOrder.{term_total};
 
-use analysis::compare_terms;
+use crate::occurrence::compare_terms;
 use ix_base::Term;
 use std::cmp::Ordering;
 use std::marker::Model;

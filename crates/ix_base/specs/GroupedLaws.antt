@@ -7,6 +7,10 @@ use Rattle.ix_base.specs.declared.postings.Posting.{Posting}
 use Rattle.ix_base.specs.declared.spots.Spot.{Spot}
 use Rattle.ix_base.specs.Grouped.{joined, with_spot, grouped_from}
 
+pub grouped_push : (gs : List Posting) (xs : List Spot) (y : Spot) → grouped_from gs (xs ++ y ∷ []) ≡ with_spot (grouped_from gs xs) y
+grouped_push gs [] y = refl
+grouped_push gs (x ∷ xs) y = grouped_push (with_spot gs x) xs y
+
 pub or_false : (b : Bool) → b ≡ (b || false)
 or_false true = refl
 or_false false = refl
@@ -15,7 +19,7 @@ pub or_assoc : (a b c : Bool) → (a || (b || c)) ≡ ((a || b) || c)
 or_assoc true b c = refl
 or_assoc false b c = refl
 
-has_push : (xs : List ℕ) (y x : ℕ) → has_number (xs ++ y ∷ []) x ≡ (has_number xs x || (y == x))
+pub has_push : (xs : List ℕ) (y x : ℕ) → has_number (xs ++ y ∷ []) x ≡ (has_number xs x || (y == x))
 has_push [] y x = ends (y == x)
   where
     ends : (b : Bool) → (b || false) ≡ (false || b)
@@ -40,7 +44,7 @@ joined_exact g s true e r x =
     ∙ ap (λ (n : ℕ). ((g.row == r) && has_number g.positions x || false) || ((n == r) && (s.position == x))) is
 joined_exact g s false e r x = grind arith
 
-spot_exact : (gs : List Posting) (s : Spot) (r x : ℕ) → posted_at (with_spot gs s) r x ≡ (posted_at gs r x || ((s.row == r) && (s.position == x)))
+pub spot_exact : (gs : List Posting) (s : Spot) (r x : ℕ) → posted_at (with_spot gs s) r x ≡ (posted_at gs r x || ((s.row == r) && (s.position == x)))
 spot_exact [] s r x = grind arith
 spot_exact (g ∷ []) s r x = joined_exact g s (g.row == s.row) refl r x
 spot_exact (g ∷ h ∷ gs) s r x = ap (λ (b : Bool). ((g.row == r) && has_number g.positions x) || b) (spot_exact (h ∷ gs) s r x) ∙ or_assoc ((g.row == r) && has_number g.positions x) (posted_at (h ∷ gs) r x) ((s.row == r) && (s.position == x))
