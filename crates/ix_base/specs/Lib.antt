@@ -14,6 +14,8 @@ pub mod CodecLaws
 pub mod ItemLaws
 pub mod FileReading
 pub mod FileLaws
+pub mod ReadLoops
+pub mod WriteLoops
 pub mod QueryBytes
 pub mod Entry
 pub mod Words
