@@ -1,12 +1,7 @@
-pub mod Loops
 pub mod PutFiles
 pub mod Joined
 pub mod Making
-pub mod Readers
-pub mod Loop
-pub mod NumberLaws
-pub mod DocumentLaws
-pub mod FileLaws
+pub mod HeadReading
 pub mod Births
 pub mod Segments
 pub mod CommitNumbers

@@ -3,18 +3,13 @@ use Rattle.std.specs.Prelude.{◌≡◌, ℕ, ◌+◌, ◌<◌, ◌≤◌, ◌^�
 use Rattle.std.specs.Int.{w32, w64}
 use Rattle.std.specs.List.{flat_map, AllByRecursion}
 use Rattle.std.proofs.Common.{◌∙◌, take, drop, refl, sym, ap, append_assoc, arith}
-use Rattle.std.proofs.lemmas.List.{take_at, drop_at}
 use Rattle.ix_base.specs.Codec.{number_at}
-use Rattle.ix_base.specs.CodecLaws.{ok_is, u32_again, u64_again}
+use Rattle.ix_base.specs.CodecLaws.{ok_is, u32_again, u64_again, same_front}
 use Rattle.ix_base.specs.Spelling.{be64, be32}
 use Rattle.commit_point.specs.declared.heads.HeadSegment.{HeadSegment}
 use Rattle.commit_point.specs.declared.heads.Head.{Head}
 use Rattle.commit_point.specs.Fits.{IdsRise, EntryFits, HeadFits}
 use Rattle.commit_point.specs.Spelling.{commit_mark, entry, commit_file}
-
--- where both begin with as many bytes, these are the same, and so is the rest
-parted : (xs ys us vs : List ℕ) (n : ℕ) → length xs ≡ n → length ys ≡ n → xs ++ us ≡ ys ++ vs → (xs ≡ ys) × (us ≡ vs)
-parted xs ys us vs n p q e = (sym (take_at xs us n p) ∙ ap (take n) e ∙ take_at ys vs n q, sym (drop_at xs us n p) ∙ ap (drop n) e ∙ drop_at ys vs n q)
 
 -- two numbers that are read from the same bytes are one
 one_read : (n m : ℕ) (us vs : List ℕ) (r : Result (ℕ × List ℕ) ℕ) → r ≡ Ok (n, us) → r ≡ Ok (m, vs) → (n ≡ m) × (us ≡ vs)
@@ -64,7 +59,7 @@ pub same_head : (a b : Head) → HeadFits a → HeadFits b → commit_file a ≡
 unfolding commit_mark after_mark
 same_head a b p q same =
     let counted : Head → List ℕ = λ head. be64 (length head.segments) ++ flat_map entry head.segments in
-    let body = parted commit_mark commit_mark (after_mark a) (after_mark b) 8 refl refl same in
+    let body = same_front commit_mark commit_mark (after_mark a) (after_mark b) refl same in
     let number = same64 a.number b.number (be64 a.docs ++ (be64 a.next_id ++ counted a)) (be64 b.docs ++ (be64 b.next_id ++ counted b)) p.number q.number body.1 in
     let docs = same64 a.docs b.docs (be64 a.next_id ++ counted a) (be64 b.next_id ++ counted b) p.docs q.docs number.1 in
     let next = same64 a.next_id b.next_id (counted a) (counted b) (omega (arith, p.next)) (omega (arith, q.next)) docs.1 in

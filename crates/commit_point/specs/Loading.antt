@@ -9,8 +9,10 @@ use Rattle.ix_base.specs.declared.damaged.Damaged.{Damaged}
 use Rattle.commit_point.specs.declared.fault.OpenFault.{OpenFault}
 use Rattle.commit_point.specs.declared.fault.OpenFault.TheVariants as faults
 use Rattle.commit_point.specs.declared.heads.Head.{Head}
-use Rattle.commit_point.specs.Holds.{HaveRows}
-use Rattle.commit_point.specs.Reading.{of_file, segments_from, has_birth, all_rows}
+use Rattle.segment_core.specs.declared.segment.Segment.{Segment}
+use Rattle.commit_point.specs.Holds.{HaveSegments}
+use Rattle.ix_base.specs.FileReading.{of_file}
+use Rattle.commit_point.specs.Reading.{segments_from, has_birth}
 
 -- the name is that of the commit s
 abbrev pub names_commit : ℕ → FileName → Bool
@@ -33,20 +35,18 @@ pub record IsBroken {A : Type 0} (told : Option Files) (name : FileName) (read :
   pub seen : Reads told name found
   pub broken : of_file name read found ≡ Err damaged
 
--- no birth of a part is known or stands in an earlier part
-abbrev pub Unknown : (ℕ → Bool) → List (List Row) → Type 0
+-- no birth of a segment is known or stands in an earlier segment
+abbrev pub Unknown : (ℕ → Bool) → List Segment → Type 0
 Unknown known [] = ⊤
-Unknown known (p ∷ ps) = AllByRecursion (λ (r : Row). known r.birth ≡ false) p × Unknown (λ b. known b || has_birth p b) ps
+Unknown known (g ∷ gs) = AllByRecursion (λ (r : Row). known r.birth ≡ false) g.rows × Unknown (λ b. known b || has_birth g.rows b) gs
 
--- the segments of a commit were read, and these are all their rows
-pub record AreRead (told : Option Files) (head : Head) (before : Files) (rows : List Row) : Type 0 where
+-- the segments of a commit were read
+pub record AreRead (told : Option Files) (head : Head) (before : Files) (segments : List Segment) : Type 0 where
   pub files : Files
   pub was : Was told files
   pub commit : files (Commit head.number) ≡ before (Commit head.number)
-  pub parts : List (List Row)
-  pub each : HaveRows files head.number head.segments parts
-  pub unknown : Unknown (λ b. false) parts
-  pub all : all_rows parts ≡ rows
+  pub each : HaveSegments files head.number head.segments segments
+  pub unknown : Unknown (λ b. false) segments
 
 -- a segment of a commit is broken, and each before it is not
 pub record BreakAt (told : Option Files) (head : Head) (before : Files) (damaged : Damaged) : Type 0 where

@@ -1,59 +1,75 @@
 -- What making a commit does to the files.
-use Rattle.std.specs.Prelude.{◌≡◌, ◌≢◌, ◌⊎◌, ℕ, ◌+◌, List, [], ◌∷◌, length, Option, Some, None}
+use Rattle.std.specs.Prelude.{◌≡◌, ◌≢◌, ◌⊎◌, ℕ, ◌≤◌, List, [], ◌∷◌, length, map, Some, None}
+use Rattle.std.specs.List.{flat_map, AllByRecursion}
 use Rattle.ix_base.specs.declared.file_name.FileName.{FileName}
-use Rattle.ix_base.specs.declared.file_name.FileName.TheVariants.{Commit, Pending, Rows}
-use Rattle.ix_base.specs.declared.document.Row.{Row}
+use Rattle.ix_base.specs.declared.file_name.FileName.TheVariants.{Commit, Pending, Rows, Posts}
+use Rattle.ix_base.specs.Inversion.{IsPostings}
 use Rattle.ix_outside.specs.Files.{Files}
 use Rattle.ix_outside.specs.declared.step.Step.{Step}
+use Rattle.segment_core.specs.Segments.{all_rows, ids}
+use Rattle.segment_core.specs.declared.segment.Segment.{Segment}
+use Rattle.segment_files.specs.Fits.{BirthsRise, RowsBelow}
+use Rattle.segment_files.specs.Spelling.{rows_file, posts_file}
 use Rattle.commit_point.specs.declared.heads.HeadSegment.{HeadSegment}
 use Rattle.commit_point.specs.declared.heads.Head.{Head}
-use Rattle.commit_point.specs.Holds.{Holds}
-use Rattle.commit_point.specs.Publishing.{File, publishes}
-use Rattle.commit_point.specs.Spelling.{rows_file, commit_file}
+use Rattle.commit_point.specs.Holds.{HasSegments, names_of}
+use Rattle.commit_point.specs.Publishing.{File, AreThere, publishes}
+use Rattle.commit_point.specs.Spelling.{commit_file}
 
--- a commit with a row takes an id for its segment, and one without takes none
-abbrev pub next_after : ℕ → List Row → ℕ
-next_after id [] = id
-next_after id (r ∷ rs) = id + 1
+-- ---- what is written
 
--- the one segment of new rows, written with the commit s
-abbrev pub segments_of : ℕ → ℕ → List Row → List HeadSegment
-segments_of s id [] = []
-segments_of s id (r ∷ rs) = record { id = id; rows = length (r ∷ rs); written = s } ∷ []
+-- the files of a segment
+abbrev pub files_of : Segment → List File
+files_of segment =
+    (Rows segment.id, rows_file segment.id segment.rows)
+    ∷ (Posts segment.id, posts_file segment.id (length segment.rows) segment.postings)
+    ∷ []
 
--- what the commit file of new rows says
-abbrev pub new_head : ℕ → ℕ → List Row → Head
-new_head s id rows = record { number = s; docs = length rows; next_id = next_after id rows; segments = segments_of s id rows }
+-- the files that are written before the commit file: those of each segment
+abbrev pub commit_files : List Segment → List File
+commit_files segments = flat_map files_of segments
 
--- the files that are written before the commit file: that of the segment, where there are rows
-abbrev pub segment_list : ℕ → List Row → List File
-segment_list id [] = []
-segment_list id (r ∷ rs) = (Rows id, rows_file id (r ∷ rs)) ∷ []
+-- a segment that is written with the commit s, as its commit file names it
+abbrev pub entry_of : ℕ → Segment → HeadSegment
+entry_of s segment = record { id = segment.id; rows = length segment.rows; written = s }
 
--- What making the commit s does, step by step: the rows of its segment, the commit file under its pending name, and
+-- what the commit file of new segments says
+abbrev pub new_head : ℕ → ℕ → List Segment → Head
+new_head s next segments = record { number = s; docs = length (all_rows segments); next_id = next; segments = map (entry_of s) segments }
+
+-- A new segment can be written with the commit s: it has a row, births rise and are at most s, and its postings are in
+-- order and name its own rows.
+pub record CanWrite (s : ℕ) (segment : Segment) : Type 0 where
+  pub some : 1 ≤ length segment.rows
+  pub births : BirthsRise 1 s segment.rows
+  pub ordered : IsPostings segment.postings.terms
+  pub below : RowsBelow (length segment.rows) segment.postings
+
+-- What making the commit s does, step by step: the files of its segments, the commit file under its pending name, and
 -- the rename, each on the disk before the next.
-abbrev pub commit_steps : ℕ → ℕ → List Row → List Step
-commit_steps s id rows = publishes (segment_list id rows) (Pending s) (Commit s) (commit_file (new_head s id rows))
+abbrev pub commit_steps : ℕ → ℕ → List Segment → List Step
+commit_steps s next segments = publishes (commit_files segments) (Pending s) (Commit s) (commit_file (new_head s next segments))
 
--- what the file of the segment of this id becomes: the rows, and without a row what it was
-abbrev pub segment_file : ℕ → List Row → Option (List ℕ) → Option (List ℕ)
-segment_file id [] before = before
-segment_file id (r ∷ rs) before = Some (rows_file id (r ∷ rs))
+-- ---- what becomes of the files
 
--- every file is as it was, but those of commit s and the rows of the segment of this id
-abbrev pub SameElsewhere : ℕ → ℕ → Files → Files → Type 0
-SameElsewhere s id old new = (name : FileName) → name ≢ Rows id → name ≢ Pending s → name ≢ Commit s → new name ≡ old name
+-- the name is none of these
+abbrev pub IsNotAmong : List FileName → FileName → Type 0
+IsNotAmong names name = AllByRecursion (λ n. name ≢ n) names
 
--- The commit s was made, with the segment of this id where it has rows. It holds the rows, and each byte that
--- was written is fixed: nothing is left under the pending name, and every other file is as it was.
-pub record Commits (s id : ℕ) (rows : List Row) (old new : Files) : Type 0 where
-  pub holds : Holds new s (next_after id rows) rows
-  pub commit : new (Commit s) ≡ Some (commit_file (new_head s id rows))
-  pub segment : new (Rows id) ≡ segment_file id rows (old (Rows id))
+-- every file is as it was, but the commit file of s and the files of the segments of these ids
+abbrev pub SameElsewhere : ℕ → List ℕ → Files → Files → Type 0
+SameElsewhere s ids old new = (name : FileName) → IsNotAmong (flat_map names_of ids) name → name ≢ Pending s → name ≢ Commit s → new name ≡ old name
+
+-- The commit s was made of these segments. Each byte that was written is fixed: nothing is left under the pending
+-- name, and every other file is as it was.
+pub record Commits (s next : ℕ) (segments : List Segment) (old new : Files) : Type 0 where
+  pub spelled : HasSegments new s next segments
+  pub commit : new (Commit s) ≡ Some (commit_file (new_head s next segments))
+  pub files : AreThere (commit_files segments) new
   pub pending : new (Pending s) ≡ None
-  pub elsewhere : SameElsewhere s id old new
+  pub elsewhere : SameElsewhere s (ids segments) old new
 
 -- a crash while the commit s is made: it is there whole, or the commit file is as before
-pub record MayCommit (s id : ℕ) (rows : List Row) (old new : Files) : Type 0 where
-  pub elsewhere : SameElsewhere s id old new
-  pub whole : (new (Commit s) ≡ old (Commit s)) ⊎ Commits s id rows old new
+pub record MayCommit (s next : ℕ) (segments : List Segment) (old new : Files) : Type 0 where
+  pub elsewhere : SameElsewhere s (ids segments) old new
+  pub whole : (new (Commit s) ≡ old (Commit s)) ⊎ Commits s next segments old new

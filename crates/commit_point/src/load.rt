@@ -1,22 +1,28 @@
 //! Reading the files of a commit from a store.
-ghost use Rattle.std.specs.Prelude.{◌≡◌, ◌≤◌, ◌++◌, ◌||◌, ◌^◌, ◌<◌, ℕ, Some, None, Err, IfOk, OnOk};
-ghost use Rattle.ix_outside.specs.Disk.{told_files};
+ghost use Rattle.std.specs.Prelude.{◌≡◌, ◌≤◌, ◌||◌, ◌<◌, ◌^◌, ℕ, List, Some, None, Err, IfOk, OnOk};
 ghost use Rattle.std.specs.BTreeSet.{contains};
 ghost use Rattle.std.specs.Ordering.{nat_cmp};
-ghost use Rattle.ix_base.specs.declared.file_name.FileName.TheVariants.{Commit, Rows};
-ghost use Rattle.ix_outside.specs.Causes.{Rose};
-ghost use Rattle.ix_outside.specs.Files.{Files, Was, Reads};
 ghost use Rattle.ix_base.specs.declared.damaged.Damaged.{Damaged};
-ghost use Rattle.commit_point.specs.Fits.{HeadFits, IsSegment};
+ghost use Rattle.ix_base.specs.declared.document.Row.{Row};
+ghost use Rattle.ix_base.specs.declared.file_name.FileName.TheVariants.{Commit, Rows, Posts};
+ghost use Rattle.ix_outside.specs.Causes.{Rose};
+ghost use Rattle.ix_outside.specs.Disk.{told_files};
+ghost use Rattle.ix_outside.specs.Files.{Files, Was, Reads};
+ghost use Rattle.segment_files.specs.Fits.{IsSegment, PostingsFit};
+ghost use Rattle.segment_files.specs.Reading.{rows_in, posts_in};
+ghost use Rattle.segment_files.specs.Spelling.{rows_file, posts_file};
+ghost use Rattle.commit_point.specs.Fits.{HeadFits};
 ghost use Rattle.commit_point.specs.Loading.{IsBroken, AreRead, BreakAt};
-ghost use Rattle.commit_point.specs.Reading.{head_in, rows_in, has_birth};
-ghost use Rattle.commit_point.specs.Spelling.{rows_file, commit_file};
+ghost use Rattle.commit_point.specs.Reading.{head_in, has_birth};
+ghost use Rattle.commit_point.specs.Spelling.{commit_file};
 
-use crate::decode::{decode_commit, decode_row};
+use crate::decode::decode_commit;
 use crate::fault::OpenFault;
 use crate::heads::{Head, HeadSegment};
-use ix_base::{Damaged, FileFault, FileName, List, NoMemory, Row};
+use ix_base::{Damaged, FileFault, FileName, List, NoMemory, Postings, Row};
 use ix_outside::{Store, StoreFault};
+use segment_core::Segment;
+use segment_files::{decode_pst, decode_row};
 use std::alloc::Global;
 use std::collections::BTreeSet;
 
@@ -59,7 +65,7 @@ pub(crate) fn read_head<S: Store>(
 }
 
 /// Reads the rows of a segment of the commit of this number.
-fn read_segment<S: Store>(
+fn read_rows<S: Store>(
     alloc: Global,
     store: &mut S,
     number: u64,
@@ -81,31 +87,46 @@ fn read_segment<S: Store>(
     }
 }
 
-/// Appends the rows of a segment to those of earlier ones, and adds their births to the earlier ones.
-/// After an error some of them may stand there.
-fn take_in(
-    earlier: &mut BTreeSet<u64>,
-    rows: &mut Vec<Row>,
-    part: List<Row>,
-) -> Result<(), NoMemory>
-    ensures rows { OnOk result (rows.new.items ≡ rows.old.items ++ part) }
-    ensures births { OnOk result ((b : ℕ) → contains nat_cmp earlier.new b ≡ (contains nat_cmp earlier.old b || has_birth part b)) }
+/// Reads the postings of a segment.
+fn read_postings<S: Store>(
+    alloc: Global,
+    store: &mut S,
+    segment: HeadSegment,
+) -> Result<Postings, OpenFault>
+    ensures found { IfOk result (λ postings. Reads (told_files (S.disk store.old)) (Posts segment.id) (Some (posts_file segment.id segment.rows postings)) × PostingsFit segment.rows postings) }
+    ensures damaged { (damaged : Damaged) → result ≡ Err (OpenFault.Damaged damaged) → IsBroken (told_files (S.disk store.old)) (Posts segment.id) (posts_in segment.id segment.rows) damaged }
+    ensures listed { (other : ℕ) → result ≡ Err (OpenFault.NoSuch other) → ⊥ }
+    ensures reads { S.disk store.new ≡ S.disk store.old }
+    ensures later { S.fault_count store.old ≤ S.fault_count store.new }
+    ensures failed { result ≡ Err OpenFault.Store → Rose (S.fault_count store.old) (S.fault_count store.new) }
 {
-    for row in part.into_vec() {
+    let bytes = bytes_of(alloc, store, FileName::Posts(segment.id))?;
+    match decode_pst(alloc, &bytes, segment.id, segment.rows) {
+        Ok(postings) => Ok(postings),
+        Err(FileFault::Damaged(damaged)) => Err(OpenFault::Damaged(damaged)),
+        Err(FileFault::NoMemory) => Err(OpenFault::NoMemory),
+    }
+}
+
+/// Adds the births of a segment's rows to those of earlier ones. After an error some of them may
+/// stand there.
+fn add_births(earlier: &mut BTreeSet<u64>, rows: &[Row]) -> Result<(), NoMemory>
+    ensures { OnOk result ((b : ℕ) → contains nat_cmp earlier.new b ≡ (contains nat_cmp earlier.old b || has_birth rows.now b)) }
+{
+    for row in rows {
         earlier.insert(row.birth)?;
-        rows.push(row)?;
     }
     Ok(())
 }
 
-/// Reads the rows of all segments of a commit, segment by segment.
+/// Reads all segments of a commit, one by one: of each its rows, and then its postings.
 pub(crate) fn read_segments<S: Store>(
     alloc: Global,
     store: &mut S,
     head: &Head,
-) -> Result<Vec<Row>, OpenFault>
+) -> Result<Vec<Segment>, OpenFault>
     requires { HeadFits head.now }
-    ensures found { (before : Files) → Was (told_files (S.disk store.old)) before → IfOk result (λ rows. AreRead (told_files (S.disk store.old)) head.now before rows.items) }
+    ensures found { (before : Files) → Was (told_files (S.disk store.old)) before → IfOk result (λ segments. AreRead (told_files (S.disk store.old)) head.now before segments.items) }
     ensures damaged { (before : Files) (damaged : Damaged) → Was (told_files (S.disk store.old)) before → result ≡ Err (OpenFault.Damaged damaged) → BreakAt (told_files (S.disk store.old)) head.now before damaged }
     ensures listed { (other : ℕ) → result ≡ Err (OpenFault.NoSuch other) → ⊥ }
     ensures reads { S.disk store.new ≡ S.disk store.old }
@@ -113,12 +134,18 @@ pub(crate) fn read_segments<S: Store>(
     ensures failed { result ≡ Err OpenFault.Store → Rose (S.fault_count store.old) (S.fault_count store.new) }
 {
     let number = head.number;
-    let segments = head.segments.as_slice();
+    let entries = head.segments.as_slice();
     let mut earlier = BTreeSet::new(alloc);
-    let mut rows = Vec::new(alloc);
-    for segment in segments {
-        let part = read_segment(alloc, store, number, *segment, &earlier)?;
-        take_in(&mut earlier, &mut rows, part)?;
+    let mut segments = Vec::new(alloc);
+    for entry in entries {
+        let rows = read_rows(alloc, store, number, *entry, &earlier)?;
+        let postings = read_postings(alloc, store, *entry)?;
+        add_births(&mut earlier, rows.as_slice())?;
+        segments.push(Segment {
+            id: entry.id,
+            rows,
+            postings,
+        })?;
     }
-    Ok(rows)
+    Ok(segments)
 }

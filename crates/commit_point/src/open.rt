@@ -1,12 +1,13 @@
 //! Reading a commit back.
-ghost use Rattle.std.specs.Prelude.{◌≡◌, ◌≤◌, ◌↔◌, ℕ, List, IfOk, IfErr, IsPermutation, IsSome, IsTrue, Some, None, Err};
+ghost use Rattle.std.specs.Prelude.{◌≡◌, ◌≤◌, ◌↔◌, ◌++◌, ◌==◌, ℕ, length, List, IfOk, IfErr, OnOk, IsPermutation, IsSome, IsTrue, Some, None, Err};
 ghost use Rattle.ix_outside.specs.Disk.{told_files};
 ghost use Rattle.std.specs.List.Sorted.{IsNonDecreasingBy};
-ghost use Rattle.ix_base.specs.declared.document.Row.{Row};
 ghost use Rattle.ix_base.specs.declared.file_name.FileName.TheVariants.{Commit};
 ghost use Rattle.ix_outside.specs.Causes.{Rose};
 ghost use Rattle.ix_outside.specs.Files.{Files, Was};
-ghost use Rattle.commit_point.specs.Holds.{HasHead, Holds};
+ghost use Rattle.segment_core.specs.Segments.{all_rows};
+ghost use Rattle.segment_core.specs.declared.segment.Segment.{Segment};
+ghost use Rattle.commit_point.specs.Holds.{HasHead, HasSegments, AreRowsOf};
 ghost use Rattle.commit_point.specs.Loading.{IsOutside, TellsNone};
 ghost use Rattle.commit_point.specs.Reading.{head_from, reading};
 ghost use Rattle.ix_base.specs.declared.damaged.Damaged.{Damaged};
@@ -16,8 +17,9 @@ use crate::fault::OpenFault;
 use crate::heads::Head;
 use crate::listing::list_commits;
 use crate::load::{read_head, read_segments};
-use ix_base::{Damaged, FileName, List, Row};
+use ix_base::{Damaged, FileName, List, NoMemory, Row};
 use ix_outside::{Store, StoreFault};
+use segment_core::Segment;
 use std::alloc::Global;
 
 /// A commit that was read back.
@@ -26,8 +28,32 @@ pub struct Opened {
     pub number: u64,
     /// The id that the next segment takes.
     pub next_id: u64,
-    /// By rising birth.
-    pub rows: List<Row>,
+    /// By rising id.
+    pub segments: List<Segment>,
+}
+
+impl Opened {
+    /// The rows of all segments, by rising birth.
+    pub fn into_rows(self, alloc: Global) -> Result<List<Row>, NoMemory>
+        ensures { IfOk result (λ rows. (files : Files) (s next : ℕ) → HasSegments files s next self.segments → AreRowsOf s self.segments rows) }
+    {
+        let mut rows = Vec::new(alloc);
+        for segment in self.segments.into_vec() {
+            take_rows(&mut rows, segment)?;
+        }
+        sort_by_birth(&mut rows);
+        Ok(List::from_vec(rows))
+    }
+}
+
+/// Appends the rows of a segment. After an error some of them may stand there.
+fn take_rows(rows: &mut Vec<Row>, segment: Segment) -> Result<(), NoMemory>
+    ensures { OnOk result (rows.new.items ≡ rows.old.items ++ segment.rows) }
+{
+    for row in segment.rows.into_vec() {
+        rows.push(row)?;
+    }
+    Ok(())
 }
 
 /// Sorts rows by their births.
@@ -38,10 +64,24 @@ fn sort_by_birth(rows: &mut Vec<Row>)
     rows.sort_unstable_by_key(|row| row.birth);
 }
 
+/// Whether the segments have so many rows in all.
+fn have_rows(segments: &[Segment], docs: u64) -> bool
+    ensures { result ≡ (docs == length (all_rows segments.now)) }
+{
+    let mut left = docs;
+    for segment in segments {
+        match left.checked_sub(segment.rows.len() as u64) {
+            Some(fewer) => left = fewer,
+            None => return false,
+        }
+    }
+    left == 0
+}
+
 /// Reads the commit of this number, whose commit file should be there.
 fn read_whole<S: Store>(alloc: Global, store: &mut S, number: u64) -> Result<Opened, OpenFault>
     ensures number { IfOk result (λ opened. opened.number ≡ number) }
-    ensures found { IfOk result (λ opened. (files : Files) × Was (told_files (S.disk store.old)) files × Holds files number opened.next_id opened.rows) }
+    ensures found { IfOk result (λ opened. (files : Files) × Was (told_files (S.disk store.old)) files × HasSegments files number opened.next_id opened.segments) }
     ensures damaged { (damaged : Damaged) → result ≡ Err (OpenFault.Damaged damaged)
         → (files : Files) × Was (told_files (S.disk store.old)) files × (reading files number ≡ Err damaged) }
     ensures listed { (other : ℕ) → result ≡ Err (OpenFault.NoSuch other) → ⊥ }
@@ -50,18 +90,17 @@ fn read_whole<S: Store>(alloc: Global, store: &mut S, number: u64) -> Result<Ope
     ensures failed { result ≡ Err OpenFault.Store → Rose (S.fault_count store.old) (S.fault_count store.new) }
 {
     let head = read_head(alloc, store, number)?;
-    let mut rows = read_segments(alloc, store, &head)?;
-    if rows.len() as u64 != head.docs {
+    let segments = read_segments(alloc, store, &head)?;
+    if !have_rows(segments.as_slice(), head.docs) {
         return Err(OpenFault::Damaged(Damaged {
             file: FileName::Commit(number),
             at: 16,
         }));
     }
-    sort_by_birth(&mut rows);
     Ok(Opened {
         number,
         next_id: head.next_id,
-        rows: List::from_vec(rows),
+        segments: List::from_vec(segments),
     })
 }
 
@@ -70,11 +109,11 @@ fn read_whole<S: Store>(alloc: Global, store: &mut S, number: u64) -> Result<Ope
 pub fn read_commit<S: Store>(alloc: Global, store: &mut S, number: u64) -> Result<Opened, OpenFault>
     ensures number { IfOk result (λ opened. opened.number ≡ number) }
     // What is read is what the files spell.
-    ensures found { IfOk result (λ opened. (files : Files) × Was (told_files (S.disk store.old)) files × Holds files number opened.next_id opened.rows) }
+    ensures found { IfOk result (λ opened. (files : Files) × Was (told_files (S.disk store.old)) files × HasSegments files number opened.next_id opened.segments) }
     // What the files spell is read, unless the store fails or memory runs out.
-    ensures only { (files : Files) (next : ℕ) (rows : List Row) → told_files (S.disk store.old) ≡ Some files → Holds files number next rows
-        → IfOk result (λ opened. (opened.next_id ≡ next) × (opened.rows ≡ rows)) }
-    ensures whole { (files : Files) (next : ℕ) (rows : List Row) → told_files (S.disk store.old) ≡ Some files → Holds files number next rows
+    ensures only { (files : Files) (next : ℕ) (segments : List Segment) → told_files (S.disk store.old) ≡ Some files → HasSegments files number next segments
+        → IfOk result (λ opened. (opened.next_id ≡ next) × (opened.segments ≡ segments)) }
+    ensures whole { (files : Files) (next : ℕ) (segments : List Segment) → told_files (S.disk store.old) ≡ Some files → HasSegments files number next segments
         → IfErr result IsOutside }
     // Which place is the first broken one.
     ensures damaged { (damaged : Damaged) → result ≡ Err (OpenFault.Damaged damaged)
@@ -131,11 +170,11 @@ pub fn head<S: Store>(alloc: Global, store: &mut S, number: u64) -> Result<Head,
 pub fn open_commit<S: Store>(alloc: Global, store: &mut S, number: u64) -> Result<Opened, OpenFault>
     ensures number { IfOk result (λ opened. opened.number ≡ number) }
     // What is read is what the files spell.
-    ensures found { IfOk result (λ opened. (files : Files) × Was (told_files (S.disk store.old)) files × Holds files number opened.next_id opened.rows) }
+    ensures found { IfOk result (λ opened. (files : Files) × Was (told_files (S.disk store.old)) files × HasSegments files number opened.next_id opened.segments) }
     // What the files spell is read, unless the store fails or memory runs out.
-    ensures only { (files : Files) (next : ℕ) (rows : List Row) → told_files (S.disk store.old) ≡ Some files → Holds files number next rows
-        → IfOk result (λ opened. (opened.next_id ≡ next) × (opened.rows ≡ rows)) }
-    ensures whole { (files : Files) (next : ℕ) (rows : List Row) → told_files (S.disk store.old) ≡ Some files → Holds files number next rows
+    ensures only { (files : Files) (next : ℕ) (segments : List Segment) → told_files (S.disk store.old) ≡ Some files → HasSegments files number next segments
+        → IfOk result (λ opened. (opened.next_id ≡ next) × (opened.segments ≡ segments)) }
+    ensures whole { (files : Files) (next : ℕ) (segments : List Segment) → told_files (S.disk store.old) ≡ Some files → HasSegments files number next segments
         → IfErr result IsOutside }
     // Which place is the first broken one.
     ensures damaged { (damaged : Damaged) → result ≡ Err (OpenFault.Damaged damaged)

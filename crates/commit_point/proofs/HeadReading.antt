@@ -1,0 +1,153 @@
+-- A commit file that is read is the one that was written, and what was written is read again.
+use Rattle.std.proofs.Common.{◌≡◌, ℕ, ◌+◌, ◌^◌, ◌<◌, ◌≤◌, Bool, true, false, not, eqb, leb, ltb, List, [], ◌∷◌, ◌++◌, length, Result, Ok, Err, refl, sym, ap, subst, ◌∙◌, append_assoc, arith}
+use Rattle.std.specs.Prelude.{◌&&◌, IfOk}
+use Rattle.std.specs.Cmp.Derive.{both_true}
+use Rattle.std.specs.Int.{w32, w64}
+use Rattle.std.specs.List.{flat_map, AllByRecursion}
+use Rattle.std.proofs.lemmas.Bool.{and_parts, not-true, eqb-true, eq-eqb, leb-true, le-leb, ltb-true, lt-ltb}
+use Rattle.std.proofs.lemmas.List.{append-nil, nil_from_length}
+use Rattle.ix_base.specs.declared.file_name.FileName.{FileName}
+use Rattle.commit_point.specs.declared.heads.HeadSegment.{HeadSegment}
+use Rattle.commit_point.specs.declared.heads.Head.{Head}
+use Rattle.ix_base.specs.declared.damaged.FileFault.{FileFault}
+use Rattle.commit_point.specs.Spelling.{commit_mark, entry, commit_file}
+use Rattle.commit_point.specs.Fits.{IdsRise, EntryFits, HeadFits}
+use Rattle.ix_base.specs.Codec.{◌>>=◌, number_at, items_at}
+use Rattle.ix_base.specs.CodecLaws.{bind_ok, ok_is, passes, Takes, Takes-then, u64_takes, u64_again}
+use Rattle.ix_base.specs.Spelling.{be32, be64, AreBytes}
+use Rattle.ix_base.specs.FileReading.{number_where, mark_at, ended, placed, GivesFile}
+use Rattle.ix_base.specs.FileLaws.{u32_where_takes, u32_where_again, u64_where_takes, u64_where_again, mark_takes, mark_again, ended_ok, placed_ok}
+use Rattle.commit_point.specs.Reading.{entry_at, head_in}
+use Rattle.ix_base.specs.ItemLaws.{AllGood, TakesItem, GivesItem, items_take, items_again, good_each}
+
+record EntryGood (s next low : ℕ) (e : HeadSegment) : Type 0 where
+  low_is : low ≤ e.id
+  below : e.id < next
+  short : e.id < 2 ^ 64
+  fits : EntryFits s e
+
+abbrev id_test : ℕ → ℕ → ℕ → Bool
+id_test next low x = leb low x && ltb x next
+
+abbrev written_test : ℕ → ℕ → Bool
+written_test s x = leb 1 x && leb x s
+
+entry_takes : (s next : ℕ) → TakesItem (entry_at s next) entry (EntryGood s next)
+unfolding entry_at
+entry_takes s next low bytes x fits e =
+    let a = bind_ok (number_where w64 (id_test next low) bytes) (λ id. number_where w32 (λ x. leb 1 x) id.1 >>= λ rows. number_where w64 (written_test s) rows.1 >>= λ written. Ok (record { id = id.0; rows = rows.0; written = written.0 }, written.1)) x e in
+    let b = bind_ok (number_where w32 (λ x. leb 1 x) a.0.1) (λ rows. number_where w64 (written_test s) rows.1 >>= λ written. Ok (record { id = a.0.0; rows = rows.0; written = written.0 }, written.1)) x a.2 in
+    let c = bind_ok (number_where w64 (written_test s) b.0.1) (λ written. Ok (record { id = a.0.0; rows = b.0.0; written = written.0 }, written.1)) x b.2 in
+    let t0 = u64_where_takes (id_test next low) bytes a.0 fits a.1 in
+    let t1 = u32_where_takes (λ x. leb 1 x) a.0.1 b.0 t0.0.rest_fits b.1 in
+    let t2 = u64_where_takes (written_test s) b.0.1 c.0 t1.0.rest_fits c.1 in
+    let e12 = Takes-then a.0.1 (be32 b.0.0) b.0.1 (be64 c.0.0) c.0.1 t1.0 t2.0 in
+    let e02 = Takes-then bytes (be64 a.0.0) a.0.1 (be32 b.0.0 ++ be64 c.0.0) c.0.1 t0.0 e12 in
+    let h = and_parts (leb low a.0.0) (ltb a.0.0 next) t0.2 in
+    let k = and_parts (leb 1 c.0.0) (leb c.0.0 s) t2.2 in
+    let made : HeadSegment × List ℕ = (record { id = a.0.0; rows = b.0.0; written = c.0.0 }, c.0.1) in
+    subst (λ (y : HeadSegment × List ℕ). Takes bytes (entry y.0) y.1 × EntryGood s next low y.0) (ok_is made x c.2)
+    (e02, record { low_is = leb-true _ _ h.0; below = ltb-true _ _ h.1; short = t0.1; fits = record { rows = leb-true _ _ t1.2; count = t1.1; some = leb-true _ _ k.0; not_later = leb-true _ _ k.1 } })
+
+entry_again : (s next : ℕ) → s < 2 ^ 64 → GivesItem (entry_at s next) entry (EntryGood s next)
+unfolding entry_at
+entry_again s next lt low e rest good =
+    let regrouped : entry e ++ rest ≡ be64 e.id ++ (be32 e.rows ++ (be64 e.written ++ rest)) = append_assoc (be64 e.id) (be32 e.rows ++ be64 e.written) rest ∙ ap (λ (x : List ℕ). be64 e.id ++ x) (append_assoc (be32 e.rows) (be64 e.written) rest) in
+    let short : e.written < 2 ^ 64 = omega (arith, good.fits.not_later) in
+    ap (entry_at s next low) regrouped ∙ rw (
+      u64_where_again (id_test next low) e.id (be32 e.rows ++ (be64 e.written ++ rest)) good.short (both_true (le-leb _ _ good.low_is) (lt-ltb _ _ good.below)),
+      u32_where_again (λ x. leb 1 x) e.rows (be64 e.written ++ rest) good.fits.count (le-leb _ _ good.fits.rows),
+      u64_where_again (written_test s) e.written rest short (both_true (le-leb _ _ good.fits.some) (le-leb _ _ good.fits.not_later)),
+    ) refl
+
+abbrev after_id : HeadSegment → ℕ
+after_id e = e.id + 1
+
+ids_of : (s next low : ℕ) (es : List HeadSegment) → AllGood (EntryGood s next) after_id low es → IdsRise low next es
+ids_of s next low [] good = tt
+ids_of s next low (e ∷ es) good = (good.0.low_is, good.0.below, ids_of s next (e.id + 1) es good.1)
+
+entries_good : (s next low : ℕ) (es : List HeadSegment) → next ≤ 2 ^ 62 → IdsRise low next es → AllByRecursion (EntryFits s) es → AllGood (EntryGood s next) after_id low es
+entries_good s next low [] room ids fits = tt
+entries_good s next low (e ∷ es) room ids fits =
+    (record { low_is = ids.0; below = ids.1; short = omega (arith, ids.1); fits = fits.0 }, entries_good s next (e.id + 1) es room ids.2 fits.1)
+
+abbrev number_test : ℕ → ℕ → Bool
+number_test s x = eqb x s && leb 1 x
+
+abbrev next_test : ℕ → Bool
+next_test x = leb 1 x && leb x (2 ^ 62)
+
+pub head_take : (s : ℕ) (bytes : List ℕ) (head : Head) → AreBytes bytes → head_in s bytes ≡ Ok head → (head.number ≡ s) × HeadFits head × (bytes ≡ commit_file head)
+unfolding head_in commit_mark
+head_take s bytes head fits e =
+    let made : ℕ → ℕ → ℕ → List HeadSegment → Head = λ number docs next segments. record { number = number; docs = docs; next_id = next; segments = segments } in
+    let a = bind_ok (mark_at commit_mark bytes) (λ rest. number_where w64 (number_test s) rest >>= λ number. number_at w64 number.1 >>= λ docs. number_where w64 next_test docs.1 >>= λ next. number_at w64 next.1 >>= λ count. items_at (entry_at s next.0) after_id 1 count.0 count.1 >>= λ segments. ended (made number.0 docs.0 next.0 segments.0) segments.1) head e in
+    let b = bind_ok (number_where w64 (number_test s) a.0) (λ number. number_at w64 number.1 >>= λ docs. number_where w64 next_test docs.1 >>= λ next. number_at w64 next.1 >>= λ count. items_at (entry_at s next.0) after_id 1 count.0 count.1 >>= λ segments. ended (made number.0 docs.0 next.0 segments.0) segments.1) head a.2 in
+    let c = bind_ok (number_at w64 b.0.1) (λ docs. number_where w64 next_test docs.1 >>= λ next. number_at w64 next.1 >>= λ count. items_at (entry_at s next.0) after_id 1 count.0 count.1 >>= λ segments. ended (made b.0.0 docs.0 next.0 segments.0) segments.1) head b.2 in
+    let d = bind_ok (number_where w64 next_test c.0.1) (λ next. number_at w64 next.1 >>= λ count. items_at (entry_at s next.0) after_id 1 count.0 count.1 >>= λ segments. ended (made b.0.0 c.0.0 next.0 segments.0) segments.1) head c.2 in
+    let f = bind_ok (number_at w64 d.0.1) (λ count. items_at (entry_at s d.0.0) after_id 1 count.0 count.1 >>= λ segments. ended (made b.0.0 c.0.0 d.0.0 segments.0) segments.1) head d.2 in
+    let g = bind_ok (items_at (entry_at s d.0.0) after_id 1 f.0.0 f.0.1) (λ segments. ended (made b.0.0 c.0.0 d.0.0 segments.0) segments.1) head f.2 in
+    let z = ended_ok (made b.0.0 c.0.0 d.0.0 g.0.0) g.0.1 head g.2 in
+    let t0 = mark_takes commit_mark bytes a.0 refl fits a.1 in
+    let t1 = u64_where_takes (number_test s) a.0 b.0 t0.rest_fits b.1 in
+    let t2 = u64_takes b.0.1 c.0 t1.0.rest_fits c.1 in
+    let t3 = u64_where_takes next_test c.0.1 d.0 t2.0.rest_fits d.1 in
+    let t4 = u64_takes d.0.1 f.0 t3.0.rest_fits f.1 in
+    let t5 = items_take (entry_at s d.0.0) after_id entry (EntryGood s d.0.0) (entry_takes s d.0.0) 1 f.0.0 f.0.1 g.0 t4.0.rest_fits g.1 in
+    let h = and_parts (eqb b.0.0 s) (leb 1 b.0.0) t1.2 in
+    let k = and_parts (leb 1 d.0.0) (leb d.0.0 (2 ^ 62)) t3.2 in
+    let s-is : b.0.0 ≡ s = eqb-true _ _ h.0 in
+    let listed = flat_map entry g.0.0 in
+    let e45 = Takes-then d.0.1 (be64 f.0.0) f.0.1 listed g.0.1 t4.0 t5.0 in
+    let e35 = Takes-then c.0.1 (be64 d.0.0) d.0.1 (be64 f.0.0 ++ listed) g.0.1 t3.0 e45 in
+    let e25 = Takes-then b.0.1 (be64 c.0.0) c.0.1 (be64 d.0.0 ++ (be64 f.0.0 ++ listed)) g.0.1 t2.0 e35 in
+    let e15 = Takes-then a.0 (be64 b.0.0) b.0.1 (be64 c.0.0 ++ (be64 d.0.0 ++ (be64 f.0.0 ++ listed))) g.0.1 t1.0 e25 in
+    let e05 = Takes-then bytes commit_mark a.0 (be64 b.0.0 ++ (be64 c.0.0 ++ (be64 d.0.0 ++ (be64 f.0.0 ++ listed)))) g.0.1 t0 e15 in
+    let spelled : List ℕ = commit_mark ++ (be64 b.0.0 ++ (be64 c.0.0 ++ (be64 d.0.0 ++ (be64 f.0.0 ++ listed)))) in
+    let whole : bytes ≡ spelled = e05.parts ∙ ap (λ (r : List ℕ). spelled ++ r) z.0 ∙ append-nil spelled in
+    let counted : bytes ≡ commit_file (made b.0.0 c.0.0 d.0.0 g.0.0) = whole ∙ ap (λ (i : ℕ). commit_mark ++ (be64 b.0.0 ++ (be64 c.0.0 ++ (be64 d.0.0 ++ (be64 i ++ listed))))) (sym t5.1) in
+    subst (λ (x : Head). (x.number ≡ s) × HeadFits x × (bytes ≡ commit_file x)) z.1 (
+      s-is,
+      record {
+        some = leb-true _ _ h.1;
+        number = t1.1;
+        docs = t2.1;
+        next_some = leb-true _ _ k.0;
+        next = leb-true _ _ k.1;
+        count = omega (arith, t5.1, t4.1);
+        ids = ids_of s d.0.0 1 g.0.0 t5.2;
+        entries = subst (λ (i : ℕ). AllByRecursion (EntryFits i) g.0.0) (sym s-is) (good_each (EntryGood s d.0.0) (EntryFits s) after_id (λ low x y. y.fits) 1 g.0.0 t5.2);
+      },
+      counted,
+    )
+
+pub head_again : (head : Head) → HeadFits head → head_in head.number (commit_file head) ≡ Ok head
+unfolding head_in commit_mark
+head_again head fits =
+    let listed = flat_map entry head.segments in
+    let counted = be64 (length head.segments) ++ listed in
+    let s = head.number in
+    let items : items_at (entry_at s head.next_id) after_id 1 (length head.segments) listed ≡ Ok (head.segments, []) =
+    ap (items_at (entry_at s head.next_id) after_id 1 (length head.segments)) (sym (append-nil listed))
+    ∙ items_again (entry_at s head.next_id) after_id entry (EntryGood s head.next_id) (entry_again s head.next_id fits.number) 1 head.segments [] (entries_good s head.next_id 1 head.segments fits.next fits.ids fits.entries) in
+    let short : head.next_id < 2 ^ 64 = omega (arith, fits.next) in
+    rw (
+      mark_again commit_mark (be64 s ++ (be64 head.docs ++ (be64 head.next_id ++ counted))) refl,
+      u64_where_again (number_test s) s (be64 head.docs ++ (be64 head.next_id ++ counted)) fits.number (both_true (eq-eqb s s refl) (le-leb _ _ fits.some)),
+      u64_again head.docs (be64 head.next_id ++ counted) fits.docs,
+      u64_where_again next_test head.next_id counted short (both_true (le-leb _ _ fits.next_some) (le-leb _ _ fits.next)),
+      u64_again (length head.segments) listed fits.count,
+      items,
+    ) refl
+
+pub head_found : (s : ℕ) (bytes : List ℕ) (name : FileName) (r : Result Head FileFault) → AreBytes bytes
+    → GivesFile (λ x. x) r (placed name bytes (head_in s bytes)) → IfOk r (λ head. (head.number ≡ s) × HeadFits head × (bytes ≡ commit_file head))
+head_found s bytes name (Ok head) fits given = head_take s bytes head fits (placed_ok name bytes (head_in s bytes) head given)
+head_found s bytes name (Err f) fits given = tt
+
+pub head_only : (s : ℕ) (bytes : List ℕ) (name : FileName) (r : Result Head FileFault)
+    → GivesFile (λ x. x) r (placed name bytes (head_in s bytes)) → (head : Head) → head.number ≡ s → HeadFits head → bytes ≡ commit_file head → GivesFile (λ x. x) r (Ok head)
+head_only s bytes name r given head s-is fits is =
+    let read : head_in s bytes ≡ Ok head = ap (head_in s) is ∙ ap (λ (i : ℕ). head_in i (commit_file head)) (sym s-is) ∙ head_again head fits in
+    subst (λ (x : Result Head ℕ). GivesFile (λ y. y) r (placed name bytes x)) read given

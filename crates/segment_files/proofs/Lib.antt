@@ -1,0 +1,3 @@
+pub mod Readers
+pub mod DocumentLaws
+pub mod RowLaws

@@ -1,0 +1,18 @@
+use Rattle.std.proofs.Common.{length, rules}
+use Rattle.ix_base.specs.Spelling.{be32}
+use Rattle.segment_files.specs.Spelling.{field}
+use Rattle.segment_files.specs.Fits.{FieldFits}
+use Rattle.ix_base.specs.WriteLoops.{one_more, all_done, all_more, all_over}
+use Rattle.segment_files.proofs.documents.put_fields.Goals as goal
+
+pub loop-pair-preserved : goal.loop-pair-preserved
+loop-pair-preserved c = record {
+  bytes = one_more field c.args.out.now.items (be32 (length c.args.pairs.now)) c.args.pairs.now c.loop-pair.pair-index c.pair-item.result c.loop-pair.out.items _ (search rules) (search rules) (search rules) (search rules);
+  fits = all_more FieldFits c.args.pairs.now c.loop-pair.pair-index c.pair-item.result (search rules) (search rules) c.loop-pair.invariant.fits c.in_ok-put_field.ensures.fits;
+}
+
+pub returns-clause-bytes : goal.returns-clause-bytes
+returns-clause-bytes c = all_done field c.args.out.now.items (be32 (length c.args.pairs.now)) c.args.pairs.now c.loop-pair.pair-index _ (search rules) (search rules)
+
+pub returns-clause-fits : goal.returns-clause-fits
+returns-clause-fits c = all_over FieldFits c.args.pairs.now c.loop-pair.pair-index (search rules) c.loop-pair.invariant.fits

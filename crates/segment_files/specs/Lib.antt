@@ -1,0 +1,4 @@
+pub mod Spelling
+pub mod Fits
+pub mod Fields
+pub mod Reading

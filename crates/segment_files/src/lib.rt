@@ -1,0 +1,19 @@
+//! The files of a segment as bytes: its rows, and its postings. Each is written from values, and read
+//! back: one file spells one value, and of bytes that spell none the first broken place is told.
+#![tactic(auto)]
+
+mod decode;
+mod documents;
+mod encode;
+mod marks;
+mod posts;
+mod read_documents;
+mod read_posts;
+
+pub use decode::decode_row;
+pub use encode::encode_row;
+pub use posts::encode_pst;
+pub use read_posts::decode_pst;
+
+#[cfg(test)]
+mod tests;
