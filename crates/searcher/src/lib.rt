@@ -1,0 +1,8 @@
+//! Questions answered on a commit.
+#![tactic(auto)]
+
+mod searcher;
+#[cfg(test)]
+mod tests;
+
+pub use searcher::Searcher;
