@@ -37,7 +37,7 @@ impl Inverted for Segment {
     ghost inverts = { λ segment docs. (docs ≡ documents segment.rows) × (length segment.rows < 2 ^ 32) × IsInversion docs segment.postings };
 
     fn rows(&self) -> u32 {
-        self.rows.len() as u32
+        self.rows.len().min(u32::MAX as usize) as u32
     }
 
     fn holding(&self, alloc: Global, term: &Term) -> Result<Vec<u32>, NoMemory> {
