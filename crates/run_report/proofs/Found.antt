@@ -11,7 +11,7 @@ use Rattle.run_report.specs.declared.outcome.Answer.{Answer}
 use Rattle.run_report.specs.declared.outcome.Answer.TheVariants.{Numbered, Committed, Refused, Searched}
 use Rattle.commit_point.specs.declared.fault.OpenFault.{OpenFault}
 use Rattle.run_report.specs.Texts.{outcome_text, answer_text}
-use Rattle.run_report.specs.Texts.{matching}
+use Rattle.ix_base.specs.Hits.{hits}
 use Rattle.run_report.specs.Searching.{is_search}
 
 pub not_search : (a : Answer) → ((s : ℕ) (q : Query) → a ≡ Searched s q → ⊥) → is_search a ≡ false
@@ -30,7 +30,7 @@ same_text P found (Err stop) is holds = tt
 
 -- the text of a search line
 pub searched_text : (rows_of : ℕ → List Row) (o : Outcome) (number s : ℕ) (q : Query) (rows : List Row) (text : List ℕ) → o.answer ≡ Searched number q → s ≡ number → rows ≡ rows_of number
-    → text ≡ text_line (search_value s (matching q rows) o.line) → text ≡ outcome_text rows_of o
+    → text ≡ text_line (search_value s (hits q rows) o.line) → text ≡ outcome_text rows_of o
 searched_text rows_of o number s q rows text answer s_is rows_are is =
-    is ∙ ap (λ (n : ℕ). text_line (search_value n (matching q rows) o.line)) s_is ∙ ap (λ (rs : List Row). text_line (search_value number (matching q rs) o.line)) rows_are
+    is ∙ ap (λ (n : ℕ). text_line (search_value n (hits q rows) o.line)) s_is ∙ ap (λ (rs : List Row). text_line (search_value number (hits q rs) o.line)) rows_are
     ∙ ap (λ (a : Answer). answer_text rows_of o.line a) (sym answer)

@@ -1,3 +1,2 @@
-pub mod Hits
 pub mod Found
 pub mod Filled

@@ -1,10 +1,9 @@
 -- What a search line reads of the store.
-use Rattle.std.specs.Prelude.{◌≡◌, ◌⊎◌, ℕ, ◌≤◌, List, [], length, map, Option, All, Err, Bool, true, false, ⊤}
-use Rattle.ix_base.specs.Inversion.{IsInversion}
+use Rattle.std.specs.Prelude.{◌≡◌, ◌⊎◌, ℕ, ◌≤◌, List, [], Option, All, Bool, true, false, ⊤}
 use Rattle.ix_base.specs.declared.document.Row.{Row}
-use Rattle.ix_outside.specs.Files.{Files, Was}
-use Rattle.commit_point.specs.Holds.{Holds}
-use Rattle.commit_point.specs.Reading.{reading}
+use Rattle.ix_outside.specs.Files.{Files}
+use Rattle.commit_point.specs.Holds.{HoldsInverted}
+use Rattle.searcher.specs.Searching.{IsDamagedIn}
 use Rattle.ix_base.specs.declared.damaged.Damaged.{Damaged}
 use Rattle.commit_point.specs.declared.fault.OpenFault.{OpenFault}
 use Rattle.commit_point.specs.declared.fault.OpenFault.TheVariants as opening
@@ -12,16 +11,10 @@ use Rattle.ix_base.specs.declared.query.Query.{Query}
 use Rattle.run_report.specs.declared.outcome.Outcome.{Outcome}
 use Rattle.run_report.specs.declared.outcome.Answer.{Answer}
 use Rattle.run_report.specs.declared.outcome.Answer.TheVariants.{Searched}
-use Rattle.run_report.specs.declared.searches.SearchedCommit.{SearchedCommit}
 
--- the index is that of the rows
-pub record IsIndexed (commit : SearchedCommit) : Type 0 where
-  pub count : commit.index.rows ≡ length commit.rows
-  pub inversion : IsInversion (map (λ row. row.doc) commit.rows) commit.index.postings
-
--- the files hold these rows as the commit of this number
+-- the files hold these rows as the commit of this number, and their inversion
 abbrev pub HoldsCommit : Files → ℕ → List Row → Type 0
-HoldsCommit files s rows = (next : ℕ) × Holds files s next rows
+HoldsCommit files s rows = (next : ℕ) × HoldsInverted files s next rows
 
 -- the commit that an outcome searches has these rows; the number 0 stands for no commit
 abbrev pub AnswerHolds : Files → (ℕ → List Row) → Answer → Type 0
@@ -36,14 +29,6 @@ is_search answer = false
 pub record CanSearch (files : Files) (rows_of : ℕ → List Row) (outcomes : List Outcome) : Type 0 where
   pub none : rows_of 0 ≡ []
   pub each : All (λ (o : Outcome). AnswerHolds files rows_of o.answer) outcomes
-
--- the commit of this number is first broken at this place
-abbrev pub IsDamagedIn : Option Files → ℕ → Damaged → Type 0
-IsDamagedIn told number damaged = (files : Files) × Was told files × (reading files number ≡ Err damaged)
-
--- a fault that no file's bytes caused: of the store, or out of memory
-abbrev pub IsOutsideFault : OpenFault → Type 0
-IsOutsideFault fault = (fault ≡ opening.Store) ⊎ (fault ≡ opening.NoMemory)
 
 -- a fault of reading a commit that is known to be there
 abbrev pub IsReadFault : OpenFault → Type 0

@@ -8,7 +8,8 @@ ghost use Rattle.ix_outside.specs.Files.{Files};
 ghost use Rattle.ix_base.specs.declared.damaged.Damaged.{Damaged};
 ghost use Rattle.run_report.specs.declared.outcome.Outcome.{Outcome};
 ghost use Rattle.run_report.specs.Texts.{outcome_text, texts};
-ghost use Rattle.run_report.specs.Searching.{CanSearch, SearchesDamaged, IsOutsideFault, IsReadFault};
+ghost use Rattle.run_report.specs.Searching.{CanSearch, SearchesDamaged, IsReadFault};
+ghost use Rattle.commit_point.specs.Loading.{IsOutside};
 ghost use Rattle.run_report.specs.Assembling.{IsOrderOf};
 
 use crate::outcome::{Answer, Outcome};
@@ -69,7 +70,7 @@ fn texts_in_turn<S: Store>(
     ensures texts { (files : Files) (rows_of : ℕ → List Row) → told_files (S.disk store.old) ≡ Some files → CanSearch files rows_of outcomes.now
         → IfOk result (λ made. map (λ text. text.items) made.items ≡ map (outcome_text rows_of) outcomes.now) }
     ensures whole { (files : Files) (rows_of : ℕ → List Row) → told_files (S.disk store.old) ≡ Some files → CanSearch files rows_of outcomes.now
-        → IfErr result IsOutsideFault }
+        → IfErr result IsOutside }
     ensures damaged { (damaged : Damaged) → result ≡ Err (OpenFault.Damaged damaged)
         → (outcome : Outcome) × Contains outcomes.now outcome × SearchesDamaged (told_files (S.disk store.old)) outcome.answer damaged }
     ensures reads { S.disk store.new ≡ S.disk store.old }
@@ -77,10 +78,7 @@ fn texts_in_turn<S: Store>(
     ensures failed { result ≡ Err OpenFault.Store → Rose (S.fault_count store.old) (S.fault_count store.new) }
     ensures others { IfErr result IsReadFault }
 {
-    let mut commit = match SearchedCommit::none(alloc) {
-        Ok(commit) => commit,
-        Err(NoMemory) => return Err(OpenFault::NoMemory),
-    };
+    let mut commit = SearchedCommit::none(alloc);
     let mut made = match empty_texts(alloc, outcomes.len()) {
         Ok(made) => made,
         Err(NoMemory) => return Err(OpenFault::NoMemory),
@@ -119,7 +117,7 @@ pub fn report<S: Store>(
     ensures text { (files : Files) (rows_of : ℕ → List Row) → told_files (S.disk store.old) ≡ Some files → CanSearch files rows_of outcomes.now
         → IfOk result (λ bytes. bytes.items ≡ texts rows_of outcomes.now) }
     ensures whole { (files : Files) (rows_of : ℕ → List Row) → told_files (S.disk store.old) ≡ Some files → CanSearch files rows_of outcomes.now
-        → IfErr result IsOutsideFault }
+        → IfErr result IsOutside }
     ensures damaged { (damaged : Damaged) → result ≡ Err (OpenFault.Damaged damaged)
         → (outcome : Outcome) × Contains outcomes.now outcome × SearchesDamaged (told_files (S.disk store.old)) outcome.answer damaged }
     ensures reads { S.disk store.new ≡ S.disk store.old }

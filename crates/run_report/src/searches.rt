@@ -1,85 +1,41 @@
 //! Search lines, answered from what the store holds of their commits.
-ghost use Rattle.std.specs.Prelude.{◌≡◌, ◌≢◌, ◌⊎◌, ◌<◌, ◌≤◌, ◌^◌, ℕ, List, [], length, false, OnOk, IfOk, IfErr, Err, Some};
-ghost use Rattle.ix_outside.specs.Disk.{told_files};
+ghost use Rattle.std.specs.Prelude.{◌≡◌, ◌⊎◌, ◌≤◌, ℕ, List, [], false, OnOk, IfOk, IfErr, Err, Some};
+ghost use Rattle.ix_base.specs.Hits.{hits};
+ghost use Rattle.ix_base.specs.declared.damaged.Damaged.{Damaged};
 ghost use Rattle.ix_base.specs.declared.document.Row.{Row};
 ghost use Rattle.ix_outside.specs.Causes.{Rose};
-ghost use Rattle.ix_outside.specs.Files.{Files, Was};
-ghost use Rattle.commit_point.specs.Holds.{Holds};
-ghost use Rattle.commit_point.specs.Reading.{reading};
-ghost use Rattle.ix_base.specs.declared.damaged.Damaged.{Damaged};
-ghost use Rattle.run_report.specs.Texts.{outcome_text, answer_text};
+ghost use Rattle.ix_outside.specs.Disk.{told_files};
+ghost use Rattle.ix_outside.specs.Files.{Files};
+ghost use Rattle.commit_point.specs.Loading.{IsOutside};
+ghost use Rattle.searcher.specs.Searching.{Searches, IsDamagedIn};
 ghost use Rattle.report_text.specs.Lines.{text_line, search_value};
-ghost use Rattle.run_report.specs.Texts.{matching};
-ghost use Rattle.run_report.specs.Searching.{IsIndexed, AnswerHolds, HoldsCommit, IsDamagedIn, SearchesDamaged, is_search, IsOutsideFault, IsReadFault};
+ghost use Rattle.run_report.specs.Texts.{outcome_text, answer_text};
+ghost use Rattle.run_report.specs.Searching.{AnswerHolds, HoldsCommit, SearchesDamaged, is_search, IsReadFault};
 
 use crate::outcome::{Answer, Outcome};
-use commit_point::{OpenFault, read_commit};
-use ix_base::{List, NoMemory, Query, Row};
+use commit_point::OpenFault;
+use ix_base::{NoMemory, Query};
 use ix_outside::Store;
-use query_core::{PostingsIndex, answer, index_rows};
 use report_text::{commit_text, refused_text, search_text, write_text};
+use searcher::Searcher;
 use std::alloc::Global;
 
-/// A commit that is being searched: its rows, and an index of them. Without a commit its number is
-/// 0, and it has no row.
+/// A commit that is being searched. Without a commit its number is 0, and it has no row.
 #[derive(Drop)]
 pub struct SearchedCommit {
     pub number: u64,
-    pub rows: List<Row>,
-    pub index: PostingsIndex,
+    pub searcher: Searcher,
 }
 
 impl SearchedCommit {
-    /// No commit.
-    pub fn none(alloc: Global) -> Result<SearchedCommit, NoMemory>
-        ensures none { IfOk result (λ commit. (commit.number ≡ 0) × (commit.rows ≡ [])) }
-        ensures indexed { IfOk result IsIndexed }
+    /// No commit. It takes no memory.
+    pub fn none(alloc: Global) -> SearchedCommit
+        ensures number { result.number ≡ 0 }
+        ensures none { Searches result.searcher.segments [] }
     {
-        SearchedCommit::of_rows(alloc, 0, List::new(alloc))
-    }
-
-    /// The commit of this number with these rows. More than 2^32 rows are answered as out of memory.
-    fn of_rows(alloc: Global, number: u64, rows: List<Row>) -> Result<SearchedCommit, NoMemory>
-        ensures rows { IfOk result (λ commit. (commit.number ≡ number) × (commit.rows ≡ rows)) }
-        ensures indexed { IfOk result IsIndexed }
-    {
-        if rows.len() >= 1 << 32 {
-            return Err(NoMemory);
-        }
-        let index = index_rows(alloc, rows.as_slice())?;
-        Ok(SearchedCommit {
-            number,
-            rows,
-            index,
-        })
-    }
-
-    /// The commit of this number, as the store has it.
-    fn open<S: Store>(
-        alloc: Global,
-        store: &mut S,
-        number: u64,
-    ) -> Result<SearchedCommit, OpenFault>
-        ensures indexed { IfOk result IsIndexed }
-        ensures number { IfOk result (λ commit. commit.number ≡ number) }
-        ensures rows { (files : Files) (rows : List Row) → told_files (S.disk store.old) ≡ Some files → HoldsCommit files number rows → IfOk result (λ commit. commit.rows ≡ rows) }
-        ensures whole { (files : Files) (rows : List Row) → told_files (S.disk store.old) ≡ Some files → HoldsCommit files number rows
-            → IfErr result IsOutsideFault }
-        ensures damaged { (damaged : Damaged) → result ≡ Err (OpenFault.Damaged damaged) → IsDamagedIn (told_files (S.disk store.old)) number damaged }
-        ensures reads { S.disk store.new ≡ S.disk store.old }
-        ensures later { S.fault_count store.old ≤ S.fault_count store.new }
-        ensures failed { result ≡ Err OpenFault.Store → Rose (S.fault_count store.old) (S.fault_count store.new) }
-        ensures others { IfErr result IsReadFault }
-    {
-        match read_commit(alloc, store, number) {
-            Ok(opened) => match SearchedCommit::of_rows(alloc, number, opened.rows) {
-                Ok(open) => Ok(open),
-                Err(NoMemory) => Err(OpenFault::NoMemory),
-            },
-            Err(OpenFault::Store) => Err(OpenFault::Store),
-            Err(OpenFault::Damaged(damaged)) => Err(OpenFault::Damaged(damaged)),
-            Err(OpenFault::NoSuch { number: _ }) => Err(OpenFault::NoMemory),
-            Err(OpenFault::NoMemory) => Err(OpenFault::NoMemory),
+        SearchedCommit {
+            number: 0,
+            searcher: Searcher::none(alloc),
         }
     }
 }
@@ -91,13 +47,11 @@ fn reopen<S: Store>(
     commit: &mut SearchedCommit,
     number: u64,
 ) -> Result<(), OpenFault>
-    requires { IsIndexed commit.old }
-    ensures indexed { OnOk result (IsIndexed commit.new) }
     ensures number { OnOk result (commit.new.number ≡ number) }
-    ensures rows { (files : Files) (rows_of : ℕ → List Row) → told_files (S.disk store.old) ≡ Some files → commit.old.rows ≡ rows_of commit.old.number → rows_of 0 ≡ []
-        → (number ≡ 0) ⊎ ((1 ≤ number) × HoldsCommit files number (rows_of number)) → OnOk result (commit.new.rows ≡ rows_of number) }
+    ensures rows { (files : Files) (rows_of : ℕ → List Row) → told_files (S.disk store.old) ≡ Some files → Searches commit.old.searcher.segments (rows_of commit.old.number) → rows_of 0 ≡ []
+        → (number ≡ 0) ⊎ ((1 ≤ number) × HoldsCommit files number (rows_of number)) → OnOk result (Searches commit.new.searcher.segments (rows_of number)) }
     ensures whole { (files : Files) (rows : List Row) → told_files (S.disk store.old) ≡ Some files → (number ≡ 0) ⊎ ((1 ≤ number) × HoldsCommit files number rows)
-        → IfErr result IsOutsideFault }
+        → IfErr result IsOutside }
     ensures damaged { (damaged : Damaged) → result ≡ Err (OpenFault.Damaged damaged) → (1 ≤ number) × IsDamagedIn (told_files (S.disk store.old)) number damaged }
     ensures reads { S.disk store.new ≡ S.disk store.old }
     ensures later { S.fault_count store.old ≤ S.fault_count store.new }
@@ -108,12 +62,12 @@ fn reopen<S: Store>(
         return Ok(());
     }
     if number == 0 {
-        *commit = SearchedCommit::none(alloc)?;
+        *commit = SearchedCommit::none(alloc);
         return Ok(());
     }
-    match SearchedCommit::open(alloc, store, number) {
-        Ok(opened) => {
-            *commit = opened;
+    match Searcher::open_listed(alloc, store, number) {
+        Ok(searcher) => {
+            *commit = SearchedCommit { number, searcher };
             Ok(())
         }
         Err(fault) => Err(fault),
@@ -127,17 +81,11 @@ fn found_text(
     query: &Query,
     line: u32,
 ) -> Result<Vec<u8>, NoMemory>
-    requires { IsIndexed commit.now }
-    ensures { IfOk result (λ text. text.items ≡ text_line (search_value commit.now.number (matching query.now commit.now.rows) line)) }
+    ensures { (rows : List Row) → Searches commit.now.searcher.segments rows
+        → IfOk result (λ text. text.items ≡ text_line (search_value commit.now.number (hits query.now rows) line)) }
 {
-    let numbers = answer(alloc, query, &commit.index)?;
-    search_text(
-        alloc,
-        commit.number,
-        commit.rows.as_slice(),
-        numbers.as_slice(),
-        line,
-    )
+    let found = commit.searcher.hits(alloc, query)?;
+    search_text(alloc, commit.number, found.as_slice(), line)
 }
 
 /// The text of a line. A search line brings up its commit.
@@ -147,12 +95,11 @@ pub fn line_text<S: Store>(
     commit: &mut SearchedCommit,
     outcome: &Outcome,
 ) -> Result<Vec<u8>, OpenFault>
-    requires { IsIndexed commit.old }
-    ensures indexed { OnOk result (IsIndexed commit.new) }
-    ensures text { (files : Files) (rows_of : ℕ → List Row) → told_files (S.disk store.old) ≡ Some files → commit.old.rows ≡ rows_of commit.old.number → rows_of 0 ≡ []
-        → AnswerHolds files rows_of outcome.now.answer → IfOk result (λ text. (text.items ≡ outcome_text rows_of outcome.now) × (commit.new.rows ≡ rows_of commit.new.number)) }
+    ensures text { (files : Files) (rows_of : ℕ → List Row) → told_files (S.disk store.old) ≡ Some files → Searches commit.old.searcher.segments (rows_of commit.old.number) → rows_of 0 ≡ []
+        → AnswerHolds files rows_of outcome.now.answer
+        → IfOk result (λ text. (text.items ≡ outcome_text rows_of outcome.now) × Searches commit.new.searcher.segments (rows_of commit.new.number)) }
     ensures whole { (files : Files) (rows_of : ℕ → List Row) → told_files (S.disk store.old) ≡ Some files → AnswerHolds files rows_of outcome.now.answer
-        → IfErr result IsOutsideFault }
+        → IfErr result IsOutside }
     ensures damaged { (damaged : Damaged) → result ≡ Err (OpenFault.Damaged damaged) → SearchesDamaged (told_files (S.disk store.old)) outcome.now.answer damaged }
     ensures reads { S.disk store.new ≡ S.disk store.old }
     ensures later { S.fault_count store.old ≤ S.fault_count store.new }

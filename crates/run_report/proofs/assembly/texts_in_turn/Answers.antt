@@ -40,7 +40,6 @@ loop-turn-preserved g c =
     c.in-Ok-line_text.ensures.text files rows_of ((ap told_files inv.reads) ∙ told) (inv.rows_are files rows_of told can) can.none (holds_at files rows_of outcomes at c.index-outcomes-turn.result lt c.index-outcomes-turn.is can) in
     record {
       count = length-set made at text ∙ inv.count;
-      indexed = c.in-Ok-line_text.ensures.indexed;
       rows_are = λ files rows_of told can. (done files rows_of told can).1;
       filled = λ files rows_of told can.
           subst (λ (texts : List (List ℕ)). (k : ℕ) (d : Turn) → k < i + 1 → FilledAt rows_of outcomes texts (get_or turns k d).at) (sym (map-set (λ (v : Vec ℕ Global). v.items) made at text))

@@ -3,7 +3,8 @@ use Rattle.ix_outside.specs.Disk.{told_files}
 use Rattle.ix_base.specs.declared.document.Row.{Row}
 use Rattle.ix_outside.specs.Files.{Files}
 use Rattle.run_report.specs.declared.assembly.Turn.{Turn}
-use Rattle.run_report.specs.Searching.{IsIndexed, CanSearch}
+use Rattle.searcher.specs.Searching.{Searches}
+use Rattle.run_report.specs.Searching.{CanSearch}
 use Rattle.run_report.proofs.Filled.{FilledAt}
 use Rattle.run_report.proofs.assembly.texts_in_turn.Given as goal
 
@@ -12,8 +13,7 @@ invariant-loop-turn g l =
     let start = told_files (g.S.Store.disk l.fn.store) in
     record {
       count : length l.made.items ≡ length l.outcomes;
-      indexed : IsIndexed l.commit;
-      rows_are : (files : Files) (rows_of : ℕ → List Row) → start ≡ Some files → CanSearch files rows_of l.outcomes → l.commit.rows ≡ rows_of l.commit.number;
+      rows_are : (files : Files) (rows_of : ℕ → List Row) → start ≡ Some files → CanSearch files rows_of l.outcomes → Searches l.commit.searcher.segments (rows_of l.commit.number);
       filled : (files : Files) (rows_of : ℕ → List Row) → start ≡ Some files → CanSearch files rows_of l.outcomes
           → (k : ℕ) (d : Turn) → k < l.turn-index → FilledAt rows_of l.outcomes (map (λ text. text.items) l.made.items) (get_or l.turns k d).at;
       reads : g.S.Store.disk l.store ≡ g.S.Store.disk l.fn.store;

@@ -1,4 +1,5 @@
-use Rattle.std.proofs.Common.{◌∙◌, ap, sym, subst}
+use Rattle.std.proofs.Common.{ℕ, refl, sym, subst}
+use Rattle.searcher.specs.Searching.{Searches}
 use Rattle.std.proofs.lemmas.Result.{IfOk-weaker}
 use Rattle.run_report.specs.declared.outcome.Answer.{Answer}
 use Rattle.run_report.specs.Searching.{AnswerHolds}
@@ -14,9 +15,9 @@ returns-in-Ok-clause-text g c = λ files rows_of told same none holds.
     let rows = c.in-Ok.ensures.rows files rows_of told same none (subst (λ (a : Answer). AnswerHolds files rows_of a) c.in-Searched.is holds) in
     same_text _ c.found_text.result _ c.or_no_memory.ensures.ok
     (IfOk-weaker c.found_text.result _ _ (λ text is. (
-      searched_text rows_of c.args.outcome.now _ _ _ _ text.items c.in-Searched.is c.in-Ok.ensures.number rows is,
-      rows ∙ ap rows_of (sym c.in-Ok.ensures.number),
-    )) c.found_text.ensures)
+      searched_text rows_of c.args.outcome.now _ _ _ _ text.items c.in-Searched.is c.in-Ok.ensures.number refl is,
+      subst (λ (n : ℕ). Searches c.reopen.new.commit.searcher.segments (rows_of n)) (sym c.in-Ok.ensures.number) rows,
+    )) (c.found_text.ensures (rows_of c.in-Searched.number) rows))
 
 pub returns-clause-text : goal.returns-clause-text
 returns-clause-text g c = λ files rows_of told same none holds.

@@ -4,11 +4,11 @@ use Rattle.run_report.proofs.searches.reopen.Goals as goal
 pub returns-in-Err-clause-whole : goal.returns-in-Err-clause-whole
 returns-in-Err-clause-whole g c = λ files rows told holds. elim holds [
   | inl none ↦ absurd (c.if-number-eq0.false none)
-  | inr held ↦ c.in-Err.ensures.whole files rows told held.1
+  | inr held ↦ let h = held.1 in c.in-Err.ensures.whole files h.0 rows told h.1.holds
 ]
 
 pub returns-in-Ok-clause-rows : goal.returns-in-Ok-clause-rows
 returns-in-Ok-clause-rows g c = λ files rows_of told same none holds. elim holds [
   | inl zero ↦ absurd (c.if-number-eq0.false zero)
-  | inr held ↦ c.in-Ok.ensures.rows files (rows_of c.args.number) told held.1
+  | inr held ↦ let h = held.1 in c.in-Ok.ensures.rows files h.0 (rows_of c.args.number) told h.1
 ]
