@@ -66,6 +66,27 @@ fn thousand_rows(alloc: Global) -> Result<Vec<u8>, NoMemory> {
     Ok(bytes)
 }
 
+/// What a file of postings of one term begins with: its mark, the id 1, a thousand rows, one term, the
+/// key `a1`, and a thousand rows that have it.
+const POSTS_FRONT: [u8; 45] = [
+    0x49, 0x58, 0x50, 0x53, 0x54, 0x30, 0x30, 0x31, 0, 0, 0, 0, 0, 0, 0, 1, 0, 0, 3, 0xe8, 0, 0, 0,
+    0, 0, 0, 0, 1, 0, 0, 0, 3, 0x6b, 0x65, 0x79, 0, 0, 0, 2, 0x61, 0x31, 0, 0, 3, 0xe8,
+];
+
+/// One position, which is 0.
+const FIRST_POSITION: [u8; 8] = [0, 0, 0, 1, 0, 0, 0, 0];
+
+/// The postings of a thousand documents.
+fn thousand_postings(alloc: Global) -> Result<Vec<u8>, NoMemory> {
+    let mut bytes = Vec::new(alloc);
+    bytes.extend_from_slice(&POSTS_FRONT)?;
+    for row in 0..1000u32 {
+        bytes.extend_from_slice(&row.to_be_bytes())?;
+        bytes.extend_from_slice(&FIRST_POSITION)?;
+    }
+    Ok(bytes)
+}
+
 /// The text of a search line that a thousand documents match.
 fn thousand_hits(alloc: Global) -> Result<Vec<u8>, NoMemory> {
     let mut text = Vec::new(alloc);
@@ -81,7 +102,9 @@ fn thousand_hits(alloc: Global) -> Result<Vec<u8>, NoMemory> {
 fn store_of_thousand(alloc: Global) -> Result<MemoryStore, StoreFault> {
     let mut store = MemoryStore::new(alloc);
     let rows = thousand_rows(alloc)?;
+    let postings = thousand_postings(alloc)?;
     store.write(FileName::Rows(1), rows.as_slice())?;
+    store.write(FileName::Posts(1), postings.as_slice())?;
     store.write(FileName::Commit(1000), &THOUSAND)?;
     Ok(store)
 }
