@@ -1,6 +1,7 @@
 #!/usr/bin/env python3
 """Prints what the files of an index hold, read by docs/FORMATS.md alone: a line for each commit and, below the last one,
-a line for each of its rows.
+a line for each of its rows, and one for each term of each of its segments, with the places where it stands: the births of
+its rows, and the positions in each.
 
 usage: look.py DIR
 
@@ -67,6 +68,21 @@ def read_rows(directory, segment):
     return rows
 
 
+def read_postings(directory, segment, births):
+    file = Reader(os.path.join(directory, f"seg_{segment}.pst"))
+    file.mark(b"IXPST001")
+    file.number(12)
+    terms = []
+    for _ in range(file.number(8)):
+        term = {"segment": segment, "field": file.text(), "term": file.text(), "rows": []}
+        for _ in range(file.number(4)):
+            birth = births[file.number(4)]
+            term["rows"].append([birth, [file.number(4) for _ in range(file.number(4))]])
+        terms.append(term)
+    file.end()
+    return terms
+
+
 def main():
     directory = sys.argv[1]
     names = [re.fullmatch(r"segments_([1-9][0-9]*)", name) for name in os.listdir(directory)]
@@ -75,9 +91,12 @@ def main():
         commit = read_commit(directory, number)
         print(json.dumps(commit, ensure_ascii=False))
     if numbers:
-        rows = [row for segment in commit["segments"] for row in read_rows(directory, segment["id"])]
-        for row in sorted(rows, key=lambda row: row["birth"]):
+        segments = [(segment["id"], read_rows(directory, segment["id"])) for segment in commit["segments"]]
+        for row in sorted((row for _, rows in segments for row in rows), key=lambda row: row["birth"]):
             print(json.dumps(row, ensure_ascii=False))
+        for segment, rows in segments:
+            for term in read_postings(directory, segment, [row["birth"] for row in rows]):
+                print(json.dumps(term, ensure_ascii=False))
 
 
 main()
