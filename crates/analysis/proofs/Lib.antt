@@ -1,4 +1,3 @@
 pub mod LongTerms
-pub mod Growth
-pub mod GrowthOfTerms
-pub mod Inverting
+pub mod Entries
+pub mod WordPlaces
