@@ -1,5 +1,5 @@
 -- Fields, of which one gets words in a row.
-use Rattle.std.proofs.Common.{◌≡◌, ℕ, ◌+◌, ◌<◌, List, [], ◌∷◌, ◌++◌, Bool, true, false, ◌&&◌, ◌||◌, ◌==◌, Option, Some, None, map, refl, sym, ap, ◌∙◌, subst}
+use Rattle.std.proofs.Common.{◌≡◌, ℕ, ◌+◌, List, [], ◌∷◌, Bool, true, false, ◌&&◌, ◌||◌, ◌==◌, Some, None, refl, sym, ap, ◌∙◌}
 use Rattle.std.specs.Str.{bytes_eq}
 use Rattle.std.specs.Map.{lookup, set_value}
 use Rattle.std.specs.BTreeMap.{is_at, insert_entry}
@@ -10,7 +10,6 @@ use Rattle.ix_base.specs.Matches.{stands_at}
 use Rattle.ix_base.specs.Terms.{placed_from}
 use Rattle.analysis.specs.Kept.{WordLists, FieldLists, kept_in, kept, spelled_from, AreWordsBelow, IsFieldBelow, AddsWords, AddsPlaces}
 use Rattle.analysis.proofs.Entries.{finds_set, finds_there, finds_insert}
-
 
 pub same_name : (a b : List ℕ) → is_eq (slice_cmp nat_cmp a b) ≡ true → b ≡ a
 same_name a b e = sym ((bytes_eq-Decides a b).0 (texts_ties a b ∙ e))

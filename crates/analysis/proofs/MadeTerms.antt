@@ -1,7 +1,7 @@
 -- The words of one field as terms.
 use Rattle.std.proofs.Common.{◌≡◌, ℕ, zero, suc, ◌+◌, ◌<◌, List, [], ◌∷◌, Bool, true, false, ◌&&◌, ◌||◌, map, length, get_or, refl, sym, ap, ◌∙◌, subst, arith}
 use Rattle.std.specs.Prelude.{IsPermutation}
-use Rattle.std.specs.List.{All, AllByRecursion, IsDistinct, list_any}
+use Rattle.std.specs.List.{All, AllByRecursion, IsDistinct}
 use Rattle.std.specs.List.Sorted.{IsSorted, IsStrictlySortedBy}
 use Rattle.std.specs.Map.{keys_of, values_of}
 use Rattle.std.specs.Str.{bytes_eq}
@@ -19,8 +19,8 @@ use Rattle.ix_base.specs.Inversion.{term_cmp, posted, posted_at, IsTermPostings}
 use Rattle.ix_base.specs.declared.document.Term.{Term}
 use Rattle.ix_base.specs.declared.postings.Posting.{Posting}
 use Rattle.ix_base.specs.declared.postings.TermPostings.{TermPostings}
-use Rattle.analysis.specs.Kept.{kept_in, term_of, IsWordList, AreTermsOf}
-use Rattle.analysis.proofs.Entries.{any_map, finds}
+use Rattle.analysis.specs.Kept.{term_of, IsWordList, AreTermsOf}
+use Rattle.analysis.proofs.Entries.{finds}
 use Rattle.analysis.proofs.WordPlaces.{shown, kept_shown}
 
 module _ {K : Type 0} (name : K → List ℕ) where

@@ -1,6 +1,6 @@
 -- The places of the words of fields, while documents are read one after another.
 use Rattle.std.specs.Prelude.{◌≡◌, ℕ, ◌+◌, ◌<◌, List, [], ◌∷◌, Bool, true, false, ◌&&◌, ◌||◌, ◌==◌, length, map, ◌⊎◌}
-use Rattle.std.specs.List.{list_any, slice_get, AllByRecursion}
+use Rattle.std.specs.List.{list_any, AllByRecursion}
 use Rattle.std.specs.List.Sorted.{IsStrictlySortedBy}
 use Rattle.std.specs.Str.{bytes_eq}
 use Rattle.ix_base.specs.Grouped.{ArePostings}

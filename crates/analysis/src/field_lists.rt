@@ -78,7 +78,14 @@ pub fn add_document(
 {
     let key = key_name(alloc)?;
     add_field(alloc, fields, scratch, row, Cut::Whole, &key, &doc.key)?;
-    add_fields(alloc, fields, scratch, row, Cut::Whole, doc.exact.as_slice())?;
+    add_fields(
+        alloc,
+        fields,
+        scratch,
+        row,
+        Cut::Whole,
+        doc.exact.as_slice(),
+    )?;
     add_fields(alloc, fields, scratch, row, Cut::Words, doc.text.as_slice())
 }
 

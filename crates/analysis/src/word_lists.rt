@@ -74,13 +74,7 @@ impl WordLists {
 
     /// Adds a place of a word, which is after those that the word has. A word is copied only when
     /// it is new.
-    fn add(
-        &mut self,
-        alloc: Global,
-        word: &str,
-        row: u32,
-        position: u32,
-    ) -> Result<(), NoMemory>
+    fn add(&mut self, alloc: Global, word: &str, row: u32, position: u32) -> Result<(), NoMemory>
         requires { IsWordBefore row position word.now self.old }
         ensures { OnOk result (AddsWord row position word.now self.old self.new) }
     {

@@ -1,10 +1,10 @@
-use Rattle.std.proofs.Common.{◌≡◌, ◌∷◌, ◌++◌, ℕ, List, codes, map, true, sym, ap, ◌∙◌, subst}
+use Rattle.std.proofs.Common.{◌≡◌, ℕ, List, codes, map, true, sym, subst}
 use Rattle.std.specs.List.{flat_map}
 use Rattle.std.proofs.lemmas.Result.{on_ok_weaker}
 use Rattle.ix_base.specs.Documents.{Document}
 use Rattle.ix_base.specs.Limits.{is_among}
 use Rattle.ix_base.specs.Terms.{terms}
-use Rattle.analysis.specs.Kept.{FieldLists, AddsPlaces, IsFieldBelow, cut_places}
+use Rattle.analysis.specs.Kept.{AddsPlaces, IsFieldBelow, cut_places}
 use Rattle.analysis.specs.declared.word_lists.Cut.TheVariants.{Whole, Words}
 use Rattle.analysis.proofs.FieldsInOrder.{text_below, adds_document}
 use Rattle.analysis.proofs.field_lists.add_document.Goals as goal
@@ -34,7 +34,7 @@ returns c =
     subst (λ (l : List Pair). AddsPlaces c.args.row (flat_map (cut_places Whole) l) c.add_field.new.fields.entries c.add_fields.new.fields.entries) c.as_slice.ensures.pairs c.in_ok-add_fields.ensures in
     on_ok_weaker c.add_fields-2.result
     (λ adds.
-      subst (λ (d : Document). AddsPlaces c.args.row (terms d) old last) c.doc.view_is
-      (adds_document c.args.row doc old c.add_field.new.fields.entries c.add_fields.new.fields.entries last first second
-      (subst (λ (l : List Pair). AddsPlaces c.args.row (flat_map (cut_places Words) l) c.add_fields.new.fields.entries last) c.as_slice-2.ensures.pairs adds)))
+    subst (λ (d : Document). AddsPlaces c.args.row (terms d) old last) c.doc.view_is
+    (adds_document c.args.row doc old c.add_field.new.fields.entries c.add_fields.new.fields.entries last first second
+    (subst (λ (l : List Pair). AddsPlaces c.args.row (flat_map (cut_places Words) l) c.add_fields.new.fields.entries last) c.as_slice-2.ensures.pairs adds)))
     c.add_fields-2.ensures

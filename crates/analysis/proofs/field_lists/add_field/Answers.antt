@@ -1,12 +1,11 @@
-use Rattle.std.proofs.Common.{◌≡◌, ℕ, List, [], sym, ap, ◌∙◌, subst, OnOk}
+use Rattle.std.proofs.Common.{◌≡◌, ℕ, List, [], sym, ap, ◌∙◌, subst}
 use Rattle.std.specs.Option.{option_copied_mut}
-use Rattle.std.specs.BTreeMap.{BTreeMap, is_at, insert_entry}
-use Rattle.std.specs.Map.{lookup}
+use Rattle.std.specs.BTreeMap.{BTreeMap, insert_entry}
 use Rattle.std.specs.Cmp.Lexicographic.{slice_cmp}
 use Rattle.std.specs.Ordering.{nat_cmp}
 use Rattle.std.proofs.lemmas.Result.{on_ok_weaker}
 use Rattle.ix_base.specs.Terms.{placed_from}
-use Rattle.analysis.specs.Kept.{WordLists, FieldLists, IsFieldBelow, AddsWords, AddsPlaces, cut_words, cut_places}
+use Rattle.analysis.specs.Kept.{WordLists, FieldLists, IsFieldBelow, AddsWords, AddsPlaces, cut_words}
 use Rattle.analysis.proofs.FieldPlaces.{words_below, field_set, field_insert}
 use Rattle.analysis.proofs.field_lists.add_field.Goals as goal
 
@@ -26,9 +25,9 @@ returns-in-Some c =
     let spelled = cut_words c.args.cut c.args.text.now in
     on_ok_weaker c.add_text.result
     (λ adds.
-      subst (λ (n : List ℕ). AddsPlaces c.args.row (placed_from 0 n spelled) fields (c.get_mut.follows.lender new).entries) key
-      (subst (λ (l : FieldLists). AddsPlaces c.args.row (placed_from 0 c.new-key.result spelled) fields l) (sym (c.get_mut.follows.holds new).0)
-      (field_set c.args.row c.new-key.result spelled c.in-Some.words.now new fields there adds)))
+    subst (λ (n : List ℕ). AddsPlaces c.args.row (placed_from 0 n spelled) fields (c.get_mut.follows.lender new).entries) key
+    (subst (λ (l : FieldLists). AddsPlaces c.args.row (placed_from 0 c.new-key.result spelled) fields l) (sym (c.get_mut.follows.holds new).0)
+    (field_set c.args.row c.new-key.result spelled c.in-Some.words.now new fields there adds)))
     c.add_text.ensures
 
 pub returns : goal.returns

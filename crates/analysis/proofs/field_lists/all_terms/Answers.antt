@@ -1,6 +1,6 @@
-use Rattle.std.proofs.Common.{◌≡◌, ◌∷◌, ◌++◌, [], ℕ, List, sym, ap, subst}
+use Rattle.std.proofs.Common.{◌∷◌, ◌++◌, [], ℕ, List, sym, subst}
 use Rattle.ix_base.specs.declared.postings.TermPostings.{TermPostings}
-use Rattle.analysis.specs.Kept.{WordLists, FieldLists, AreTermsOf}
+use Rattle.analysis.specs.Kept.{FieldLists, AreTermsOf}
 use Rattle.analysis.proofs.AllTerms.{AreTaken, taken_begin, taken_step, taken_all}
 use Rattle.analysis.proofs.field_lists.all_terms.Goals as goal
 

@@ -1,8 +1,7 @@
-use Rattle.std.proofs.Common.{rules, ◌≡◌, ◌++◌, ◌∷◌, [], List, ℕ, Bool, ◌&&◌, ◌||◌, ◌==◌, Option, Some, None, true, sym, ap, ◌∙◌, subst, string_bytes}
+use Rattle.std.proofs.Common.{List, ℕ, ◌&&◌, ◌||◌, ◌==◌, sym, ap, ◌∙◌, subst, string_bytes}
 use Rattle.std.specs.Option.{option_copied_mut}
-use Rattle.std.specs.Map.{lookup, set_value, values_of}
+use Rattle.std.specs.Map.{values_of}
 use Rattle.std.specs.List.{All}
-use Rattle.std.specs.Str.{bytes_eq}
 use Rattle.std.proofs.lemmas.Slice.Eq.{bytes_eq-Decides}
 use Rattle.std.proofs.lemmas.Result.{on_ok_weaker}
 use Rattle.std.specs.HashMap.{HashMap}
@@ -34,9 +33,9 @@ returns-in-Some c =
     let word = c.args.word.now in
     on_ok_weaker c.push.result
     (λ exact.
-      subst (λ (l : List (List ℕ × List Posting)). AddsWord c.args.row c.args.position word l (shown string_bytes (c.get_mut.follows.lender new).entries)) c.self.view_is
-      (subst (λ l. AddsWord c.args.row c.args.position word (shown string_bytes es) (shown string_bytes l)) (sym (c.get_mut.follows.holds new).0)
-      (word_set string_bytes _ c.args.row c.args.position word c.in-Some.list.now new es (λ k e. sym ((bytes_eq-Decides word (string_bytes k)).0 e)) there exact)))
+    subst (λ (l : List (List ℕ × List Posting)). AddsWord c.args.row c.args.position word l (shown string_bytes (c.get_mut.follows.lender new).entries)) c.self.view_is
+    (subst (λ l. AddsWord c.args.row c.args.position word (shown string_bytes es) (shown string_bytes l)) (sym (c.get_mut.follows.holds new).0)
+    (word_set string_bytes _ c.args.row c.args.position word c.in-Some.list.now new es (λ k e. sym ((bytes_eq-Decides word (string_bytes k)).0 e)) there exact)))
     c.push.ensures.exact
 
 pub invariant_of-self-2 : goal.invariant_of-self-2

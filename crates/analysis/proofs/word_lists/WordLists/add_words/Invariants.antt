@@ -1,7 +1,6 @@
-use Rattle.std.proofs.Common.{◌≡◌, ◌+◌, ◌<◌, ◌≤◌, ◌&&◌, ◌||◌, ◌==◌, ◌⊎◌, List, ℕ, map, length, true}
+use Rattle.std.proofs.Common.{◌+◌, ◌≤◌, map, length}
 use Rattle.unicode_segmentation.specs.Iter.{unicode_words_left}
 use Rattle.ix_base.specs.Terms.{folded, folded_words}
-use Rattle.analysis.specs.Kept.{kept_in}
 use Rattle.analysis.proofs.WordPlaces.{WordsLeft}
 use Rattle.analysis.proofs.word_lists.WordLists.add_words.Given as goal
 
