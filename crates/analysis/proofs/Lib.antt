@@ -1,4 +1,8 @@
 pub mod LongTerms
-pub mod Growth
-pub mod GrowthOfTerms
-pub mod Inverting
+pub mod Entries
+pub mod WordPlaces
+pub mod MadeTerms
+pub mod FieldPlaces
+pub mod AllTerms
+pub mod FieldsInOrder
+pub mod KeptDocuments

@@ -1,2 +1,1 @@
-pub mod Occurrences
-pub mod Grouping
+pub mod Kept

@@ -2,37 +2,36 @@
 ghost use Rattle.std.specs.Prelude.{◌≡◌, ◌<◌, ◌^◌, ◌∷◌, [], map, length, IfOk};
 ghost use Rattle.ix_base.specs.Refusals.{document_refusal};
 ghost use Rattle.ix_base.specs.Inversion.{IsInversion};
-ghost use Rattle.analysis.specs.Occurrences.{occurrences_from};
-ghost use Rattle.analysis.specs.Grouping.{Groups};
+ghost use Rattle.analysis.specs.Kept.{AreKept, AreAllTerms};
 
-use crate::grouping::group;
-use crate::occurrence::{Occurrence, compare};
+use crate::field_lists::{FieldLists, add_document, all_terms};
 use crate::sizes::long_term;
-use crate::words::add_terms;
 use ix_base::{Analysed, Document, List, NoMemory, Postings, Refusal, Refused, Row};
 use std::alloc::Global;
+use std::collections::BTreeMap;
 
-/// Sorts places and groups them.
-fn sorted_groups(alloc: Global, mut found: Vec<Occurrence>) -> Result<Postings, NoMemory>
-    ensures { IfOk result (λ postings. Groups found.items postings.terms) }
-{
-    found.sort_by(|left, right| compare(left, right))?;
-    Ok(Postings {
-        terms: List::from_vec(group(alloc, found.as_slice())?),
-    })
-}
-
-fn places_of(alloc: Global, rows: &[Row]) -> Result<Vec<Occurrence>, NoMemory>
+/// The words of these rows: the row at place i has the number i.
+fn fields_of(alloc: Global, rows: &[Row]) -> Result<FieldLists, NoMemory>
     requires { length rows.now < 2 ^ 32 }
-    ensures { IfOk result (λ found. found.items ≡ occurrences_from 0 (map (λ row. row.doc) rows.now)) }
+    ensures { IfOk result (λ fields. AreKept (map (λ row. row.doc) rows.now) fields.entries) }
 {
-    let mut found = Vec::new(alloc);
+    let mut fields = BTreeMap::new(alloc);
+    let mut scratch = String::new(alloc);
     let mut number = 0;
     for row in rows {
-        add_terms(alloc, &mut found, number, &row.doc)?;
+        add_document(alloc, &mut fields, &mut scratch, number, &row.doc)?;
         number += 1;
     }
-    Ok(found)
+    Ok(fields)
+}
+
+/// The postings of these words.
+fn postings_of(alloc: Global, fields: FieldLists) -> Result<Postings, NoMemory>
+    ensures { IfOk result (λ postings. AreAllTerms fields.entries postings.terms) }
+{
+    Ok(Postings {
+        terms: List::from_vec(all_terms(alloc, fields)?),
+    })
 }
 
 /// The inversion of the documents of these rows, of which there are fewer than 2^32: the row at
@@ -41,15 +40,16 @@ pub fn invert(alloc: Global, rows: &[Row]) -> Result<Postings, NoMemory>
     requires { length rows.now < 2 ^ 32 }
     ensures { IfOk result (λ postings. IsInversion (map (λ row. row.doc) rows.now) postings) }
 {
-    sorted_groups(alloc, places_of(alloc, rows)?)
+    postings_of(alloc, fields_of(alloc, rows)?)
 }
 
 fn invert_one(alloc: Global, doc: &Document) -> Result<Postings, NoMemory>
     ensures { IfOk result (λ postings. IsInversion (doc.now ∷ []) postings) }
 {
-    let mut found = Vec::new(alloc);
-    add_terms(alloc, &mut found, 0, doc)?;
-    sorted_groups(alloc, found)
+    let mut fields = BTreeMap::new(alloc);
+    let mut scratch = String::new(alloc);
+    add_document(alloc, &mut fields, &mut scratch, 0, doc)?;
+    postings_of(alloc, fields)
 }
 
 /// The document with the inversion of it alone. It is refused exactly where a term of it has more

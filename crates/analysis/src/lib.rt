@@ -5,17 +5,17 @@
 //! split.
 #![tactic(auto)]
 
-mod grouping;
+mod field_lists;
 mod inverse;
-mod occurrence;
+mod name_key;
 mod sizes;
 mod term_key;
+mod word_lists;
 mod words;
 
 pub use inverse::{analyse, invert};
-pub use occurrence::compare_terms;
 pub use sizes::long_term;
-pub use term_key::TermKey;
+pub use term_key::{TermKey, compare_terms};
 pub use words::phrase_terms;
 
 #[cfg(test)]

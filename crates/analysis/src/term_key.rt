@@ -5,10 +5,17 @@ ghost use Rattle.std.specs.Ordering.{eq_by_cmp};
 ghost use Rattle.ix_base.specs.Inversion.{term_cmp};
 ghost use Rattle.ix_base.proofs.TermOrder.{term_total};
 
-use crate::occurrence::compare_terms;
 use ix_base::Term;
 use std::cmp::Ordering;
 use std::marker::Model;
+
+/// How two terms are ordered: by their fields' bytes, and then by their own. It takes no memory.
+pub fn compare_terms(left: &Term, right: &Term) -> Ordering
+    ensures { result ≡ term_cmp left.now right.now }
+{
+    let by_field = left.field.as_str().cmp(right.field.as_str());
+    by_field.then_with(|| left.bytes.as_str().cmp(right.bytes.as_str()))
+}
 
 /// A term as a key: terms are ordered by field and then by bytes.
 #[derive(Drop)]

@@ -1,0 +1,136 @@
+//! The words of one field, each with its places.
+ghost use Rattle.std.specs.Prelude.{◌≡◌, ◌<◌, ◌++◌, ◌∷◌, [], map, length, string_bytes, IfOk, OnOk};
+ghost use Rattle.ix_base.specs.Terms.{folded_words};
+ghost use Rattle.analysis.specs.Kept.{IsWordBefore, AreWordsBelow, AddsWord, AddsWords, AreTermsOf, cut_words, term_of};
+
+use crate::words::fold_into;
+use indexmap::IndexMap;
+use ix_base::{Name, NoMemory, Spots, Term, TermPostings, Text};
+use std::alloc::Global;
+use std::marker::Model;
+use unicode_segmentation::UnicodeSegmentation;
+
+/// How a text is cut into terms.
+#[derive(Clone, Copy, Drop)]
+pub enum Cut {
+    /// The whole text is one term.
+    Whole,
+    /// Each word, folded, is a term.
+    Words,
+}
+
+/// Words, each with its places, in the order in which they came.
+#[derive(Drop)]
+pub struct WordLists {
+    lists: IndexMap<String, Spots>,
+}
+
+impl Model for WordLists {
+    ghost use Rattle.std.specs.Prelude.{List, ℕ, All, map, string_bytes};
+    ghost use Rattle.std.specs.HashMap.{values};
+    ghost use Rattle.ix_base.specs.declared.postings.Posting.{Posting};
+    ghost use Rattle.analysis.specs.Kept.{IsWordList};
+
+    ghost Value = { List (List ℕ × List Posting) };
+
+    ghost view = { λ words. map (λ e. (string_bytes e.0, e.1)) words.lists.entries };
+
+    ghost invariant = { λ words. All IsWordList (values words.lists) };
+}
+
+/// The words as terms of a field, in their order. A word of 2^32 bytes or more is refused as want
+/// of memory.
+fn terms_of(
+    alloc: Global,
+    field: &Name,
+    lists: IndexMap<String, Spots>,
+) -> Result<Vec<TermPostings>, NoMemory>
+    ensures { IfOk result (λ terms. terms.items ≡ map (λ e. term_of field.now (string_bytes e.0, e.1)) lists.entries) }
+{
+    let mut terms = Vec::with_capacity(alloc, lists.len())?;
+    for (word, rows) in lists {
+        let bytes = match Text::new(word) {
+            Some(bytes) => bytes,
+            None => return Err(NoMemory),
+        };
+        let field = field.clone_in(alloc)?;
+        terms.push(TermPostings {
+            term: Term { field, bytes },
+            rows,
+        })?;
+    }
+    Ok(terms)
+}
+
+impl WordLists {
+    /// No word. It takes no memory.
+    pub fn new(alloc: Global) -> WordLists
+        ensures { result ≡ [] }
+    {
+        WordLists {
+            lists: IndexMap::new(alloc),
+        }
+    }
+
+    /// Adds a place of a word, which is after those that the word has. A word is copied only when
+    /// it is new.
+    fn add(&mut self, alloc: Global, word: &str, row: u32, position: u32) -> Result<(), NoMemory>
+        requires { IsWordBefore row position word.now self.old }
+        ensures { OnOk result (AddsWord row position word.now self.old self.new) }
+    {
+        if let Some(list) = self.lists.get_mut(word) {
+            return list.push(row, position);
+        }
+        let mut list = Spots::new(alloc);
+        list.push(row, position)?;
+        self.lists.insert(String::from_str(alloc, word)?, list)?;
+        Ok(())
+    }
+
+    /// Adds the places of a text's folded words in a row that is after those that are there.
+    fn add_words(
+        &mut self,
+        alloc: Global,
+        scratch: &mut String,
+        row: u32,
+        text: &Text,
+    ) -> Result<(), NoMemory>
+        requires { AreWordsBelow row self.old }
+        ensures { OnOk result (AddsWords row (folded_words text.now) self.old self.new) }
+    {
+        let mut position = 0;
+        for word in text.as_str().unicode_words() {
+            fold_into(scratch, word)?;
+            self.add(alloc, scratch.as_str(), row, position)?;
+            position += 1;
+        }
+        Ok(())
+    }
+
+    /// Adds the places of a text's terms in a row that is after those that are there.
+    pub fn add_text(
+        &mut self,
+        alloc: Global,
+        scratch: &mut String,
+        row: u32,
+        cut: Cut,
+        text: &Text,
+    ) -> Result<(), NoMemory>
+        requires { AreWordsBelow row self.old }
+        ensures { OnOk result (AddsWords row (cut_words cut text.now) self.old self.new) }
+    {
+        match cut {
+            Cut::Whole => self.add(alloc, text.as_str(), row, 0),
+            Cut::Words => self.add_words(alloc, scratch, row, text),
+        }
+    }
+
+    /// The words as terms of a field, rising by bytes.
+    pub fn into_terms(self, alloc: Global, field: &Name) -> Result<Vec<TermPostings>, NoMemory>
+        ensures { IfOk result (λ terms. AreTermsOf field.now self terms.items) }
+    {
+        let WordLists { mut lists } = self;
+        lists.sort_keys()?;
+        terms_of(alloc, field, lists)
+    }
+}
