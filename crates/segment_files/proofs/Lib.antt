@@ -1,3 +1,4 @@
 pub mod Readers
 pub mod DocumentLaws
 pub mod RowLaws
+pub mod PlacesRead

@@ -8,7 +8,9 @@ mod encode;
 mod marks;
 mod posts;
 mod read_documents;
+mod read_places;
 mod read_posts;
+mod read_terms;
 
 pub use decode::decode_row;
 pub use encode::encode_row;
