@@ -2,3 +2,5 @@ pub mod Readers
 pub mod DocumentLaws
 pub mod RowLaws
 pub mod PlacesRead
+pub mod Chains
+pub mod PostsRead
