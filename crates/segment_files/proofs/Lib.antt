@@ -4,3 +4,5 @@ pub mod RowLaws
 pub mod PlacesRead
 pub mod Chains
 pub mod PostsRead
+pub mod Runs
+pub mod Counts

@@ -7,6 +7,7 @@ mod documents;
 mod encode;
 mod marks;
 mod posts;
+mod put_places;
 mod read_documents;
 mod read_places;
 mod read_posts;
