@@ -20,3 +20,5 @@ pub use read_posts::decode_pst;
 
 #[cfg(test)]
 mod tests;
+#[cfg(test)]
+mod tests_posts;
