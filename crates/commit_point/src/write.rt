@@ -115,6 +115,22 @@ fn put_segment(
     Ok(())
 }
 
+/// The files of these segments, one segment after another.
+fn encoded(alloc: Global, segments: &[Segment]) -> Result<Vec<(FileName, List<u8>)>, NoMemory>
+    requires count { AllByRecursion (λ segment. length segment.rows < 2 ^ 32) segments.now }
+    requires ordered { AllByRecursion (λ segment. IsPostings segment.postings.terms) segments.now }
+    requires below { AllByRecursion (λ segment. RowsBelow (length segment.rows) segment.postings) segments.now }
+    ensures files { IfOk result (λ files. files.items ≡ commit_files segments.now) }
+    ensures documents { OnOk result (AllByRecursion (λ segment. AllByRecursion (λ row. DocumentFits row.doc) segment.rows) segments.now) }
+    ensures postings { OnOk result (AllByRecursion (λ segment. PostingsFit (length segment.rows) segment.postings) segments.now) }
+{
+    let mut files = Vec::new(alloc);
+    for segment in segments {
+        put_segment(alloc, &mut files, segment)?;
+    }
+    Ok(files)
+}
+
 /// Writes these segments as the commit of this number, whose next id this is, and returns the number
 /// of their rows. Each file is written and synced before the next: for each segment its rows and then
 /// its postings, and last the commit file, which is written under its pending name and renamed; then
