@@ -19,6 +19,5 @@ pub fn encode_pst(
     ensures file { IfOk result (λ bytes. bytes.items ≡ posts_file id row_count postings.now) }
     ensures fits { OnOk result (PostingsFit row_count postings.now) }
 {
-    let _ = (alloc, id, row_count, postings);
     Err(NoMemory)
 }

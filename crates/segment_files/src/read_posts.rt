@@ -27,6 +27,5 @@ pub fn decode_pst(
     // Which place is the first broken one.
     ensures exact { GivesFile (λ x. x) result (placed (Posts id) bytes.now (posts_in id row_count bytes.now)) }
 {
-    let _ = (alloc, bytes, id, row_count);
     Err(FileFault::NoMemory)
 }
