@@ -1,5 +1,5 @@
 //! Writing a commit.
-ghost use Rattle.std.specs.Prelude.{◌≡◌, ◌<◌, ◌≤◌, ◌^◌, ◌↔◌, length, map, All, IsTrue, IsSome, OnOk, OnErr, IfOk, IfErr, Some, None};
+ghost use Rattle.std.specs.Prelude.{◌≡◌, ◌<◌, ◌≤◌, ◌^◌, ◌↔◌, ◌++◌, length, map, IsTrue, IsSome, OnOk, OnErr, IfOk, IfErr, IfSome, Some, None};
 ghost use Rattle.std.specs.List.{AllByRecursion};
 ghost use Rattle.ix_base.specs.Inversion.{IsPostings};
 ghost use Rattle.ix_base.specs.declared.file_name.FileName.TheVariants.{Commit};
