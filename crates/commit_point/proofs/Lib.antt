@@ -1,8 +1,10 @@
 pub mod PutFiles
 pub mod Joined
+pub mod Made
 pub mod Making
 pub mod HeadReading
 pub mod Births
+pub mod PostsAgain
 pub mod Segments
 pub mod CommitNumbers
 pub mod Loading
