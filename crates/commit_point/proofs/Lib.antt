@@ -1,5 +1,6 @@
 pub mod PutFiles
 pub mod Joined
+pub mod Counting
 pub mod Made
 pub mod Making
 pub mod HeadReading

@@ -1,18 +1,21 @@
 -- What the files spell after a commit was published.
-use Rattle.std.proofs.Common.{◌≡◌, ◌≢◌, ℕ, ◌+◌, ◌<◌, ◌≤◌, ◌^◌, List, [], ◌∷◌, length, map, Some, refl, sym, ap, inl, inr, arith}
-use Rattle.std.specs.Prelude.{◌⊎◌}
+use Rattle.std.proofs.Common.{◌≡◌, ◌≢◌, ℕ, ◌+◌, ◌<◌, ◌≤◌, ◌^◌, List, [], ◌∷◌, length, map, Some, refl, sym, ap, subst, inl, inr, arith}
+use Rattle.std.specs.Prelude.{◌⊎◌, All}
+use Rattle.std.proofs.lemmas.List.Elements.{All-from_recursion}
 use Rattle.std.specs.List.{flat_map, AllByRecursion}
 use Rattle.std.proofs.Math.ListN.{length-append, length-map}
+use Rattle.ix_base.specs.FileNames.{IsCounted, IsFileName}
+use Rattle.ix_base.specs.Inversion.{IsPostings}
 use Rattle.ix_base.specs.declared.document.Row.{Row}
 use Rattle.ix_base.specs.declared.file_name.FileName.{FileName}
 use Rattle.ix_base.specs.declared.file_name.FileName.TheVariants.{Commit, Pending, Rows, Posts}
 use Rattle.ix_outside.specs.Files.{Files}
 use Rattle.segment_core.specs.Segments.{all_rows, ids}
 use Rattle.segment_core.specs.declared.segment.Segment.{Segment}
-use Rattle.segment_files.specs.Fits.{DocumentFits, PostingsFit}
+use Rattle.segment_files.specs.Fits.{DocumentFits, PostingsFit, RowsBelow}
 use Rattle.commit_point.specs.Fits.{IdsRise, EntryFits}
 use Rattle.commit_point.specs.Holds.{HasHead, HasSegments, HaveSegments, BirthsDiffer, names_of}
-use Rattle.commit_point.specs.Publishing.{IsNoneOf, AreApart, AreThere, SameBesides, IsWhole, Publishes, MayPublish, CanPublish}
+use Rattle.commit_point.specs.Publishing.{File, IsNoneOf, AreApart, AreThere, SameBesides, IsWhole, Publishes, MayPublish, CanPublish}
 use Rattle.commit_point.specs.Spelling.{commit_file}
 use Rattle.commit_point.specs.Writing.{CanWrite, Commits, MayCommit, SameElsewhere, IsNotAmong, commit_files, entry_of, new_head}
 
@@ -48,6 +51,26 @@ entries_fit : (s : ℕ) (segments : List Segment) → 1 ≤ s → AllByRecursion
 entries_fit s [] some can count = tt
 entries_fit s (g ∷ gs) some can count = (record { rows = can.0.some; count = count.0; some = some; not_later = omega arith }, entries_fit s gs some can.1 count.1)
 
+-- what `encoded` asks of each segment
+pub each_ordered : (s : ℕ) (segments : List Segment) → AllByRecursion (CanWrite s) segments → AllByRecursion (λ (g : Segment). IsPostings g.postings.terms) segments
+each_ordered s [] can = tt
+each_ordered s (g ∷ gs) can = (can.0.ordered, each_ordered s gs can.1)
+
+pub each_below : (s : ℕ) (segments : List Segment) → AllByRecursion (CanWrite s) segments → AllByRecursion (λ (g : Segment). RowsBelow (length g.rows) g.postings) segments
+each_below s [] can = tt
+each_below s (g ∷ gs) can = (can.0.below, each_below s gs can.1)
+
+-- each file of the segments has a name that a file may have
+names_real : (s low limit : ℕ) (segments : List Segment) → 1 ≤ low → limit < 2 ^ 64 → IdsRise low limit (map (entry_of s) segments) → AllByRecursion (λ (file : File). IsFileName file.0) (commit_files segments)
+names_real s low limit [] some fits rise = tt
+names_real s low limit (g ∷ gs) some fits rise =
+    let counted : IsCounted g.id = record { some = omega (arith, rise.0); fits = omega (arith, rise.1) } in
+    (counted, (counted, names_real s (g.id + 1) limit gs (omega arith) fits rise.2))
+
+pub are_names : (s next : ℕ) (segments : List Segment) (files : List File) → next < 2 ^ 64 → IdsRise 1 next (map (entry_of s) segments) → files ≡ commit_files segments → All (λ file. IsFileName file.0) files
+are_names s next segments files fits rise is =
+    subst (λ (fs : List File). All (λ file. IsFileName file.0) fs) (sym is) (All-from_recursion (λ (file : File). IsFileName file.0) (commit_files segments) (names_real s 1 next segments (omega arith) fits rise))
+
 -- ---- what the files spell
 
 head_made : (s next : ℕ) (segments : List Segment) (now : Files) → AreNew s next segments → now (Commit s) ≡ Some (commit_file (new_head s next segments)) → HasHead now s (new_head s next segments)
@@ -60,7 +83,7 @@ head_made s next segments now new commit = record {
     docs = omega (arith, new.count);
     next_some = new.some_id;
     next = new.room;
-    count = omega (arith, new.count, fewer s segments new.can, length-map (entry_of s) segments);
+    count = omega (arith, new.count, fewer s segments new.can, length-map segments (entry_of s));
     ids = new.ids;
     entries = entries_fit s segments new.number new.can (each_count (2 ^ 32) segments new.count);
   };

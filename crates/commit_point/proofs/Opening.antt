@@ -1,5 +1,5 @@
 -- What the reads of a whole commit come to.
-use Rattle.std.proofs.Common.{◌≡◌, ℕ, ◌<◌, ◌^◌, true, false, eqb, List, length, Option, Some, Result, Ok, Err, refl, sym, ap, subst, ◌∙◌, inl, inr}
+use Rattle.std.proofs.Common.{◌≡◌, ℕ, ◌<◌, ◌^◌, Bool, true, false, not, eqb, List, length, Option, Some, Result, Ok, Err, refl, sym, ap, subst, ◌∙◌, inl, inr}
 use Rattle.std.specs.Prelude.{IsPermutation, IfOk, IfErr}
 use Rattle.std.specs.List.Sorted.{IsNonDecreasingBy}
 use Rattle.std.proofs.lemmas.Bool.{eqb-true}
@@ -69,6 +69,18 @@ segment_breaks told next_told s head d same reads number fits each =
     let there : at.files (Commit s) ≡ Some (commit_file head) = subst (λ (n : ℕ). at.files (Commit n) ≡ seen.0 (Commit n)) number at.commit ∙ seen.2 in
     let broken : segments_from at.files s (λ b. false) head.segments ≡ Err d = subst (λ (n : ℕ). segments_from at.files n (λ b. false) head.segments ≡ Err d) number at.broken in
     (at.files, subst (λ (o : Option Files). Was o at.files) same at.was, rw (head_reads at.files s head there number fits, broken) refl)
+
+-- what the test of the number of rows says
+counts : (head : Head) (segments seen : List Segment) (b : Bool) → seen ≡ segments → b ≡ eqb head.docs (length (all_rows seen)) → eqb head.docs (length (all_rows segments)) ≡ b
+counts head segments seen b is test = ap (λ (gs : List Segment). eqb head.docs (length (all_rows gs))) (sym is) ∙ sym test
+
+pub counts_right : (head : Head) (segments seen : List Segment) (b : Bool) → seen ≡ segments → b ≡ eqb head.docs (length (all_rows seen)) → not b ≡ false → eqb head.docs (length (all_rows segments)) ≡ true
+counts_right head segments seen true is test right = counts head segments seen true is test
+counts_right head segments seen false is test right = absurd cc
+
+pub counts_wrong : (head : Head) (segments seen : List Segment) (b : Bool) → seen ≡ segments → b ≡ eqb head.docs (length (all_rows seen)) → not b ≡ true → eqb head.docs (length (all_rows segments)) ≡ false
+counts_wrong head segments seen true is test wrong = absurd cc
+counts_wrong head segments seen false is test wrong = counts head segments seen false is test
 
 pub docs_break : (told next_told : Option Files) (s : ℕ) (head : Head) (segments : List Segment) → next_told ≡ told → Reads told (Commit s) (Some (commit_file head)) → head.number ≡ s → HeadFits head
     → ((before : Files) → Was next_told before → AreRead next_told head before segments) → eqb head.docs (length (all_rows segments)) ≡ false → (files : Files) × Was told files × (reading files s ≡ Err (record { file = Commit s; at = 16 }))

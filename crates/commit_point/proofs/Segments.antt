@@ -131,7 +131,7 @@ have_kept files now s low id (e ∷ es) (p ∷ ps) same ids have =
       have_kept files now s (e.id + 1) id es ps same ids.2 have.1,
     )
 
-all_rows_push : (segments : List Segment) (g : Segment) → all_rows (segments ++ g ∷ []) ≡ all_rows segments ++ g.rows
+pub all_rows_push : (segments : List Segment) (g : Segment) → all_rows (segments ++ g ∷ []) ≡ all_rows segments ++ g.rows
 all_rows_push [] g = append-nil g.rows
 all_rows_push (p ∷ ps) g = ap (λ (r : List Row). p.rows ++ r) (all_rows_push ps g) ∙ sym (append_assoc p.rows (all_rows ps) g.rows)
 
