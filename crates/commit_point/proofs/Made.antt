@@ -32,6 +32,22 @@ pub record AreNew (s next : ℕ) (segments : List Segment) : Type 0 where
   pub documents : AllByRecursion (λ (g : Segment). AllByRecursion (λ (r : Row). DocumentFits r.doc) g.rows) segments
   pub postings : AllByRecursion (λ (g : Segment). PostingsFit (length g.rows) g.postings) segments
 
+pub are_new : (s next docs : ℕ) (segments : List Segment) → (1 ≤ s) × (s < 2 ^ 64) × (1 ≤ next) → next ≤ 2 ^ 62 → IdsRise 1 next (map (entry_of s) segments) → AllByRecursion (CanWrite s) segments → BirthsDiffer segments
+    → docs ≡ length (all_rows segments) → docs ≤ 2147483647 → AllByRecursion (λ (g : Segment). AllByRecursion (λ (r : Row). DocumentFits r.doc) g.rows) segments → AllByRecursion (λ (g : Segment). PostingsFit (length g.rows) g.postings) segments
+    → AreNew s next segments
+are_new s next docs segments numbers room rise can differ is most documents postings = record {
+  number = numbers.0;
+  fits = numbers.1;
+  some_id = numbers.2;
+  room = room;
+  ids = rise;
+  can = can;
+  differ = differ;
+  count = omega (arith, is, most);
+  documents = documents;
+  postings = postings;
+}
+
 -- ---- counts
 
 rows_more : (g : Segment) (gs : List Segment) → length (all_rows (g ∷ gs)) ≡ length g.rows + length (all_rows gs)

@@ -27,7 +27,7 @@ pub returns-then-not-have_rows-clause-damaged : goal.returns-then-not-have_rows-
 returns-then-not-have_rows-clause-damaged g c damaged e =
     let at = docs_break (told_files (g.S.Store.disk c.args.store.now)) (told_files (g.S.Store.disk c.read_head.new.store)) c.args.number c.in_ok-head.head c.in_ok-segments.segments.items (ap told_files c.in_ok-head.ensures.reads)
     c.in_ok-head.ensures.found.0 c.in_ok-head.ensures.found.1 c.in_ok-head.ensures.found.2 c.in_ok-segments.ensures.found
-    (counts_wrong c.in_ok-head.head c.in_ok-segments.segments.items c.as_slice.result.now c.have_rows.result c.as_slice.ensures.value c.have_rows.ensures c.if-not-have_rows.true) in
+    (counts_wrong c.in_ok-head.head c.in_ok-segments.segments.items c.as_slice.result.now c.have_rows.result c.as_slice.ensures.value c.have_rows.ensures (ap not c.if-not-have_rows.true)) in
     let place : Damaged = record { file = Commit c.args.number; at = 16 } in
     let same : place ≡ damaged = cc in
     (at.0, at.1, subst (λ (d : Damaged). reading at.0 c.args.number ≡ Err d) same at.2)
@@ -36,5 +36,5 @@ pub returns-clause-found : goal.returns-clause-found
 returns-clause-found g c =
     let at = opens (told_files (g.S.Store.disk c.args.store.now)) (told_files (g.S.Store.disk c.read_head.new.store)) c.args.number c.in_ok-head.head c.in_ok-segments.segments.items (ap told_files c.in_ok-head.ensures.reads)
     c.in_ok-head.ensures.found.0 c.in_ok-head.ensures.found.1 c.in_ok-head.ensures.found.2 c.in_ok-segments.ensures.found
-    (counts_right c.in_ok-head.head c.in_ok-segments.segments.items c.as_slice.result.now c.have_rows.result c.as_slice.ensures.value c.have_rows.ensures c.if-not-have_rows.false) in
+    (counts_right c.in_ok-head.head c.in_ok-segments.segments.items c.as_slice.result.now c.have_rows.result c.as_slice.ensures.value c.have_rows.ensures (ap not c.if-not-have_rows.false)) in
     (at.0, at.1, subst (λ (segments : List Segment). HasSegments at.0 c.args.number c.in_ok-head.head.next_id segments) (sym c.from_vec.ensures) at.2)
