@@ -5,7 +5,6 @@ pub mod Made
 pub mod Making
 pub mod HeadReading
 pub mod Births
-pub mod PostsAgain
 pub mod Segments
 pub mod CommitNumbers
 pub mod Loading

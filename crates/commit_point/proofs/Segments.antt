@@ -26,7 +26,7 @@ use Rattle.commit_point.specs.Holds.{HasSegment, HaveSegments, HasSegments}
 use Rattle.commit_point.specs.Reading.{head_in, head_from, segment_from, segments_from, reading, has_birth}
 use Rattle.commit_point.specs.Loading.{IsBroken, Unknown}
 use Rattle.commit_point.proofs.HeadReading.{head_again}
-use Rattle.commit_point.proofs.PostsAgain.{posts_again}
+use Rattle.segment_files.proofs.PostsRead.{posts_again}
 use Rattle.commit_point.proofs.Births.{EachRises, unknown_of}
 
 -- ---- files that are given by what was read of them

@@ -2,3 +2,5 @@ pub mod Spelling
 pub mod Fits
 pub mod Fields
 pub mod Reading
+pub mod Placing
+pub mod PostLaws

@@ -7,8 +7,11 @@ mod documents;
 mod encode;
 mod marks;
 mod posts;
+mod put_places;
 mod read_documents;
+mod read_places;
 mod read_posts;
+mod read_terms;
 
 pub use decode::decode_row;
 pub use encode::encode_row;
@@ -17,3 +20,5 @@ pub use read_posts::decode_pst;
 
 #[cfg(test)]
 mod tests;
+#[cfg(test)]
+mod tests_posts;

@@ -12,7 +12,7 @@ use std::alloc::Global;
 use std::collections::BTreeSet;
 
 /// A copy of the text at the start of the bytes.
-fn text_of(alloc: Global, bytes: &[u8]) -> Result<(Text, &[u8]), Broken>
+pub(crate) fn text_of(alloc: Global, bytes: &[u8]) -> Result<(Text, &[u8]), Broken>
     ensures { Gives (λ x. (x.0, x.1.now)) result (text_at bytes.now) }
 {
     let (text, rest) = text_at(bytes)?;
@@ -20,7 +20,7 @@ fn text_of(alloc: Global, bytes: &[u8]) -> Result<(Text, &[u8]), Broken>
 }
 
 /// A copy of the name at the start of the bytes.
-fn name_of(alloc: Global, bytes: &[u8]) -> Result<(Name, &[u8]), Broken>
+pub(crate) fn name_of(alloc: Global, bytes: &[u8]) -> Result<(Name, &[u8]), Broken>
     ensures { Gives (λ x. (x.0, x.1.now)) result (name_at bytes.now) }
 {
     let (name, rest) = name_at(bytes)?;

@@ -1,0 +1,88 @@
+-- Items that each come after the one before them rise, and items that rise come so.
+use Rattle.std.proofs.Common.{◌≡◌, ℕ, ◌<◌, zero, suc, Bool, true, false, not, ◌&&◌, ◌||◌, List, [], ◌∷◌, length, Option, Some, None, refl, sym, ap, subst, ◌∙◌, arith}
+use Rattle.std.specs.Cmp.{IsTotalOrder}
+use Rattle.std.specs.Cmp.Lexicographic.{slice_cmp}
+use Rattle.std.specs.List.{All, AllPairs, AllByRecursion}
+use Rattle.std.specs.Ordering.{nat_cmp, ordering_then, ordering_reverse, is_lt}
+use Rattle.std.specs.declared.cmp.Ordering.{Ordering}
+use Rattle.std.specs.declared.cmp.Ordering.TheVariants.{Less, Equal, Greater}
+use Rattle.std.proofs.lemmas.Cmp.{nat_list_cmp_total}
+use Rattle.std.proofs.lemmas.List.Elements.{All-from_recursion, recursion_from_All}
+use Rattle.ix_base.specs.Inversion.{term_cmp}
+use Rattle.ix_base.specs.ItemLaws.{AllGood}
+use Rattle.ix_base.specs.declared.document.Term.{Term}
+use Rattle.segment_files.specs.Reading.{field_comes, term_comes}
+
+module _ {X : Type 0} where
+  pairs_nil : (R : X → X → Type 0) → AllPairs R []
+  pairs_nil R i j d lt in' = absurd (omega arith)
+
+  pairs_cons : (R : X → X → Type 0) (x : X) (xs : List X) → All (R x) xs → AllPairs R xs → AllPairs R (x ∷ xs)
+  pairs_cons R x xs first rest i zero d lt in' = absurd (omega arith)
+  pairs_cons R x xs first rest zero (suc j) d lt in' = first j d (omega arith)
+  pairs_cons R x xs first rest (suc i) (suc j) d lt in' = rest i j d (omega arith) (omega arith)
+
+  pairs_head : (R : X → X → Type 0) (x : X) (xs : List X) → AllPairs R (x ∷ xs) → All (R x) xs
+  pairs_head R x xs h k d lt = h zero (suc k) d (omega arith) (omega arith)
+
+  pairs_tail : (R : X → X → Type 0) (x : X) (xs : List X) → AllPairs R (x ∷ xs) → AllPairs R xs
+  pairs_tail R x xs h i j d lt in' = h (suc i) (suc j) d (omega arith) (omega arith)
+
+  all_onto : (P Q : X → Type 0) (xs : List X) → ((x : X) → P x → Q x) → AllByRecursion P xs → AllByRecursion Q xs
+  all_onto P Q [] f all = tt
+  all_onto P Q (x ∷ xs) f all = (f x all.0, all_onto P Q xs f all.1)
+
+module _ {X S : Type 0} (R : X → X → Type 0) (comes : S → X → Type 0) (leaves : X → S) where
+  all_after : ((a b c : X) → R a b → R b c → R a c) → ((a b : X) → comes (leaves a) b → R a b) → (x : X) (xs : List X) → AllGood comes leaves (leaves x) xs → AllByRecursion (R x) xs
+  all_after trans is x [] all = tt
+  all_after trans is x (y ∷ ys) all = (is x y all.0, all_onto (R y) (R x) ys (λ z h. trans x y z (is x y all.0) h) (all_after trans is y ys all.1))
+
+  pub rises : ((a b c : X) → R a b → R b c → R a c) → ((a b : X) → comes (leaves a) b → R a b) → (s : S) (xs : List X) → AllGood comes leaves s xs → AllPairs R xs
+  rises trans is s [] all = pairs_nil R
+  rises trans is s (x ∷ xs) all = pairs_cons R x xs (All-from_recursion (R x) xs (all_after trans is x xs all.1)) (rises trans is (leaves x) xs all.1)
+
+  chained : ((a b : X) → R a b → comes (leaves a) b) → (x : X) (xs : List X) → AllPairs R (x ∷ xs) → AllGood comes leaves (leaves x) xs
+  chained is x [] rise = tt
+  chained is x (y ∷ ys) rise = (is x y (pairs_head R x (y ∷ ys) rise zero y (omega arith)), chained is y ys (pairs_tail R x (y ∷ ys) rise))
+
+  pub chain : ((a b : X) → R a b → comes (leaves a) b) → (s : S) (xs : List X) → ((x : X) → comes s x) → AllPairs R xs → AllGood comes leaves s xs
+  chain is s [] first rise = tt
+  chain is s (x ∷ xs) first rise = (first x, chained is x xs rise)
+
+-- ---- terms
+
+-- the term may come after the last one
+pub record Comes (last : Option Term) (term : Term) : Type 0 where
+  pub field : field_comes last term.field ≡ true
+  pub bytes : term_comes last term.field term.bytes ≡ true
+
+less : (by_field by_field_back by_bytes : Ordering) → by_field_back ≡ ordering_reverse by_field → not (is_lt by_field_back) ≡ true → (is_lt by_field || is_lt by_bytes) ≡ true → ordering_then by_field by_bytes ≡ Less
+less Less back bytes turned comes later = refl
+less Equal back Less turned comes later = refl
+less Equal back Equal turned comes later = absurd cc
+less Equal back Greater turned comes later = absurd cc
+less Greater back bytes turned comes later = absurd (let e : false ≡ true = sym (ap (λ (o : Ordering). not (is_lt o)) turned) ∙ comes in cc)
+
+not_before : (by_field by_field_back by_bytes : Ordering) → by_field_back ≡ ordering_reverse by_field → ordering_then by_field by_bytes ≡ Less → not (is_lt by_field_back) ≡ true
+not_before Less back bytes turned h = ap (λ (o : Ordering). not (is_lt o)) turned
+not_before Equal back bytes turned h = ap (λ (o : Ordering). not (is_lt o)) turned
+not_before Greater back bytes turned h = absurd cc
+
+later : (by_field by_bytes : Ordering) → ordering_then by_field by_bytes ≡ Less → (is_lt by_field || is_lt by_bytes) ≡ true
+later Less bytes h = refl
+later Equal Less h = refl
+later Equal Equal h = absurd cc
+later Equal Greater h = absurd cc
+later Greater bytes h = absurd cc
+
+turned : (xs ys : List ℕ) → slice_cmp nat_cmp ys xs ≡ ordering_reverse (slice_cmp nat_cmp xs ys)
+turned xs ys = nat_list_cmp_total.antisymm ys xs
+
+pub less_of_comes : (a b : Term) → Comes (Some a) b → term_cmp a b ≡ Less
+less_of_comes a b h = less (slice_cmp nat_cmp a.field b.field) (slice_cmp nat_cmp b.field a.field) (slice_cmp nat_cmp a.bytes b.bytes) (turned a.field b.field) h.field h.bytes
+
+pub comes_of_less : (a b : Term) → term_cmp a b ≡ Less → Comes (Some a) b
+comes_of_less a b h = record {
+  field = not_before (slice_cmp nat_cmp a.field b.field) (slice_cmp nat_cmp b.field a.field) (slice_cmp nat_cmp a.bytes b.bytes) (turned a.field b.field) h;
+  bytes = later (slice_cmp nat_cmp a.field b.field) (slice_cmp nat_cmp a.bytes b.bytes) h;
+}
