@@ -1,5 +1,7 @@
 pub mod PutFiles
 pub mod Joined
+pub mod Counting
+pub mod Made
 pub mod Making
 pub mod HeadReading
 pub mod Births

@@ -1,16 +1,13 @@
 -- What making a commit comes to, by the steps that it took.
-use Rattle.std.proofs.Common.{◌≡◌, ◌≢◌, ℕ, ◌<◌, ◌≤◌, ◌^◌, List, [], ◌∷◌, ◌++◌, Bool, true, false, length, Option, Some, None, refl, sym, ap, subst, ◌∙◌, inl, inr, arith}
-use Rattle.std.specs.Prelude.{◌⊎◌, ◌↔◌, IsSome, is_some, IsTrue}
+use Rattle.std.proofs.Common.{◌≡◌, ℕ, List, [], ◌∷◌, ◌++◌, Bool, true, false, Option, Some, None, refl, sym, ap, subst, ◌∙◌, inl, inr}
+use Rattle.std.specs.Prelude.{◌↔◌, IsSome, is_some, IsTrue}
 use Rattle.std.specs.List.{AllByRecursion}
-use Rattle.std.proofs.lemmas.List.{append-nil}
-use Rattle.std.proofs.lemmas.List.Sorted.{IsPermutation-refl}
 use Rattle.ix_base.specs.declared.file_name.FileName.{FileName}
-use Rattle.ix_base.specs.declared.file_name.FileName.TheVariants.{Commit, Pending, Rows}
-use Rattle.ix_base.specs.declared.document.Row.{Row}
+use Rattle.ix_base.specs.declared.file_name.FileName.TheVariants.{Commit, Pending}
 use Rattle.ix_outside.specs.Files.{Files, Changes}
 use Rattle.ix_outside.specs.Images.{IsDurable, Follows, Reaches}
 use Rattle.ix_outside.specs.Disk.{Disk, Told, Stops, taken, files, told_files, with_at}
-use Rattle.ix_outside.specs.DiskLaws.{taken_then, stops_done, told_onto}
+use Rattle.ix_outside.specs.DiskLaws.{taken_then, stops_done, told_onto, told_same}
 use Rattle.ix_outside.specs.Crash.{IsImage, MayHold}
 use Rattle.ix_outside.specs.CrashLaws.{IsRead, images_follow, reads_follow, with_at-same, moved-to}
 use Rattle.ix_outside.specs.Calls.{LeavesOnly}
@@ -18,219 +15,133 @@ use Rattle.ix_outside.specs.CallLaws.{leaves_none, leaves_steps}
 use Rattle.ix_outside.specs.declared.step.Step.{Step}
 use Rattle.ix_outside.specs.declared.step.Step.TheVariants.{Wrote, Synced, Renamed}
 use Rattle.ix_outside.specs.declared.store.StoreFault.TheVariants.{NoMemory}
+use Rattle.segment_core.specs.Segments.{ids}
+use Rattle.segment_core.specs.declared.segment.Segment.{Segment}
 use Rattle.commit_point.specs.declared.fault.CommitRefused.{CommitRefused}
-use Rattle.commit_point.specs.Fits.{BirthsRise, DocumentFits}
-use Rattle.commit_point.specs.Holds.{Holds}
-use Rattle.commit_point.specs.Publishing.{File, puts, puts_all, publishes, IsNoneOf, AreApart, AreThere, SameBesides, IsWhole, Publishes, MayPublish, CanPublish, Refuses}
+use Rattle.commit_point.specs.Publishing.{File, puts, puts_all, publishes, AreThere, MayPublish, CanPublish, Refuses}
 use Rattle.commit_point.specs.PublishLaws.{publish_stops, publish_early, image_of_publish, reads_of_publish, reads_of_stop}
-use Rattle.commit_point.specs.Spelling.{rows_file, commit_file}
-use Rattle.commit_point.specs.Writing.{Commits, MayCommit, SameElsewhere, commit_steps, next_after, new_head, segment_file, segment_list}
-
--- rows that may be written as a commit
-pub record AreNew (s id : ℕ) (rows : List Row) : Type 0 where
-  pub number : 1 ≤ s
-  pub fits : s < 2 ^ 64
-  pub some_id : 1 ≤ id
-  pub room : id < 2 ^ 62
-  pub count : length rows < 2 ^ 32
-  pub births : BirthsRise 1 s rows
-  pub documents : AllByRecursion (λ (r : Row). DocumentFits r.doc) rows
-
--- files with the commit file of new rows and their segment hold the rows
-pub holds_new : (s id : ℕ) (rows : List Row) (files : Files) → AreNew s id rows → files (Commit s) ≡ Some (commit_file (new_head s id rows))
-    → (1 ≤ length rows → files (Rows id) ≡ Some (rows_file id rows)) → Holds files s (next_after id rows) rows
-holds_new s id [] files new commit file = record {
-  head = new_head s id [];
-  parts = [];
-  has_head = record { file = commit; number = refl; fits = record { some = new.number; number = new.fits; docs = omega arith; next_some = new.some_id; next = omega (arith, new.room); count = omega arith; ids = tt; entries = tt } };
-  next_id = refl;
-  docs = refl;
-  each = tt;
-  merged = IsPermutation-refl [];
-  births = tt;
-}
-holds_new s id (r ∷ rs) files new commit file =
-    let some : 1 ≤ length (r ∷ rs) = omega arith in
-    record {
-      head = new_head s id (r ∷ rs);
-      parts = (r ∷ rs) ∷ [];
-      has_head = record {
-        file = commit;
-        number = refl;
-        fits = record {
-          some = new.number;
-          number = new.fits;
-          docs = omega (arith, new.count);
-          next_some = omega (arith, new.some_id);
-          next = omega (arith, new.room);
-          count = omega arith;
-          ids = (new.some_id, omega arith, tt);
-          entries = (record { rows = some; count = new.count; some = new.number; not_later = omega arith }, tt);
-        };
-      };
-      next_id = refl;
-      docs = refl;
-      each = (file some, refl, record { some = some; count = new.count; births = new.births; documents = new.documents }, tt);
-      merged = rw append-nil (IsPermutation-refl (r ∷ rs));
-      births = new.births;
-    }
-
-other_than_rows : (s id : ℕ) → Rows id ≢ Commit s
-other_than_rows s id e = cc
-
-other_than_pending : (s id : ℕ) → Rows id ≢ Pending s
-other_than_pending s id e = cc
-
--- only the file of the rows is in the list
-none_but_rows : (id : ℕ) (rows : List Row) (name : FileName) → name ≢ Rows id → IsNoneOf (segment_list id rows) name
-none_but_rows id [] name apart = tt
-none_but_rows id (r ∷ rs) name apart = ((λ e. apart (sym e)), tt)
-
-pub can_publish : (s id : ℕ) (rows : List Row) → CanPublish (segment_list id rows) (Pending s) (Commit s)
-can_publish s id rows = record {
-  files = apart rows;
-  pending_none = none_but_rows id rows (Pending s) (λ e. cc);
-  final_none = none_but_rows id rows (Commit s) (λ e. cc);
-  differ = λ e. cc;
-}
-  where
-    apart : (rs : List Row) → AreApart (segment_list id rs)
-    apart [] = tt
-    apart (r ∷ rs) = (tt, tt)
-
-elsewhere_of : (s id : ℕ) (rows : List Row) (a c : Files) → SameBesides (segment_list id rows) (Pending s) (Commit s) a c → SameElsewhere s id a c
-elsewhere_of s id rows a c same name row pending commit = same name (none_but_rows id rows name row) pending commit
-
--- what the file of the rows becomes
-segment_of : (s id : ℕ) (rows : List Row) (a c : Files) → AreThere (segment_list id rows) c → SameBesides (segment_list id rows) (Pending s) (Commit s) a c → c (Rows id) ≡ segment_file id rows (a (Rows id))
-segment_of s id [] a c there same = same (Rows id) tt (other_than_pending s id) (other_than_rows s id)
-segment_of s id (r ∷ rs) a c there same = there.0
-
-rows_there : (id : ℕ) (rows : List Row) (c : Files) → AreThere (segment_list id rows) c → 1 ≤ length rows → c (Rows id) ≡ Some (rows_file id rows)
-rows_there id [] c there some = absurd (omega (arith, some))
-rows_there id (r ∷ rs) c there some = there.0
-
--- all was published, so the commit was made
-pub made_of : (s id : ℕ) (rows : List Row) (a c : Files) → AreNew s id rows → Publishes (segment_list id rows) (Pending s) (Commit s) (commit_file (new_head s id rows)) a c → Commits s id rows a c
-made_of s id rows a c new all = record {
-  holds = holds_new s id rows c new all.whole.last (rows_there id rows c all.whole.there);
-  commit = all.whole.last;
-  segment = segment_of s id rows a c all.whole.there all.elsewhere;
-  pending = all.whole.gone;
-  elsewhere = elsewhere_of s id rows a c all.elsewhere;
-}
-
--- all was published, or the commit file is as before
-pub may_of : (s id : ℕ) (rows : List Row) (a c : Files) → AreNew s id rows → MayPublish (segment_list id rows) (Pending s) (Commit s) (commit_file (new_head s id rows)) a c → MayCommit s id rows a c
-may_of s id rows a c new may = record { elsewhere = elsewhere_of s id rows a c may.elsewhere; whole = cases may.whole }
-  where
-    cases : (c (Commit s) ≡ a (Commit s)) ⊎ IsWhole (segment_list id rows) (Pending s) (Commit s) (commit_file (new_head s id rows)) c → (c (Commit s) ≡ a (Commit s)) ⊎ Commits s id rows a c
-    cases (inl same) = inl same
-    cases (inr whole) = inr (made_of s id rows a c new (record { whole = whole; elsewhere = may.elsewhere }))
+use Rattle.commit_point.specs.Spelling.{commit_file}
+use Rattle.commit_point.specs.Writing.{Commits, MayCommit, SameElsewhere, commit_steps, commit_files, new_head}
+use Rattle.commit_point.proofs.Made.{AreNew, can_publish, elsewhere_of, made_of, may_of}
 
 -- ---- what the call promises, by the steps that it took
 
 -- the steps were all taken
-abbrev pub Did : ℕ → ℕ → List Row → Option Disk → Option Disk → Type 0
-Did s id rows = Told (λ old now. now ≡ taken (commit_steps s id rows) old)
+abbrev pub Did : ℕ → ℕ → List Segment → Option Disk → Option Disk → Type 0
+Did s next segments = Told (λ old now. now ≡ taken (commit_steps s next segments) old)
 
 -- the first few of the steps were taken
-abbrev pub Stopped : ℕ → ℕ → List Row → Option Disk → Option Disk → Type 0
-Stopped s id rows = Told (λ old now. Stops (commit_steps s id rows) old now)
+abbrev pub Stopped : ℕ → ℕ → List Segment → Option Disk → Option Disk → Type 0
+Stopped s next segments = Told (λ old now. Stops (commit_steps s next segments) old now)
 
--- what was published is the list of the rows and the commit file
-pub did_at : (s id : ℕ) (rows : List Row) (list : List File) (bytes : List ℕ) (a b : Option Disk) → list ≡ segment_list id rows → bytes ≡ commit_file (new_head s id rows)
-    → Told (λ old now. now ≡ taken (publishes list (Pending s) (Commit s) bytes) old) a b → Did s id rows a b
-did_at s id rows list bytes a b is same did =
-    subst (λ (xs : List File). Told (λ old now. now ≡ taken (publishes xs (Pending s) (Commit s) (commit_file (new_head s id rows))) old) a b) is
+-- what was published is the list of the files and the commit file
+pub did_at : (s next : ℕ) (segments : List Segment) (list : List File) (bytes : List ℕ) (a b : Option Disk) → list ≡ commit_files segments → bytes ≡ commit_file (new_head s next segments)
+    → Told (λ old now. now ≡ taken (publishes list (Pending s) (Commit s) bytes) old) a b → Did s next segments a b
+did_at s next segments list bytes a b is same did =
+    subst (λ (xs : List File). Told (λ old now. now ≡ taken (publishes xs (Pending s) (Commit s) (commit_file (new_head s next segments))) old) a b) is
     (subst (λ (x : List ℕ). Told (λ old now. now ≡ taken (publishes list (Pending s) (Commit s) x) old) a b) same did)
 
-pub stopped_at : (s id : ℕ) (rows : List Row) (list : List File) (bytes : List ℕ) (a b : Option Disk) → list ≡ segment_list id rows → bytes ≡ commit_file (new_head s id rows)
-    → Told (λ old now. Stops (publishes list (Pending s) (Commit s) bytes) old now) a b → Stopped s id rows a b
-stopped_at s id rows list bytes a b is same stopped =
-    subst (λ (xs : List File). Told (λ old now. Stops (publishes xs (Pending s) (Commit s) (commit_file (new_head s id rows))) old now) a b) is
+pub stopped_at : (s next : ℕ) (segments : List Segment) (list : List File) (bytes : List ℕ) (a b : Option Disk) → list ≡ commit_files segments → bytes ≡ commit_file (new_head s next segments)
+    → Told (λ old now. Stops (publishes list (Pending s) (Commit s) bytes) old now) a b → Stopped s next segments a b
+stopped_at s next segments list bytes a b is same stopped =
+    subst (λ (xs : List File). Told (λ old now. Stops (publishes xs (Pending s) (Commit s) (commit_file (new_head s next segments))) old now) a b) is
     (subst (λ (x : List ℕ). Told (λ old now. Stops (publishes list (Pending s) (Commit s) x) old now) a b) same stopped)
 
-pub did_stop : (s id : ℕ) (rows : List Row) (a b : Option Disk) → Did s id rows a b → Stopped s id rows a b
-did_stop s id rows a b did = told_onto _ _ a b (λ x y is. stops_done (commit_steps s id rows) x y is) did
+pub did_stop : (s next : ℕ) (segments : List Segment) (a b : Option Disk) → Did s next segments a b → Stopped s next segments a b
+did_stop s next segments a b did = told_onto _ _ a b (λ x y is. stops_done (commit_steps s next segments) x y is) did
 
-pub makes : (s id : ℕ) (rows : List Row) (a b : Option Disk) → AreNew s id rows → Did s id rows a b → Changes (Commits s id rows) (told_files a) (told_files b)
-makes s id rows None b new did = tt
-makes s id rows (Some x) None new did = absurd did
-makes s id rows (Some x) (Some y) new did = made_of s id rows (files x) (files y) new (reads_of_publish _ _ _ _ x y (can_publish s id rows) did)
+pub makes : (s next : ℕ) (segments : List Segment) (a b : Option Disk) → AreNew s next segments → Did s next segments a b → Changes (Commits s next segments) (told_files a) (told_files b)
+makes s next segments None b new did = tt
+makes s next segments (Some x) None new did = absurd did
+makes s next segments (Some x) (Some y) new did = made_of s next segments (files x) (files y) new (reads_of_publish _ _ _ _ x y (can_publish s next segments new.ids) did)
 
-pub leaves_others : (s id : ℕ) (rows : List Row) (a b : Option Disk) → Stopped s id rows a b → Changes (SameElsewhere s id) (told_files a) (told_files b)
-leaves_others s id rows None b stopped = tt
-leaves_others s id rows (Some x) None stopped = absurd stopped
-leaves_others s id rows (Some x) (Some y) stopped =
-    elsewhere_of s id rows (files x) (files y) (reads_of_stop (segment_list id rows) (Pending s) (Commit s) (commit_file (new_head s id rows)) x y (can_publish s id rows) stopped).elsewhere
+pub leaves_others : (s next : ℕ) (segments : List Segment) (a b : Option Disk) → CanPublish (commit_files segments) (Pending s) (Commit s) → Stopped s next segments a b → Changes (SameElsewhere s (ids segments)) (told_files a) (told_files b)
+leaves_others s next segments None b can stopped = tt
+leaves_others s next segments (Some x) None can stopped = absurd stopped
+leaves_others s next segments (Some x) (Some y) can stopped =
+    elsewhere_of s segments (files x) (files y) (reads_of_stop (commit_files segments) (Pending s) (Commit s) (commit_file (new_head s next segments)) x y can stopped).elsewhere
 
-pub images_have : (s id : ℕ) (rows : List Row) (a b : Option Disk) → AreNew s id rows → Did s id rows a b → Follows (Commits s id rows) (MayHold a) (MayHold b)
-images_have s id rows a None new did c image = absurd image
-images_have s id rows None (Some y) new did c image = absurd did
-images_have s id rows (Some x) (Some y) new did c image =
-    let found = image_of_publish _ _ _ _ x y (can_publish s id rows) did c image in
-    (found.0, found.1, made_of s id rows found.0 c new found.2)
+pub images_have : (s next : ℕ) (segments : List Segment) (a b : Option Disk) → AreNew s next segments → Did s next segments a b → Follows (Commits s next segments) (MayHold a) (MayHold b)
+images_have s next segments a None new did c image = absurd image
+images_have s next segments None (Some y) new did c image = absurd did
+images_have s next segments (Some x) (Some y) new did c image =
+    let found = image_of_publish _ _ _ _ x y (can_publish s next segments new.ids) did c image in
+    (found.0, found.1, made_of s next segments found.0 c new found.2)
 
 -- what is seen of the images wherever the call stopped
-stopped_image : (s id : ℕ) (rows : List Row) (x y : Disk) → Stops (commit_steps s id rows) x y → (c : Files) → IsImage y c
-    → (d : Files) × IsImage x d × MayPublish (segment_list id rows) (Pending s) (Commit s) (commit_file (new_head s id rows)) d c
-stopped_image s id rows x y stops c image = publish_stops IsImage images_follow (segment_list id rows) (Pending s) (Commit s) (commit_file (new_head s id rows)) x y (can_publish s id rows) stops c image
+stopped_image : (s next : ℕ) (segments : List Segment) (x y : Disk) → CanPublish (commit_files segments) (Pending s) (Commit s) → Stops (commit_steps s next segments) x y → (c : Files) → IsImage y c
+    → (d : Files) × IsImage x d × MayPublish (commit_files segments) (Pending s) (Commit s) (commit_file (new_head s next segments)) d c
+stopped_image s next segments x y can stops c image = publish_stops IsImage images_follow (commit_files segments) (Pending s) (Commit s) (commit_file (new_head s next segments)) x y can stops c image
 
-pub images_elsewhere : (s id : ℕ) (rows : List Row) (a b : Option Disk) → Stopped s id rows a b → Follows (SameElsewhere s id) (MayHold a) (MayHold b)
-images_elsewhere s id rows a None stopped c image = absurd image
-images_elsewhere s id rows None (Some y) stopped c image = absurd stopped
-images_elsewhere s id rows (Some x) (Some y) stopped c image =
-    let found = stopped_image s id rows x y stopped c image in
-    (found.0, found.1, elsewhere_of s id rows found.0 c found.2.elsewhere)
+pub images_elsewhere : (s next : ℕ) (segments : List Segment) (a b : Option Disk) → CanPublish (commit_files segments) (Pending s) (Commit s) → Stopped s next segments a b → Follows (SameElsewhere s (ids segments)) (MayHold a) (MayHold b)
+images_elsewhere s next segments a None can stopped c image = absurd image
+images_elsewhere s next segments None (Some y) can stopped c image = absurd stopped
+images_elsewhere s next segments (Some x) (Some y) can stopped c image =
+    let found = stopped_image s next segments x y can stopped c image in
+    (found.0, found.1, elsewhere_of s segments found.0 c found.2.elsewhere)
 
-pub crash_leaves : (s id : ℕ) (rows : List Row) (a b : Option Disk) → AreNew s id rows → Stopped s id rows a b → LeavesOnly a b (Reaches (MayCommit s id rows) (MayHold a))
-crash_leaves s id rows a b new stopped =
-    leaves_steps (commit_steps s id rows) a b (Reaches (MayCommit s id rows) (MayHold a)) stopped
+pub crash_leaves : (s next : ℕ) (segments : List Segment) (a b : Option Disk) → AreNew s next segments → Stopped s next segments a b → LeavesOnly a b (Reaches (MayCommit s next segments) (MayHold a))
+crash_leaves s next segments a b new stopped =
+    leaves_steps (commit_steps s next segments) a b (Reaches (MayCommit s next segments) (MayHold a)) stopped
     (λ old at c is stops image.
-    let found = stopped_image s id rows old at stops c image in
-    (found.0, subst (λ (o : Option Disk). MayHold o found.0) (sym is) found.1, may_of s id rows found.0 c new found.2))
+    let found = stopped_image s next segments old at (can_publish s next segments new.ids) stops c image in
+    (found.0, subst (λ (o : Option Disk). MayHold o found.0) (sym is) found.1, may_of s next segments found.0 c new found.2))
+
+stops_nowhere : (steps : List Step) (x : Disk) → Stops steps x x
+stops_nowhere [] x = refl
+stops_nowhere (step ∷ steps) x = inl (inl refl)
+
+-- nothing was called
+pub stopped_first : (s next : ℕ) (segments : List Segment) (a : Option Disk) → Stopped s next segments a a
+stopped_first s next segments a = told_same _ a (λ x. stops_nowhere (commit_steps s next segments) x)
 
 -- nothing was called, so a crash leaves what it might have left
-pub crash_before : (s id : ℕ) (rows : List Row) (a : Option Disk) → LeavesOnly a a (Reaches (MayCommit s id rows) (MayHold a))
-crash_before s id rows a = leaves_none a (Reaches (MayCommit s id rows) (MayHold a)) (λ c image. (c, image, record { elsewhere = λ name x y z. refl; whole = inl refl }))
+pub crash_before : (s next : ℕ) (segments : List Segment) (a : Option Disk) → LeavesOnly a a (Reaches (MayCommit s next segments) (MayHold a))
+crash_before s next segments a = leaves_none a (Reaches (MayCommit s next segments) (MayHold a)) (λ c image. (c, image, record { elsewhere = λ name x y z. refl; whole = inl refl }))
 
 durable_at : (name : FileName) (bytes : Option (List ℕ)) (y : Disk) → ((c : Files) → IsImage y c → c name ≡ bytes) → files y name ≡ bytes → IsDurable name (MayHold (Some y)) (told_files (Some y))
 durable_at name bytes y each read = λ c image. each c image ∙ sym read
 
-pub durable_commit : (s id : ℕ) (rows : List Row) (a b : Option Disk) → Did s id rows a b → IsDurable (Commit s) (MayHold b) (told_files b)
-durable_commit s id rows a None did = tt
-durable_commit s id rows None (Some y) did = absurd did
-durable_commit s id rows (Some x) (Some y) did =
-    durable_at (Commit s) (Some (commit_file (new_head s id rows))) y (λ c image. (image_of_publish _ _ _ _ x y (can_publish s id rows) did c image).2.whole.last)
-    (reads_of_publish _ _ _ _ x y (can_publish s id rows) did).whole.last
+pub durable_commit : (s next : ℕ) (segments : List Segment) (a b : Option Disk) → CanPublish (commit_files segments) (Pending s) (Commit s) → Did s next segments a b → IsDurable (Commit s) (MayHold b) (told_files b)
+durable_commit s next segments a None can did = tt
+durable_commit s next segments None (Some y) can did = absurd did
+durable_commit s next segments (Some x) (Some y) can did =
+    durable_at (Commit s) (Some (commit_file (new_head s next segments))) y (λ c image. (image_of_publish _ _ _ _ x y can did c image).2.whole.last)
+    (reads_of_publish _ _ _ _ x y can did).whole.last
 
-pub durable_segment : (s id : ℕ) (rows : List Row) (a b : Option Disk) → Did s id rows a b → 1 ≤ length rows → IsDurable (Rows id) (MayHold b) (told_files b)
-durable_segment s id rows a None did some = tt
-durable_segment s id rows None (Some y) did some = absurd did
-durable_segment s id rows (Some x) (Some y) did some =
-    durable_at (Rows id) (Some (rows_file id rows)) y (λ c image. rows_there id rows c (image_of_publish _ _ _ _ x y (can_publish s id rows) did c image).2.whole.there some)
-    (rows_there id rows (files y) (reads_of_publish _ _ _ _ x y (can_publish s id rows) did).whole.there some)
+-- files that stand in each image, and as reads give them
+all_durable : (list : List File) (y : Disk) → ((c : Files) → IsImage y c → AreThere list c) → AreThere list (files y) → AllByRecursion (λ (file : File). IsDurable file.0 (MayHold (Some y)) (told_files (Some y))) list
+all_durable [] y each read = tt
+all_durable (f ∷ fs) y each read = (durable_at f.0 (Some f.1) y (λ c image. (each c image).0) read.0, all_durable fs y (λ c image. (each c image).1) read.1)
+
+not_told : (list : List File) → AllByRecursion (λ (file : File). IsDurable file.0 (MayHold None) (told_files None)) list
+not_told [] = tt
+not_told (f ∷ fs) = (tt, not_told fs)
+
+pub durable_files : (s next : ℕ) (segments : List Segment) (a b : Option Disk) → CanPublish (commit_files segments) (Pending s) (Commit s) → Did s next segments a b
+    → AllByRecursion (λ (file : File). IsDurable file.0 (MayHold b) (told_files b)) (commit_files segments)
+durable_files s next segments a None can did = not_told (commit_files segments)
+durable_files s next segments None (Some y) can did = absurd did
+durable_files s next segments (Some x) (Some y) can did =
+    all_durable (commit_files segments) y (λ c image. (image_of_publish _ _ _ _ x y can did c image).2.whole.there) (reads_of_publish _ _ _ _ x y can did).whole.there
 
 -- ---- whether the commit is there after memory ran out
 
 -- the steps before the rename
-before_rename : ℕ → ℕ → List Row → List Step
-before_rename s id rows = puts_all (segment_list id rows) ++ puts (Pending s) (commit_file (new_head s id rows))
+abbrev before_rename : ℕ → ℕ → List Segment → List Step
+before_rename s next segments = puts_all (commit_files segments) ++ puts (Pending s) (commit_file (new_head s next segments))
 
-renamed_there : (s id : ℕ) (rows : List Row) (x y : Disk) → y ≡ taken (before_rename s id rows ++ Renamed (Pending s) (Commit s) ∷ []) x → files y (Commit s) ≡ Some (commit_file (new_head s id rows))
-unfolding before_rename
-renamed_there s id rows x y is =
-    let split : taken (before_rename s id rows ++ Renamed (Pending s) (Commit s) ∷ []) x ≡ Renamed (Pending s) (Commit s) ∷ taken (before_rename s id rows) x = taken_then (before_rename s id rows) (Renamed (Pending s) (Commit s) ∷ []) x in
-    let put : taken (before_rename s id rows) x ≡ Synced (Pending s) ∷ Wrote (Pending s) (commit_file (new_head s id rows)) ∷ taken (puts_all (segment_list id rows)) x = taken_then (puts_all (segment_list id rows)) (puts (Pending s) (commit_file (new_head s id rows))) x in
+renamed_there : (s next : ℕ) (segments : List Segment) (x y : Disk) → y ≡ taken (before_rename s next segments ++ Renamed (Pending s) (Commit s) ∷ []) x → files y (Commit s) ≡ Some (commit_file (new_head s next segments))
+renamed_there s next segments x y is =
+    let split : taken (before_rename s next segments ++ Renamed (Pending s) (Commit s) ∷ []) x ≡ Renamed (Pending s) (Commit s) ∷ taken (before_rename s next segments) x = taken_then (before_rename s next segments) (Renamed (Pending s) (Commit s) ∷ []) x in
+    let put : taken (before_rename s next segments) x ≡ Synced (Pending s) ∷ Wrote (Pending s) (commit_file (new_head s next segments)) ∷ taken (puts_all (commit_files segments)) x = taken_then (puts_all (commit_files segments)) (puts (Pending s) (commit_file (new_head s next segments))) x in
     ap (λ (d : Disk). files d (Commit s)) (is ∙ split ∙ ap (λ (d : Disk). Renamed (Pending s) (Commit s) ∷ d) put)
-    ∙ moved-to (Pending s) (Commit s) None (with_at (Pending s) (Some (commit_file (new_head s id rows))) (files (taken (puts_all (segment_list id rows)) x))) (λ e. cc)
-    ∙ with_at-same (Pending s) (Some (commit_file (new_head s id rows))) (files (taken (puts_all (segment_list id rows)) x))
+    ∙ moved-to (Pending s) (Commit s) None (with_at (Pending s) (Some (commit_file (new_head s next segments))) (files (taken (puts_all (commit_files segments)) x))) (λ e. cc)
+    ∙ with_at-same (Pending s) (Some (commit_file (new_head s next segments))) (files (taken (puts_all (commit_files segments)) x))
 
-stopped_before : (s id : ℕ) (rows : List Row) (x y : Disk) → Stops (before_rename s id rows) x y → files y (Commit s) ≡ files x (Commit s)
-unfolding before_rename
-stopped_before s id rows x y stops =
-    let found = publish_early IsRead reads_follow (segment_list id rows) (Pending s) (Commit s) (commit_file (new_head s id rows)) x y (can_publish s id rows) stops (files y) refl in
+stopped_before : (s next : ℕ) (segments : List Segment) (x y : Disk) → CanPublish (commit_files segments) (Pending s) (Commit s) → Stops (before_rename s next segments) x y → files y (Commit s) ≡ files x (Commit s)
+stopped_before s next segments x y can stops =
+    let found = publish_early IsRead reads_follow (commit_files segments) (Pending s) (Commit s) (commit_file (new_head s next segments)) x y can stops (files y) refl in
     found.2.last ∙ ap (λ (d : Files). d (Commit s)) found.1
 
 -- the commit is there exactly where the rename was done
@@ -246,14 +157,12 @@ not_there f g name same none there = let is : f ≡ g = cc in differ (sym (ap (�
     differ : false ≡ true → ⊥
     differ e = cc
 
-pub tells_rename : (s id : ℕ) (rows : List Row) (a b : Option Disk) (refused : CommitRefused)
-    → Told (λ old now. Refuses (puts_all (segment_list id rows) ++ puts (Pending s) (commit_file (new_head s id rows))) (Renamed (Pending s) (Commit s)) refused.fault refused.renamed old now) a b
-    → TellsRename s a b refused
-unfolding before_rename
-tells_rename s id rows None b refused refuses old now told absent told_now no_memory = absurd cc
-tells_rename s id rows (Some x) None refused refuses old now told absent told_now no_memory = absurd refuses
-tells_rename s id rows (Some x) (Some y) refused refuses old now told absent told_now no_memory = (
-  (λ was. is_there (files y) now (Commit s) (commit_file (new_head s id rows)) told_now (renamed_there s id rows x y (refuses.done was))),
+pub tells_rename : (s next : ℕ) (segments : List Segment) (a b : Option Disk) (refused : CommitRefused) → CanPublish (commit_files segments) (Pending s) (Commit s)
+    → Told (λ old now. Refuses (before_rename s next segments) (Renamed (Pending s) (Commit s)) refused.fault refused.renamed old now) a b → TellsRename s a b refused
+tells_rename s next segments None b refused can refuses old now told absent told_now no_memory = absurd cc
+tells_rename s next segments (Some x) None refused can refuses old now told absent told_now no_memory = absurd refuses
+tells_rename s next segments (Some x) (Some y) refused can refuses old now told absent told_now no_memory = (
+  (λ was. is_there (files y) now (Commit s) (commit_file (new_head s next segments)) told_now (renamed_there s next segments x y (refuses.done was))),
   (λ there. by_flag refused.renamed refl there),
 )
   where
@@ -262,7 +171,15 @@ tells_rename s id rows (Some x) (Some y) refused refuses old now told absent tol
 
     by_flag : (r : Bool) → refused.renamed ≡ r → IsSome (now (Commit s)) → refused.renamed ≡ true
     by_flag true is there = is
-    by_flag false is there = absurd (not_there (files y) now (Commit s) told_now (stopped_before s id rows x y (refuses.not_done is no_memory) ∙ none) there)
+    by_flag false is there = absurd (not_there (files y) now (Commit s) told_now (stopped_before s next segments x y can (refuses.not_done is no_memory) ∙ none) there)
+
+-- what was refused is the list of the files and the commit file
+pub refused_at : (s next : ℕ) (segments : List Segment) (list : List File) (bytes : List ℕ) (a b : Option Disk) (refused : CommitRefused) → list ≡ commit_files segments → bytes ≡ commit_file (new_head s next segments)
+    → Told (λ old now. Refuses (puts_all list ++ puts (Pending s) bytes) (Renamed (Pending s) (Commit s)) refused.fault refused.renamed old now) a b
+    → Told (λ old now. Refuses (before_rename s next segments) (Renamed (Pending s) (Commit s)) refused.fault refused.renamed old now) a b
+refused_at s next segments list bytes a b refused is same refuses =
+    subst (λ (xs : List File). Told (λ old now. Refuses (puts_all xs ++ puts (Pending s) (commit_file (new_head s next segments))) (Renamed (Pending s) (Commit s)) refused.fault refused.renamed old now) a b) is
+    (subst (λ (x : List ℕ). Told (λ old now. Refuses (puts_all list ++ puts (Pending s) x) (Renamed (Pending s) (Commit s)) refused.fault refused.renamed old now) a b) same refuses)
 
 -- nothing was called
 pub tells_nothing : (s : ℕ) (a : Option Disk) (refused : CommitRefused) → refused.renamed ≡ false → TellsRename s a a refused

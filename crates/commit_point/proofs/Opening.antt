@@ -1,9 +1,11 @@
 -- What the reads of a whole commit come to.
-use Rattle.std.proofs.Common.{◌≡◌, ◌≢◌, ℕ, ◌<◌, ◌^◌, false, eqb, List, length, Option, Some, Result, Ok, Err, refl, sym, ap, subst, ◌∙◌, inl, inr}
+use Rattle.std.proofs.Common.{◌≡◌, ℕ, ◌<◌, ◌^◌, Bool, true, false, not, eqb, List, length, Option, Some, Result, Ok, Err, refl, sym, ap, subst, ◌∙◌, inl, inr}
 use Rattle.std.specs.Prelude.{IsPermutation, IfOk, IfErr}
 use Rattle.std.specs.List.Sorted.{IsNonDecreasingBy}
-use Rattle.std.proofs.lemmas.Bool.{ne_eqb}
-use Rattle.std.proofs.lemmas.List.Sorted.{length_permutation}
+use Rattle.std.proofs.lemmas.Bool.{eqb-true}
+use Rattle.ix_base.specs.FileReading.{of_file}
+use Rattle.segment_core.specs.Segments.{all_rows}
+use Rattle.segment_core.specs.declared.segment.Segment.{Segment}
 use Rattle.ix_base.specs.declared.file_name.FileName.TheVariants.{Commit}
 use Rattle.ix_base.specs.declared.document.Row.{Row}
 use Rattle.ix_outside.specs.Files.{Files, Was, Reads}
@@ -14,11 +16,11 @@ use Rattle.commit_point.specs.declared.open.Opened.{Opened}
 use Rattle.commit_point.specs.declared.heads.Head.{Head}
 use Rattle.commit_point.specs.Spelling.{commit_file}
 use Rattle.commit_point.specs.Fits.{HeadFits}
-use Rattle.commit_point.specs.Holds.{Holds, HaveRows}
+use Rattle.commit_point.specs.Holds.{HasSegments, HaveSegments, AreRowsOf}
 use Rattle.commit_point.specs.Loading.{IsBroken, IsOutside, AreRead, BreakAt}
-use Rattle.commit_point.specs.Reading.{of_file, head_in, head_from, segments_from, reading, all_rows}
-use Rattle.commit_point.proofs.Births.{merged_rises, one_order}
-use Rattle.commit_point.proofs.Segments.{Seen, sees, some_files, head_reads, segments_read, holds_reads, each_rises}
+use Rattle.commit_point.specs.Reading.{head_in, head_from, segments_from, reading}
+use Rattle.commit_point.proofs.Births.{merged_rises, differ_of}
+use Rattle.commit_point.proofs.Segments.{Seen, sees, some_files, head_reads, segments_read, has_reads, each_rises}
 
 -- files that the head was read from
 abbrev HeadSeen : Option Files → ℕ → Head → Type 0
@@ -30,26 +32,23 @@ see_head told s head reads =
     let see : Seen told (Commit s) (Some (commit_file head)) first.0 = sees told (Commit s) (Some (commit_file head)) first.0 first.1 reads in
     (see.files, see.was, see.there)
 
-pub opens : (told next_told : Option Files) (s : ℕ) (head : Head) (all rows : List Row) → next_told ≡ told → Reads told (Commit s) (Some (commit_file head)) → head.number ≡ s → HeadFits head
-    → ((before : Files) → Was next_told before → AreRead next_told head before all) → length all ≡ head.docs → IsPermutation all rows → IsNonDecreasingBy (λ (r : Row). r.birth) rows
-    → (files : Files) × Was told files × Holds files s head.next_id rows
-opens told next_told s head all rows same reads number fits each docs moved sorted =
+pub opens : (told next_told : Option Files) (s : ℕ) (head : Head) (segments : List Segment) → next_told ≡ told → Reads told (Commit s) (Some (commit_file head)) → head.number ≡ s → HeadFits head
+    → ((before : Files) → Was next_told before → AreRead next_told head before segments) → eqb head.docs (length (all_rows segments)) ≡ true
+    → (files : Files) × Was told files × HasSegments files s head.next_id segments
+opens told next_told s head segments same reads number fits each docs =
     let seen = see_head told s head reads in
-    let read : AreRead next_told head seen.0 all = each seen.0 (subst (λ (o : Option Files). Was o seen.0) (sym same) seen.1) in
+    let read : AreRead next_told head seen.0 segments = each seen.0 (subst (λ (o : Option Files). Was o seen.0) (sym same) seen.1) in
     let there : read.files (Commit s) ≡ Some (commit_file head) = subst (λ (n : ℕ). read.files (Commit n) ≡ seen.0 (Commit n)) number read.commit ∙ seen.2 in
-    let have : HaveRows read.files s head.segments read.parts = subst (λ (n : ℕ). HaveRows read.files n head.segments read.parts) number read.each in
-    let moved' : IsPermutation (all_rows read.parts) rows = subst (λ (rs : List Row). IsPermutation rs rows) (sym read.all) moved in (
+    let have : HaveSegments read.files s head.segments segments = subst (λ (n : ℕ). HaveSegments read.files n head.segments segments) number read.each in (
       read.files,
       subst (λ (o : Option Files). Was o read.files) same read.was,
       record {
         head = head;
-        parts = read.parts;
         has_head = record { file = there; number = number; fits = fits };
         next_id = refl;
-        docs = sym docs ∙ sym (length_permutation all rows moved);
+        docs = eqb-true _ _ docs;
         each = have;
-        merged = moved';
-        births = merged_rises s read.parts rows (each_rises read.files s head.segments read.parts have) read.unknown moved' sorted;
+        differ = differ_of s segments (each_rises read.files s head.segments segments have) read.unknown;
       },
     )
 
@@ -71,51 +70,63 @@ segment_breaks told next_told s head d same reads number fits each =
     let broken : segments_from at.files s (λ b. false) head.segments ≡ Err d = subst (λ (n : ℕ). segments_from at.files n (λ b. false) head.segments ≡ Err d) number at.broken in
     (at.files, subst (λ (o : Option Files). Was o at.files) same at.was, rw (head_reads at.files s head there number fits, broken) refl)
 
-pub docs_break : (told next_told : Option Files) (s : ℕ) (head : Head) (all : List Row) → next_told ≡ told → Reads told (Commit s) (Some (commit_file head)) → head.number ≡ s → HeadFits head
-    → ((before : Files) → Was next_told before → AreRead next_told head before all) → length all ≢ head.docs → (files : Files) × Was told files × (reading files s ≡ Err (record { file = Commit s; at = 16 }))
+-- what the test of the number of rows says
+counts : (head : Head) (segments seen : List Segment) (b : Bool) → seen ≡ segments → b ≡ eqb head.docs (length (all_rows seen)) → eqb head.docs (length (all_rows segments)) ≡ b
+counts head segments seen b is test = ap (λ (gs : List Segment). eqb head.docs (length (all_rows gs))) (sym is) ∙ sym test
+
+pub counts_right : (head : Head) (segments seen : List Segment) (b : Bool) → seen ≡ segments → b ≡ eqb head.docs (length (all_rows seen)) → not b ≡ false → eqb head.docs (length (all_rows segments)) ≡ true
+counts_right head segments seen true is test right = counts head segments seen true is test
+counts_right head segments seen false is test right = absurd cc
+
+pub counts_wrong : (head : Head) (segments seen : List Segment) (b : Bool) → seen ≡ segments → b ≡ eqb head.docs (length (all_rows seen)) → not b ≡ true → eqb head.docs (length (all_rows segments)) ≡ false
+counts_wrong head segments seen true is test wrong = absurd cc
+counts_wrong head segments seen false is test wrong = counts head segments seen false is test
+
+pub docs_break : (told next_told : Option Files) (s : ℕ) (head : Head) (segments : List Segment) → next_told ≡ told → Reads told (Commit s) (Some (commit_file head)) → head.number ≡ s → HeadFits head
+    → ((before : Files) → Was next_told before → AreRead next_told head before segments) → eqb head.docs (length (all_rows segments)) ≡ false → (files : Files) × Was told files × (reading files s ≡ Err (record { file = Commit s; at = 16 }))
 unfolding reading
-docs_break told next_told s head all same reads number fits each other =
+docs_break told next_told s head segments same reads number fits each wrong =
     let seen = see_head told s head reads in
-    let read : AreRead next_told head seen.0 all = each seen.0 (subst (λ (o : Option Files). Was o seen.0) (sym same) seen.1) in
+    let read : AreRead next_told head seen.0 segments = each seen.0 (subst (λ (o : Option Files). Was o seen.0) (sym same) seen.1) in
     let there : read.files (Commit s) ≡ Some (commit_file head) = subst (λ (n : ℕ). read.files (Commit n) ≡ seen.0 (Commit n)) number read.commit ∙ seen.2 in
-    let have : HaveRows read.files s head.segments read.parts = subst (λ (n : ℕ). HaveRows read.files n head.segments read.parts) number read.each in
-    let s_fits : s < 2 ^ 64 = subst (λ (n : ℕ). n < 2 ^ 64) number fits.number in
-    let wrong : eqb head.docs (length (all_rows read.parts)) ≡ false = ne_eqb _ _ (λ e. other (ap length (sym read.all) ∙ sym e)) in (
+    let have : HaveSegments read.files s head.segments segments = subst (λ (n : ℕ). HaveSegments read.files n head.segments segments) number read.each in
+    let s_fits : s < 2 ^ 64 = subst (λ (n : ℕ). n < 2 ^ 64) number fits.number in (
       read.files,
       subst (λ (o : Option Files). Was o read.files) same read.was,
-      rw (head_reads read.files s head there number fits, segments_read read.files s 1 head.next_id (λ b. false) head.segments read.parts s_fits fits.next fits.ids have read.unknown, wrong) refl,
+      rw (head_reads read.files s head there number fits, segments_read read.files s 1 head.next_id (λ b. false) head.segments segments s_fits fits.next fits.ids have read.unknown, wrong) refl,
     )
 
+abbrev is_ok : ℕ × List Segment → Result (ℕ × List Segment) Damaged
+is_ok p = Ok p
+
 -- files spell one commit of a number
-pub one_commit : (files : Files) (s n m : ℕ) (xs ys : List Row) → Holds files s n xs → Holds files s m ys → (n ≡ m) × (xs ≡ ys)
-one_commit files s n m xs ys h k =
-    let same : is_ok (n, h.parts) ≡ is_ok (m, k.parts) = sym (holds_reads files s n xs h) ∙ holds_reads files s m ys k in
-    let pair : (n, h.parts) ≡ (m, k.parts) = cc in
-    let parts : h.parts ≡ k.parts = ap (λ (p : ℕ × List (List Row)). p.1) pair in
-    (ap (λ (p : ℕ × List (List Row)). p.0) pair, one_order s s (all_rows h.parts) xs ys h.merged (subst (λ (ps : List (List Row)). IsPermutation (all_rows ps) ys) (sym parts) k.merged) h.births k.births)
-  where
-    is_ok : ℕ × List (List Row) → Result (ℕ × List (List Row)) Damaged
-    is_ok p = Ok p
+pub one_segments : (files : Files) (s n m : ℕ) (a b : List Segment) → HasSegments files s n a → HasSegments files s m b → (a ≡ b) × (n ≡ m)
+one_segments files s n m a b h k =
+    let same : is_ok (n, a) ≡ is_ok (m, b) = sym (has_reads files s n a h) ∙ has_reads files s m b k in
+    let pair : (n, a) ≡ (m, b) = cc in
+    (ap (λ (p : ℕ × List Segment). p.1) pair, ap (λ (p : ℕ × List Segment). p.0) pair)
 
-pub only_it : (told : Option Files) (s : ℕ) (r : Result Opened OpenFault) → IfOk r (λ opened. (files : Files) × Was told files × Holds files s opened.next_id opened.rows)
-    → (files : Files) (next : ℕ) (rows : List Row) → told ≡ Some files → Holds files s next rows → IfOk r (λ opened. (opened.next_id ≡ next) × (opened.rows ≡ rows))
-only_it told s (Err e) found files next rows is h = tt
-only_it told s (Ok opened) found files next rows is h =
+-- the rows of a commit's segments, sorted by birth
+pub are_rows : (files : Files) (s next : ℕ) (segments : List Segment) (rows : List Row) → IsPermutation (all_rows segments) rows → IsNonDecreasingBy (λ (r : Row). r.birth) rows → HasSegments files s next segments → AreRowsOf s segments rows
+are_rows files s next segments rows moved sorted h = record { merged = moved; births = merged_rises s segments rows (each_rises files s h.head.segments segments h.each) h.differ moved sorted }
+
+pub only_it : (told : Option Files) (s : ℕ) (r : Result Opened OpenFault) → IfOk r (λ opened. (files : Files) × Was told files × HasSegments files s opened.next_id opened.segments)
+    → (files : Files) (next : ℕ) (segments : List Segment) → told ≡ Some files → HasSegments files s next segments → IfOk r (λ opened. (opened.next_id ≡ next) × (opened.segments ≡ segments))
+only_it told s (Err e) found files next segments is h = tt
+only_it told s (Ok opened) found files next segments is h =
     let same : files ≡ found.0 = subst (λ (o : Option Files). Was o found.0) is found.1 in
-    one_commit files s opened.next_id next opened.rows rows (subst (λ (f : Files). Holds f s opened.next_id opened.rows) (sym same) found.2) h
-
-abbrev failed_by : OpenFault → Result Opened OpenFault
-failed_by e = Err e
+    let one = one_segments files s opened.next_id next opened.segments segments (subst (λ (f : Files). HasSegments f s opened.next_id opened.segments) (sym same) found.2) h in
+    (one.1, one.0)
 
 pub whole_is_read : (told : Option Files) (s : ℕ) (r : Result Opened OpenFault) → ((d : Damaged) → r ≡ Err (open_faults.Damaged d) → (files : Files) × Was told files × (reading files s ≡ Err d)) → ((other : ℕ) → r ≡ Err (open_faults.NoSuch other) → ⊥)
-    → (files : Files) (next : ℕ) (rows : List Row) → told ≡ Some files → Holds files s next rows → IfErr r IsOutside
-whole_is_read told s (Ok x) damaged listed files next rows is h = tt
-whole_is_read told s (Err open_faults.Store) damaged listed files next rows is h = inl refl
-whole_is_read told s (Err open_faults.NoMemory) damaged listed files next rows is h = inr refl
-whole_is_read told s (Err (open_faults.NoSuch other)) damaged listed files next rows is h = absurd (listed other refl)
-whole_is_read told s (Err (open_faults.Damaged d)) damaged listed files next rows is h =
+    → (files : Files) (next : ℕ) (segments : List Segment) → told ≡ Some files → HasSegments files s next segments → IfErr r IsOutside
+whole_is_read told s (Ok x) damaged listed files next segments is h = tt
+whole_is_read told s (Err open_faults.Store) damaged listed files next segments is h = inl refl
+whole_is_read told s (Err open_faults.NoMemory) damaged listed files next segments is h = inr refl
+whole_is_read told s (Err (open_faults.NoSuch other)) damaged listed files next segments is h = absurd (listed other refl)
+whole_is_read told s (Err (open_faults.Damaged d)) damaged listed files next segments is h =
     let at = damaged d refl in
     let same : files ≡ at.0 = subst (λ (o : Option Files). Was o at.0) is at.1 in
     let broken : reading files s ≡ Err d = subst (λ (f : Files). reading f s ≡ Err d) (sym same) at.2 in
-    let read : reading files s ≡ Ok (next, h.parts) = holds_reads files s next rows h in
+    let read : reading files s ≡ Ok (next, segments) = has_reads files s next segments h in
     absurd cc

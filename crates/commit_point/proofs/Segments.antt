@@ -1,11 +1,10 @@
 -- Reading the segments of a commit one after the other.
-use Rattle.std.proofs.Common.{◌≡◌, ◌≢◌, ℕ, ◌+◌, ◌^◌, ◌<◌, ◌≤◌, Bool, true, false, cond, eqb, List, [], ◌∷◌, ◌++◌, length, Option, Some, None, Ok, Err, refl, sym, ap, ◌∙◌, append_assoc, arith}
-use Rattle.std.specs.Prelude.{◌||◌, ◌&&◌}
+use Rattle.std.proofs.Common.{◌≡◌, ◌≢◌, ℕ, ◌+◌, ◌^◌, ◌<◌, ◌≤◌, Bool, true, false, cond, eqb, List, [], ◌∷◌, ◌++◌, length, Option, Some, None, Ok, Err, refl, sym, ap, subst, inl, inr, ◌∙◌, append_assoc, arith}
+use Rattle.std.specs.Prelude.{◌||◌, ◌&&◌, ◌⊎◌}
 use Rattle.std.specs.List.{AllByRecursion}
 use Rattle.std.proofs.lemmas.Bool.{and_from, and_parts, eqb-true, eq-eqb}
 use Rattle.std.proofs.Math.Bool.{or_assoc, or-false}
 use Rattle.std.proofs.lemmas.List.{append-nil}
-use Rattle.std.proofs.lemmas.List.Sorted.{length_permutation}
 use Rattle.ix_base.specs.declared.file_name.FileName.{FileName}
 use Rattle.ix_base.specs.declared.file_name.FileName.TheVariants.{Commit, Pending, Rows, Posts, Live, Values}
 use Rattle.ix_base.specs.declared.document.Row.{Row}
@@ -13,12 +12,21 @@ use Rattle.ix_outside.specs.Files.{Files, Was, Reads, SameBut}
 use Rattle.ix_base.specs.declared.damaged.Damaged.{Damaged}
 use Rattle.commit_point.specs.declared.heads.HeadSegment.{HeadSegment}
 use Rattle.commit_point.specs.declared.heads.Head.{Head}
-use Rattle.commit_point.specs.Spelling.{rows_file, commit_file}
-use Rattle.commit_point.specs.Fits.{RowsFit, IdsRise, HeadFits}
-use Rattle.commit_point.specs.Holds.{HaveRows, Holds}
-use Rattle.commit_point.specs.Reading.{placed, of_file, head_in, rows_in, head_from, segment_from, segments_from, reading, has_birth, all_rows}
-use Rattle.commit_point.specs.Loading.{Unknown}
-use Rattle.commit_point.proofs.FileLaws.{rows_again, head_again}
+use Rattle.ix_base.specs.declared.postings.Postings.{Postings}
+use Rattle.ix_base.specs.FileReading.{placed, of_file}
+use Rattle.segment_core.specs.Segments.{all_rows}
+use Rattle.segment_core.specs.declared.segment.Segment.{Segment}
+use Rattle.segment_files.specs.Fits.{IsSegment, PostingsFit}
+use Rattle.segment_files.specs.Reading.{rows_in, posts_in}
+use Rattle.segment_files.specs.Spelling.{rows_file, posts_file}
+use Rattle.segment_files.proofs.RowLaws.{rows_again}
+use Rattle.commit_point.specs.Spelling.{commit_file}
+use Rattle.commit_point.specs.Fits.{IdsRise, HeadFits}
+use Rattle.commit_point.specs.Holds.{HasSegment, HaveSegments, HasSegments}
+use Rattle.commit_point.specs.Reading.{head_in, head_from, segment_from, segments_from, reading, has_birth}
+use Rattle.commit_point.specs.Loading.{IsBroken, Unknown}
+use Rattle.commit_point.proofs.HeadReading.{head_again}
+use Rattle.segment_files.proofs.PostsRead.{posts_again}
 use Rattle.commit_point.proofs.Births.{EachRises, unknown_of}
 
 -- ---- files that are given by what was read of them
@@ -87,75 +95,106 @@ some_files (Some files) = (files, refl)
 
 -- ---- segments
 
-pub each_rises : (files : Files) (s : ℕ) (es : List HeadSegment) (parts : List (List Row)) → HaveRows files s es parts → EachRises s parts
+pub each_rises : (files : Files) (s : ℕ) (es : List HeadSegment) (segments : List Segment) → HaveSegments files s es segments → EachRises s segments
 each_rises files s [] [] have = tt
-each_rises files s [] (p ∷ ps) have = absurd have
+each_rises files s [] (g ∷ gs) have = absurd have
 each_rises files s (e ∷ es) [] have = absurd have
-each_rises files s (e ∷ es) (p ∷ ps) have = (have.2.births, each_rises files s es ps have.3)
+each_rises files s (e ∷ es) (g ∷ gs) have = (have.0.rows_fit.births, each_rises files s es gs have.1)
 
 -- the segments so far with one more
-pub have_push : (files : Files) (s : ℕ) (es : List HeadSegment) (parts : List (List Row)) (e : HeadSegment) (rows : List Row) → HaveRows files s es parts
-    → files (Rows e.id) ≡ Some (rows_file e.id rows) → e.rows ≡ length rows → RowsFit s rows → HaveRows files s (es ++ e ∷ []) (parts ++ rows ∷ [])
-have_push files s [] [] e rows have file count fits = (file, count, fits, tt)
-have_push files s [] (p ∷ ps) e rows have file count fits = absurd have
-have_push files s (d ∷ ds) [] e rows have file count fits = absurd have
-have_push files s (d ∷ ds) (p ∷ ps) e rows have file count fits = (have.0, have.1, have.2, have_push files s ds ps e rows have.3 file count fits)
+pub have_push : (files : Files) (s : ℕ) (es : List HeadSegment) (segments : List Segment) (e : HeadSegment) (g : Segment) → HaveSegments files s es segments
+    → HasSegment files s e g → HaveSegments files s (es ++ e ∷ []) (segments ++ g ∷ [])
+have_push files s [] [] e g have last = (last, tt)
+have_push files s [] (p ∷ ps) e g have last = absurd have
+have_push files s (d ∷ ds) [] e g have last = absurd have
+have_push files s (d ∷ ds) (p ∷ ps) e g have last = (have.0, have_push files s ds ps e g have.1 last)
 
-pub have_kept : (files now : Files) (s low id : ℕ) (es : List HeadSegment) (parts : List (List Row)) → SameBut (Rows id) files now → IdsRise low id es → HaveRows files s es parts → HaveRows now s es parts
+-- every file is as it was, but those of the segment of this id
+abbrev pub SameButSegment : ℕ → Files → Files → Type 0
+SameButSegment id old new = (name : FileName) → name ≢ Rows id → name ≢ Posts id → new name ≡ old name
+
+pub have_kept : (files now : Files) (s low id : ℕ) (es : List HeadSegment) (segments : List Segment) → SameButSegment id files now → IdsRise low id es → HaveSegments files s es segments → HaveSegments now s es segments
 have_kept files now s low id [] [] same ids have = have
 have_kept files now s low id [] (p ∷ ps) same ids have = have
 have_kept files now s low id (e ∷ es) [] same ids have = have
 have_kept files now s low id (e ∷ es) (p ∷ ps) same ids have =
-    let other : Rows e.id ≢ Rows id = λ is. let same_id : e.id ≡ id = cc in absurd (omega (arith, same_id, ids.1)) in
-    (same (Rows e.id) other ∙ have.0, have.1, have.2, have_kept files now s (e.id + 1) id es ps same ids.2 have.3)
+    let rows_apart : Rows e.id ≢ Rows id = λ is. let same_id : e.id ≡ id = cc in absurd (omega (arith, same_id, ids.1)) in
+    let posts_apart : Posts e.id ≢ Posts id = λ is. let same_id : e.id ≡ id = cc in absurd (omega (arith, same_id, ids.1)) in (
+      record {
+        id = have.0.id;
+        count = have.0.count;
+        rows = same (Rows e.id) rows_apart (λ f. cc) ∙ have.0.rows;
+        posts = same (Posts e.id) (λ f. cc) posts_apart ∙ have.0.posts;
+        rows_fit = have.0.rows_fit;
+        posts_fit = have.0.posts_fit;
+      },
+      have_kept files now s (e.id + 1) id es ps same ids.2 have.1,
+    )
 
-pub all_rows_push : (parts : List (List Row)) (rows : List Row) → all_rows (parts ++ rows ∷ []) ≡ all_rows parts ++ rows
-all_rows_push [] rows = append-nil rows
-all_rows_push (p ∷ ps) rows = ap (λ (r : List Row). p ++ r) (all_rows_push ps rows) ∙ sym (append_assoc p (all_rows ps) rows)
+pub all_rows_push : (segments : List Segment) (g : Segment) → all_rows (segments ++ g ∷ []) ≡ all_rows segments ++ g.rows
+all_rows_push [] g = append-nil g.rows
+all_rows_push (p ∷ ps) g = ap (λ (r : List Row). p.rows ++ r) (all_rows_push ps g) ∙ sym (append_assoc p.rows (all_rows ps) g.rows)
 
-pub has_append : (xs ys : List Row) (b : ℕ) → has_birth (xs ++ ys) b ≡ (has_birth xs b || has_birth ys b)
+has_append : (xs ys : List Row) (b : ℕ) → has_birth (xs ++ ys) b ≡ (has_birth xs b || has_birth ys b)
 has_append [] ys b = refl
 has_append (x ∷ xs) ys b = ap (λ (t : Bool). eqb x.birth b || t) (has_append xs ys b) ∙ sym (or_assoc (eqb x.birth b) (has_birth xs b) (has_birth ys b))
 
--- what is known before a part and with it, together with what stands in the parts after it
-known_more : (known : ℕ → Bool) (p : List Row) (ps : List (List Row)) (b : ℕ) → ((known b || has_birth p b) || has_birth (all_rows ps) b) ≡ (known b || has_birth (all_rows (p ∷ ps)) b)
-known_more known p ps b = or_assoc (known b) (has_birth p b) (has_birth (all_rows ps) b) ∙ ap (λ (t : Bool). known b || t) (sym (has_append p (all_rows ps) b))
+-- the births so far with those of one segment more
+pub has_push : (segments : List Segment) (g : Segment) (b : ℕ) → has_birth (all_rows (segments ++ g ∷ [])) b ≡ (has_birth (all_rows segments) b || has_birth g.rows b)
+has_push segments g b = ap (λ (rs : List Row). has_birth rs b) (all_rows_push segments g) ∙ has_append (all_rows segments) g.rows b
+
+-- what is known before a segment and with it, together with what stands in the segments after it
+known_more : (known : ℕ → Bool) (p : Segment) (ps : List Segment) (b : ℕ) → ((known b || has_birth p.rows b) || has_birth (all_rows ps) b) ≡ (known b || has_birth (all_rows (p ∷ ps)) b)
+known_more known p ps b = or_assoc (known b) (has_birth p.rows b) (has_birth (all_rows ps) b) ∙ ap (λ (t : Bool). known b || t) (sym (has_append p.rows (all_rows ps) b))
 
 pub all_congr : (f g : ℕ → Bool) (rows : List Row) → ((b : ℕ) → f b ≡ g b) → AllByRecursion (λ (r : Row). f r.birth ≡ false) rows → AllByRecursion (λ (r : Row). g r.birth ≡ false) rows
 all_congr f g [] same all = tt
 all_congr f g (r ∷ rs) same all = (sym (same r.birth) ∙ all.0, all_congr f g rs same all.1)
 
-pub unknown_push : (known : ℕ → Bool) (parts : List (List Row)) (rows : List Row) → Unknown known parts → AllByRecursion (λ (r : Row). (known r.birth || has_birth (all_rows parts) r.birth) ≡ false) rows → Unknown known (parts ++ rows ∷ [])
-unknown_push known [] rows unknown all = (all_congr (λ b. known b || false) known rows (λ b. or-false (known b)) all, tt)
-unknown_push known (p ∷ ps) rows unknown all = (
+pub unknown_push : (known : ℕ → Bool) (segments : List Segment) (g : Segment) → Unknown known segments → AllByRecursion (λ (r : Row). (known r.birth || has_birth (all_rows segments) r.birth) ≡ false) g.rows → Unknown known (segments ++ g ∷ [])
+unknown_push known [] g unknown all = (all_congr (λ b. known b || false) known g.rows (λ b. or-false (known b)) all, tt)
+unknown_push known (p ∷ ps) g unknown all = (
   unknown.0,
-  unknown_push (λ b. known b || has_birth p b) ps rows unknown.1
-      (all_congr (λ b. known b || has_birth (all_rows (p ∷ ps)) b) (λ b. (known b || has_birth p b) || has_birth (all_rows ps) b) rows (λ b. sym (known_more known p ps b)) all),
+  unknown_push (λ b. known b || has_birth p.rows b) ps g unknown.1
+      (all_congr (λ b. known b || has_birth (all_rows (p ∷ ps)) b) (λ b. (known b || has_birth p.rows b) || has_birth (all_rows ps) b) g.rows (λ b. sym (known_more known p ps b)) all),
 )
 
+-- rows and postings that are there are read
+rows_read : (files : Files) (s : ℕ) (known : ℕ → Bool) (e : HeadSegment) (rows : List Row) → e.id < 2 ^ 64 → s < 2 ^ 64 → files (Rows e.id) ≡ Some (rows_file e.id rows) → IsSegment s e.rows known rows
+    → of_file (Rows e.id) (rows_in e.id e.rows s known) (files (Rows e.id)) ≡ Ok rows
+rows_read files s known e rows id_fits s_fits file segment =
+    ap (of_file (Rows e.id) (rows_in e.id e.rows s known)) file ∙ ap (placed (Rows e.id) (rows_file e.id rows)) (rows_again e.id e.rows s known rows id_fits s_fits segment)
+
+posts_read : (files : Files) (e : HeadSegment) (postings : Postings) → e.id < 2 ^ 64 → e.rows < 2 ^ 32 → files (Posts e.id) ≡ Some (posts_file e.id e.rows postings) → PostingsFit e.rows postings
+    → of_file (Posts e.id) (posts_in e.id e.rows) (files (Posts e.id)) ≡ Ok postings
+posts_read files e postings id_fits n_fits file fits =
+    ap (of_file (Posts e.id) (posts_in e.id e.rows)) file ∙ ap (placed (Posts e.id) (posts_file e.id e.rows postings)) (posts_again e.id e.rows postings id_fits n_fits fits)
+
 -- one segment that is there is read
-segment_reads : (files : Files) (s : ℕ) (known : ℕ → Bool) (e : HeadSegment) (rows : List Row) → e.id < 2 ^ 64 → s < 2 ^ 64 → files (Rows e.id) ≡ Some (rows_file e.id rows) → e.rows ≡ length rows → RowsFit s rows
-    → AllByRecursion (λ (r : Row). known r.birth ≡ false) rows → segment_from files s known e ≡ Ok rows
-segment_reads files s known e rows id_fits s_fits file count fits unknown =
-    ap (of_file (Rows e.id) (rows_in e.id e.rows s known)) file
-    ∙ ap (placed (Rows e.id) (rows_file e.id rows)) (rows_again e.id e.rows s known rows id_fits s_fits (record { fits = fits; count = sym count; unknown = unknown }))
+segment_reads : (files : Files) (s : ℕ) (known : ℕ → Bool) (e : HeadSegment) (g : Segment) → e.id < 2 ^ 64 → s < 2 ^ 64 → HasSegment files s e g
+    → AllByRecursion (λ (r : Row). known r.birth ≡ false) g.rows → segment_from files s known e ≡ Ok g
+segment_reads files s known e g id_fits s_fits has unknown =
+    let short : e.rows < 2 ^ 32 = omega (arith, has.count, has.rows_fit.count) in
+    let rows = rows_read files s known e g.rows id_fits s_fits has.rows (record { fits = has.rows_fit; count = has.count; unknown = unknown }) in
+    let posts = posts_read files e g.postings id_fits short has.posts has.posts_fit in
+    rw (rows, posts) (ap (λ (id : ℕ). Ok (record { id = id; rows = g.rows; postings = g.postings })) (sym has.id))
 
 -- segments that are there are read
-pub segments_read : (files : Files) (s low limit : ℕ) (known : ℕ → Bool) (es : List HeadSegment) (parts : List (List Row)) → s < 2 ^ 64 → limit ≤ 2 ^ 62 → IdsRise low limit es → HaveRows files s es parts → Unknown known parts
-    → segments_from files s known es ≡ Ok parts
+pub segments_read : (files : Files) (s low limit : ℕ) (known : ℕ → Bool) (es : List HeadSegment) (segments : List Segment) → s < 2 ^ 64 → limit ≤ 2 ^ 62 → IdsRise low limit es → HaveSegments files s es segments → Unknown known segments
+    → segments_from files s known es ≡ Ok segments
 unfolding segments_from
 segments_read files s low limit known [] [] s_fits room ids have unknown = refl
 segments_read files s low limit known [] (p ∷ ps) s_fits room ids have unknown = absurd have
 segments_read files s low limit known (e ∷ es) [] s_fits room ids have unknown = absurd have
 segments_read files s low limit known (e ∷ es) (p ∷ ps) s_fits room ids have unknown =
     rw (
-      segment_reads files s known e p (omega (arith, ids.1)) s_fits have.0 have.1 have.2 unknown.0,
-      segments_read files s (e.id + 1) limit (λ b. known b || has_birth p b) es ps s_fits room ids.2 have.3 unknown.1,
+      segment_reads files s known e p (omega (arith, ids.1)) s_fits have.0 unknown.0,
+      segments_read files s (e.id + 1) limit (λ b. known b || has_birth p.rows b) es ps s_fits room ids.2 have.1 unknown.1,
     ) refl
 
 -- a segment that is broken, after segments that are there
-pub segments_break : (files : Files) (s low limit : ℕ) (known : ℕ → Bool) (es : List HeadSegment) (parts : List (List Row)) (e : HeadSegment) (rest : List HeadSegment) (d : Damaged) → s < 2 ^ 64 → limit ≤ 2 ^ 62 → IdsRise low limit es
-    → HaveRows files s es parts → Unknown known parts → segment_from files s (λ b. known b || has_birth (all_rows parts) b) e ≡ Err d → segments_from files s known (es ++ e ∷ rest) ≡ Err d
+pub segments_break : (files : Files) (s low limit : ℕ) (known : ℕ → Bool) (es : List HeadSegment) (segments : List Segment) (e : HeadSegment) (rest : List HeadSegment) (d : Damaged) → s < 2 ^ 64 → limit ≤ 2 ^ 62 → IdsRise low limit es
+    → HaveSegments files s es segments → Unknown known segments → segment_from files s (λ b. known b || has_birth (all_rows segments) b) e ≡ Err d → segments_from files s known (es ++ e ∷ rest) ≡ Err d
 unfolding segments_from
 segments_break files s low limit known [] [] e rest d s_fits room ids have unknown broken =
     let same : (λ b. known b || false) ≡ known = λ i b. or-false (known b) i in
@@ -164,12 +203,57 @@ segments_break files s low limit known [] [] e rest d s_fits room ids have unkno
 segments_break files s low limit known [] (p ∷ ps) e rest d s_fits room ids have unknown broken = absurd have
 segments_break files s low limit known (g ∷ gs) [] e rest d s_fits room ids have unknown broken = absurd have
 segments_break files s low limit known (g ∷ gs) (p ∷ ps) e rest d s_fits room ids have unknown broken =
-    let same : (λ b. (known b || has_birth p b) || has_birth (all_rows ps) b) ≡ (λ b. known b || has_birth (all_rows (p ∷ ps)) b) = λ i b. known_more known p ps b i in
-    let h : segment_from files s (λ b. (known b || has_birth p b) || has_birth (all_rows ps) b) e ≡ Err d = ap (λ (k : ℕ → Bool). segment_from files s k e) same ∙ broken in
+    let same : (λ b. (known b || has_birth p.rows b) || has_birth (all_rows ps) b) ≡ (λ b. known b || has_birth (all_rows (p ∷ ps)) b) = λ i b. known_more known p ps b i in
+    let h : segment_from files s (λ b. (known b || has_birth p.rows b) || has_birth (all_rows ps) b) e ≡ Err d = ap (λ (k : ℕ → Bool). segment_from files s k e) same ∙ broken in
     rw (
-      segment_reads files s known g p (omega (arith, ids.1)) s_fits have.0 have.1 have.2 unknown.0,
-      segments_break files s (g.id + 1) limit (λ b. known b || has_birth p b) gs ps e rest d s_fits room ids.2 have.3 unknown.1 h,
+      segment_reads files s known g p (omega (arith, ids.1)) s_fits have.0 unknown.0,
+      segments_break files s (g.id + 1) limit (λ b. known b || has_birth p.rows b) gs ps e rest d s_fits room ids.2 have.1 unknown.1 h,
     ) refl
+
+-- ---- the files of one segment, as they are read
+
+-- files of which all that was read of a segment is so
+pub record SeenSegment (told : Option Files) (id : ℕ) (before : Files) (rows posts : Option (List ℕ)) : Type 0 where
+  pub files : Files
+  pub was : Was told files
+  pub rows_there : files (Rows id) ≡ rows
+  pub posts_there : files (Posts id) ≡ posts
+  pub others : SameButSegment id before files
+
+pub sees_both : (told : Option Files) (id : ℕ) (before : Files) (rows posts : Option (List ℕ)) → Was told before → Reads told (Rows id) rows → Reads told (Posts id) posts → SeenSegment told id before rows posts
+sees_both told id before rows posts was first second =
+    let one : Seen told (Rows id) rows before = sees told (Rows id) rows before was first in
+    let two : Seen told (Posts id) posts one.files = sees told (Posts id) posts one.files one.was second in
+    record {
+      files = two.files;
+      was = two.was;
+      rows_there = two.others (Rows id) (λ e. cc) ∙ one.there;
+      posts_there = two.there;
+      others = λ name r p. two.others name p ∙ one.others name r;
+    }
+
+-- files of which a segment is broken
+pub record BrokenThere (told : Option Files) (s : ℕ) (known : ℕ → Bool) (e : HeadSegment) (d : Damaged) (before : Files) : Type 0 where
+  pub files : Files
+  pub was : Was told files
+  pub others : SameButSegment e.id before files
+  pub broken : segment_from files s known e ≡ Err d
+
+-- the rows of a segment are broken, or they were read and its postings are
+abbrev pub IsBrokenSegment : Option Files → ℕ → (ℕ → Bool) → HeadSegment → Damaged → Type 0
+IsBrokenSegment told s known e d = IsBroken told (Rows e.id) (rows_in e.id e.rows s known) d
+    ⊎ ((rows : List Row) × Reads told (Rows e.id) (Some (rows_file e.id rows)) × IsSegment s e.rows known rows × IsBroken told (Posts e.id) (posts_in e.id e.rows) d)
+
+pub breaks_there : (told : Option Files) (s : ℕ) (known : ℕ → Bool) (e : HeadSegment) (d : Damaged) (before : Files) → e.id < 2 ^ 64 → s < 2 ^ 64 → Was told before → IsBrokenSegment told s known e d → BrokenThere told s known e d before
+breaks_there told s known e d before id_fits s_fits was (inl rows) =
+    let see : Seen told (Rows e.id) rows.found before = sees told (Rows e.id) rows.found before was rows.seen in
+    let h : of_file (Rows e.id) (rows_in e.id e.rows s known) (see.files (Rows e.id)) ≡ Err d = ap (of_file (Rows e.id) (rows_in e.id e.rows s known)) see.there ∙ rows.broken in
+    record { files = see.files; was = see.was; others = λ name r p. see.others name r; broken = rw h refl }
+breaks_there told s known e d before id_fits s_fits was (inr posts) =
+    let see : SeenSegment told e.id before (Some (rows_file e.id posts.0)) posts.3.found = sees_both told e.id before (Some (rows_file e.id posts.0)) posts.3.found was posts.1 posts.3.seen in
+    let rows = rows_read see.files s known e posts.0 id_fits s_fits see.rows_there posts.2 in
+    let h : of_file (Posts e.id) (posts_in e.id e.rows) (see.files (Posts e.id)) ≡ Err d = ap (of_file (Posts e.id) (posts_in e.id e.rows)) see.posts_there ∙ posts.3.broken in
+    record { files = see.files; was = see.was; others = see.others; broken = rw (rows, h) refl }
 
 -- ---- whole commits
 
@@ -179,16 +263,14 @@ head_reads files s head file number fits =
     ap (of_file (Commit s) (head_in s)) file ∙ ap (placed (Commit s) (commit_file head)) (ap (λ (n : ℕ). head_in n (commit_file head)) (sym number) ∙ head_again head fits)
 
 -- what the files of a commit spell is read
-pub holds_reads : (files : Files) (s next : ℕ) (rows : List Row) (h : Holds files s next rows) → reading files s ≡ Ok (next, h.parts)
+pub has_reads : (files : Files) (s next : ℕ) (segments : List Segment) → HasSegments files s next segments → reading files s ≡ Ok (next, segments)
 unfolding reading
-holds_reads files s next rows h =
+has_reads files s next segments h =
     let fits : s < 2 ^ 64 = omega (arith, h.has_head.number, h.has_head.fits.number) in
-    let unknown = unknown_of s h.parts rows h.merged h.births in
-    let count : length rows ≡ length (all_rows h.parts) = length_permutation (all_rows h.parts) rows h.merged in
-    let docs : eqb h.head.docs (length (all_rows h.parts)) ≡ true = eq-eqb _ _ (h.docs ∙ count) in
+    let docs : eqb h.head.docs (length (all_rows segments)) ≡ true = eq-eqb _ _ h.docs in
     rw (
       head_reads files s h.head h.has_head.file h.has_head.number h.has_head.fits,
-      segments_read files s 1 h.head.next_id (λ b. false) h.head.segments h.parts fits h.has_head.fits.next h.has_head.fits.ids h.each unknown,
+      segments_read files s 1 h.head.next_id (λ b. false) h.head.segments segments fits h.has_head.fits.next h.has_head.fits.ids h.each (unknown_of segments h.differ),
       docs,
       h.next_id,
     ) refl

@@ -12,7 +12,8 @@ use Rattle.commit_point.specs.Fits.{HeadFits}
 use Rattle.commit_point.specs.Holds.{HasHead}
 use Rattle.commit_point.specs.Laws.{one_head}
 use Rattle.commit_point.specs.Loading.{IsBroken, IsOutside, TellsNone}
-use Rattle.commit_point.specs.Reading.{of_file, head_in, head_from}
+use Rattle.ix_base.specs.FileReading.{of_file}
+use Rattle.commit_point.specs.Reading.{head_in, head_from}
 use Rattle.commit_point.proofs.Segments.{Seen, sees, some_files, head_reads}
 
 abbrev Tells : Option Files → ℕ → Bool → Type 0

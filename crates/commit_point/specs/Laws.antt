@@ -45,11 +45,11 @@ commit_apart s (id ∷ ids) = ((λ e. cc), ((λ e. cc), commit_apart s ids))
 -- the files of a segment with a lower id aren't among these
 pub rows_apart : (low g : ℕ) (ids : List ℕ) → g < low → AreFrom low ids → IsNotAmong (flat_map names_of ids) (Rows g)
 rows_apart low g [] lt are = tt
-rows_apart low g (id ∷ ids) lt are = (other_rows g id (λ e. absurd (omega (arith, e, lt, are.0))), ((λ e. cc), rows_apart low g ids lt are.1))
+rows_apart low g (id ∷ ids) lt are = (other_rows g id (λ e. absurd (omega (arith, e, are.0))), ((λ e. cc), rows_apart low g ids lt are.1))
 
 pub posts_apart : (low g : ℕ) (ids : List ℕ) → g < low → AreFrom low ids → IsNotAmong (flat_map names_of ids) (Posts g)
 posts_apart low g [] lt are = tt
-posts_apart low g (id ∷ ids) lt are = ((λ e. cc), (other_posts g id (λ e. absurd (omega (arith, e, lt, are.0))), posts_apart low g ids lt are.1))
+posts_apart low g (id ∷ ids) lt are = ((λ e. cc), (other_posts g id (λ e. absurd (omega (arith, e, are.0))), posts_apart low g ids lt are.1))
 
 -- ---- commits
 

@@ -8,3 +8,4 @@ pub mod Laws
 pub mod Publishing
 pub mod PublishLaws
 pub mod Loading
+pub mod RowsLaws

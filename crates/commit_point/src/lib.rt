@@ -3,7 +3,6 @@
 #![tactic(auto)]
 
 mod decode;
-mod documents;
 mod encode;
 mod fault;
 mod heads;
@@ -12,11 +11,10 @@ mod load;
 mod marks;
 mod open;
 mod publishing;
-mod read_documents;
 mod write;
 
-pub use decode::{decode_commit, decode_row};
-pub use encode::{encode_commit, encode_row};
+pub use decode::decode_commit;
+pub use encode::encode_commit;
 pub use fault::{CommitRefused, OpenFault};
 pub use heads::{Head, HeadSegment};
 pub use listing::list_commits;

@@ -1,5 +1,5 @@
 //! Reading the files of a commit from a store.
-ghost use Rattle.std.specs.Prelude.{◌≡◌, ◌≤◌, ◌||◌, ◌<◌, ◌^◌, ℕ, List, Some, None, Err, IfOk, OnOk};
+ghost use Rattle.std.specs.Prelude.{◌≡◌, ◌≤◌, ◌||◌, ◌⊎◌, ◌++◌, ◌∷◌, [], ℕ, List, Some, None, Err, IfOk, OnOk};
 ghost use Rattle.std.specs.BTreeSet.{contains};
 ghost use Rattle.std.specs.Ordering.{nat_cmp};
 ghost use Rattle.ix_base.specs.declared.damaged.Damaged.{Damaged};
@@ -108,6 +108,35 @@ fn read_postings<S: Store>(
     }
 }
 
+/// Reads a segment of the commit of this number: its rows, and then its postings.
+fn read_segment<S: Store>(
+    alloc: Global,
+    store: &mut S,
+    number: u64,
+    entry: HeadSegment,
+    earlier: &BTreeSet<u64>,
+) -> Result<Segment, OpenFault>
+    ensures id { IfOk result (λ segment. segment.id ≡ entry.id) }
+    ensures rows { IfOk result (λ segment. Reads (told_files (S.disk store.old)) (Rows entry.id) (Some (rows_file entry.id segment.rows)) × IsSegment number entry.rows (contains nat_cmp earlier.now) segment.rows) }
+    ensures postings { IfOk result (λ segment. Reads (told_files (S.disk store.old)) (Posts entry.id) (Some (posts_file entry.id entry.rows segment.postings)) × PostingsFit entry.rows segment.postings) }
+    // The rows are broken, or they were read and the postings are.
+    ensures damaged { (damaged : Damaged) → result ≡ Err (OpenFault.Damaged damaged) → IsBroken (told_files (S.disk store.old)) (Rows entry.id) (rows_in entry.id entry.rows number (contains nat_cmp earlier.now)) damaged
+        ⊎ ((rows : List Row) × Reads (told_files (S.disk store.old)) (Rows entry.id) (Some (rows_file entry.id rows)) × IsSegment number entry.rows (contains nat_cmp earlier.now) rows
+            × IsBroken (told_files (S.disk store.old)) (Posts entry.id) (posts_in entry.id entry.rows) damaged) }
+    ensures listed { (other : ℕ) → result ≡ Err (OpenFault.NoSuch other) → ⊥ }
+    ensures reads { S.disk store.new ≡ S.disk store.old }
+    ensures later { S.fault_count store.old ≤ S.fault_count store.new }
+    ensures failed { result ≡ Err OpenFault.Store → Rose (S.fault_count store.old) (S.fault_count store.new) }
+{
+    let rows = read_rows(alloc, store, number, entry, earlier)?;
+    let postings = read_postings(alloc, store, entry)?;
+    Ok(Segment {
+        id: entry.id,
+        rows,
+        postings,
+    })
+}
+
 /// Adds the births of a segment's rows to those of earlier ones. After an error some of them may
 /// stand there.
 fn add_births(earlier: &mut BTreeSet<u64>, rows: &[Row]) -> Result<(), NoMemory>
@@ -116,6 +145,21 @@ fn add_births(earlier: &mut BTreeSet<u64>, rows: &[Row]) -> Result<(), NoMemory>
     for row in rows {
         earlier.insert(row.birth)?;
     }
+    Ok(())
+}
+
+/// Appends a segment, and adds the births of its rows to those of earlier ones. After an error some
+/// of them may stand there.
+fn take_in(
+    earlier: &mut BTreeSet<u64>,
+    segments: &mut Vec<Segment>,
+    segment: Segment,
+) -> Result<(), NoMemory>
+    ensures births { OnOk result ((b : ℕ) → contains nat_cmp earlier.new b ≡ (contains nat_cmp earlier.old b || has_birth segment.rows b)) }
+    ensures segments { OnOk result (segments.new.items ≡ segments.old.items ++ segment ∷ []) }
+{
+    add_births(earlier, segment.rows.as_slice())?;
+    segments.push(segment)?;
     Ok(())
 }
 
@@ -138,14 +182,8 @@ pub(crate) fn read_segments<S: Store>(
     let mut earlier = BTreeSet::new(alloc);
     let mut segments = Vec::new(alloc);
     for entry in entries {
-        let rows = read_rows(alloc, store, number, *entry, &earlier)?;
-        let postings = read_postings(alloc, store, *entry)?;
-        add_births(&mut earlier, rows.as_slice())?;
-        segments.push(Segment {
-            id: entry.id,
-            rows,
-            postings,
-        })?;
+        let segment = read_segment(alloc, store, number, *entry, &earlier)?;
+        take_in(&mut earlier, &mut segments, segment)?;
     }
     Ok(segments)
 }

@@ -37,10 +37,7 @@ impl Opened {
     pub fn into_rows(self, alloc: Global) -> Result<List<Row>, NoMemory>
         ensures { IfOk result (λ rows. (files : Files) (s next : ℕ) → HasSegments files s next self.segments → AreRowsOf s self.segments rows) }
     {
-        let mut rows = Vec::new(alloc);
-        for segment in self.segments.into_vec() {
-            take_rows(&mut rows, segment)?;
-        }
+        let mut rows = joined_rows(alloc, self.segments)?;
         sort_by_birth(&mut rows);
         Ok(List::from_vec(rows))
     }
@@ -54,6 +51,17 @@ fn take_rows(rows: &mut Vec<Row>, segment: Segment) -> Result<(), NoMemory>
         rows.push(row)?;
     }
     Ok(())
+}
+
+/// The rows of the segments, one segment after another.
+fn joined_rows(alloc: Global, segments: List<Segment>) -> Result<Vec<Row>, NoMemory>
+    ensures { IfOk result (λ rows. rows.items ≡ all_rows segments) }
+{
+    let mut rows = Vec::new(alloc);
+    for segment in segments.into_vec() {
+        take_rows(&mut rows, segment)?;
+    }
+    Ok(rows)
 }
 
 /// Sorts rows by their births.

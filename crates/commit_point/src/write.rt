@@ -1,5 +1,5 @@
 //! Writing a commit.
-ghost use Rattle.std.specs.Prelude.{◌≡◌, ◌<◌, ◌≤◌, ◌^◌, ◌↔◌, length, map, All, IsTrue, IsSome, OnOk, OnErr, IfOk, IfErr, Some, None};
+ghost use Rattle.std.specs.Prelude.{◌≡◌, ◌<◌, ◌≤◌, ◌^◌, ◌↔◌, ◌++◌, length, map, IsTrue, IsSome, OnOk, OnErr, IfOk, IfErr, IfSome, Some, None};
 ghost use Rattle.std.specs.List.{AllByRecursion};
 ghost use Rattle.ix_base.specs.Inversion.{IsPostings};
 ghost use Rattle.ix_base.specs.declared.file_name.FileName.TheVariants.{Commit};
@@ -113,6 +113,22 @@ fn put_segment(
     let post_bytes = encode_pst(alloc, id, rows.len() as u32, &segment.postings)?;
     files.push((FileName::Posts(id), List::from_vec(post_bytes)))?;
     Ok(())
+}
+
+/// The files of these segments, one segment after another.
+fn encoded(alloc: Global, segments: &[Segment]) -> Result<Vec<(FileName, List<u8>)>, NoMemory>
+    requires count { AllByRecursion (λ segment. length segment.rows < 2 ^ 32) segments.now }
+    requires ordered { AllByRecursion (λ segment. IsPostings segment.postings.terms) segments.now }
+    requires below { AllByRecursion (λ segment. RowsBelow (length segment.rows) segment.postings) segments.now }
+    ensures files { IfOk result (λ files. files.items ≡ commit_files segments.now) }
+    ensures documents { OnOk result (AllByRecursion (λ segment. AllByRecursion (λ row. DocumentFits row.doc) segment.rows) segments.now) }
+    ensures postings { OnOk result (AllByRecursion (λ segment. PostingsFit (length segment.rows) segment.postings) segments.now) }
+{
+    let mut files = Vec::new(alloc);
+    for segment in segments {
+        put_segment(alloc, &mut files, segment)?;
+    }
+    Ok(files)
 }
 
 /// Writes these segments as the commit of this number, whose next id this is, and returns the number
