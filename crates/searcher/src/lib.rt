@@ -1,6 +1,7 @@
 //! Questions answered on a commit.
 #![tactic(auto)]
 
+mod found;
 mod searcher;
 #[cfg(test)]
 mod tests;

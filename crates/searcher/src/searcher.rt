@@ -10,10 +10,10 @@ ghost use Rattle.commit_point.specs.Holds.{Holds, HoldsInverted};
 ghost use Rattle.commit_point.specs.Loading.{IsOutside, TellsNone};
 ghost use Rattle.searcher.specs.Searching.{Searches, IsDamagedIn};
 
+use crate::found::{found_in, hits_by_birth};
 use commit_point::{OpenFault, open_commit, read_commit};
 use ix_base::{Hit, List, NoMemory, Query};
 use ix_outside::Store;
-use query_core::answer;
 use segment_core::Segment;
 use std::alloc::Global;
 
@@ -48,8 +48,12 @@ impl Searcher {
         ensures later { S.fault_count store.old ≤ S.fault_count store.new }
         ensures failed { result ≡ Err OpenFault.Store → Rose (S.fault_count store.old) (S.fault_count store.new) }
     {
-        let _ = (alloc, store, number);
-        Err(OpenFault::NoMemory)
+        match open_commit(alloc, store, number) {
+            Ok(opened) => Ok(Searcher {
+                segments: opened.segments,
+            }),
+            Err(fault) => Err(fault),
+        }
     }
 
     /// Opens the commit of this number, which a list has shown. A commit file that is gone since then
@@ -70,8 +74,12 @@ impl Searcher {
         ensures later { S.fault_count store.old ≤ S.fault_count store.new }
         ensures failed { result ≡ Err OpenFault.Store → Rose (S.fault_count store.old) (S.fault_count store.new) }
     {
-        let _ = (alloc, store, number);
-        Err(OpenFault::NoMemory)
+        match read_commit(alloc, store, number) {
+            Ok(opened) => Ok(Searcher {
+                segments: opened.segments,
+            }),
+            Err(fault) => Err(fault),
+        }
     }
 
     /// What matches a query, in order of birth: of each such row its key and its numbers. Where each
@@ -79,7 +87,6 @@ impl Searcher {
     pub fn hits(&self, alloc: Global, query: &Query) -> Result<Vec<Hit>, NoMemory>
         ensures { IfOk result (λ found. (rows : List Row) → Searches self.now.segments rows → found.items ≡ hits query.now rows) }
     {
-        let _ = (alloc, query);
-        Err(NoMemory)
+        hits_by_birth(alloc, found_in(alloc, query, self.segments.as_slice())?)
     }
 }

@@ -1,0 +1,5 @@
+pub mod Taken
+pub mod Order
+pub mod Gathering
+pub mod Ordering
+pub mod Opening
