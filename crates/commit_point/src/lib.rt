@@ -23,3 +23,5 @@ pub use write::write_commit;
 
 #[cfg(test)]
 mod tests;
+#[cfg(test)]
+mod tests_damage;

@@ -122,7 +122,7 @@ fn read_segment<S: Store>(
     // The rows are broken, or they were read and the postings are.
     ensures damaged { (damaged : Damaged) → result ≡ Err (OpenFault.Damaged damaged) → IsBroken (told_files (S.disk store.old)) (Rows entry.id) (rows_in entry.id entry.rows number (contains nat_cmp earlier.now)) damaged
         ⊎ ((rows : List Row) × Reads (told_files (S.disk store.old)) (Rows entry.id) (Some (rows_file entry.id rows)) × IsSegment number entry.rows (contains nat_cmp earlier.now) rows
-            × IsBroken (told_files (S.disk store.old)) (Posts entry.id) (posts_in entry.id entry.rows) damaged) }
+        × IsBroken (told_files (S.disk store.old)) (Posts entry.id) (posts_in entry.id entry.rows) damaged) }
     ensures listed { (other : ℕ) → result ≡ Err (OpenFault.NoSuch other) → ⊥ }
     ensures reads { S.disk store.new ≡ S.disk store.old }
     ensures later { S.fault_count store.old ≤ S.fault_count store.new }

@@ -1,32 +1,16 @@
 //! A segment.
-ghost use Rattle.std.specs.Prelude.{◌≡◌, ◌<◌, ◌^◌, length, IfOk};
-ghost use Rattle.segment_core.specs.Segments.{IsInverted};
-
-use analysis::invert;
 use ix_base::{List, NoMemory, Postings, Row, Term};
 use query_core::{Inverted, holding_in, places_in};
 use std::alloc::Global;
 
-/// Rows that don't change, with their postings. Where these are the inversion of the rows, as those
-/// of a segment that was made of rows are, it is an inverted index of the rows' documents.
+/// Rows that don't change, with their postings. Where these are the inversion of the rows, it is an
+/// inverted index of the rows' documents.
 #[derive(Drop)]
 pub struct Segment {
     pub id: u64,
     /// By rising birth.
     pub rows: List<Row>,
     pub postings: Postings,
-}
-
-impl Segment {
-    /// The segment of these rows under this id.
-    pub fn of_rows(alloc: Global, id: u64, rows: List<Row>) -> Result<Segment, NoMemory>
-        requires { length rows < 2 ^ 32 }
-        ensures rows { IfOk result (λ segment. (segment.id ≡ id) × (segment.rows ≡ rows)) }
-        ensures inverted { IfOk result IsInverted }
-    {
-        let postings = invert(alloc, rows.as_slice())?;
-        Ok(Segment { id, rows, postings })
-    }
 }
 
 impl Inverted for Segment {

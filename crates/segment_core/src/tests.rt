@@ -1,1 +1,76 @@
+//! A segment of two rows, asked by hand.
+use crate::segment::Segment;
+use analysis::invert;
+use ix_base::{Document, Fields, List, Name, Numbers, Row, Term, Text};
+use query_core::Inverted;
+use std::alloc::Global;
 use std::test::*;
+
+fn name_of(alloc: Global, text: &str) -> Result<Name, Fail> {
+    let text = Text::copy_of(alloc, text).ok().ok_or("memory")?;
+    Ok(Name::new(text).ok_or("no name")?)
+}
+
+/// A row whose document has this key and these words.
+fn row_of(alloc: Global, birth: u64, key: &str, words: &str) -> Result<Row, Fail> {
+    let key = Text::copy_of(alloc, key).ok().ok_or("memory")?;
+    let words = Text::copy_of(alloc, words).ok().ok_or("memory")?;
+    let mut text = Vec::new(alloc);
+    text.push((name_of(alloc, "body")?, words))?;
+    let doc = Document::new(
+        key,
+        Fields::from_vec(text),
+        Fields::none(alloc),
+        Numbers::none(alloc),
+    )
+    .ok_or("names that stand twice")?;
+    Ok(Row { birth, doc })
+}
+
+/// The segment of two rows.
+fn two_rows(alloc: Global) -> Result<Segment, Fail> {
+    let mut rows = Vec::new(alloc);
+    rows.push(row_of(alloc, 3, "k1", "the fox, the Fox")?)?;
+    rows.push(row_of(alloc, 5, "k2", "a fox")?)?;
+    let postings = invert(alloc, rows.as_slice()).ok().ok_or("memory")?;
+    Ok(Segment {
+        id: 7,
+        rows: List::from_vec(rows),
+        postings,
+    })
+}
+
+fn term_of(alloc: Global, field: &str, word: &str) -> Result<Term, Fail> {
+    Ok(Term {
+        field: name_of(alloc, field)?,
+        bytes: Text::copy_of(alloc, word).ok().ok_or("memory")?,
+    })
+}
+
+#[test]
+fn a_segment_answers(rt: HostRuntime) -> Result<(), Fail> {
+    let alloc = rt.alloc();
+    let segment = two_rows(alloc)?;
+    assert_eq!(rt; segment.rows(), 2);
+    let fox = term_of(alloc, "body", "fox")?;
+    let rows = segment.holding(alloc, &fox).ok().ok_or("memory")?;
+    assert_eq!(rt; rows.as_slice(), [0, 1].as_slice());
+    let places = segment.places(alloc, &fox, 0).ok().ok_or("memory")?;
+    assert_eq!(rt; places.as_slice(), [1, 3].as_slice());
+    let none = segment.places(alloc, &fox, 2).ok().ok_or("memory")?;
+    assert_eq!(rt; none.len(), 0);
+    Ok(())
+}
+
+#[test]
+fn a_segment_has_no_other_term(rt: HostRuntime) -> Result<(), Fail> {
+    let alloc = rt.alloc();
+    let segment = two_rows(alloc)?;
+    let key = term_of(alloc, "key", "k2")?;
+    let rows = segment.holding(alloc, &key).ok().ok_or("memory")?;
+    assert_eq!(rt; rows.as_slice(), [1].as_slice());
+    let other = term_of(alloc, "key", "fox")?;
+    let rows = segment.holding(alloc, &other).ok().ok_or("memory")?;
+    assert_eq!(rt; rows.len(), 0);
+    Ok(())
+}
