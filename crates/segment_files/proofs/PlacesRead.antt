@@ -17,12 +17,10 @@ use Rattle.ix_base.specs.declared.postings.Posting.{Posting}
 use Rattle.ix_base.specs.declared.spots.Spot.{Spot}
 use Rattle.segment_files.specs.Placing.{posted_after}
 use Rattle.segment_files.specs.Reading.{position_at, posting_at}
+use Rattle.segment_files.proofs.Chains.{AllRowsBelow}
 
 abbrev pub AllBelow : ℕ → List ℕ → Type 0
 AllBelow low xs = AllByRecursion (λ x. x < low) xs
-
-abbrev pub AllRowsBelow : ℕ → List Posting → Type 0
-AllRowsBelow low gs = AllByRecursion (λ (g : Posting). g.row < low) gs
 
 -- ---- what is below
 
@@ -33,10 +31,6 @@ below_push low x (y ∷ ys) all le = (omega (arith, all.0), below_push low x ys 
 pub rows_below_push : (low row : ℕ) (p : Posting) (gs : List Posting) → AllRowsBelow low gs → p.row ≡ row → low ≤ row → AllRowsBelow (row + 1) (gs ++ p ∷ [])
 rows_below_push low row p [] all is le = (omega (arith, is), tt)
 rows_below_push low row p (g ∷ gs) all is le = (omega (arith, all.0), rows_below_push low row p gs all.1 is le)
-
-pub rows_below_more : (low high : ℕ) (gs : List Posting) → low ≤ high → AllRowsBelow low gs → AllRowsBelow high gs
-rows_below_more low high [] le all = tt
-rows_below_more low high (g ∷ gs) le all = (omega (arith, all.0), rows_below_more low high gs le all.1)
 
 has_below : (low : ℕ) (xs : List ℕ) → AllBelow low xs → (x : ℕ) → has_number xs x ≡ true → x < low
 has_below low [] all x h = absurd cc
