@@ -1,6 +1,6 @@
 -- A term has at most as many rows as the segment.
 use Rattle.std.proofs.Common.{◌≡◌, ℕ, ◌+◌, ◌<◌, ◌≤◌, List, [], ◌∷◌, length, get_or, sym, subst, arith}
-use Rattle.std.specs.List.{AllPairs, AllByRecursion}
+use Rattle.std.specs.List.{AllByRecursion}
 use Rattle.std.proofs.lemmas.List.Elements.{All-from_recursion}
 use Rattle.ix_base.specs.Inversion.{IsPostings}
 use Rattle.ix_base.specs.ItemLaws.{AllGood}

@@ -1,6 +1,5 @@
 -- Places that are read stand behind those that were there.
-use Rattle.std.proofs.Common.{◌≡◌, ℕ, suc, ◌+◌, ◌-◌, ◌<◌, ◌≤◌, Bool, true, false, ◌&&◌, ◌||◌, ◌==◌, cond, leb, ltb, List, [], ◌∷◌, ◌++◌, length, Result, Ok, Err, ◌⊎◌, inl, inr, refl, sym, ap, subst, ◌∙◌, arith}
-use Rattle.std.specs.Cmp.Derive.{both_true}
+use Rattle.std.proofs.Common.{◌≡◌, ℕ, ◌+◌, ◌-◌, ◌<◌, ◌≤◌, Bool, true, false, ◌&&◌, ◌||◌, ◌==◌, cond, leb, ltb, List, [], ◌∷◌, ◌++◌, length, Result, Ok, Err, ◌⊎◌, inl, inr, refl, sym, ap, subst, ◌∙◌, arith}
 use Rattle.std.specs.Int.{w32}
 use Rattle.std.specs.List.{AllByRecursion}
 use Rattle.std.proofs.lemmas.Bool.{and_parts, eqb-true, eq-eqb, ne_eqb, leb-true, le-leb, lt-ltb}
@@ -124,7 +123,6 @@ positions_done old row low count i rest now total le at = (at.front, is_done pos
 
 -- ---- a row with its positions
 
-
 pub posting_put : (n low : ℕ) (bytes : List ℕ) (row : ℕ) (counted : List ℕ) (count : ℕ) (rest after : List ℕ) (old new : List Posting)
     → number_at w32 bytes ≡ Ok (row, counted) → low ≤ row → row < n → number_at w32 counted ≡ Ok (count, rest) → 1 ≤ count
     → (xs : List ℕ) × (items_at position_at (λ (x : ℕ). x + 1) 0 count rest ≡ Ok (xs, after)) × (new ≡ posted_after old row xs)
@@ -162,8 +160,7 @@ pub places_go_on : (n low count i : ℕ) (rest : List ℕ) (now : List Posting) 
 places_go_on n low count i rest now total row after new low_is lt below so found =
     let p = found.0 in
     let all = goes_on_from (posting_at n) (λ (q : Posting). q.row + 1) 0 low now count i rest p after total low_is lt found.1 so in
-    let le : low ≤ p.row = posting_low n low rest p after found.1 in
-    (
+    let le : low ≤ p.row = posting_low n low rest p after found.1 in (
       subst (λ (l : List Posting). so_far (posting_at n) (λ (q : Posting). q.row + 1) 0 l (count - (i + 1)) after ≡ total) (sym found.3) all,
       ap (λ (r : ℕ). r + 1) (sym found.2) ∙ sym (left_by-push (λ (q : Posting). q.row + 1) 0 now p) ∙ ap (left_by (λ (q : Posting). q.row + 1) 0) (sym found.3),
       subst (AllRowsBelow (row + 1)) (sym found.3) (rows_below_push low row p now below found.2 (omega (arith, found.2, le))),

@@ -1,5 +1,5 @@
 -- A file of postings that is read is the one that was written, and what was written is read again.
-use Rattle.std.proofs.Common.{◌≡◌, ℕ, ◌+◌, ◌^◌, ◌<◌, ◌≤◌, Bool, true, false, ◌&&◌, cond, eqb, leb, ltb, List, [], ◌∷◌, ◌++◌, length, Option, Some, None, Result, Ok, Err, refl, sym, ap, subst, ◌∙◌, append_assoc, arith}
+use Rattle.std.proofs.Common.{◌≡◌, ℕ, ◌+◌, ◌^◌, ◌<◌, ◌≤◌, Bool, ◌&&◌, cond, eqb, leb, ltb, List, [], ◌++◌, length, Option, Some, None, Result, Ok, Err, refl, sym, ap, subst, ◌∙◌, append_assoc, arith}
 use Rattle.std.specs.Prelude.{IfOk}
 use Rattle.std.specs.Cmp.Derive.{both_true}
 use Rattle.std.specs.Int.{w32, w64}
@@ -19,7 +19,7 @@ use Rattle.ix_base.specs.Codec.{◌>>=◌, number_at, text_at, items_at}
 use Rattle.ix_base.specs.CodecLaws.{bind_ok, ok_is, passes, Takes, Takes-then, u64_takes, u64_again, text_takes, text_again}
 use Rattle.ix_base.specs.FileReading.{number_where, name_where, mark_at, ended, placed, GivesFile}
 use Rattle.ix_base.specs.FileLaws.{u32_where_takes, u32_where_again, u64_where_takes, u64_where_again, name_where_takes, name_where_again, mark_takes, mark_again, ended_ok, placed_ok}
-use Rattle.ix_base.specs.Inversion.{term_cmp, IsPosting, IsTermPostings, IsPostings}
+use Rattle.ix_base.specs.Inversion.{term_cmp, IsPosting, IsTermPostings}
 use Rattle.ix_base.specs.ItemLaws.{AllGood, TakesItem, GivesItem, items_take, items_again, good_each, good_onto, good_both, all_both}
 use Rattle.ix_base.specs.Spelling.{be32, be64, text_bytes, AreBytes, IsText, IsName}
 use Rattle.segment_files.specs.Spelling.{posts_mark, posting, term_postings, posts_file}

@@ -1,5 +1,5 @@
 -- What postings that are an inversion have.
-use Rattle.std.proofs.Common.{◌≡◌, ℕ, ◌<◌, List, Bool, true, false, ◌&&◌, eqb, Option, Some, None, length, get_or, refl, sym, ap, ◌∙◌, arith}
+use Rattle.std.proofs.Common.{◌≡◌, ℕ, ◌<◌, List, Bool, true, false, ◌&&◌, eqb, Option, Some, None, length, get_or, refl, sym, ◌∙◌}
 use Rattle.std.specs.List.{slice_get}
 use Rattle.std.specs.Option.{option_map_or}
 use Rattle.std.specs.Str.{bytes_eq}
@@ -41,7 +41,7 @@ row_posted entries k j e p in' there some =
 pub inverted_below : (docs : List Document) (postings : Postings) → IsInversion docs postings → RowsBelow (length docs) postings
 inverted_below docs postings h =
     recursion_from_All _ postings.terms (λ k e in'. recursion_from_All _ (get_or postings.terms k e).rows (λ j p there.
-      row_known _ docs (get_or (get_or postings.terms k e).rows j p).row (
-        sym (h.exact (get_or postings.terms k e).term.field (get_or postings.terms k e).term.bytes (get_or (get_or postings.terms k e).rows j p).row (get_or (get_or (get_or postings.terms k e).rows j p).positions 0 0))
-        ∙ row_posted postings.terms k j e p in' there (((h.ordered.each k e in').each j p there).some)
-      )))
+    row_known _ docs (get_or (get_or postings.terms k e).rows j p).row (
+    sym (h.exact (get_or postings.terms k e).term.field (get_or postings.terms k e).term.bytes (get_or (get_or postings.terms k e).rows j p).row (get_or (get_or (get_or postings.terms k e).rows j p).positions 0 0))
+    ∙ row_posted postings.terms k j e p in' there (((h.ordered.each k e in').each j p there).some)
+    )))
