@@ -1,5 +1,6 @@
 //! Searches of segments whose births interleave, and of a commit in a store.
 use crate::Searcher;
+use commit_point::OpenFault;
 use ix_base::{
     Document, Fields, FileName, Hit, List, Name, Numbers, PhraseText, Queries, Query, Row, Term,
     Text,
@@ -140,19 +141,19 @@ fn no_segment_no_hit(rt: HostRuntime) -> Result<(), Fail> {
 }
 
 /// A thousand rows with every other birth from this one on. Their numbers are their births.
-fn thousand_rows(alloc: Global, from: u64) -> Result<Vec<Row>, Fail> {
+fn thousand_rows(alloc: Global, from: u32) -> Result<Vec<Row>, Fail> {
     let mut rows = Vec::new(alloc);
     for i in 0..1000u32 {
-        let birth = from + 2 * u64::from(i);
+        let birth = u64::from(from) + 2 * u64::from(i);
         rows.push(row_of(alloc, birth, "k", "word", birth as i64)?)?;
     }
     Ok(rows)
 }
 
-/// The hits of rows with the births from 1 on.
-fn wanted(alloc: Global, last: u64) -> Result<String, Fail> {
+/// The hits of rows with the births from 1 to 2000.
+fn two_thousand(alloc: Global) -> Result<String, Fail> {
     let mut wanted = String::new(alloc);
-    for birth in 1..last + 1 {
+    for birth in 1..2001u32 {
         write!(wanted, "k pages {birth};")?;
     }
     Ok(wanted)
@@ -165,6 +166,85 @@ fn two_thousand_hits(rt: HostRuntime) -> Result<(), Fail> {
     let odd = thousand_rows(alloc, 1)?;
     let searcher = searcher_of(alloc, even, odd)?;
     let shown = shown(alloc, &searcher, &term(alloc, "body", "word")?)?;
-    assert_eq!(rt; shown.as_str(), wanted(alloc, 2000)?.as_str());
+    assert_eq!(rt; shown.as_str(), two_thousand(alloc)?.as_str());
+    Ok(())
+}
+
+/// The bytes of a row whose document has this key of one letter and nothing else.
+fn put_row(bytes: &mut Vec<u8>, birth: u8, key: u8) -> Result<(), Fail> {
+    bytes.extend_from_slice(&[0, 0, 0, 0, 0, 0, 0, birth, 0, 0, 0, 1, key])?;
+    bytes.extend_from_slice(&[0; 16])?;
+    Ok(())
+}
+
+/// The bytes of such a key's postings: it stands in this row, at position 0.
+fn put_key(bytes: &mut Vec<u8>, key: u8, row: u8) -> Result<(), Fail> {
+    bytes.extend_from_slice(&[0, 0, 0, 3, b'k', b'e', b'y', 0, 0, 0, 1, key])?;
+    bytes.extend_from_slice(&[0, 0, 0, 1, 0, 0, 0, row, 0, 0, 0, 1, 0, 0, 0, 0])?;
+    Ok(())
+}
+
+/// The file of a segment's two rows.
+fn rows_of(alloc: Global, id: u8, births: [u8; 2], keys: [u8; 2]) -> Result<Vec<u8>, Fail> {
+    let mut bytes = Vec::new(alloc);
+    bytes.extend_from_slice(b"IXROW001")?;
+    bytes.extend_from_slice(&[0, 0, 0, 0, 0, 0, 0, id, 0, 0, 0, 2])?;
+    put_row(&mut bytes, births[0], keys[0])?;
+    put_row(&mut bytes, births[1], keys[1])?;
+    Ok(bytes)
+}
+
+/// The file of their postings.
+fn posts_of(alloc: Global, id: u8, keys: [u8; 2]) -> Result<Vec<u8>, Fail> {
+    let mut bytes = Vec::new(alloc);
+    bytes.extend_from_slice(b"IXPST001")?;
+    bytes.extend_from_slice(&[0, 0, 0, 0, 0, 0, 0, id, 0, 0, 0, 2, 0, 0, 0, 0, 0, 0, 0, 2])?;
+    put_key(&mut bytes, keys[0], 0)?;
+    put_key(&mut bytes, keys[1], 1)?;
+    Ok(bytes)
+}
+
+/// The commit file of the commit 4: four rows, the next id 3, and the segments 1 and 2 of two rows each,
+/// which that commit wrote.
+const COMMIT: [u8; 80] = [
+    0x49, 0x58, 0x43, 0x4f, 0x4d, 0x30, 0x30, 0x31, 0, 0, 0, 0, 0, 0, 0, 4, 0, 0, 0, 0, 0, 0, 0, 4,
+    0, 0, 0, 0, 0, 0, 0, 3, 0, 0, 0, 0, 0, 0, 0, 2, 0, 0, 0, 0, 0, 0, 0, 1, 0, 0, 0, 2, 0, 0, 0, 0,
+    0, 0, 0, 4, 0, 0, 0, 0, 0, 0, 0, 2, 0, 0, 0, 2, 0, 0, 0, 0, 0, 0, 0, 4,
+];
+
+/// A store of this commit, in whose segments the births are 1 and 4, and 2 and 3.
+fn store_of_four(alloc: Global) -> Result<MemoryStore, Fail> {
+    let mut store = MemoryStore::new(alloc);
+    let first = rows_of(alloc, 1, [1, 4], [b'a', b'd'])?;
+    let second = rows_of(alloc, 2, [2, 3], [b'b', b'c'])?;
+    store.write(FileName::Rows(1), first.as_slice())?;
+    store.write(FileName::Rows(2), second.as_slice())?;
+    let first = posts_of(alloc, 1, [b'a', b'd'])?;
+    let second = posts_of(alloc, 2, [b'b', b'c'])?;
+    store.write(FileName::Posts(1), first.as_slice())?;
+    store.write(FileName::Posts(2), second.as_slice())?;
+    store.write(FileName::Commit(4), &COMMIT)?;
+    Ok(store)
+}
+
+#[test]
+fn opens_a_commit_and_finds(rt: HostRuntime) -> Result<(), Fail> {
+    let alloc = rt.alloc();
+    let mut store = store_of_four(alloc)?;
+    let searcher = Searcher::open(alloc, &mut store, 4)?;
+    let all = shown(alloc, &searcher, &Query::All)?;
+    assert_eq!(rt; all.as_str(), "a;b;c;d;");
+    let listed = Searcher::open_listed(alloc, &mut store, 4)?;
+    let one = shown(alloc, &listed, &term(alloc, "key", "c")?)?;
+    assert_eq!(rt; one.as_str(), "c;");
+    Ok(())
+}
+
+#[test]
+fn tells_that_there_is_no_such_commit(rt: HostRuntime) -> Result<(), Fail> {
+    let alloc = rt.alloc();
+    let mut store = store_of_four(alloc)?;
+    let fault = Searcher::open(alloc, &mut store, 3).err();
+    assert_eq!(rt; fault, Some(OpenFault::NoSuch { number: 3 }));
     Ok(())
 }
