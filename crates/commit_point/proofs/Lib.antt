@@ -3,8 +3,6 @@ pub mod Joined
 pub mod Counting
 pub mod Made
 pub mod Making
-pub mod HeadReading
-pub mod Births
 pub mod Segments
 pub mod CommitNumbers
 pub mod Loading

@@ -19,8 +19,9 @@ use Rattle.commit_point.specs.Fits.{HeadFits}
 use Rattle.commit_point.specs.Holds.{HasSegments, HaveSegments, AreRowsOf}
 use Rattle.commit_point.specs.Loading.{IsBroken, IsOutside, AreRead, BreakAt}
 use Rattle.commit_point.specs.Reading.{head_in, head_from, segments_from, reading}
-use Rattle.commit_point.proofs.Births.{merged_rises, differ_of}
-use Rattle.commit_point.proofs.Segments.{Seen, sees, some_files, head_reads, segments_read, has_reads, each_rises}
+use Rattle.commit_point.specs.BirthLaws.{merged_rises, differ_of}
+use Rattle.commit_point.specs.SegmentLaws.{head_reads, segments_read, has_reads, one_segments}
+use Rattle.commit_point.proofs.Segments.{Seen, sees, some_files, each_rises}
 
 -- files that the head was read from
 abbrev HeadSeen : Option Files → ℕ → Head → Type 0
@@ -95,16 +96,6 @@ docs_break told next_told s head segments same reads number fits each wrong =
       subst (λ (o : Option Files). Was o read.files) same read.was,
       rw (head_reads read.files s head there number fits, segments_read read.files s 1 head.next_id (λ b. false) head.segments segments s_fits fits.next fits.ids have read.unknown, wrong) refl,
     )
-
-abbrev is_ok : ℕ × List Segment → Result (ℕ × List Segment) Damaged
-is_ok p = Ok p
-
--- files spell one commit of a number
-pub one_segments : (files : Files) (s n m : ℕ) (a b : List Segment) → HasSegments files s n a → HasSegments files s m b → (a ≡ b) × (n ≡ m)
-one_segments files s n m a b h k =
-    let same : is_ok (n, a) ≡ is_ok (m, b) = sym (has_reads files s n a h) ∙ has_reads files s m b k in
-    let pair : (n, a) ≡ (m, b) = cc in
-    (ap (λ (p : ℕ × List Segment). p.1) pair, ap (λ (p : ℕ × List Segment). p.0) pair)
 
 -- the rows of a commit's segments, sorted by birth
 pub are_rows : (files : Files) (s next : ℕ) (segments : List Segment) (rows : List Row) → IsPermutation (all_rows segments) rows → IsNonDecreasingBy (λ (r : Row). r.birth) rows → HasSegments files s next segments → AreRowsOf s segments rows

@@ -14,7 +14,8 @@ use Rattle.commit_point.specs.Laws.{one_head}
 use Rattle.commit_point.specs.Loading.{IsBroken, IsOutside, TellsNone}
 use Rattle.ix_base.specs.FileReading.{of_file}
 use Rattle.commit_point.specs.Reading.{head_in, head_from}
-use Rattle.commit_point.proofs.Segments.{Seen, sees, some_files, head_reads}
+use Rattle.commit_point.specs.SegmentLaws.{head_reads}
+use Rattle.commit_point.proofs.Segments.{Seen, sees, some_files}
 
 abbrev Tells : Option Files → ℕ → Bool → Type 0
 Tells told s listed = (files : Files) → told ≡ Some files → (IsTrue listed ↔ IsSome (files (Commit s)))

@@ -2,7 +2,7 @@
 use Rattle.std.specs.Prelude.{◌≡◌, ℕ, ◌+◌, ◌<◌, ◌≤◌, ◌^◌, List, [], ◌∷◌, ◌++◌, length, Result, Ok}
 use Rattle.std.specs.Int.{w32, w64}
 use Rattle.std.specs.List.{flat_map, AllByRecursion}
-use Rattle.std.proofs.Common.{◌∙◌, take, drop, refl, sym, ap, append_assoc, arith}
+use Rattle.std.proofs.Common.{◌∙◌, refl, sym, ap, append_assoc, arith}
 use Rattle.ix_base.specs.Codec.{number_at}
 use Rattle.ix_base.specs.CodecLaws.{ok_is, u32_again, u64_again, same_front}
 use Rattle.ix_base.specs.Spelling.{be64, be32}

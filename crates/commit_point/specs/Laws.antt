@@ -1,18 +1,17 @@
 -- Laws of what commits hold.
-use Rattle.std.specs.Prelude.{◌≡◌, ◌≢◌, ◌⊎◌, ℕ, ◌+◌, ◌≤◌, ◌<◌, List, [], ◌∷◌}
+use Rattle.std.specs.Prelude.{◌≡◌, ◌≢◌, ℕ, ◌+◌, ◌≤◌, ◌<◌, List, [], ◌∷◌}
 use Rattle.std.specs.List.{flat_map, AllByRecursion}
 use Rattle.std.proofs.Common.{◌∙◌, ap, arith, sym, subst}
 use Rattle.ix_base.specs.declared.file_name.FileName.{FileName}
 use Rattle.ix_base.specs.declared.file_name.FileName.TheVariants.{Commit, Rows, Posts}
 use Rattle.ix_base.specs.declared.document.Row.{Row}
 use Rattle.ix_outside.specs.Files.{Files}
-use Rattle.segment_core.specs.Segments.{IsInverted}
 use Rattle.segment_core.specs.declared.segment.Segment.{Segment}
 use Rattle.commit_point.specs.declared.heads.HeadSegment.{HeadSegment}
 use Rattle.commit_point.specs.declared.heads.Head.{Head}
 use Rattle.commit_point.specs.Fits.{IdsRise}
 use Rattle.commit_point.specs.HeadLaws.{same_head}
-use Rattle.commit_point.specs.Holds.{Holds, HoldsInverted, HasSegments, HaveSegments, HasSegment, HasHead, names_of}
+use Rattle.commit_point.specs.Holds.{Holds, HoldsInverted, HasSegments, HaveSegments, HasHead, names_of}
 use Rattle.commit_point.specs.Spelling.{commit_file}
 use Rattle.commit_point.specs.Writing.{SameElsewhere, IsNotAmong}
 

@@ -9,3 +9,6 @@ pub mod Publishing
 pub mod PublishLaws
 pub mod Loading
 pub mod RowsLaws
+pub mod HeadReading
+pub mod BirthLaws
+pub mod SegmentLaws

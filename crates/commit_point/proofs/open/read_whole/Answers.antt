@@ -1,10 +1,8 @@
-use Rattle.std.proofs.Common.{◌≡◌, List, Err, not, sym, ap, subst, ◌∙◌}
-use Rattle.std.proofs.lemmas.Bool.{not-true, not-false}
+use Rattle.std.proofs.Common.{◌≡◌, List, Err, not, sym, ap, subst}
 use Rattle.std.proofs.lemmas.Result.{err_from_is_err_and}
 use Rattle.ix_base.specs.declared.damaged.Damaged.{Damaged}
 use Rattle.ix_base.specs.declared.file_name.FileName.TheVariants.{Commit}
 use Rattle.ix_outside.specs.Disk.{told_files}
-use Rattle.segment_core.specs.Segments.{all_rows}
 use Rattle.segment_core.specs.declared.segment.Segment.{Segment}
 use Rattle.commit_point.specs.Holds.{HasSegments}
 use Rattle.commit_point.specs.Reading.{reading}

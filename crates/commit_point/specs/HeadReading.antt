@@ -1,11 +1,11 @@
 -- A commit file that is read is the one that was written, and what was written is read again.
-use Rattle.std.proofs.Common.{◌≡◌, ℕ, ◌+◌, ◌^◌, ◌<◌, ◌≤◌, Bool, true, false, not, eqb, leb, ltb, List, [], ◌∷◌, ◌++◌, length, Result, Ok, Err, refl, sym, ap, subst, ◌∙◌, append_assoc, arith}
+use Rattle.std.proofs.Common.{◌≡◌, ℕ, ◌+◌, ◌^◌, ◌<◌, ◌≤◌, Bool, eqb, leb, ltb, List, [], ◌∷◌, ◌++◌, length, Result, Ok, Err, refl, sym, ap, subst, ◌∙◌, append_assoc, arith}
 use Rattle.std.specs.Prelude.{◌&&◌, IfOk}
 use Rattle.std.specs.Cmp.Derive.{both_true}
 use Rattle.std.specs.Int.{w32, w64}
 use Rattle.std.specs.List.{flat_map, AllByRecursion}
-use Rattle.std.proofs.lemmas.Bool.{and_parts, not-true, eqb-true, eq-eqb, leb-true, le-leb, ltb-true, lt-ltb}
-use Rattle.std.proofs.lemmas.List.{append-nil, nil_from_length}
+use Rattle.std.proofs.lemmas.Bool.{and_parts, eqb-true, eq-eqb, leb-true, le-leb, ltb-true, lt-ltb}
+use Rattle.std.proofs.lemmas.List.{append-nil}
 use Rattle.ix_base.specs.declared.file_name.FileName.{FileName}
 use Rattle.commit_point.specs.declared.heads.HeadSegment.{HeadSegment}
 use Rattle.commit_point.specs.declared.heads.Head.{Head}
@@ -13,7 +13,7 @@ use Rattle.ix_base.specs.declared.damaged.FileFault.{FileFault}
 use Rattle.commit_point.specs.Spelling.{commit_mark, entry, commit_file}
 use Rattle.commit_point.specs.Fits.{IdsRise, EntryFits, HeadFits}
 use Rattle.ix_base.specs.Codec.{◌>>=◌, number_at, items_at}
-use Rattle.ix_base.specs.CodecLaws.{bind_ok, ok_is, passes, Takes, Takes-then, u64_takes, u64_again}
+use Rattle.ix_base.specs.CodecLaws.{bind_ok, ok_is, Takes, Takes-then, u64_takes, u64_again}
 use Rattle.ix_base.specs.Spelling.{be32, be64, AreBytes}
 use Rattle.ix_base.specs.FileReading.{number_where, mark_at, ended, placed, GivesFile}
 use Rattle.ix_base.specs.FileLaws.{u32_where_takes, u32_where_again, u64_where_takes, u64_where_again, mark_takes, mark_again, ended_ok, placed_ok}
