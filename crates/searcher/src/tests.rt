@@ -1,5 +1,6 @@
 //! Searches of segments whose births interleave, and of a commit in a store.
 use crate::Searcher;
+use analysis::invert;
 use commit_point::OpenFault;
 use ix_base::{
     Document, Fields, FileName, Hit, List, Name, Numbers, PhraseText, Queries, Query, Row, Term,
@@ -43,7 +44,12 @@ fn row_of(alloc: Global, birth: u64, key: &str, body: &str, pages: i64) -> Resul
 
 fn segment_of(alloc: Global, id: u64, rows: Vec<Row>) -> Result<Segment, Fail> {
     if rows.len() < 1 << 32 {
-        Ok(Segment::of_rows(alloc, id, List::from_vec(rows))?)
+        let postings = invert(alloc, rows.as_slice())?;
+        Ok(Segment {
+            id,
+            rows: List::from_vec(rows),
+            postings,
+        })
     } else {
         Err("many")?
     }
