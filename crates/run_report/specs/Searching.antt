@@ -2,7 +2,7 @@
 use Rattle.std.specs.Prelude.{◌≡◌, ◌⊎◌, ℕ, ◌≤◌, List, [], Option, All, Bool, true, false, ⊤}
 use Rattle.ix_base.specs.declared.document.Row.{Row}
 use Rattle.ix_outside.specs.Files.{Files}
-use Rattle.commit_point.specs.Holds.{HoldsInverted}
+use Rattle.commit_point.specs.Holds.{Holds, HoldsInverted}
 use Rattle.searcher.specs.Searching.{IsDamagedIn}
 use Rattle.ix_base.specs.declared.damaged.Damaged.{Damaged}
 use Rattle.commit_point.specs.declared.fault.OpenFault.{OpenFault}
@@ -16,10 +16,19 @@ use Rattle.run_report.specs.declared.outcome.Answer.TheVariants.{Searched}
 abbrev pub HoldsCommit : Files → ℕ → List Row → Type 0
 HoldsCommit files s rows = (next : ℕ) × HoldsInverted files s next rows
 
+-- the files hold some rows as the commit of this number
+abbrev pub ReadsCommit : Files → ℕ → Type 0
+ReadsCommit files s = (next : ℕ) × (rows : List Row) × Holds files s next rows
+
 -- the commit that an outcome searches has these rows; the number 0 stands for no commit
 abbrev pub AnswerHolds : Files → (ℕ → List Row) → Answer → Type 0
 AnswerHolds files rows_of (Searched s query) = (s ≡ 0) ⊎ ((1 ≤ s) × HoldsCommit files s (rows_of s))
 AnswerHolds files rows_of answer = ⊤
+
+-- the files hold some rows as the commit that an outcome searches; the number 0 stands for no commit
+abbrev pub AnswerReads : Files → Answer → Type 0
+AnswerReads files (Searched s query) = (s ≡ 0) ⊎ ((1 ≤ s) × ReadsCommit files s)
+AnswerReads files answer = ⊤
 
 abbrev pub is_search : Answer → Bool
 is_search (Searched s query) = true
@@ -29,6 +38,10 @@ is_search answer = false
 pub record CanSearch (files : Files) (rows_of : ℕ → List Row) (outcomes : List Outcome) : Type 0 where
   pub none : rows_of 0 ≡ []
   pub each : All (λ (o : Outcome). AnswerHolds files rows_of o.answer) outcomes
+
+-- the commits that the outcomes search can be read
+abbrev pub CanRead : Files → List Outcome → Type 0
+CanRead files outcomes = All (λ (o : Outcome). AnswerReads files o.answer) outcomes
 
 -- a fault of reading a commit that is known to be there
 abbrev pub IsReadFault : OpenFault → Type 0

@@ -8,7 +8,7 @@ ghost use Rattle.ix_outside.specs.Files.{Files};
 ghost use Rattle.ix_base.specs.declared.damaged.Damaged.{Damaged};
 ghost use Rattle.run_report.specs.declared.outcome.Outcome.{Outcome};
 ghost use Rattle.run_report.specs.Texts.{outcome_text, texts};
-ghost use Rattle.run_report.specs.Searching.{CanSearch, SearchesDamaged, IsReadFault};
+ghost use Rattle.run_report.specs.Searching.{CanRead, CanSearch, SearchesDamaged, IsReadFault};
 ghost use Rattle.commit_point.specs.Loading.{IsOutside};
 ghost use Rattle.run_report.specs.Assembling.{IsOrderOf};
 
@@ -69,8 +69,7 @@ fn texts_in_turn<S: Store>(
     requires { IsOrderOf (length outcomes.now) turns.now }
     ensures texts { (files : Files) (rows_of : ℕ → List Row) → told_files (S.disk store.old) ≡ Some files → CanSearch files rows_of outcomes.now
         → IfOk result (λ made. map (λ text. text.items) made.items ≡ map (outcome_text rows_of) outcomes.now) }
-    ensures whole { (files : Files) (rows_of : ℕ → List Row) → told_files (S.disk store.old) ≡ Some files → CanSearch files rows_of outcomes.now
-        → IfErr result IsOutside }
+    ensures whole { (files : Files) → told_files (S.disk store.old) ≡ Some files → CanRead files outcomes.now → IfErr result IsOutside }
     ensures damaged { (damaged : Damaged) → result ≡ Err (OpenFault.Damaged damaged)
         → (outcome : Outcome) × Contains outcomes.now outcome × SearchesDamaged (told_files (S.disk store.old)) outcome.answer damaged }
     ensures reads { S.disk store.new ≡ S.disk store.old }
@@ -116,8 +115,7 @@ pub fn report<S: Store>(
 ) -> Result<Vec<u8>, OpenFault>
     ensures text { (files : Files) (rows_of : ℕ → List Row) → told_files (S.disk store.old) ≡ Some files → CanSearch files rows_of outcomes.now
         → IfOk result (λ bytes. bytes.items ≡ texts rows_of outcomes.now) }
-    ensures whole { (files : Files) (rows_of : ℕ → List Row) → told_files (S.disk store.old) ≡ Some files → CanSearch files rows_of outcomes.now
-        → IfErr result IsOutside }
+    ensures whole { (files : Files) → told_files (S.disk store.old) ≡ Some files → CanRead files outcomes.now → IfErr result IsOutside }
     ensures damaged { (damaged : Damaged) → result ≡ Err (OpenFault.Damaged damaged)
         → (outcome : Outcome) × Contains outcomes.now outcome × SearchesDamaged (told_files (S.disk store.old)) outcome.answer damaged }
     ensures reads { S.disk store.new ≡ S.disk store.old }

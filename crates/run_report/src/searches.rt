@@ -10,7 +10,7 @@ ghost use Rattle.commit_point.specs.Loading.{IsOutside};
 ghost use Rattle.searcher.specs.Searching.{Searches, IsDamagedIn};
 ghost use Rattle.report_text.specs.Lines.{text_line, search_value};
 ghost use Rattle.run_report.specs.Texts.{outcome_text, answer_text};
-ghost use Rattle.run_report.specs.Searching.{AnswerHolds, HoldsCommit, SearchesDamaged, is_search, IsReadFault};
+ghost use Rattle.run_report.specs.Searching.{AnswerHolds, AnswerReads, HoldsCommit, ReadsCommit, SearchesDamaged, is_search, IsReadFault};
 
 use crate::outcome::{Answer, Outcome};
 use commit_point::OpenFault;
@@ -50,8 +50,7 @@ fn reopen<S: Store>(
     ensures number { OnOk result (commit.new.number ≡ number) }
     ensures rows { (files : Files) (rows_of : ℕ → List Row) → told_files (S.disk store.old) ≡ Some files → Searches commit.old.searcher.segments (rows_of commit.old.number) → rows_of 0 ≡ []
         → (number ≡ 0) ⊎ ((1 ≤ number) × HoldsCommit files number (rows_of number)) → OnOk result (Searches commit.new.searcher.segments (rows_of number)) }
-    ensures whole { (files : Files) (rows : List Row) → told_files (S.disk store.old) ≡ Some files → (number ≡ 0) ⊎ ((1 ≤ number) × HoldsCommit files number rows)
-        → IfErr result IsOutside }
+    ensures whole { (files : Files) → told_files (S.disk store.old) ≡ Some files → (number ≡ 0) ⊎ ((1 ≤ number) × ReadsCommit files number) → IfErr result IsOutside }
     ensures damaged { (damaged : Damaged) → result ≡ Err (OpenFault.Damaged damaged) → (1 ≤ number) × IsDamagedIn (told_files (S.disk store.old)) number damaged }
     ensures reads { S.disk store.new ≡ S.disk store.old }
     ensures later { S.fault_count store.old ≤ S.fault_count store.new }
@@ -98,8 +97,7 @@ pub fn line_text<S: Store>(
     ensures text { (files : Files) (rows_of : ℕ → List Row) → told_files (S.disk store.old) ≡ Some files → Searches commit.old.searcher.segments (rows_of commit.old.number) → rows_of 0 ≡ []
         → AnswerHolds files rows_of outcome.now.answer
         → IfOk result (λ text. (text.items ≡ outcome_text rows_of outcome.now) × Searches commit.new.searcher.segments (rows_of commit.new.number)) }
-    ensures whole { (files : Files) (rows_of : ℕ → List Row) → told_files (S.disk store.old) ≡ Some files → AnswerHolds files rows_of outcome.now.answer
-        → IfErr result IsOutside }
+    ensures whole { (files : Files) → told_files (S.disk store.old) ≡ Some files → AnswerReads files outcome.now.answer → IfErr result IsOutside }
     ensures damaged { (damaged : Damaged) → result ≡ Err (OpenFault.Damaged damaged) → SearchesDamaged (told_files (S.disk store.old)) outcome.now.answer damaged }
     ensures reads { S.disk store.new ≡ S.disk store.old }
     ensures later { S.fault_count store.old ≤ S.fault_count store.new }

@@ -7,7 +7,7 @@ use Rattle.ix_base.specs.declared.document.Row.{Row}
 use Rattle.ix_outside.specs.Files.{Files}
 use Rattle.run_report.specs.declared.outcome.Outcome.{Outcome}
 use Rattle.run_report.specs.declared.assembly.Turn.{Turn}
-use Rattle.run_report.specs.Searching.{AnswerHolds, CanSearch, SearchesDamaged}
+use Rattle.run_report.specs.Searching.{AnswerHolds, AnswerReads, CanRead, CanSearch, SearchesDamaged}
 use Rattle.run_report.proofs.Filled.{FilledAt, filled_more, all_filled, turn_in_range, get_or_any}
 use Rattle.run_report.proofs.assembly.texts_in_turn.Goals as goal
 
@@ -49,11 +49,15 @@ loop-turn-preserved g c =
       later = omega (arith, inv.later, c.line_text.ensures.later);
     }
 
+reads_at : (files : Files) (outcomes : List Outcome) (at : ℕ) (o : Outcome) → at < length outcomes → o ≡ get_or outcomes at o → CanRead files outcomes → AnswerReads files o.answer
+reads_at files outcomes at o lt is can =
+    subst (λ (x : Outcome). AnswerReads files x.answer) (sym is) (All-get_or (λ (x : Outcome). AnswerReads files x.answer) outcomes at o lt can)
+
 pub returns-in-Err-line_text-clause-whole : goal.returns-in-Err-line_text-clause-whole
-returns-in-Err-line_text-clause-whole g c = λ files rows_of told can.
+returns-in-Err-line_text-clause-whole g c = λ files told can.
     let some : Turn = record { commit = 0; at = 0 } in
     let lt = turn_in_range (length c.args.outcomes.now) c.args.turns.now c.loop-turn.turn-index some c.requires c.loop-turn-test.true in
-    c.in-Err-line_text.ensures.whole files rows_of ((ap told_files c.loop-turn.invariant.reads) ∙ told) (holds_at files rows_of c.args.outcomes.now _ c.index-outcomes-turn.result lt c.index-outcomes-turn.is can)
+    c.in-Err-line_text.ensures.whole files ((ap told_files c.loop-turn.invariant.reads) ∙ told) (reads_at files c.args.outcomes.now _ c.index-outcomes-turn.result lt c.index-outcomes-turn.is can)
 
 pub returns-clause-texts : goal.returns-clause-texts
 returns-clause-texts g c = λ files rows_of told can.

@@ -2,13 +2,13 @@ use Rattle.std.proofs.Common.{ℕ, refl, sym, subst}
 use Rattle.searcher.specs.Searching.{Searches}
 use Rattle.std.proofs.lemmas.Result.{IfOk-weaker}
 use Rattle.run_report.specs.declared.outcome.Answer.{Answer}
-use Rattle.run_report.specs.Searching.{AnswerHolds}
+use Rattle.run_report.specs.Searching.{AnswerHolds, AnswerReads}
 use Rattle.run_report.proofs.Found.{not_search, same_text, searched_text}
 use Rattle.run_report.proofs.searches.line_text.Goals as goal
 
 pub returns-in-Err-clause-whole : goal.returns-in-Err-clause-whole
-returns-in-Err-clause-whole g c = λ files rows_of told holds.
-    c.in-Err.ensures.whole files (rows_of c.in-Searched.number) told (subst (λ (a : Answer). AnswerHolds files rows_of a) c.in-Searched.is holds)
+returns-in-Err-clause-whole g c = λ files told reads.
+    c.in-Err.ensures.whole files told (subst (λ (a : Answer). AnswerReads files a) c.in-Searched.is reads)
 
 pub returns-in-Ok-clause-text : goal.returns-in-Ok-clause-text
 returns-in-Ok-clause-text g c = λ files rows_of told same none holds.
