@@ -1,6 +1,6 @@
 -- What is found, by birth, is what the rows give that match.
 use Rattle.std.proofs.Common.{◌≡◌, ℕ, ◌+◌, ◌≤◌, Bool, true, false, cond, List, [], ◌∷◌, map, refl, sym, ap, subst, ◌∙◌, inl, inr, arith}
-use Rattle.std.specs.Prelude.{⊤, IsPermutation}
+use Rattle.std.specs.Prelude.{IsPermutation}
 use Rattle.std.specs.List.{filter, sum_by}
 use Rattle.std.proofs.lemmas.List.Sorted.{Contains-permutation, IsPermutation-sym, sum_by-IsPermutation}
 use Rattle.std.proofs.lemmas.List.Sums.{sum_by-cons}
@@ -12,6 +12,7 @@ use Rattle.ix_base.specs.declared.document.Row.{Row}
 use Rattle.ix_base.specs.declared.query.Query.{Query}
 use Rattle.segment_core.specs.Segments.{all_rows}
 use Rattle.segment_core.specs.declared.segment.Segment.{Segment}
+use Rattle.segment_files.specs.Fits.{BirthsRise}
 use Rattle.searcher.specs.Finding.{AreByBirth, found_of, found_among}
 use Rattle.searcher.specs.Searching.{Searches}
 use Rattle.searcher.specs.declared.found.Found.{Found}
@@ -23,11 +24,6 @@ birth_of found = found.birth
 -- what is found among rows that pass a test
 abbrev tested : (Row → Bool) → List Row → List Found
 tested test rows = map found_of (filter test rows)
-
--- births rise, from some number up to a limit, as those of a commit's rows do
-abbrev BirthsRise : ℕ → ℕ → List Row → Type 0
-BirthsRise low limit [] = ⊤
-BirthsRise low limit (r ∷ rs) = (low ≤ r.birth) × (r.birth ≤ limit) × BirthsRise (r.birth + 1) limit rs
 
 rise_lower : (low high : ℕ) (xs : List Found) → low ≤ high → Rises birth_of high xs → Rises birth_of low xs
 rise_lower low high [] le rise = tt

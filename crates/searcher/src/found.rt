@@ -1,7 +1,6 @@
 //! What a query finds in segments, and its order.
 ghost use Rattle.std.specs.Prelude.{◌≡◌, ◌<◌, ◌^◌, ◌++◌, length, map, OnOk, IfOk};
 ghost use Rattle.std.specs.List.{AllByRecursion, filter_map, slice_get};
-ghost use Rattle.ix_base.specs.Hits.{matching};
 ghost use Rattle.segment_core.specs.Segments.{IsInverted, all_rows};
 ghost use Rattle.segment_core.specs.declared.segment.Segment.{Segment};
 ghost use Rattle.searcher.specs.Finding.{AreByBirth, found_of, found_among};
@@ -36,7 +35,8 @@ fn add_rows(
     rows: &[Row],
     numbers: &[u32],
 ) -> Result<(), NoMemory>
-    ensures { OnOk result (found.new.items ≡ found.old.items ++ map found_of (filter_map (slice_get rows.now) numbers.now)) }
+    ensures { OnOk result (found.new.items
+        ≡ found.old.items ++ map found_of (filter_map (slice_get rows.now) numbers.now)) }
 {
     for number in numbers {
         if let Some(row) = rows.get(*number as usize) {
@@ -53,7 +53,8 @@ fn add_matching(
     query: &Query,
     segment: &Segment,
 ) -> Result<(), NoMemory>
-    ensures { OnOk result (length segment.now.rows < 2 ^ 32 → IsInverted segment.now → found.new.items ≡ found.old.items ++ found_among query.now segment.now.rows) }
+    ensures { OnOk result (length segment.now.rows < 2 ^ 32 → IsInverted segment.now
+        → found.new.items ≡ found.old.items ++ found_among query.now segment.now.rows) }
 {
     let numbers = answer(alloc, query, segment)?;
     add_rows(alloc, found, segment.rows.as_slice(), numbers.as_slice())
@@ -61,7 +62,8 @@ fn add_matching(
 
 /// What matches in segments, one segment after another.
 pub fn found_in(alloc: Global, query: &Query, segments: &[Segment]) -> Result<Vec<Found>, NoMemory>
-    ensures { IfOk result (λ found. AllByRecursion (λ (segment : Segment). length segment.rows < 2 ^ 32) segments.now → AllByRecursion IsInverted segments.now
+    ensures { IfOk result (λ found. AllByRecursion (λ (segment : Segment). length segment.rows < 2 ^ 32) segments.now
+        → AllByRecursion IsInverted segments.now
         → found.items ≡ found_among query.now (all_rows segments.now)) }
 {
     let mut found = Vec::new(alloc);
