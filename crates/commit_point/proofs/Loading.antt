@@ -26,9 +26,6 @@ pub record SoFar (told : Option Files) (head : Head) (before : Files) (i : ℕ) 
   pub unknown : Unknown (λ b. false) segments
   pub known : (b : ℕ) → earlier b ≡ has_birth (all_rows segments) b
 
-pub nothing_yet : (told : Option Files) (head : Head) (before : Files) (earlier : ℕ → Bool) → Was told before → ((b : ℕ) → earlier b ≡ false) → SoFar told head before 0 earlier []
-nothing_yet told head before earlier was none = record { files = before; was = was; commit = refl; each = tt; unknown = tt; known = none }
-
 -- a segment was read
 pub record IsRead (told : Option Files) (s : ℕ) (known : ℕ → Bool) (e : HeadSegment) (g : Segment) : Type 0 where
   pub id : g.id ≡ e.id

@@ -180,13 +180,3 @@ pub refused_at : (s next : ℕ) (segments : List Segment) (list : List File) (by
 refused_at s next segments list bytes a b refused is same refuses =
     subst (λ (xs : List File). Told (λ old now. Refuses (puts_all xs ++ puts (Pending s) (commit_file (new_head s next segments))) (Renamed (Pending s) (Commit s)) refused.fault refused.renamed old now) a b) is
     (subst (λ (x : List ℕ). Told (λ old now. Refuses (puts_all list ++ puts (Pending s) x) (Renamed (Pending s) (Commit s)) refused.fault refused.renamed old now) a b) same refuses)
-
--- nothing was called
-pub tells_nothing : (s : ℕ) (a : Option Disk) (refused : CommitRefused) → refused.renamed ≡ false → TellsRename s a a refused
-tells_nothing s a refused not old now told absent told_now no_memory = (
-  (λ was. absurd (differ (sym not ∙ was))),
-  (λ there. absurd (not_there old now (Commit s) (sym told ∙ told_now) absent there)),
-)
-  where
-    differ : false ≡ true → ⊥
-    differ e = cc

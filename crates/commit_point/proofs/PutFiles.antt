@@ -7,9 +7,6 @@ use Rattle.ix_outside.specs.Disk.{Disk, taken, Stops, Told}
 use Rattle.ix_outside.specs.DiskLaws.{taken_then, stops_early, stops_late, told_then}
 use Rattle.commit_point.specs.Publishing.{File, puts, puts_all}
 
-puts_of : File → List Step
-puts_of file = puts file.0 file.1
-
 puts_then : (xs ys : List File) → puts_all (xs ++ ys) ≡ puts_all xs ++ puts_all ys
 puts_then xs ys = flat_map-append (λ (file : File). puts file.0 file.1) xs ys
 

@@ -33,6 +33,7 @@ const MOST_ROWS: u64 = 2_147_483_647;
 fn row_count(segments: &[Segment]) -> Option<u64>
     ensures rows { IfSome result (λ count. count ≡ length (all_rows segments.now)) }
     ensures most { IfSome result (λ count. count ≤ 2147483647) }
+    ensures above { result ≡ None → 2147483647 < length (all_rows segments.now) }
 {
     let mut left = MOST_ROWS;
     for segment in segments {
