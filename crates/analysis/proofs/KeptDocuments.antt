@@ -8,16 +8,7 @@ use Rattle.ix_base.specs.GroupedLaws.{or_false}
 use Rattle.ix_base.specs.Matches.{stands_at}
 use Rattle.ix_base.specs.Terms.{terms}
 use Rattle.ix_base.specs.declared.document.Row.{Row}
-use Rattle.analysis.specs.Kept.{FieldLists, kept, AreFieldsBelow, AddsPlaces, AreKept}
-
--- a row in which a term stands is the row of a document
-stands_below : (docs : List Document) (f w : List ℕ) (r x : ℕ) → stands_in_row docs f w r x ≡ true → r < length docs
-stands_below [] f w r x h = cc
-stands_below (d ∷ docs) f w zero x h = omega arith
-stands_below (d ∷ docs) f w (suc r) x h = let low = stands_below docs f w r x h in omega arith
-
-pub kept_below : (docs : List Document) (row : ℕ) (fields : FieldLists) → row ≡ length docs → AreKept docs fields → AreFieldsBelow row fields
-kept_below docs row fields is kept f w r x h = let low = stands_below docs f w r x (sym (kept f w r x) ∙ h) in omega (arith, is)
+use Rattle.analysis.specs.Kept.{FieldLists, kept, AddsPlaces, AreKept}
 
 next_same : (n r : ℕ) → (suc n == suc r) ≡ (n == r)
 next_same n r = go (n == r) refl
@@ -56,7 +47,3 @@ rows_more rows i row number old new lt at is kept adds =
     let taken : take (i + 1) rows ≡ take i rows ++ row ∷ [] = take_more rows i row lt ∙ ap (λ (r : Row). take i rows ++ r ∷ []) (sym at) in
     subst (λ (l : List Document). AreKept l new) (sym (ap (map doc_of) taken ∙ map_push doc_of (take i rows) row))
     (kept_more (map doc_of (take i rows)) row.doc number old new (is ∙ docs_so_far rows i lt) kept adds)
-
--- no document
-pub none_kept : AreKept [] []
-none_kept f w r x = refl
