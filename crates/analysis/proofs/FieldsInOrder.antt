@@ -1,5 +1,5 @@
 -- Fields of a document, one after another: none gets a place twice.
-use Rattle.std.proofs.Common.{◌≡◌, ℕ, zero, suc, ◌+◌, ◌<◌, List, [], ◌∷◌, ◌++◌, Bool, true, false, not, ◌&&◌, ◌||◌, ◌==◌, map, length, get_or, take, codes, ◌⊎◌, inl, inr, refl, sym, ap, ◌∙◌, subst, arith}
+use Rattle.std.proofs.Common.{◌≡◌, ℕ, zero, suc, ◌<◌, List, [], ◌∷◌, ◌++◌, Bool, true, false, not, ◌&&◌, ◌||◌, ◌==◌, map, length, get_or, take, codes, ◌⊎◌, inl, inr, refl, sym, ap, ◌∙◌, subst, arith}
 use Rattle.std.specs.List.{flat_map}
 use Rattle.std.specs.Str.{bytes_eq}
 use Rattle.std.specs.Cmp.Lexicographic.{slice_cmp, texts_ties}
@@ -8,7 +8,7 @@ use Rattle.std.specs.declared.cmp.Ordering.{Ordering}
 use Rattle.std.specs.declared.cmp.Ordering.TheVariants.{Less, Equal, Greater}
 use Rattle.std.proofs.lemmas.Bool.{and_parts}
 use Rattle.std.proofs.lemmas.Cmp.{nat_list_cmp_total}
-use Rattle.std.proofs.lemmas.List.{take_more, append-nil, append_assoc}
+use Rattle.std.proofs.lemmas.List.{append-nil, append_assoc}
 use Rattle.std.proofs.lemmas.List.Folds.{list_any-append}
 use Rattle.std.proofs.lemmas.Slice.Eq.{bytes_eq-Decides}
 use Rattle.ix_base.specs.Limits.{text_lt, rise_after, names_rise, is_among, share_name, names_are_apart}
@@ -126,21 +126,10 @@ flat_push : (g : Pair → List Place) (pairs : List Pair) (pair : Pair) → flat
 flat_push g [] pair = append-nil (g pair)
 flat_push g (p ∷ ps) pair = ap (λ (l : List Place). g p ++ l) (flat_push g ps pair) ∙ sym (append_assoc (g p) (flat_map g ps) (g pair))
 
-pub fields_step : (row : ℕ) (cut : Cut) (pairs : List Pair) (i : ℕ) (pair : Pair) (old now new : FieldLists) → i < length pairs → pair ≡ get_or pairs i pair
-    → AddsPlaces row (flat_map (cut_places cut) (take i pairs)) old now → AddsPlaces row (cut_places cut pair) now new
-    → AddsPlaces row (flat_map (cut_places cut) (take (i + 1) pairs)) old new
-fields_step row cut pairs i pair old now new lt is before adds =
-    let taken : take (i + 1) pairs ≡ take i pairs ++ pair ∷ [] = take_more pairs i pair lt ∙ ap (λ (q : Pair). take i pairs ++ q ∷ []) (sym is) in
-    subst (λ (l : List Place). AddsPlaces row l old new) (sym (ap (flat_map (cut_places cut)) taken ∙ flat_push (cut_places cut) (take i pairs) pair))
-    (adds_both row (flat_map (cut_places cut) (take i pairs)) (cut_places cut pair) old now new before adds)
-
 nothing : (a b : Bool) → a ≡ (a || (b && false))
 nothing true b = refl
 nothing false true = refl
 nothing false false = refl
-
-pub fields_begin : (row : ℕ) (cut : Cut) (old : FieldLists) → AddsPlaces row (flat_map (cut_places cut) []) old old
-fields_begin row cut old f w r x = nothing (kept old f w r x) (row == r)
 
 -- ---- the three kinds of fields of a document
 
@@ -190,13 +179,6 @@ text_below row key text exact old first second h below one two field there =
     let apart = are_apart text exact h in
     still_below row (flat_map (cut_places Whole) exact) field first second two (none_of_fields Whole exact field (among_apart (names text) (names exact) field apart.1.1 there))
     (still_below row (cut_places Whole (codes "key", key)) field old first one (none_of_field Whole (codes "key", key) field (among_differs (names text) (codes "key") field apart.0 there)) (below field))
-
-pub exact_below : (row : ℕ) (key : List ℕ) (text exact : List Pair) (old first : FieldLists) → names_are_apart (names text) (names exact) ≡ true
-    → AreFieldsBelow row old → AddsPlaces row (cut_places Whole (codes "key", key)) old first
-    → (field : List ℕ) → is_among (names exact) field ≡ true → IsFieldBelow row field first
-exact_below row key text exact old first h below one field there =
-    let apart = are_apart text exact h in
-    still_below row (cut_places Whole (codes "key", key)) field old first one (none_of_field Whole (codes "key", key) field (among_differs (names exact) (codes "key") field apart.1.0 there)) (below field)
 
 -- the key, the exact fields and the text fields together
 pub adds_document : (row : ℕ) (doc : Document) (old first second third : FieldLists)

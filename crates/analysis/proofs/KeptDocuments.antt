@@ -3,22 +3,12 @@ use Rattle.std.proofs.Common.{◌≡◌, ℕ, zero, suc, ◌+◌, ◌<◌, List,
 use Rattle.std.proofs.lemmas.Bool.{eq-eqb, eqb-true, ne_eqb}
 use Rattle.std.proofs.lemmas.List.{take_more, map_push, length-map, length-take}
 use Rattle.ix_base.specs.Documents.{Document}
-use Rattle.ix_base.specs.Inversion.{stands_in_row, IsInversion}
+use Rattle.ix_base.specs.Inversion.{stands_in_row}
 use Rattle.ix_base.specs.GroupedLaws.{or_false}
 use Rattle.ix_base.specs.Matches.{stands_at}
 use Rattle.ix_base.specs.Terms.{terms}
 use Rattle.ix_base.specs.declared.document.Row.{Row}
-use Rattle.ix_base.specs.declared.postings.Postings.{Postings}
-use Rattle.analysis.specs.Kept.{FieldLists, kept, AreFieldsBelow, AddsPlaces, AreKept, AreAllTerms}
-
--- a row in which a term stands is the row of a document
-stands_below : (docs : List Document) (f w : List ℕ) (r x : ℕ) → stands_in_row docs f w r x ≡ true → r < length docs
-stands_below [] f w r x h = cc
-stands_below (d ∷ docs) f w zero x h = omega arith
-stands_below (d ∷ docs) f w (suc r) x h = let low = stands_below docs f w r x h in omega arith
-
-pub kept_below : (docs : List Document) (row : ℕ) (fields : FieldLists) → row ≡ length docs → AreKept docs fields → AreFieldsBelow row fields
-kept_below docs row fields is kept f w r x h = let low = stands_below docs f w r x (sym (kept f w r x) ∙ h) in omega (arith, is)
+use Rattle.analysis.specs.Kept.{FieldLists, kept, AddsPlaces, AreKept}
 
 next_same : (n r : ℕ) → (suc n == suc r) ≡ (n == r)
 next_same n r = go (n == r) refl
@@ -51,26 +41,9 @@ doc_of row = row.doc
 docs_so_far : (rows : List Row) (i : ℕ) → i < length rows → i ≡ length (map doc_of (take i rows))
 docs_so_far rows i lt = omega (arith, length-map (take i rows) doc_of, length-take i rows)
 
--- all rows so far are below the next one
-pub rows_below : (rows : List Row) (i : ℕ) (number : ℕ) (fields : FieldLists) → i < length rows → number ≡ i → AreKept (map doc_of (take i rows)) fields → AreFieldsBelow number fields
-rows_below rows i number fields lt is kept = kept_below (map doc_of (take i rows)) number fields (is ∙ docs_so_far rows i lt) kept
-
 pub rows_more : (rows : List Row) (i : ℕ) (row : Row) (number : ℕ) (old new : FieldLists) → i < length rows → row ≡ get_or rows i row → number ≡ i
     → AreKept (map doc_of (take i rows)) old → AddsPlaces number (terms row.doc) old new → AreKept (map doc_of (take (i + 1) rows)) new
 rows_more rows i row number old new lt at is kept adds =
     let taken : take (i + 1) rows ≡ take i rows ++ row ∷ [] = take_more rows i row lt ∙ ap (λ (r : Row). take i rows ++ r ∷ []) (sym at) in
     subst (λ (l : List Document). AreKept l new) (sym (ap (map doc_of) taken ∙ map_push doc_of (take i rows) row))
     (kept_more (map doc_of (take i rows)) row.doc number old new (is ∙ docs_so_far rows i lt) kept adds)
-
--- no document
-pub none_kept : AreKept [] []
-none_kept f w r x = refl
-
-pub one_kept : (doc : Document) (new : FieldLists) → AddsPlaces 0 (terms doc) [] new → AreKept (doc ∷ []) new
-one_kept doc new adds = kept_more [] doc 0 [] new refl none_kept adds
-
-pub nothing_below : AreFieldsBelow 0 []
-nothing_below f w r x h = cc
-
-pub inversion_of : (docs : List Document) (fields : FieldLists) (postings : Postings) → AreKept docs fields → AreAllTerms fields postings.terms → IsInversion docs postings
-inversion_of docs fields postings kept made = record { ordered = made.ordered; exact = λ f w r x. made.exact f w r x ∙ kept f w r x }

@@ -6,3 +6,4 @@ pub mod FieldPlaces
 pub mod AllTerms
 pub mod FieldsInOrder
 pub mod KeptDocuments
+pub mod AsciiWords

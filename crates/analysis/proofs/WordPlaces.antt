@@ -1,9 +1,9 @@
 -- The words of one field, of which one gets a place.
-use Rattle.std.proofs.Common.{◌≡◌, ℕ, ◌+◌, ◌<◌, List, [], ◌∷◌, ◌++◌, Bool, true, false, ◌&&◌, ◌||◌, ◌==◌, Option, Some, None, Result, Ok, Err, OnOk, OnErr, IfSome, map, length, ◌⊎◌, inl, inr, refl, sym, ap, ◌∙◌, subst, arith}
+use Rattle.std.proofs.Common.{◌≡◌, ℕ, ◌<◌, List, [], ◌∷◌, ◌++◌, Bool, true, false, ◌&&◌, ◌||◌, ◌==◌, Option, Some, None, Result, Ok, Err, OnOk, OnErr, IfSome, map, length, ◌⊎◌, inl, inr, refl, sym, ap, ◌∙◌, subst, arith}
 use Rattle.std.specs.List.{All}
 use Rattle.std.specs.Str.{bytes_eq}
 use Rattle.std.specs.Map.{lookup, set_value, values_of}
-use Rattle.std.proofs.lemmas.Bool.{and_from, and_parts, eq-eqb, eqb-true}
+use Rattle.std.proofs.lemmas.Bool.{and_from, eq-eqb}
 use Rattle.std.proofs.lemmas.List.{map-append}
 use Rattle.std.proofs.lemmas.Map.Views.{All-values-set_value, IfSome-lookup_from_All}
 use Rattle.indexmap.specs.IndexMap.{insert_entry}
@@ -12,7 +12,7 @@ use Rattle.ix_base.proofs.Ends.{All-push}
 use Rattle.ix_base.specs.Grouped.{ArePostings}
 use Rattle.ix_base.specs.Inversion.{posted_at}
 use Rattle.ix_base.specs.declared.postings.Posting.{Posting}
-use Rattle.analysis.specs.Kept.{WordLists, kept_in, spelled_from, IsWordList, IsWordBefore, AreWordsBelow, AddsWord, AddsWords}
+use Rattle.analysis.specs.Kept.{WordLists, kept_in, spelled_from, IsWordList, IsWordBefore, AddsWord}
 use Rattle.analysis.proofs.Entries.{any_map, finds, finds_set, finds_there, finds_push}
 
 -- the words of keys, with their places
@@ -93,9 +93,6 @@ pub record WordsLeft (row : ℕ) (all : List (List ℕ)) (position : ℕ) (left 
   pub before : (w : List ℕ) → IsWordBefore row position w now
   pub adds : (w : List ℕ) (r x : ℕ) → (kept_in now w r x || ((row == r) && spelled_from position left w x)) ≡ (kept_in old w r x || ((row == r) && spelled_from 0 all w x))
 
-pub words_begin : (row : ℕ) (all : List (List ℕ)) (old : WordLists) → AreWordsBelow row old → WordsLeft row all 0 all old old
-words_begin row all old below = record { before = λ w r x h. inl (below w r x h); adds = λ w r x. refl }
-
 either : (a b : Bool) → (a || b) ≡ true → (a ≡ true) ⊎ (b ≡ true)
 either true b e = inl refl
 either false b e = inr e
@@ -111,43 +108,7 @@ moved false true false s false = refl
 moved false false p s true = refl
 moved false false p s false = refl
 
-pub words_step : (row position : ℕ) (word : List ℕ) (all rest : List (List ℕ)) (old now new : WordLists)
-    → WordsLeft row all position (word ∷ rest) old now → AddsWord row position word now new → WordsLeft row all (position + 1) rest old new
-words_step row position word all rest old now new h adds = record {
-  before = λ w r x kept. go w r x (either (kept_in now w r x) (bytes_eq word w && ((row == r) && (position == x))) (sym (adds w r x) ∙ kept));
-  adds = λ w r x.
-      ap (λ (b : Bool). b || ((row == r) && spelled_from (position + 1) rest w x)) (adds w r x)
-      ∙ moved (kept_in now w r x) (bytes_eq word w) (position == x) (spelled_from (position + 1) rest w x) (row == r)
-      ∙ h.adds w r x;
-}
-  where
-    later : (r x : ℕ) → (r < row) ⊎ ((r ≡ row) × (x < position)) → (r < row) ⊎ ((r ≡ row) × (x < position + 1))
-    later r x (inl l) = inl l
-    later r x (inr e) = let low : x < position = e.1 in inr (e.0, omega arith)
-
-    go : (w : List ℕ) (r x : ℕ) → (kept_in now w r x ≡ true) ⊎ ((bytes_eq word w && ((row == r) && (position == x))) ≡ true) → (r < row) ⊎ ((r ≡ row) × (x < position + 1))
-    go w r x (inl k) = later r x (h.before w r x k)
-    go w r x (inr k) =
-        let place = (and_parts (bytes_eq word w) ((row == r) && (position == x)) k).1 in
-        let parts = and_parts (row == r) (position == x) place in
-        let at : position ≡ x = eqb-true position x parts.1 in
-        inr (sym (eqb-true row r parts.0), omega arith)
-
 nothing : (a b : Bool) → a ≡ (a || (b && false))
 nothing true b = refl
 nothing false true = refl
 nothing false false = refl
-
-pub words_end : (row position : ℕ) (all : List (List ℕ)) (old now : WordLists) → WordsLeft row all position [] old now → AddsWords row all old now
-words_end row position all old now h w r x = nothing (kept_in now w r x) (row == r) ∙ h.adds w r x
-
--- a word alone
-pub lone_word : (row : ℕ) (word : List ℕ) (old new : WordLists) → AddsWord row 0 word old new → AddsWords row (word ∷ []) old new
-lone_word row word old new adds w r x = adds w r x ∙ ap (λ (b : Bool). kept_in old w r x || b) (turned (bytes_eq word w) (row == r) (0 == x))
-  where
-    turned : (w here p : Bool) → (w && (here && p)) ≡ (here && ((w && p) || false))
-    turned true true true = refl
-    turned true true false = refl
-    turned true false p = refl
-    turned false true p = refl
-    turned false false p = refl

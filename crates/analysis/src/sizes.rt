@@ -3,6 +3,7 @@ ghost use Rattle.std.specs.Prelude.{◌≡◌, [], map, length, nat_lt, Some, No
 ghost use Rattle.std.specs.List.{flat_map};
 ghost use Rattle.ix_base.specs.Terms.{terms, long_term, folded_words, placed_from, whole, text_places};
 
+use crate::words::fold_into;
 use ix_base::{Document, Name, NoMemory, Text};
 use std::alloc::Global;
 use unicode_segmentation::UnicodeSegmentation;
@@ -36,9 +37,10 @@ fn long_whole(fields: &[(Name, Text)]) -> Option<u64>
 fn long_word(alloc: Global, text: &str) -> Result<Option<u64>, NoMemory>
     ensures { IfOk result (λ size. size ≡ long_term (placed_from 0 [] (folded_words text.now))) }
 {
+    let mut scratch = String::new(alloc);
     for word in text.unicode_words() {
-        let word = caseless::default_case_fold_str(alloc, word)?;
-        if let Some(size) = long_size(word.as_str()) {
+        fold_into(&mut scratch, word)?;
+        if let Some(size) = long_size(scratch.as_str()) {
             return Ok(Some(size));
         }
     }

@@ -18,11 +18,16 @@ fn fold_word(alloc: Global, word: &str) -> Result<Text, NoMemory>
     }
 }
 
-/// Makes a string of a folded word.
+/// Makes a string of a folded word. A word of ASCII characters alone needs no table.
 pub fn fold_into(scratch: &mut String, word: &str) -> Result<(), NoMemory>
     ensures { OnOk result (string_bytes scratch.new ≡ folded word.now) }
 {
     scratch.clear();
+    if word.is_ascii() {
+        scratch.push_str(word)?;
+        scratch.make_ascii_lowercase();
+        return Ok(());
+    }
     scratch.extend(word.chars().default_case_fold())?;
     Ok(())
 }

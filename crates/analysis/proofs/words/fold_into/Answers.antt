@@ -1,11 +1,19 @@
-use Rattle.std.proofs.Common.{◌≡◌, ◌∙◌, ◌++◌, List, ℕ, ap, subst, OnOk, string_bytes}
+use Rattle.std.proofs.Common.{◌≡◌, ◌∙◌, ◌++◌, List, ℕ, ap, map, subst, OnOk, string_bytes}
 use Rattle.ix_base.specs.Terms.{folded}
+use Rattle.std.specs.Char.{to_ascii_lowercase}
+use Rattle.analysis.proofs.AsciiWords.{folded_ascii}
 use Rattle.std.specs.Str.Iter.{chars_steps}
 use Rattle.std.proofs.lemmas.Iterator.Adapters.{items_from_extend}
 use Rattle.unicode_normalization.proofs.IterLemmas.{Spells-chars}
 use Rattle.caseless.specs.CaseFold.{CaseFoldSteps}
 use Rattle.caseless.proofs.CaselessLemmas.{Spells-CaseFold}
 use Rattle.analysis.proofs.words.fold_into.Goals as goal
+
+pub returns-then-is_ascii : goal.returns-then-is_ascii
+returns-then-is_ascii c =
+    let word = c.args.word.now in
+    let copied : string_bytes c.push_str.new.self ≡ word = c.in_ok-push_str.ensures.bytes ∙ ap (λ (l : List ℕ). l ++ word) c.clear.ensures.bytes in
+    c.make_ascii_lowercase.ensures.bytes ∙ ap (map to_ascii_lowercase) copied ∙ folded_ascii word c.if-is_ascii.ensures.cases
 
 pub returns : goal.returns
 returns c =
