@@ -1,1 +1,3 @@
 pub mod Segments
+pub mod LiveRows
+pub mod Marking

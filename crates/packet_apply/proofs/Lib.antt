@@ -1,0 +1,3 @@
+mod Staged
+mod Oks
+mod Putting

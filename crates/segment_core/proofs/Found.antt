@@ -1,0 +1,162 @@
+-- The rows that were found by an update, and their marks.
+use Rattle.std.proofs.Common.{◌≡◌, ◌∙◌, ℕ, zero, suc, ℤ, ◌+◌, ◌<◌, ◌≤◌, List, [], ◌∷◌, ◌++◌, Bool, true, false, cond, map, length, nat_lt, get_or, refl, sym, ap, arith, append_assoc, if◌then◌else◌}
+use Rattle.std.proofs.lemmas.List.{length-append}
+use Rattle.std.proofs.lemmas.Bool.{lt-ltb}
+use Rattle.ix_base.specs.Matches.{matches, holds_term}
+use Rattle.ix_base.specs.Query.{tree_of}
+use Rattle.ix_base.specs.Inversion.{rows_where, rows_from}
+use Rattle.ix_base.specs.Documents.{Document}
+use Rattle.ix_base.specs.declared.document.Row.{Row}
+use Rattle.ix_base.specs.declared.document.Term.{Term}
+use Rattle.ix_base.specs.declared.query.Query.{Query}
+use Rattle.ix_base.specs.declared.document.Operation.TheVariants.{DeleteTerm, DeleteQuery, SetNumber}
+use Rattle.live_docs.specs.declared.live_docs.Mark.{Mark}
+use Rattle.live_docs.specs.Marks.{killed, valued, changed_at}
+use Rattle.row_fates.specs.Fate.{Numbered}
+use Rattle.segment_core.specs.LiveRows.{above}
+use Rattle.segment_core.specs.Marking.{marks_touched, marks_after, with_rows, born_before, hit, hits}
+use borrow.Author.Tests.{ltb-true}
+
+-- ---- by the rows that were found
+
+-- a row that passes the test and was born before the number
+abbrev pub where_marked : ℕ → (Document → Bool) → (Mark → Mark) → Row → Mark → Mark
+where_marked n test f row m = if nat_lt row.birth n then (if test row.doc then f m else m) else m
+
+birth_at : (n : ℕ) (pre : List Row) (row : Row) (rest : List Row) → born_before n (pre ++ row ∷ rest) (length pre) ≡ nat_lt row.birth n
+birth_at n [] row rest = refl
+birth_at n (x ∷ pre) row rest = birth_at n pre row rest
+
+change_at : (f : Mark → Mark) (pre : List Mark) (m : Mark) (rest : List Mark) → changed_at f (length pre) (pre ++ m ∷ rest) ≡ pre ++ f m ∷ rest
+change_at f [] m rest = refl
+change_at f (x ∷ pre) m rest = ap (λ (ms : List Mark). x ∷ ms) (change_at f pre m rest)
+
+hit_at : (n : ℕ) (f : Mark → Mark) (pre : List Row) (row : Row) (rest : List Row) (mpre : List Mark) (m : Mark) (mrest : List Mark) (k : ℕ) → k ≡ length pre → length mpre ≡ length pre
+    → hit n f (pre ++ row ∷ rest) k (mpre ++ m ∷ mrest) ≡ mpre ++ (if nat_lt row.birth n then f m else m) ∷ mrest
+hit_at n f pre row rest mpre m mrest k at same =
+    ap (λ i. cond (born_before n (pre ++ row ∷ rest) i) (changed_at f k (mpre ++ m ∷ mrest)) (mpre ++ m ∷ mrest)) at
+    ∙ (ap (λ b. cond b (changed_at f k (mpre ++ m ∷ mrest)) (mpre ++ m ∷ mrest)) (birth_at n pre row rest)
+    ∙ (ap (λ i. cond (nat_lt row.birth n) (changed_at f i (mpre ++ m ∷ mrest)) (mpre ++ m ∷ mrest)) (at ∙ sym same)
+    ∙ (ap (λ ms. cond (nat_lt row.birth n) ms (mpre ++ m ∷ mrest)) (change_at f mpre m mrest)
+    ∙ by (nat_lt row.birth n))))
+  where
+    by : (b : Bool) → cond b (mpre ++ f m ∷ mrest) (mpre ++ m ∷ mrest) ≡ mpre ++ (if b then f m else m) ∷ mrest
+    by true = refl
+    by false = refl
+
+found_from : (n : ℕ) (f : Mark → Mark) (test : Document → Bool) (rest : List Row) (mrest : List Mark) (pre : List Row) (mpre : List Mark) (k : ℕ)
+    → k ≡ length pre → length mpre ≡ length pre → length mrest ≡ length rest
+    → hits n f (pre ++ rest) (rows_from k test (map (λ (row : Row). row.doc) rest)) (mpre ++ mrest) ≡ mpre ++ with_rows (where_marked n test f) rest mrest
+found_from n f test [] mrest pre mpre k at same long = refl
+found_from n f test (row ∷ rest) [] pre mpre k at same long = absurd (omega arith)
+found_from n f test (row ∷ rest) (m ∷ mrest) pre mpre k at same long =
+    by (test row.doc) (λ x. shift x (found_from n f test rest mrest (pre ++ row ∷ []) (mpre ++ x ∷ []) (k + 1) longer (longest x) (omega arith)))
+  where
+    P : List Row
+    P = pre ++ row ∷ rest
+
+    R : List ℕ
+    R = rows_from (k + 1) test (map (λ (row : Row). row.doc) rest)
+
+    W : List Mark
+    W = with_rows (where_marked n test f) rest mrest
+
+    longer : k + 1 ≡ length (pre ++ row ∷ [])
+    longer = let e = length-append pre (row ∷ []) in omega (arith, e)
+
+    longest : (x : Mark) → length (mpre ++ x ∷ []) ≡ length (pre ++ row ∷ [])
+    longest x = let e = length-append pre (row ∷ []) in let d = length-append mpre (x ∷ []) in omega (arith, e, d)
+
+    shift : (x : Mark) → hits n f ((pre ++ row ∷ []) ++ rest) R ((mpre ++ x ∷ []) ++ mrest) ≡ (mpre ++ x ∷ []) ++ W → hits n f P R (mpre ++ x ∷ mrest) ≡ mpre ++ x ∷ W
+    shift x e =
+        ap (λ rows. hits n f rows R (mpre ++ x ∷ mrest)) (sym (append_assoc pre (row ∷ []) rest))
+        ∙ (ap (λ ms. hits n f ((pre ++ row ∷ []) ++ rest) R ms) (sym (append_assoc mpre (x ∷ []) mrest))
+        ∙ (e ∙ append_assoc mpre (x ∷ []) W))
+
+    same_mark : (b : Bool) → cond b m m ≡ m
+    same_mark true = refl
+    same_mark false = refl
+
+    by : (t : Bool) → ((x : Mark) → hits n f P R (mpre ++ x ∷ mrest) ≡ mpre ++ x ∷ W)
+        → hits n f P (if t then k ∷ R else R) (mpre ++ m ∷ mrest) ≡ mpre ++ (if nat_lt row.birth n then (if t then f m else m) else m) ∷ W
+    by true more = ap (hits n f P R) (hit_at n f pre row rest mpre m mrest k at same) ∙ more (if nat_lt row.birth n then f m else m)
+    by false more = more m ∙ ap (λ (x : Mark). mpre ++ x ∷ W) (sym (same_mark (nat_lt row.birth n)))
+
+-- the rows that were found by a test are those that pass it
+pub found_where : (n : ℕ) (f : Mark → Mark) (test : Document → Bool) (rows : List Row) (marks : List Mark) → length marks ≡ length rows
+    → hits n f rows (rows_where test (map (λ (row : Row). row.doc) rows)) marks ≡ with_rows (where_marked n test f) rows marks
+found_where n f test rows marks long = found_from n f test rows marks [] [] 0 refl refl long
+
+-- ---- lengths
+
+pub length-with_rows : (f : Row → Mark → Mark) (rows : List Row) (marks : List Mark) → length marks ≡ length rows → length (with_rows f rows marks) ≡ length rows
+length-with_rows f [] marks long = long
+length-with_rows f (row ∷ rows) [] long = long
+length-with_rows f (row ∷ rows) (m ∷ marks) long = let more : length (with_rows f rows marks) ≡ length rows = length-with_rows f rows marks (omega arith) in omega arith
+
+pub length-changed_at : (f : Mark → Mark) (i : ℕ) (marks : List Mark) → length (changed_at f i marks) ≡ length marks
+length-changed_at f i [] = refl
+length-changed_at f zero (m ∷ marks) = refl
+length-changed_at f (suc i) (m ∷ marks) = ap suc (length-changed_at f i marks)
+
+pub length-hit : (n : ℕ) (f : Mark → Mark) (rows : List Row) (i : ℕ) (marks : List Mark) → length (hit n f rows i marks) ≡ length marks
+length-hit n f rows i marks = by (born_before n rows i)
+  where
+    by : (b : Bool) → length (if b then changed_at f i marks else marks) ≡ length marks
+    by true = length-changed_at f i marks
+    by false = refl
+
+pub length-hits : (n : ℕ) (f : Mark → Mark) (rows : List Row) (found : List ℕ) (marks : List Mark) → length (hits n f rows found marks) ≡ length marks
+length-hits n f rows [] marks = refl
+length-hits n f rows (i ∷ found) marks = length-hits n f rows found (hit n f rows i marks) ∙ length-hit n f rows i marks
+
+-- ---- one update more
+
+taken_more : (low : ℕ) (o : Numbered) (rest : List Numbered) (rows : List Row) (marks after : List Mark) → low < o.0 → after ≡ marks_touched o rows marks
+    → marks_after (above low rest) rows after ≡ marks_after (above low (o ∷ rest)) rows marks
+taken_more low o rest rows marks after lt e =
+    ap (marks_after (above low rest) rows) e ∙ sym (ap (λ b. marks_after (cond b (o ∷ above low rest) (above low rest)) rows marks) (lt-ltb low o.0 lt))
+
+not_less : (low n : ℕ) → n ≤ low → nat_lt low n ≡ false
+not_less low n le = by (nat_lt low n) refl
+  where
+    by : (b : Bool) → nat_lt low n ≡ b → b ≡ false
+    by true e = absurd (omega (arith, ltb-true low n e))
+    by false e = refl
+
+pub passed_more : (low : ℕ) (o : Numbered) (rest : List Numbered) (rows : List Row) (marks : List Mark) → o.0 ≤ low
+    → marks_after (above low rest) rows marks ≡ marks_after (above low (o ∷ rest)) rows marks
+passed_more low o rest rows marks le = sym (ap (λ b. marks_after (cond b (o ∷ above low rest) (above low rest)) rows marks) (not_less low o.0 le))
+
+pub term_taken : (low n : ℕ) (t : Term) (rest : List Numbered) (rows : List Row) (found : List ℕ) (marks : List Mark) → low < n → length marks ≡ length rows
+    → found ≡ rows_where (holds_term t.field t.bytes) (map (λ (row : Row). row.doc) rows)
+    → marks_after (above low rest) rows (hits n killed rows found marks) ≡ marks_after (above low ((n, DeleteTerm t) ∷ rest)) rows marks
+term_taken low n t rest rows found marks lt long is =
+    taken_more low (n, DeleteTerm t) rest rows marks (hits n killed rows found marks) lt
+    (ap (λ f. hits n killed rows f marks) is ∙ found_where n killed (holds_term t.field t.bytes) rows marks long)
+
+pub query_taken : (low n : ℕ) (q : Query) (rest : List Numbered) (rows : List Row) (found : List ℕ) (marks : List Mark) → low < n → length marks ≡ length rows
+    → found ≡ rows_where (matches (tree_of q)) (map (λ (row : Row). row.doc) rows)
+    → marks_after (above low rest) rows (hits n killed rows found marks) ≡ marks_after (above low ((n, DeleteQuery q) ∷ rest)) rows marks
+query_taken low n q rest rows found marks lt long is =
+    taken_more low (n, DeleteQuery q) rest rows marks (hits n killed rows found marks) lt
+    (ap (λ f. hits n killed rows f marks) is ∙ found_where n killed (matches (tree_of q)) rows marks long)
+
+pub setting_taken : (low n : ℕ) (t : Term) (name : List ℕ) (value : ℤ) (rest : List Numbered) (rows : List Row) (found : List ℕ) (marks : List Mark) → low < n → length marks ≡ length rows
+    → found ≡ rows_where (holds_term t.field t.bytes) (map (λ (row : Row). row.doc) rows)
+    → marks_after (above low rest) rows (hits n (valued name value) rows found marks) ≡ marks_after (above low ((n, SetNumber t name value) ∷ rest)) rows marks
+setting_taken low n t name value rest rows found marks lt long is =
+    taken_more low (n, SetNumber t name value) rest rows marks (hits n (valued name value) rows found marks) lt
+    (ap (λ f. hits n (valued name value) rows f marks) is ∙ found_where n (valued name value) (holds_term t.field t.bytes) rows marks long)
+
+-- ---- as the calls tell it
+
+pub born_at : (n : ℕ) (rows : List Row) (i : ℕ) (row : Row) → i < length rows → row ≡ get_or rows i row → nat_lt row.birth n ≡ born_before n rows i
+born_at n [] i row lt e = absurd (omega arith)
+born_at n (x ∷ rows) zero row lt e = ap (λ (r : Row). nat_lt r.birth n) e
+born_at n (x ∷ rows) (suc i) row lt e = born_at n rows i row (omega arith) e
+
+pub born_past : (n : ℕ) (rows : List Row) (i : ℕ) → length rows ≤ i → false ≡ born_before n rows i
+born_past n [] i le = refl
+born_past n (x ∷ rows) zero le = absurd (omega arith)
+born_past n (x ∷ rows) (suc i) le = born_past n rows i (omega arith)

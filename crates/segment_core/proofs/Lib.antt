@@ -1,0 +1,6 @@
+pub mod Above
+mod SetOver
+mod Marking
+mod Found
+mod Later
+mod BuiltRows

@@ -1,0 +1,211 @@
+//! Updates applied to the rows of a segment. What it costs grows with the updates and with the rows
+//! that they hit, not with updates times rows.
+ghost use Rattle.std.specs.Prelude.{◌≡◌, ◌<◌, map, length, OnOk, IsTrue};
+ghost use Rattle.frozen_packet.specs.Updates.{as_operations, term_delete, query_delete, setting};
+ghost use Rattle.live_docs.specs.Marks.{killed, valued};
+ghost use Rattle.segment_core.specs.Segments.{documents, IsInverted};
+ghost use Rattle.segment_core.specs.LiveRows.{IsWhole, above, Fated, MarksLater};
+ghost use Rattle.segment_core.specs.Marking.{marks_after, born_before, hit, hits};
+
+use crate::segment::Segment;
+use frozen_packet::{DeletedTerms, QueryDelete, Setting, Updates};
+use ix_base::{NoMemory, Row};
+use live_docs::LiveDocs;
+use query_core::{Inverted, answer};
+use std::alloc::Global;
+
+/// Whether there is a row of this index that was born before the number.
+fn is_born_before(number: u64, rows: &[Row], row: u32) -> bool
+    ensures born { result ≡ born_before number rows.now row }
+    ensures within { IsTrue result → row < length rows.now }
+{
+    match rows.get(row as usize) {
+        Some(row) => row.birth < number,
+        None => false,
+    }
+}
+
+/// Kills the row if it was born before the number.
+fn kill_older(number: u64, rows: &[Row], row: u32, live: &mut LiveDocs)
+    requires { length live.old.marks ≡ length rows.now }
+    ensures { let marks = hit number killed rows.now row live.old.marks in
+        live.new ≡ record live.old { marks = marks } }
+{
+    if is_born_before(number, rows, row) {
+        live.kill(row);
+    }
+}
+
+/// Sets a number of the row if it was born before the setting's own number.
+fn set_older(
+    alloc: Global,
+    setting: &Setting,
+    rows: &[Row],
+    row: u32,
+    live: &mut LiveDocs,
+) -> Result<(), NoMemory>
+    requires { length live.old.marks ≡ length rows.now }
+    ensures { let change = valued setting.now.num setting.now.value in
+        let marks = hit setting.now.number change rows.now row live.old.marks in
+        OnOk result (live.new ≡ record live.old { marks = marks }) }
+{
+    if is_born_before(setting.number, rows, row) {
+        live.set_value(alloc, row, &setting.num, setting.value)
+    } else {
+        Ok(())
+    }
+}
+
+/// Kills those of the found rows that were born before the number.
+fn kill_found(rows: &[Row], live: &mut LiveDocs, found: &[u32], number: u64)
+    requires { length live.old.marks ≡ length rows.now }
+    ensures { let marks = hits number killed rows.now found.now live.old.marks in
+        live.new ≡ record live.old { marks = marks } }
+{
+    for row in found {
+        kill_older(number, rows, *row, live);
+    }
+}
+
+/// Sets a number in those of the found rows that were born before the setting's own number.
+fn set_found(
+    alloc: Global,
+    rows: &[Row],
+    live: &mut LiveDocs,
+    found: &[u32],
+    setting: &Setting,
+) -> Result<(), NoMemory>
+    requires { length live.old.marks ≡ length rows.now }
+    ensures { let change = valued setting.now.num setting.now.value in
+        let marks = hits setting.now.number change rows.now found.now live.old.marks in
+        OnOk result (live.new ≡ record live.old { marks = marks }) }
+{
+    for row in found {
+        set_older(alloc, setting, rows, *row, live)?;
+    }
+    Ok(())
+}
+
+/// Applies the deletes by term that are numbered above `low`.
+fn apply_deletes<I: Inverted>(
+    alloc: Global,
+    index: &I,
+    rows: &[Row],
+    deletes: &DeletedTerms,
+    low: u64,
+    live: &mut LiveDocs,
+) -> Result<(), NoMemory>
+    requires { length live.old.marks ≡ length rows.now }
+    ensures applied { OnOk result (live.new.applied ≡ live.old.applied) }
+    ensures long { OnOk result (length live.new.marks ≡ length rows.now) }
+    ensures later { OnOk result (MarksLater live.old.marks live.new.marks) }
+    ensures marks { let ops = above low (map term_delete deletes.now) in
+        let marks = marks_after ops rows.now live.old.marks in
+        OnOk result (I.inverts index.now (documents rows.now) → live.new.marks ≡ marks) }
+{
+    for (key, number) in deletes.as_map() {
+        if *number <= low {
+            continue;
+        }
+        let found = index.holding(alloc, key.term())?;
+        kill_found(rows, live, found.as_slice(), *number);
+    }
+    Ok(())
+}
+
+/// Applies the deletes by query that are numbered above `low`.
+fn apply_queries<I: Inverted>(
+    alloc: Global,
+    index: &I,
+    rows: &[Row],
+    queries: &[QueryDelete],
+    low: u64,
+    live: &mut LiveDocs,
+) -> Result<(), NoMemory>
+    requires { length live.old.marks ≡ length rows.now }
+    ensures applied { OnOk result (live.new.applied ≡ live.old.applied) }
+    ensures long { OnOk result (length live.new.marks ≡ length rows.now) }
+    ensures later { OnOk result (MarksLater live.old.marks live.new.marks) }
+    ensures marks { let ops = above low (map query_delete queries.now) in
+        let marks = marks_after ops rows.now live.old.marks in
+        OnOk result (I.inverts index.now (documents rows.now) → live.new.marks ≡ marks) }
+{
+    for delete in queries {
+        if delete.number <= low {
+            continue;
+        }
+        let found = answer(alloc, &delete.query, index)?;
+        kill_found(rows, live, found.as_slice(), delete.number);
+    }
+    Ok(())
+}
+
+/// Applies the settings that are numbered above `low`, in order.
+fn apply_settings<I: Inverted>(
+    alloc: Global,
+    index: &I,
+    rows: &[Row],
+    settings: &[Setting],
+    low: u64,
+    live: &mut LiveDocs,
+) -> Result<(), NoMemory>
+    requires { length live.old.marks ≡ length rows.now }
+    ensures applied { OnOk result (live.new.applied ≡ live.old.applied) }
+    ensures long { OnOk result (length live.new.marks ≡ length rows.now) }
+    ensures later { OnOk result (MarksLater live.old.marks live.new.marks) }
+    ensures marks { let ops = above low (map setting settings.now) in
+        let marks = marks_after ops rows.now live.old.marks in
+        OnOk result (I.inverts index.now (documents rows.now) → live.new.marks ≡ marks) }
+{
+    for setting in settings {
+        if setting.number <= low {
+            continue;
+        }
+        let found = index.holding(alloc, &setting.term)?;
+        set_found(alloc, rows, live, found.as_slice(), setting)?;
+    }
+    Ok(())
+}
+
+/// Applies the updates that are numbered above `low`.
+fn mark_updates<I: Inverted>(
+    alloc: Global,
+    index: &I,
+    rows: &[Row],
+    updates: &Updates,
+    low: u64,
+    live: &mut LiveDocs,
+) -> Result<(), NoMemory>
+    requires { length live.old.marks ≡ length rows.now }
+    ensures applied { OnOk result (live.new.applied ≡ live.old.applied) }
+    ensures long { OnOk result (length live.new.marks ≡ length rows.now) }
+    ensures later { OnOk result (MarksLater live.old.marks live.new.marks) }
+    ensures marks { let ops = above low (as_operations updates.now) in
+        let marks = marks_after ops rows.now live.old.marks in
+        OnOk result (I.inverts index.now (documents rows.now) → live.new.marks ≡ marks) }
+{
+    apply_deletes(alloc, index, rows, updates.deletes(), low, live)?;
+    apply_queries(alloc, index, rows, updates.queries(), low, live)?;
+    apply_settings(alloc, index, rows, updates.settings(), low, live)
+}
+
+/// Applies to the segment's live docs the updates that are numbered above `low`: rows die, and
+/// numbers are set. Updates act only on rows that were born before them. The live docs keep their
+/// applied number. After an error some of the updates may be in them.
+pub fn apply_updates(
+    alloc: Global,
+    segment: &Segment,
+    updates: &Updates,
+    low: u64,
+    live: &mut LiveDocs,
+) -> Result<(), NoMemory>
+    requires { IsWhole segment.now live.old }
+    ensures applied { OnOk result (live.new.applied ≡ live.old.applied) }
+    ensures whole { OnOk result (IsWhole segment.now live.new) }
+    ensures later { OnOk result (MarksLater live.old.marks live.new.marks) }
+    ensures fates { let fates = Fated low updates.now segment.now.rows in
+        OnOk result (IsInverted segment.now → fates live.old.marks live.new.marks) }
+{
+    let rows = segment.rows.as_slice();
+    mark_updates(alloc, segment, rows, updates, low, live)
+}
