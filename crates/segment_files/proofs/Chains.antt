@@ -1,26 +1,22 @@
 -- Items that each come after the one before them rise, and items that rise come so.
-use Rattle.std.proofs.Common.{◌≡◌, ℕ, ◌<◌, zero, suc, Bool, true, false, not, ◌&&◌, ◌||◌, List, [], ◌∷◌, length, Option, Some, None, refl, sym, ap, subst, ◌∙◌, arith}
-use Rattle.std.specs.Cmp.{IsTotalOrder}
+use Rattle.std.proofs.Common.{◌≡◌, ℕ, ◌+◌, ◌<◌, ◌≤◌, zero, suc, true, false, not, ◌||◌, List, [], ◌∷◌, Option, Some, refl, sym, ap, ◌∙◌, arith}
 use Rattle.std.specs.Cmp.Lexicographic.{slice_cmp}
 use Rattle.std.specs.List.{All, AllPairs, AllByRecursion}
 use Rattle.std.specs.Ordering.{nat_cmp, ordering_then, ordering_reverse, is_lt}
 use Rattle.std.specs.declared.cmp.Ordering.{Ordering}
 use Rattle.std.specs.declared.cmp.Ordering.TheVariants.{Less, Equal, Greater}
 use Rattle.std.proofs.lemmas.Cmp.{nat_list_cmp_total}
-use Rattle.std.proofs.lemmas.List.Elements.{All-from_recursion, recursion_from_All}
+use Rattle.std.proofs.lemmas.List.Elements.{All-from_recursion}
+use Rattle.std.proofs.lemmas.List.Kept.{AllPairs-cons}
 use Rattle.ix_base.specs.Inversion.{term_cmp}
 use Rattle.ix_base.specs.ItemLaws.{AllGood}
 use Rattle.ix_base.specs.declared.document.Term.{Term}
+use Rattle.ix_base.specs.declared.postings.Posting.{Posting}
 use Rattle.segment_files.specs.Reading.{field_comes, term_comes}
 
 module _ {X : Type 0} where
   pairs_nil : (R : X → X → Type 0) → AllPairs R []
   pairs_nil R i j d lt in' = absurd (omega arith)
-
-  pairs_cons : (R : X → X → Type 0) (x : X) (xs : List X) → All (R x) xs → AllPairs R xs → AllPairs R (x ∷ xs)
-  pairs_cons R x xs first rest i zero d lt in' = absurd (omega arith)
-  pairs_cons R x xs first rest zero (suc j) d lt in' = first j d (omega arith)
-  pairs_cons R x xs first rest (suc i) (suc j) d lt in' = rest i j d (omega arith) (omega arith)
 
   pairs_head : (R : X → X → Type 0) (x : X) (xs : List X) → AllPairs R (x ∷ xs) → All (R x) xs
   pairs_head R x xs h k d lt = h zero (suc k) d (omega arith) (omega arith)
@@ -39,7 +35,7 @@ module _ {X S : Type 0} (R : X → X → Type 0) (comes : S → X → Type 0) (l
 
   pub rises : ((a b c : X) → R a b → R b c → R a c) → ((a b : X) → comes (leaves a) b → R a b) → (s : S) (xs : List X) → AllGood comes leaves s xs → AllPairs R xs
   rises trans is s [] all = pairs_nil R
-  rises trans is s (x ∷ xs) all = pairs_cons R x xs (All-from_recursion (R x) xs (all_after trans is x xs all.1)) (rises trans is (leaves x) xs all.1)
+  rises trans is s (x ∷ xs) all = AllPairs-cons R x xs (All-from_recursion (R x) xs (all_after trans is x xs all.1)) (rises trans is (leaves x) xs all.1)
 
   chained : ((a b : X) → R a b → comes (leaves a) b) → (x : X) (xs : List X) → AllPairs R (x ∷ xs) → AllGood comes leaves (leaves x) xs
   chained is x [] rise = tt
@@ -48,6 +44,26 @@ module _ {X S : Type 0} (R : X → X → Type 0) (comes : S → X → Type 0) (l
   pub chain : ((a b : X) → R a b → comes (leaves a) b) → (s : S) (xs : List X) → ((x : X) → comes s x) → AllPairs R xs → AllGood comes leaves s xs
   chain is s [] first rise = tt
   chain is s (x ∷ xs) first rise = (first x, chained is x xs rise)
+
+-- ---- rows
+
+abbrev pub AllRowsBelow : ℕ → List Posting → Type 0
+AllRowsBelow n rows = AllByRecursion (λ (p : Posting). p.row < n) rows
+
+abbrev pub RowFrom : ℕ → Posting → Type 0
+RowFrom low p = low ≤ p.row
+
+abbrev pub after_row : Posting → ℕ
+after_row p = p.row + 1
+
+abbrev pub RowsRise : List Posting → Type 0
+RowsRise rows = AllPairs (λ a b. a.row < b.row) rows
+
+pub rows_rise : (low : ℕ) (rows : List Posting) → AllGood RowFrom after_row low rows → RowsRise rows
+rows_rise low rows all = rises (λ (a : Posting) (b : Posting). a.row < b.row) RowFrom after_row (λ a b c p q. omega arith) (λ a b le. omega arith) low rows all
+
+pub rows_chain : (rows : List Posting) → RowsRise rows → AllGood RowFrom after_row 0 rows
+rows_chain rows rise = chain (λ (a : Posting) (b : Posting). a.row < b.row) RowFrom after_row (λ a b lt. omega arith) 0 rows (λ p. omega arith) rise
 
 -- ---- terms
 

@@ -1,30 +1,19 @@
 -- A term has at most as many rows as the segment.
 use Rattle.std.proofs.Common.{◌≡◌, ℕ, ◌+◌, ◌<◌, ◌≤◌, List, [], ◌∷◌, length, get_or, sym, subst, arith}
-use Rattle.std.specs.List.{AllPairs, AllByRecursion}
+use Rattle.std.specs.List.{AllByRecursion}
 use Rattle.std.proofs.lemmas.List.Elements.{All-from_recursion}
 use Rattle.ix_base.specs.Inversion.{IsPostings}
 use Rattle.ix_base.specs.ItemLaws.{AllGood}
 use Rattle.ix_base.specs.declared.postings.Posting.{Posting}
 use Rattle.ix_base.specs.declared.postings.TermPostings.{TermPostings}
-use Rattle.segment_files.proofs.Chains.{chain}
-
-abbrev RowFrom : ℕ → Posting → Type 0
-RowFrom low p = low ≤ p.row
-
-abbrev after_row : Posting → ℕ
-after_row p = p.row + 1
-
-abbrev AllRowsBelow : ℕ → List Posting → Type 0
-AllRowsBelow n rows = AllByRecursion (λ (p : Posting). p.row < n) rows
+use Rattle.segment_files.proofs.Chains.{AllRowsBelow, RowFrom, RowsRise, after_row, rows_chain}
 
 counted : (n low : ℕ) (rows : List Posting) → low ≤ n → AllGood RowFrom after_row low rows → AllRowsBelow n rows → low + length rows ≤ n
 counted n low [] le all below = omega arith
 counted n low (p ∷ ps) le all below = omega (arith, all.0, below.0, counted n (p.row + 1) ps (omega (arith, below.0)) all.1 below.1)
 
-few : (n : ℕ) (rows : List Posting) → AllPairs (λ (a : Posting) (b : Posting). a.row < b.row) rows → AllRowsBelow n rows → length rows ≤ n
-few n rows rise below =
-    let all : AllGood RowFrom after_row 0 rows = chain (λ (a : Posting) (b : Posting). a.row < b.row) RowFrom after_row (λ a b lt. omega arith) 0 rows (λ p. omega arith) rise in
-    omega (arith, counted n 0 rows (omega arith) all below)
+few : (n : ℕ) (rows : List Posting) → RowsRise rows → AllRowsBelow n rows → length rows ≤ n
+few n rows rise below = omega (arith, counted n 0 rows (omega arith) (rows_chain rows rise) below)
 
 pub few_rows : (n : ℕ) (entries : List TermPostings) (i : ℕ) (entry : TermPostings) → IsPostings entries → AllByRecursion (λ (e : TermPostings). AllRowsBelow n e.rows) entries
     → i < length entries → entry ≡ get_or entries i entry → length entry.rows ≤ n

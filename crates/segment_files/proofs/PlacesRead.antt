@@ -1,6 +1,5 @@
 -- Places that are read stand behind those that were there.
-use Rattle.std.proofs.Common.{◌≡◌, ℕ, suc, ◌+◌, ◌-◌, ◌<◌, ◌≤◌, Bool, true, false, ◌&&◌, ◌||◌, ◌==◌, cond, leb, ltb, List, [], ◌∷◌, ◌++◌, length, Result, Ok, Err, ◌⊎◌, inl, inr, refl, sym, ap, subst, ◌∙◌, arith}
-use Rattle.std.specs.Cmp.Derive.{both_true}
+use Rattle.std.proofs.Common.{◌≡◌, ℕ, ◌+◌, ◌-◌, ◌<◌, ◌≤◌, Bool, true, false, ◌&&◌, ◌||◌, ◌==◌, cond, leb, ltb, List, [], ◌∷◌, ◌++◌, length, Result, Ok, Err, ◌⊎◌, inl, inr, refl, sym, ap, subst, ◌∙◌, arith}
 use Rattle.std.specs.Int.{w32}
 use Rattle.std.specs.List.{AllByRecursion}
 use Rattle.std.proofs.lemmas.Bool.{and_parts, eqb-true, eq-eqb, ne_eqb, leb-true, le-leb, lt-ltb}
@@ -17,12 +16,10 @@ use Rattle.ix_base.specs.declared.postings.Posting.{Posting}
 use Rattle.ix_base.specs.declared.spots.Spot.{Spot}
 use Rattle.segment_files.specs.Placing.{posted_after}
 use Rattle.segment_files.specs.Reading.{position_at, posting_at}
+use Rattle.segment_files.proofs.Chains.{AllRowsBelow}
 
 abbrev pub AllBelow : ℕ → List ℕ → Type 0
 AllBelow low xs = AllByRecursion (λ x. x < low) xs
-
-abbrev pub AllRowsBelow : ℕ → List Posting → Type 0
-AllRowsBelow low gs = AllByRecursion (λ (g : Posting). g.row < low) gs
 
 -- ---- what is below
 
@@ -33,10 +30,6 @@ below_push low x (y ∷ ys) all le = (omega (arith, all.0), below_push low x ys 
 pub rows_below_push : (low row : ℕ) (p : Posting) (gs : List Posting) → AllRowsBelow low gs → p.row ≡ row → low ≤ row → AllRowsBelow (row + 1) (gs ++ p ∷ [])
 rows_below_push low row p [] all is le = (omega (arith, is), tt)
 rows_below_push low row p (g ∷ gs) all is le = (omega (arith, all.0), rows_below_push low row p gs all.1 is le)
-
-pub rows_below_more : (low high : ℕ) (gs : List Posting) → low ≤ high → AllRowsBelow low gs → AllRowsBelow high gs
-rows_below_more low high [] le all = tt
-rows_below_more low high (g ∷ gs) le all = (omega (arith, all.0), rows_below_more low high gs le all.1)
 
 has_below : (low : ℕ) (xs : List ℕ) → AllBelow low xs → (x : ℕ) → has_number xs x ≡ true → x < low
 has_below low [] all x h = absurd cc
@@ -130,7 +123,6 @@ positions_done old row low count i rest now total le at = (at.front, is_done pos
 
 -- ---- a row with its positions
 
-
 pub posting_put : (n low : ℕ) (bytes : List ℕ) (row : ℕ) (counted : List ℕ) (count : ℕ) (rest after : List ℕ) (old new : List Posting)
     → number_at w32 bytes ≡ Ok (row, counted) → low ≤ row → row < n → number_at w32 counted ≡ Ok (count, rest) → 1 ≤ count
     → (xs : List ℕ) × (items_at position_at (λ (x : ℕ). x + 1) 0 count rest ≡ Ok (xs, after)) × (new ≡ posted_after old row xs)
@@ -168,8 +160,7 @@ pub places_go_on : (n low count i : ℕ) (rest : List ℕ) (now : List Posting) 
 places_go_on n low count i rest now total row after new low_is lt below so found =
     let p = found.0 in
     let all = goes_on_from (posting_at n) (λ (q : Posting). q.row + 1) 0 low now count i rest p after total low_is lt found.1 so in
-    let le : low ≤ p.row = posting_low n low rest p after found.1 in
-    (
+    let le : low ≤ p.row = posting_low n low rest p after found.1 in (
       subst (λ (l : List Posting). so_far (posting_at n) (λ (q : Posting). q.row + 1) 0 l (count - (i + 1)) after ≡ total) (sym found.3) all,
       ap (λ (r : ℕ). r + 1) (sym found.2) ∙ sym (left_by-push (λ (q : Posting). q.row + 1) 0 now p) ∙ ap (left_by (λ (q : Posting). q.row + 1) 0) (sym found.3),
       subst (AllRowsBelow (row + 1)) (sym found.3) (rows_below_push low row p now below found.2 (omega (arith, found.2, le))),

@@ -1,5 +1,5 @@
 -- A file of postings that is read is the one that was written, and what was written is read again.
-use Rattle.std.proofs.Common.{◌≡◌, ℕ, ◌+◌, ◌^◌, ◌<◌, ◌≤◌, Bool, true, false, ◌&&◌, cond, eqb, leb, ltb, List, [], ◌∷◌, ◌++◌, length, Option, Some, None, Result, Ok, Err, refl, sym, ap, subst, ◌∙◌, append_assoc, arith}
+use Rattle.std.proofs.Common.{◌≡◌, ℕ, ◌+◌, ◌^◌, ◌<◌, ◌≤◌, Bool, ◌&&◌, cond, eqb, leb, ltb, List, [], ◌++◌, length, Option, Some, None, Result, Ok, Err, refl, sym, ap, subst, ◌∙◌, append_assoc, arith}
 use Rattle.std.specs.Prelude.{IfOk}
 use Rattle.std.specs.Cmp.Derive.{both_true}
 use Rattle.std.specs.Int.{w32, w64}
@@ -19,13 +19,13 @@ use Rattle.ix_base.specs.Codec.{◌>>=◌, number_at, text_at, items_at}
 use Rattle.ix_base.specs.CodecLaws.{bind_ok, ok_is, passes, Takes, Takes-then, u64_takes, u64_again, text_takes, text_again}
 use Rattle.ix_base.specs.FileReading.{number_where, name_where, mark_at, ended, placed, GivesFile}
 use Rattle.ix_base.specs.FileLaws.{u32_where_takes, u32_where_again, u64_where_takes, u64_where_again, name_where_takes, name_where_again, mark_takes, mark_again, ended_ok, placed_ok}
-use Rattle.ix_base.specs.Inversion.{term_cmp, IsPosting, IsTermPostings, IsPostings}
+use Rattle.ix_base.specs.Inversion.{term_cmp, IsPosting, IsTermPostings}
 use Rattle.ix_base.specs.ItemLaws.{AllGood, TakesItem, GivesItem, items_take, items_again, good_each, good_onto, good_both, all_both}
 use Rattle.ix_base.specs.Spelling.{be32, be64, text_bytes, AreBytes, IsText, IsName}
 use Rattle.segment_files.specs.Spelling.{posts_mark, posting, term_postings, posts_file}
 use Rattle.segment_files.specs.Fits.{PostingFits, TermFits, PostingsFit}
 use Rattle.segment_files.specs.Reading.{position_at, posting_at, field_comes, term_comes, term_name_at, term_at, posts_in}
-use Rattle.segment_files.proofs.Chains.{rises, chain, Comes, less_of_comes, comes_of_less}
+use Rattle.segment_files.proofs.Chains.{rises, chain, AllRowsBelow, RowFrom, RowsRise, after_row, rows_rise, rows_chain, Comes, less_of_comes, comes_of_less}
 
 -- ---- positions
 
@@ -102,24 +102,13 @@ posting_again n lt low p rest good =
       items_again position_at next be32 PositionGood position_again 0 p.positions rest (positions_good p.positions good.is.rise good.fits.positions),
     ) refl
 
-abbrev after_row : Posting → ℕ
-after_row p = p.row + 1
-
-abbrev RowFrom : ℕ → Posting → Type 0
-RowFrom low p = low ≤ p.row
-
-rows_rise : (n : ℕ) (rows : List Posting) → AllGood (PostingGood n) after_row 0 rows → AllPairs (λ (a : Posting) (b : Posting). a.row < b.row) rows
-rows_rise n rows all = rises (λ (a : Posting) (b : Posting). a.row < b.row) RowFrom after_row (λ a b c p q. omega arith) (λ a b le. omega arith) 0 rows (good_onto (PostingGood n) RowFrom after_row (λ s p g. g.low_is) 0 rows all)
-
 record RowFits (n : ℕ) (p : Posting) : Type 0 where
   below : p.row < n
   is : IsPosting p
   fits : PostingFits p
 
-rows_good : (n : ℕ) (rows : List Posting) → AllPairs (λ (a : Posting) (b : Posting). a.row < b.row) rows → AllByRecursion (RowFits n) rows → AllGood (PostingGood n) after_row 0 rows
-rows_good n rows rise fit =
-    good_both (PostingGood n) RowFrom (RowFits n) after_row (λ s p f le. record { low_is = le; below = f.below; is = f.is; fits = f.fits }) 0 rows fit
-    (chain (λ (a : Posting) (b : Posting). a.row < b.row) RowFrom after_row (λ a b lt. omega arith) 0 rows (λ p. omega arith) rise)
+rows_good : (n : ℕ) (rows : List Posting) → RowsRise rows → AllByRecursion (RowFits n) rows → AllGood (PostingGood n) after_row 0 rows
+rows_good n rows rise fit = good_both (PostingGood n) RowFrom (RowFits n) after_row (λ s p f le. record { low_is = le; below = f.below; is = f.is; fits = f.fits }) 0 rows fit (rows_chain rows rise)
 
 -- ---- names of terms
 
@@ -155,7 +144,7 @@ name_again last term rest good =
 record TermGood (n : ℕ) (last : Option Term) (entry : TermPostings) : Type 0 where
   comes : Comes last entry.term
   is : IsTermPostings entry
-  below : AllByRecursion (λ (p : Posting). p.row < n) entry.rows
+  below : AllRowsBelow n entry.rows
   fits : TermFits entry
 
 term_takes : (n : ℕ) → TakesItem (term_at n) term_postings (TermGood n)
@@ -178,7 +167,7 @@ term_takes n last bytes x fits e =
       comes = t0.1.comes;
       is = record {
         some = omega (arith, t2.1, some);
-        rise = rows_rise n d.0.0 t2.2;
+        rise = rows_rise 0 d.0.0 (good_onto (PostingGood n) RowFrom after_row (λ s p g. g.low_is) 0 d.0.0 t2.2);
         each = All-from_recursion IsPosting d.0.0 (good_each (PostingGood n) IsPosting after_row (λ s p g. g.is) 0 d.0.0 t2.2);
       };
       below = good_each (PostingGood n) (λ (p : Posting). p.row < n) after_row (λ s p g. g.below) 0 d.0.0 t2.2;
@@ -224,7 +213,7 @@ terms_rise n entries all =
 
 record EntryFits (n : ℕ) (entry : TermPostings) : Type 0 where
   is : IsTermPostings entry
-  below : AllByRecursion (λ (p : Posting). p.row < n) entry.rows
+  below : AllRowsBelow n entry.rows
   fits : TermFits entry
 
 terms_good : (n : ℕ) (postings : Postings) → PostingsFit n postings → AllGood (TermGood n) its_term None postings.terms
@@ -232,7 +221,7 @@ terms_good n postings fit =
     let first : AllByRecursion (λ (e : TermPostings). IsTermPostings e × TermFits e) postings.terms =
     all_both IsTermPostings TermFits (λ (e : TermPostings). IsTermPostings e × TermFits e) (λ e i f. (i, f)) postings.terms (recursion_from_All IsTermPostings postings.terms fit.ordered.each) fit.terms in
     let each : AllByRecursion (EntryFits n) postings.terms =
-    all_both (λ (e : TermPostings). AllByRecursion (λ (p : Posting). p.row < n) e.rows) (λ (e : TermPostings). IsTermPostings e × TermFits e) (EntryFits n) (λ e b q. record { is = q.0; below = b; fits = q.1 }) postings.terms fit.below first in
+    all_both (λ (e : TermPostings). AllRowsBelow n e.rows) (λ (e : TermPostings). IsTermPostings e × TermFits e) (EntryFits n) (λ e b q. record { is = q.0; below = b; fits = q.1 }) postings.terms fit.below first in
     good_both (TermGood n) EntryComes (EntryFits n) its_term (λ s e f c. record { comes = c; is = f.is; below = f.below; fits = f.fits }) None postings.terms each
     (chain IsLess EntryComes its_term (λ a b h. comes_of_less a.term b.term h) None postings.terms (λ e. record { field = refl; bytes = refl }) fit.ordered.rise)
 
@@ -264,7 +253,7 @@ posts_take id n bytes postings fits e =
     let all : bytes ≡ posts_file id n read = counted ∙ ap (λ (i : ℕ). posts_mark ++ (be64 id ++ (be32 n ++ (be64 i ++ flat_map term_postings f.0.0)))) (sym t4.1) in
     let fit : PostingsFit n read = record {
       ordered = record { rise = terms_rise n f.0.0 t4.2; each = All-from_recursion IsTermPostings f.0.0 (good_each (TermGood n) IsTermPostings its_term (λ s t g. g.is) None f.0.0 t4.2) };
-      below = good_each (TermGood n) (λ (t : TermPostings). AllByRecursion (λ (p : Posting). p.row < n) t.rows) its_term (λ s t g. g.below) None f.0.0 t4.2;
+      below = good_each (TermGood n) (λ (t : TermPostings). AllRowsBelow n t.rows) its_term (λ s t g. g.below) None f.0.0 t4.2;
       count = omega (arith, t4.1, t3.1);
       terms = good_each (TermGood n) TermFits its_term (λ s t g. g.fits) None f.0.0 t4.2;
     } in

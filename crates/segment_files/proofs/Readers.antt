@@ -1,5 +1,5 @@
 -- Which names are free.
-use Rattle.std.proofs.Common.{◌≡◌, ℕ, Bool, true, List, refl, ap, subst}
+use Rattle.std.proofs.Common.{◌≡◌, ℕ, Bool, true, List, refl, subst}
 use Rattle.std.specs.Prelude.{not, codes}
 use Rattle.std.specs.Str.{bytes_eq}
 use Rattle.ix_base.specs.Limits.{is_among}

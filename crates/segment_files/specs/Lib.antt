@@ -2,5 +2,6 @@ pub mod Spelling
 pub mod Fits
 pub mod Fields
 pub mod Reading
+pub mod ReadLists
 pub mod Placing
 pub mod PostLaws

@@ -48,6 +48,27 @@ fn put_posts(
     Ok(())
 }
 
+/// How many bytes a term with its rows takes.
+fn entry_len(entry: &TermPostings) -> usize {
+    let spots = entry.rows.as_slice();
+    let field = entry.term.field.as_str().len();
+    let bytes = entry.term.bytes.as_str().len();
+    let rows = count_rows(spots).saturating_mul(8);
+    let positions = spots.len().saturating_mul(4);
+    (12 + field + bytes)
+        .saturating_add(rows)
+        .saturating_add(positions)
+}
+
+/// How many bytes a file of postings takes, so that its memory is taken once.
+fn file_len(postings: &Postings) -> usize {
+    let mut len: usize = 28;
+    for entry in postings.terms.as_slice() {
+        len = len.saturating_add(entry_len(entry));
+    }
+    len
+}
+
 /// The file of the postings of a segment with this id and `row_count` rows.
 pub fn encode_pst(
     alloc: Global,
@@ -60,7 +81,7 @@ pub fn encode_pst(
     ensures file { IfOk result (λ bytes. bytes.items ≡ posts_file id row_count postings.now) }
     ensures fits { OnOk result (PostingsFit row_count postings.now) }
 {
-    let mut out = Vec::new(alloc);
+    let mut out = Vec::with_capacity(alloc, file_len(postings))?;
     put_posts(&mut out, id, row_count, postings)?;
     Ok(out)
 }

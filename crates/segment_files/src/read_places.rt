@@ -1,8 +1,9 @@
 //! The places of a term from bytes: each reader puts what it reads behind the places that are there.
-ghost use Rattle.std.specs.Prelude.{◌+◌, ◌<◌};
+ghost use Rattle.std.specs.Prelude.{◌<◌};
 ghost use Rattle.std.specs.List.{AllByRecursion};
-ghost use Rattle.ix_base.specs.Codec.{GivesExactly, Gives, items_at};
+ghost use Rattle.ix_base.specs.Codec.{GivesExactly, Gives};
 ghost use Rattle.segment_files.specs.Placing.{PutsPositions, PutsPosting};
+ghost use Rattle.segment_files.specs.ReadLists.{positions_at, postings_at};
 ghost use Rattle.segment_files.specs.Reading.{position_at, posting_at};
 
 use ix_base::Spots;
@@ -29,7 +30,7 @@ fn read_positions<'a>(
     spots: &mut Spots,
 ) -> Result<&'a [u8], Broken>
     requires { AllByRecursion (λ g. g.row < row) spots.old }
-    ensures { PutsPositions (λ rest. rest.now) row spots.old spots.new result (items_at position_at (λ x. x + 1) 0 count bytes.now) }
+    ensures { PutsPositions (λ rest. rest.now) row spots.old spots.new result (positions_at count bytes.now) }
 {
     let mut low = 0u64;
     let mut rest = bytes;
@@ -73,7 +74,7 @@ pub(crate) fn places_of(
     bytes: &[u8],
     row_count: u32,
 ) -> Result<(Spots, &[u8]), Broken>
-    ensures { Gives (λ x. (x.0, x.1.now)) result (items_at (posting_at row_count) (λ posting. posting.row + 1) 0 count bytes.now) }
+    ensures { Gives (λ x. (x.0, x.1.now)) result (postings_at row_count count bytes.now) }
 {
     let mut spots = Spots::new(alloc);
     let mut low = 0u64;

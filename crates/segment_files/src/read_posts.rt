@@ -40,12 +40,7 @@ fn posts_of(alloc: Global, bytes: &[u8], id: u64, row_count: u32) -> Result<Post
 
 /// The postings of a whole file of postings. Where it is broken, the place is told from the file's
 /// start.
-fn placed_posts(
-    alloc: Global,
-    bytes: &[u8],
-    id: u64,
-    row_count: u32,
-) -> Result<Postings, FileFault>
+fn placed_posts(alloc: Global, bytes: &[u8], id: u64, row_count: u32) -> Result<Postings, FileFault>
     ensures { GivesFile (λ x. x) result (placed (Posts id) bytes.now (posts_in id row_count bytes.now)) }
 {
     match posts_of(alloc, bytes, id, row_count) {

@@ -1,6 +1,7 @@
 //! Terms with their places from bytes.
-ghost use Rattle.std.specs.Prelude.{◌≡◌, Some, None};
-ghost use Rattle.ix_base.specs.Codec.{Gives, items_at, left_by};
+ghost use Rattle.std.specs.Prelude.{◌≡◌};
+ghost use Rattle.ix_base.specs.Codec.{Gives};
+ghost use Rattle.segment_files.specs.ReadLists.{terms_at, last_term};
 ghost use Rattle.segment_files.specs.Reading.{field_comes, term_comes, term_name_at, term_at};
 
 use crate::read_documents::{name_of, text_of};
@@ -11,7 +12,7 @@ use std::alloc::Global;
 
 /// Whether the field isn't before that of the last of these terms.
 fn field_may_come(entries: &[TermPostings], field: &Name) -> bool
-    ensures { result ≡ field_comes (left_by (λ entry. Some entry.term) None entries.now) field.now }
+    ensures { result ≡ field_comes (last_term entries.now) field.now }
 {
     match entries.last() {
         Some(entry) => !(field.as_str() < entry.term.field.as_str()),
@@ -21,7 +22,7 @@ fn field_may_come(entries: &[TermPostings], field: &Name) -> bool
 
 /// Whether the term comes after the last of these, where its field isn't before that one's.
 fn term_may_come(entries: &[TermPostings], field: &Name, bytes: &Text) -> bool
-    ensures { result ≡ term_comes (left_by (λ entry. Some entry.term) None entries.now) field.now bytes.now }
+    ensures { result ≡ term_comes (last_term entries.now) field.now bytes.now }
 {
     match entries.last() {
         Some(entry) => {
@@ -38,7 +39,7 @@ fn term_name_of<'a>(
     bytes: &'a [u8],
     entries: &[TermPostings],
 ) -> Result<(Term, &'a [u8]), Broken>
-    ensures { Gives (λ x. (x.0, x.1.now)) result (term_name_at (left_by (λ entry. Some entry.term) None entries.now) bytes.now) }
+    ensures { Gives (λ x. (x.0, x.1.now)) result (term_name_at (last_term entries.now) bytes.now) }
 {
     let (field, rest) = name_of(alloc, bytes)?;
     if !field_may_come(entries, &field) {
@@ -59,7 +60,7 @@ fn entry_of<'a>(
     row_count: u32,
     entries: &[TermPostings],
 ) -> Result<(TermPostings, &'a [u8]), Broken>
-    ensures { Gives (λ x. (x.0, x.1.now)) result (term_at row_count (left_by (λ entry. Some entry.term) None entries.now) bytes.now) }
+    ensures { Gives (λ x. (x.0, x.1.now)) result (term_at row_count (last_term entries.now) bytes.now) }
 {
     let (term, counted) = term_name_of(alloc, bytes, entries)?;
     let (count, rest) = u32_at(counted)?;
@@ -77,7 +78,7 @@ pub(crate) fn entry_list(
     bytes: &[u8],
     row_count: u32,
 ) -> Result<(Vec<TermPostings>, &[u8]), Broken>
-    ensures { Gives (λ x. (x.0.items, x.1.now)) result (items_at (term_at row_count) (λ entry. Some entry.term) None count bytes.now) }
+    ensures { Gives (λ x. (x.0.items, x.1.now)) result (terms_at row_count count bytes.now) }
 {
     let mut entries = Vec::new(alloc);
     let mut rest = bytes;

@@ -22,13 +22,13 @@ fn posts_place(alloc: Global, bytes: &[u8], id: u64, n: u32) -> Option<u64> {
     }
 }
 
-// Whether these bytes are read, and the same ones are written of what was read.
+// Whether these bytes are read, and the same ones are written of what was read, in as much memory.
 fn goes_both_ways(alloc: Global, bytes: &[u8], id: u64, n: u32) -> Result<bool, Fail> {
     let postings = decode_pst(alloc, bytes, id, n)
         .ok()
         .ok_or("the bytes are postings")?;
     let written = encode_pst(alloc, id, n, &postings).ok().ok_or("memory")?;
-    Ok(written.as_slice() == bytes)
+    Ok(written.as_slice() == bytes && written.capacity() == bytes.len())
 }
 
 // What a file of postings of this many rows and terms begins with.

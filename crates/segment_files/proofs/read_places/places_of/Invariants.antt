@@ -3,7 +3,7 @@ use Rattle.ix_base.specs.Codec.{items_at, left_by}
 use Rattle.ix_base.specs.ReadLoops.{so_far}
 use Rattle.ix_base.specs.declared.postings.Posting.{Posting}
 use Rattle.segment_files.specs.Reading.{posting_at}
-use Rattle.segment_files.proofs.PlacesRead.{AllRowsBelow}
+use Rattle.segment_files.proofs.Chains.{AllRowsBelow}
 use Rattle.segment_files.proofs.read_places.places_of.Given as goal
 
 abbrev pub invariant-loop : goal.invariant-loop
