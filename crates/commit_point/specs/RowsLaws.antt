@@ -30,7 +30,8 @@ in_above low s [] x rise h = absurd h
 in_above low s (y ∷ ys) x rise (inl e) = subst (λ (r : Row). low ≤ r.birth) e rise.0
 in_above low s (y ∷ ys) x rise (inr h) = omega (arith, rise.0, in_above (y.birth + 1) s ys x rise.2 h)
 
-same_rows : (l m s t : ℕ) (xs ys : List Row) → BirthsRise l s xs → BirthsRise m t ys → ((z : Row) → IsIn z xs → IsIn z ys) → ((z : Row) → IsIn z ys → IsIn z xs) → xs ≡ ys
+same_rows : (l m s t : ℕ) (xs ys : List Row) → BirthsRise l s xs → BirthsRise m t ys
+    → ((z : Row) → IsIn z xs → IsIn z ys) → ((z : Row) → IsIn z ys → IsIn z xs) → xs ≡ ys
 same_rows l m s t [] [] p q there back = refl
 same_rows l m s t [] (y ∷ ys) p q there back = absurd (back y (inl refl))
 same_rows l m s t (x ∷ xs) [] p q there back = absurd (there x (inl refl))
@@ -54,12 +55,14 @@ same_rows l m s t (x ∷ xs) (y ∷ ys) p q there back =
     tail_back above is (inl e) = absurd (omega (arith, ap (λ (r : Row). r.birth) (sym is ∙ e)))
     tail_back above is (inr h) = h
 
-pub one_order : (s t : ℕ) (all xs ys : List Row) → IsPermutation all xs → IsPermutation all ys → BirthsRise 1 s xs → BirthsRise 1 t ys → xs ≡ ys
+pub one_order : (s t : ℕ) (all xs ys : List Row) → IsPermutation all xs → IsPermutation all ys → BirthsRise 1 s xs
+    → BirthsRise 1 t ys → xs ≡ ys
 one_order s t all xs ys p q rise rise' =
     same_rows 1 1 s t xs ys rise rise'
     (λ z h. in_from ys z (Contains-permutation all ys z q (Contains-permutation xs all z (IsPermutation-sym all xs p) (in_to xs z h))))
     (λ z h. in_from xs z (Contains-permutation all xs z p (Contains-permutation ys all z (IsPermutation-sym all ys q) (in_to ys z h))))
 
 -- segments have one list of rows by rising birth
-pub one_rows : (s : ℕ) (segments : List Segment) (a b : List Row) → AreRowsOf s segments a → AreRowsOf s segments b → a ≡ b
+pub one_rows : (s : ℕ) (segments : List Segment) (a b : List Row) → AreRowsOf s segments a → AreRowsOf s segments b
+    → a ≡ b
 one_rows s segments a b p q = one_order s s (all_rows segments) a b p.merged q.merged p.births q.births

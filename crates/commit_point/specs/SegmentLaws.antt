@@ -29,18 +29,21 @@ use Rattle.commit_point.specs.Spelling.{commit_file}
 -- ---- segments
 
 -- rows and postings that are there are read
-pub rows_read : (files : Files) (s : ℕ) (known : ℕ → Bool) (e : HeadSegment) (rows : List Row) → e.id < 2 ^ 64 → s < 2 ^ 64 → files (Rows e.id) ≡ Some (rows_file e.id rows) → IsSegment s e.rows known rows
+pub rows_read : (files : Files) (s : ℕ) (known : ℕ → Bool) (e : HeadSegment) (rows : List Row) → e.id < 2 ^ 64
+    → s < 2 ^ 64 → files (Rows e.id) ≡ Some (rows_file e.id rows) → IsSegment s e.rows known rows
     → of_file (Rows e.id) (rows_in e.id e.rows s known) (files (Rows e.id)) ≡ Ok rows
 rows_read files s known e rows id_fits s_fits file segment =
     ap (of_file (Rows e.id) (rows_in e.id e.rows s known)) file ∙ ap (placed (Rows e.id) (rows_file e.id rows)) (rows_again e.id e.rows s known rows id_fits s_fits segment)
 
-posts_read : (files : Files) (e : HeadSegment) (postings : Postings) → e.id < 2 ^ 64 → e.rows < 2 ^ 32 → files (Posts e.id) ≡ Some (posts_file e.id e.rows postings) → PostingsFit e.rows postings
+posts_read : (files : Files) (e : HeadSegment) (postings : Postings) → e.id < 2 ^ 64 → e.rows < 2 ^ 32
+    → files (Posts e.id) ≡ Some (posts_file e.id e.rows postings) → PostingsFit e.rows postings
     → of_file (Posts e.id) (posts_in e.id e.rows) (files (Posts e.id)) ≡ Ok postings
 posts_read files e postings id_fits n_fits file fits =
     ap (of_file (Posts e.id) (posts_in e.id e.rows)) file ∙ ap (placed (Posts e.id) (posts_file e.id e.rows postings)) (posts_again e.id e.rows postings id_fits n_fits fits)
 
 -- one segment that is there is read
-pub segment_reads : (files : Files) (s : ℕ) (known : ℕ → Bool) (e : HeadSegment) (g : Segment) → e.id < 2 ^ 64 → s < 2 ^ 64 → HasSegment files s e g
+pub segment_reads : (files : Files) (s : ℕ) (known : ℕ → Bool) (e : HeadSegment) (g : Segment) → e.id < 2 ^ 64
+    → s < 2 ^ 64 → HasSegment files s e g
     → AllByRecursion (λ (r : Row). known r.birth ≡ false) g.rows → segment_from files s known e ≡ Ok g
 segment_reads files s known e g id_fits s_fits has unknown =
     let short : e.rows < 2 ^ 32 = omega (arith, has.count, has.rows_fit.count) in
@@ -49,7 +52,8 @@ segment_reads files s known e g id_fits s_fits has unknown =
     rw (rows, posts) (ap (λ (id : ℕ). Ok (record { id = id; rows = g.rows; postings = g.postings })) (sym has.id))
 
 -- segments that are there are read
-pub segments_read : (files : Files) (s low limit : ℕ) (known : ℕ → Bool) (es : List HeadSegment) (segments : List Segment) → s < 2 ^ 64 → limit ≤ 2 ^ 62 → IdsRise low limit es → HaveSegments files s es segments → Unknown known segments
+pub segments_read : (files : Files) (s low limit : ℕ) (known : ℕ → Bool) (es : List HeadSegment) (segments : List Segment)
+    → s < 2 ^ 64 → limit ≤ 2 ^ 62 → IdsRise low limit es → HaveSegments files s es segments → Unknown known segments
     → segments_from files s known es ≡ Ok segments
 unfolding segments_from
 segments_read files s low limit known [] [] s_fits room ids have unknown = refl
@@ -63,13 +67,15 @@ segments_read files s low limit known (e ∷ es) (p ∷ ps) s_fits room ids have
 
 -- ---- whole commits
 
-pub head_reads : (files : Files) (s : ℕ) (head : Head) → files (Commit s) ≡ Some (commit_file head) → head.number ≡ s → HeadFits head → head_from files s ≡ Ok head
+pub head_reads : (files : Files) (s : ℕ) (head : Head) → files (Commit s) ≡ Some (commit_file head) → head.number ≡ s
+    → HeadFits head → head_from files s ≡ Ok head
 unfolding head_from
 head_reads files s head file number fits =
     ap (of_file (Commit s) (head_in s)) file ∙ ap (placed (Commit s) (commit_file head)) (ap (λ (n : ℕ). head_in n (commit_file head)) (sym number) ∙ head_again head fits)
 
 -- what the files of a commit spell is read
-pub has_reads : (files : Files) (s next : ℕ) (segments : List Segment) → HasSegments files s next segments → reading files s ≡ Ok (next, segments)
+pub has_reads : (files : Files) (s next : ℕ) (segments : List Segment) → HasSegments files s next segments
+    → reading files s ≡ Ok (next, segments)
 unfolding reading
 has_reads files s next segments h =
     let fits : s < 2 ^ 64 = omega (arith, h.has_head.number, h.has_head.fits.number) in
@@ -85,7 +91,8 @@ abbrev is_ok : ℕ × List Segment → Result (ℕ × List Segment) Damaged
 is_ok p = Ok p
 
 -- files spell one commit of a number
-pub one_segments : (files : Files) (s n m : ℕ) (a b : List Segment) → HasSegments files s n a → HasSegments files s m b → (a ≡ b) × (n ≡ m)
+pub one_segments : (files : Files) (s n m : ℕ) (a b : List Segment) → HasSegments files s n a
+    → HasSegments files s m b → (a ≡ b) × (n ≡ m)
 one_segments files s n m a b h k =
     let same : is_ok (n, a) ≡ is_ok (m, b) = sym (has_reads files s n a h) ∙ has_reads files s m b k in
     let pair : (n, a) ≡ (m, b) = cc in

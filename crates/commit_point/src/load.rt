@@ -117,11 +117,18 @@ fn read_segment<S: Store>(
     earlier: &BTreeSet<u64>,
 ) -> Result<Segment, OpenFault>
     ensures id { IfOk result (λ segment. segment.id ≡ entry.id) }
-    ensures rows { IfOk result (λ segment. Reads (told_files (S.disk store.old)) (Rows entry.id) (Some (rows_file entry.id segment.rows)) × IsSegment number entry.rows (contains nat_cmp earlier.now) segment.rows) }
-    ensures postings { IfOk result (λ segment. Reads (told_files (S.disk store.old)) (Posts entry.id) (Some (posts_file entry.id entry.rows segment.postings)) × PostingsFit entry.rows segment.postings) }
+    ensures rows { IfOk result (λ segment.
+        Reads (told_files (S.disk store.old)) (Rows entry.id) (Some (rows_file entry.id segment.rows))
+        × IsSegment number entry.rows (contains nat_cmp earlier.now) segment.rows) }
+    ensures postings { IfOk result (λ segment.
+        Reads (told_files (S.disk store.old)) (Posts entry.id) (Some (posts_file entry.id entry.rows segment.postings))
+        × PostingsFit entry.rows segment.postings) }
     // The rows are broken, or they were read and the postings are.
-    ensures damaged { (damaged : Damaged) → result ≡ Err (OpenFault.Damaged damaged) → IsBroken (told_files (S.disk store.old)) (Rows entry.id) (rows_in entry.id entry.rows number (contains nat_cmp earlier.now)) damaged
-        ⊎ ((rows : List Row) × Reads (told_files (S.disk store.old)) (Rows entry.id) (Some (rows_file entry.id rows)) × IsSegment number entry.rows (contains nat_cmp earlier.now) rows
+    ensures damaged { (damaged : Damaged) → result ≡ Err (OpenFault.Damaged damaged)
+        → IsBroken (told_files (S.disk store.old)) (Rows entry.id)
+        (rows_in entry.id entry.rows number (contains nat_cmp earlier.now)) damaged
+        ⊎ ((rows : List Row) × Reads (told_files (S.disk store.old)) (Rows entry.id) (Some (rows_file entry.id rows))
+        × IsSegment number entry.rows (contains nat_cmp earlier.now) rows
         × IsBroken (told_files (S.disk store.old)) (Posts entry.id) (posts_in entry.id entry.rows) damaged) }
     ensures listed { (other : ℕ) → result ≡ Err (OpenFault.NoSuch other) → ⊥ }
     ensures reads { S.disk store.new ≡ S.disk store.old }
@@ -155,7 +162,8 @@ fn take_in(
     segments: &mut Vec<Segment>,
     segment: Segment,
 ) -> Result<(), NoMemory>
-    ensures births { OnOk result ((b : ℕ) → contains nat_cmp earlier.new b ≡ (contains nat_cmp earlier.old b || has_birth segment.rows b)) }
+    ensures births { OnOk result ((b : ℕ)
+        → contains nat_cmp earlier.new b ≡ (contains nat_cmp earlier.old b || has_birth segment.rows b)) }
     ensures segments { OnOk result (segments.new.items ≡ segments.old.items ++ segment ∷ []) }
 {
     add_births(earlier, segment.rows.as_slice())?;

@@ -111,10 +111,7 @@ fn reads_many_segments(rt: HostRuntime) -> Result<(), Fail> {
 fn cut_files_name_the_field(rt: HostRuntime) {
     let alloc = rt.alloc();
     for len in 0..60 {
-        assert_eq!(rt;
-            broken_place(alloc, &COMMIT[..len]),
-            field_at(len as u64)
-        );
+        assert_eq!(rt; broken_place(alloc, &COMMIT[..len]), field_at(len as u64));
     }
 }
 

@@ -122,8 +122,10 @@ fn encoded(alloc: Global, segments: &[Segment]) -> Result<Vec<(FileName, List<u8
     requires ordered { AllByRecursion (λ segment. IsPostings segment.postings.terms) segments.now }
     requires below { AllByRecursion (λ segment. RowsBelow (length segment.rows) segment.postings) segments.now }
     ensures files { IfOk result (λ files. files.items ≡ commit_files segments.now) }
-    ensures documents { OnOk result (AllByRecursion (λ segment. AllByRecursion (λ row. DocumentFits row.doc) segment.rows) segments.now) }
-    ensures postings { OnOk result (AllByRecursion (λ segment. PostingsFit (length segment.rows) segment.postings) segments.now) }
+    ensures documents { OnOk result
+        (AllByRecursion (λ segment. AllByRecursion (λ row. DocumentFits row.doc) segment.rows) segments.now) }
+    ensures postings { OnOk result
+        (AllByRecursion (λ segment. PostingsFit (length segment.rows) segment.postings) segments.now) }
 {
     let mut files = Vec::new(alloc);
     for segment in segments {
