@@ -1,21 +1,26 @@
 -- The last commit of a store, and what a run finds there.
-use Rattle.std.proofs.Common.{◌≡◌, ◌≢◌, ◌⊎◌, inl, inr, ◌∙◌, ℕ, zero, suc, ◌+◌, ◌-◌, ◌<◌, ◌≤◌, ◌^◌, false, cond, eqb, List, [], ◌∷◌, length, get_or, refl, sym, ap, subst, arith}
-use Rattle.std.specs.Prelude.{Option, Some, None, IsSome, IfSome, All, AllPairs, Contains, ◌↔◌, slice_get, unwrap_or}
+use Rattle.std.proofs.Common.{◌≡◌, ◌≢◌, ◌⊎◌, inl, inr, ◌∙◌, ℕ, zero, suc, ◌+◌, ◌-◌, ◌<◌, ◌≤◌, ◌^◌, false, cond, eqb, List, [], ◌∷◌, length, get_or, Ok, Err, Result, refl, sym, ap, subst, arith}
+use Rattle.std.specs.Prelude.{Option, Some, None, IfOk, IsSome, IfSome, AllPairs, Contains, ◌↔◌, slice_get, unwrap_or}
 use Rattle.std.proofs.lemmas.Bool.{cases_lt, eq-eqb}
 use Rattle.std.proofs.lemmas.Bool.Decides.{eqb_tells}
 use Rattle.ix_base.specs.declared.file_name.FileName.TheVariants.{Commit}
 use Rattle.ix_base.specs.declared.document.Row.{Row}
 use Rattle.ix_outside.specs.Files.{Files, Was}
+use Rattle.segment_core.specs.declared.segment.Segment.{Segment}
 use Rattle.commit_point.specs.declared.heads.HeadSegment.{HeadSegment}
 use Rattle.commit_point.specs.declared.heads.Head.{Head}
 use Rattle.commit_point.specs.Fits.{IdsRise}
-use Rattle.commit_point.specs.Holds.{Holds, HasHead, ListsId, IsLawful}
+use Rattle.commit_point.specs.Holds.{AreRowsOf, Holds, HasHead, HasSegments, ListsId, IsLawful}
 use Rattle.commit_point.specs.Laws.{one_head}
+use Rattle.commit_point.specs.RowsLaws.{one_rows}
+use Rattle.commit_point.specs.declared.open.Opened.{Opened}
+use Rattle.index_run.specs.declared.stop.Stop.{Stop}
 use Rattle.index_run.specs.declared.writer.Writer.{Writer}
 use Rattle.index_run.specs.Headline.{IsLast, Begins, Starts}
 use Rattle.index_run.specs.Beginning.{last_or_zero, IsOn}
 use Rattle.index_run.specs.Writer.{CanBegin}
 use Rattle.index_run.proofs.Kept.{nat_or}
+use Rattle.index_run.proofs.Searchable.{IsOnInverted}
 
 pub none_of : {A : Type 0} (o : Option A) → (IsSome o → ⊥) → o ≡ None
 none_of None h = refl
@@ -100,17 +105,38 @@ last_one files a b p q = elim (nat_or a b) [
         let none : IsSome {T = List ℕ} None = subst (λ (o : Option (List ℕ)). IsSome o) gone (k.there (λ e. absurd (omega (arith, e, lt)))) in
         cc
 
-pub can_begin : (files : Files) (s next : ℕ) (rows : List Row) → s ≤ 2 ^ 61 → Holds files s next rows → CanBegin (record { rows = rows; number = s; next_id = next })
-can_begin files s next rows low h = record {
+pub can_begin : (files : Files) (s next : ℕ) (segments : List Segment) (rows : List Row) → s ≤ 2 ^ 61 → HasSegments files s next segments → AreRowsOf s segments rows
+    → CanBegin (record { rows = rows; number = s; next_id = next })
+can_begin files s next segments rows low h are = record {
   number = low;
   some_id = omega (arith, h.has_head.fits.next_some, h.next_id);
   next_id = omega (arith, h.has_head.fits.next, h.next_id);
-  births = h.births;
+  births = are.births;
 }
 
 pub same_writer : (rows rows' : List Row) (base base' next next' : ℕ) → rows ≡ rows' → base ≡ base' → next ≡ next'
     → (let a : Writer = record { rows = rows; number = base; next_id = next } in let b : Writer = record { rows = rows'; number = base'; next_id = next' } in a ≡ b)
 same_writer rows rows' base base' next next' p q r = cc
+
+-- a writer on a commit that was read
+pub begin_ready : (files : Files) (s : ℕ) (opened : Opened) (result : Result Writer Stop) → s ≤ 2 ^ 61 → opened.number ≡ s → HasSegments files s opened.next_id opened.segments
+    → IfOk result (λ writer. (writer.number ≡ opened.number) × (writer.next_id ≡ opened.next_id))
+    → IfOk result (λ writer. (files : Files) (s next : ℕ) → HasSegments files s next opened.segments → AreRowsOf s opened.segments writer.rows) → IfOk result CanBegin
+begin_ready files s opened (Err stop) low is has number rows = tt
+begin_ready files s opened (Ok writer) low is has number rows =
+    subst (λ (w : Writer). CanBegin w) (sym (same_writer writer.rows writer.rows writer.number s writer.next_id opened.next_id refl (number.0 ∙ is) number.1))
+    (can_begin files s opened.next_id opened.segments writer.rows low has (rows files s opened.next_id has))
+
+pub begin_same : (files : Files) (s next : ℕ) (opened : Opened) (rows : List Row) (result : Result Writer Stop) → opened.number ≡ s
+    → (holds : Holds files s next rows) → (opened.next_id ≡ next) × (opened.segments ≡ holds.segments)
+    → IfOk result (λ writer. (writer.number ≡ opened.number) × (writer.next_id ≡ opened.next_id))
+    → IfOk result (λ writer. (files : Files) (s next : ℕ) → HasSegments files s next opened.segments → AreRowsOf s opened.segments writer.rows)
+    → IfOk result (λ writer. writer ≡ record { rows = rows; number = s; next_id = next })
+begin_same files s next opened rows (Err stop) is holds read number are = tt
+begin_same files s next opened rows (Ok writer) is holds read number are =
+    let has : HasSegments files s next opened.segments = subst (λ (gs : List Segment). HasSegments files s next gs) (sym read.1) holds.spelled in
+    let theirs : AreRowsOf s opened.segments rows = subst (λ (gs : List Segment). AreRowsOf s gs rows) (sym read.1) holds.rows_are in
+    same_writer writer.rows rows writer.number s writer.next_id next (one_rows s s opened.segments writer.rows rows (are files s next has) theirs) (number.0 ∙ is) (number.1 ∙ read.0)
 
 -- ids of one commit file rise below its next id
 in_range : (low limit : ℕ) (segments : List HeadSegment) (k : ℕ) (d : HeadSegment) → IdsRise low limit segments → k < length segments → (get_or segments k d).id < limit
@@ -135,8 +161,9 @@ begins_starts files base next rows begins = record {
     own_id : (s id : ℕ) → ListsId files s id → Holds files base next rows → s ≡ base → id < next
     own_id s id lists holds e =
         let at_base : HasHead files base lists.head = subst (λ (n : ℕ). HasHead files n lists.head) e lists.has_head in
-        let same : lists.head ≡ holds.head = one_head files base lists.head holds.head at_base holds.has_head in
-        let next_is : lists.head.next_id ≡ next = ap (λ (h : Head). h.next_id) same ∙ holds.next_id in
+        let spelled = holds.spelled in
+        let same : lists.head ≡ spelled.head = one_head files base lists.head spelled.head at_base spelled.has_head in
+        let next_is : lists.head.next_id ≡ next = ap (λ (h : Head). h.next_id) same ∙ spelled.next_id in
         omega (arith, listed_below lists.head lists.segment lists.has_head.fits.ids lists.listed, lists.is, next_is)
 
     below : (s id : ℕ) → ListsId files s id → ((base ≡ 0) × (next ≡ 1) × (rows ≡ [])) ⊎ ((1 ≤ base) × IsLawful files base next rows) → id < next
@@ -145,7 +172,7 @@ begins_starts files base next rows begins = record {
         let number = lists.has_head.number in
         absurd (not_above s id lists (omega (arith, none.0, some, number)))
     below s id lists (inr on) = elim (nat_or s base) [
-      | inl e ↦ own_id s id lists on.1.holds e
+      | inl e ↦ own_id s id lists on.1.holds.holds e
       | inr ne ↦ elim (cases_lt s base) [ inl lt ↦ on.1.above s id lt lists | inr ge ↦ absurd (not_above s id lists (omega (arith, ne, ge))) ]
     ]
 
@@ -153,6 +180,13 @@ pub begins_on : (files : Files) (base next : ℕ) (rows : List Row) → Begins f
 begins_on files base next rows begins = by_case begins.1
   where
     by_case : ((base ≡ 0) × (next ≡ 1) × (rows ≡ [])) ⊎ ((1 ≤ base) × IsLawful files base next rows) → IsOn files base next rows
+    by_case (inl none) = inl none
+    by_case (inr on) = inr (on.0, on.1.holds.holds)
+
+pub begins_inverted : (files : Files) (base next : ℕ) (rows : List Row) → Begins files base next rows → IsOnInverted files base next rows
+begins_inverted files base next rows begins = by_case begins.1
+  where
+    by_case : ((base ≡ 0) × (next ≡ 1) × (rows ≡ [])) ⊎ ((1 ≤ base) × IsLawful files base next rows) → IsOnInverted files base next rows
     by_case (inl none) = inl none
     by_case (inr on) = inr (on.0, on.1.holds)
 

@@ -11,9 +11,9 @@ use Rattle.ix_base.specs.Refusals.{refusal}
 use Rattle.ix_base.specs.declared.refusal.Refusal.{Refusal}
 use Rattle.ix_base.specs.Steps.{step, after}
 use Rattle.ix_outside.specs.Files.{Files, Changes, onto, stays}
-use Rattle.commit_point.specs.Fits.{BirthsRise}
+use Rattle.segment_files.specs.Fits.{BirthsRise}
 use Rattle.commit_point.specs.Holds.{KeepsCommits}
-use Rattle.commit_point.specs.Writing.{Commits, SameElsewhere, next_after}
+use Rattle.commit_point.specs.Writing.{SameElsewhere}
 use Rattle.op_script.specs.declared.script.Line.{Line}
 use Rattle.op_script.specs.declared.script.Act.{Act}
 use Rattle.op_script.specs.declared.script.Act.TheVariants.{Do, Search}
@@ -23,6 +23,7 @@ use Rattle.run_report.specs.declared.outcome.Answer.TheVariants.{Numbered, Commi
 use Rattle.index_run.specs.declared.writer.Writer.{Writer}
 use Rattle.index_run.specs.Numbering.{is_numbered, is_commit, numbered, operations, commit_numbers, rows_at}
 use Rattle.index_run.specs.Outcomes.{number_after, rows_after, commit_after, outcome_of, answer_of, told_answer, done_answer, outcomes_from}
+use Rattle.index_run.specs.Commits.{Commits, next_after}
 use Rattle.index_run.specs.Doing.{writer_after, writer_by, next_id_after, answer_by, lasts_after, FilesAfter}
 use Rattle.index_run.specs.Headline.{HasCommits, Starts}
 use Rattle.index_run.specs.Writer.{CanGoOn}
@@ -222,7 +223,7 @@ files_line base next rows lines done rest l (Do Commit) w lasts outcomes start m
 
 -- the commits that were there stay through one line more, also where it fails
 pub kept_line : (base next s id : ℕ) (old : Files) (start mid now : Option Files) → start ≡ Some old → Starts old base next → base < s → next ≤ id
-    → Changes (SameElsewhere s id) mid now → Changes KeepsCommits start mid → Changes KeepsCommits start now
+    → Changes (SameElsewhere s (id ∷ [])) mid now → Changes KeepsCommits start mid → Changes KeepsCommits start now
 kept_line base next s id old None mid now told starts above from_next same kept = tt
 kept_line base next s id old (Some x) None now told starts above from_next same kept = absurd kept
 kept_line base next s id old (Some x) (Some y) None told starts above from_next same kept = absurd same
@@ -230,18 +231,18 @@ kept_line base next s id old (Some x) (Some y) (Some z) told starts above from_n
     let is : x ≡ old = cc in
     kept_more base next s id x y z (subst (λ (f : Files). Starts f base next) (sym is) starts) above from_next same kept
 
-same_elsewhere : (s id : ℕ) (mid now : Option Files) → now ≡ mid → Changes (SameElsewhere s id) mid now
-same_elsewhere s id mid now same = stays (SameElsewhere s id) mid now (λ files name a b c. refl) same
+same_elsewhere : (s id : ℕ) (mid now : Option Files) → now ≡ mid → Changes (SameElsewhere s (id ∷ [])) mid now
+same_elsewhere s id mid now same = stays (SameElsewhere s (id ∷ [])) mid now (λ files name a b d. refl) same
 
 -- a line that was done changed no other file than those of its own commit
-pub elsewhere_of : (w : Writer) (a : Act) (mid now : Option Files) → w.next_id < 2 ^ 62 → FilesAfter w a mid now → Changes (SameElsewhere (w.number + 1) w.next_id) mid now
+pub elsewhere_of : (w : Writer) (a : Act) (mid now : Option Files) → w.next_id < 2 ^ 62 → FilesAfter w a mid now → Changes (SameElsewhere (w.number + 1) (w.next_id ∷ [])) mid now
 elsewhere_of w (Search q) mid now room same = same_elsewhere (w.number + 1) w.next_id mid now same
 elsewhere_of w (Do (Add doc)) mid now room same = same_elsewhere (w.number + 1) w.next_id mid now same
 elsewhere_of w (Do (Update t doc)) mid now room same = same_elsewhere (w.number + 1) w.next_id mid now same
 elsewhere_of w (Do (DeleteTerm t)) mid now room same = same_elsewhere (w.number + 1) w.next_id mid now same
 elsewhere_of w (Do (DeleteQuery q)) mid now room same = same_elsewhere (w.number + 1) w.next_id mid now same
 elsewhere_of w (Do (SetNumber t n v)) mid now room same = same_elsewhere (w.number + 1) w.next_id mid now same
-elsewhere_of w (Do Commit) mid now room made = onto (Commits (w.number + 1) w.next_id w.rows) (SameElsewhere (w.number + 1) w.next_id) mid now (λ x y m. m.elsewhere) (made room)
+elsewhere_of w (Do Commit) mid now room made = onto (Commits (w.number + 1) w.next_id w.rows) (SameElsewhere (w.number + 1) (w.next_id ∷ [])) mid now (λ x y m. m.elsewhere) (made room)
 
 -- nothing is done yet
 pub far_start : (w : Writer) → CanGoOn w → Far w.number w.next_id w.rows [] w (replicate 256 w.number) []
@@ -307,7 +308,7 @@ pub has_widen : (base next : ℕ) (rows : List Row) (log : List Line) (ns : List
     → Changes (HasCommits base next rows log ns limit) start now → Changes (HasCommits base next rows log ns more) start now
 has_widen base next rows log ns limit more start now le has =
     onto (HasCommits base next rows log ns limit) (HasCommits base next rows log ns more) start now
-    (λ old new h. record { each = each_widen base next rows log limit more new ns le h.each; only = h.only; older = h.older }) has
+    (λ old new h. record { each = each_widen base next rows log limit more new ns le h.each; only = h.only; older = h.older; older_rows = h.older_rows }) has
 
 -- all commits are made
 pub commits_done : (base next : ℕ) (rows : List Row) (lines done : List Line) (w : Writer) (lasts : List ℕ) (outcomes : List Outcome) (start now : Option Files) → done ≡ lines

@@ -20,9 +20,9 @@ use Rattle.index_run.specs.Outcomes.{outcomes_from}
 use Rattle.index_run.specs.Beginning.{IsOn}
 use Rattle.index_run.specs.Headline.{HasCommits, RunsRight}
 use Rattle.index_run.specs.Script.{DoesScript}
-use Rattle.run_report.specs.Searching.{CanSearch}
+use Rattle.run_report.specs.Searching.{CanRead, CanSearch}
 use Rattle.index_run.proofs.Far.{has_widen}
-use Rattle.index_run.proofs.Searchable.{can_search, no_rows}
+use Rattle.index_run.proofs.Searchable.{IsOnInverted, can_read, can_search, no_rows, on_rows}
 use Rattle.index_run.proofs.Told.{rows_of, report_is}
 
 abbrev Bytes : Type 0
@@ -31,19 +31,19 @@ Bytes = Vec ℕ Global
 abbrev Made : ℕ → ℕ → List Row → List Line → Files → Files → Type 0
 Made base next rows lines = HasCommits base next rows (numbered lines) (commit_numbers base (numbered lines)) (next + length (numbered lines))
 
-script_done : (base next : ℕ) (rows : List Row) (lines : List Line) (old new : Files) (outcomes : List Outcome) (text : List ℕ) → LinesRise 1 lines → IsOn old base next rows → outcomes ≡ outcomes_from base rows [] lines
+script_done : (base next : ℕ) (rows : List Row) (lines : List Line) (old new : Files) (outcomes : List Outcome) (text : List ℕ) → LinesRise 1 lines → IsOnInverted old base next rows → outcomes ≡ outcomes_from base rows [] lines
     → Made base next rows lines old new → KeepsCommits old new → ((by : ℕ → List Row) → CanSearch new by outcomes → text ≡ texts by outcomes) → DoesScript base next rows lines text old new
 script_done base next rows lines old new outcomes text rise on outcomes_are has kept told =
     let can : CanSearch new (rows_of base rows (numbered lines)) outcomes = subst (λ (os : List Outcome). CanSearch new (rows_of base rows (numbered lines)) os) (sym outcomes_are) (can_search base next rows lines (next + length (numbered lines)) old new on has) in
     record {
       commits = has_widen base next rows (numbered lines) (commit_numbers base (numbered lines)) (next + length (numbered lines)) (next + 2 * length (numbered lines)) (Some old) (Some new) (omega arith) has;
       kept = kept;
-      text_is = told (rows_of base rows (numbered lines)) can ∙ ap (λ (os : List Outcome). texts (rows_of base rows (numbered lines)) os) outcomes_are ∙ sym (report_is base rows lines rise (no_rows old base next rows on));
+      text_is = told (rows_of base rows (numbered lines)) can ∙ ap (λ (os : List Outcome). texts (rows_of base rows (numbered lines)) os) outcomes_are ∙ sym (report_is base rows lines rise (no_rows old base next rows (on_rows old base next rows on)));
     }
 
 -- the same where the store goes on telling its files
 pub done_in : (base next : ℕ) (rows : List Row) (lines : List Line) (files : Files) (start began did now : Option Files) (outcomes : List Outcome) (result : Result Bytes Stop)
-    → start ≡ Some files → began ≡ start → now ≡ did → LinesRise 1 lines → IsOn files base next rows → outcomes ≡ outcomes_from base rows [] lines
+    → start ≡ Some files → began ≡ start → now ≡ did → LinesRise 1 lines → IsOnInverted files base next rows → outcomes ≡ outcomes_from base rows [] lines
     → Changes (Made base next rows lines) began did → Changes KeepsCommits began did
     → ((f : Files) (by : ℕ → List Row) → did ≡ Some f → CanSearch f by outcomes → IfOk result (λ bytes. bytes.items ≡ texts by outcomes))
     → IfOk result (λ bytes. Changes (DoesScript base next rows lines bytes.items) start now)
@@ -59,12 +59,12 @@ done_in base next rows lines files start began did now outcomes (Ok bytes) told 
     by_store (Some x) None t h k text = absurd h
     by_store (Some x) (Some y) t h k text =
         let is : x ≡ files = cc in
-        script_done base next rows lines x y outcomes bytes.items rise (subst (λ (f : Files). IsOn f base next rows) (sym is) on) outcomes_are h k (λ by can. text y by refl can)
+        script_done base next rows lines x y outcomes bytes.items rise (subst (λ (f : Files). IsOnInverted f base next rows) (sym is) on) outcomes_are h k (λ by can. text y by refl can)
 
 -- what is read after the lines were done is there
 pub whole_in : (base next : ℕ) (rows : List Row) (lines : List Line) (files : Files) (start began did : Option Files) (outcomes : List Outcome) (result : Result Bytes Stop)
     → start ≡ Some files → began ≡ start → IsOn files base next rows → outcomes ≡ outcomes_from base rows [] lines → Changes (Made base next rows lines) began did
-    → ((f : Files) (by : ℕ → List Row) → did ≡ Some f → CanSearch f by outcomes → IfErr result (λ s. (s ≡ stop.Fault fault.Store) ⊎ (s ≡ stop.NoMemory)))
+    → ((f : Files) → did ≡ Some f → CanRead f outcomes → IfErr result (λ s. (s ≡ stop.Fault fault.Store) ⊎ (s ≡ stop.NoMemory)))
     → IfErr result (λ s. IsOneOf (stop_status s) (4 ∷ 7 ∷ []))
 whole_in base next rows lines files start began did outcomes (Ok bytes) told same on outcomes_are has whole = tt
 whole_in base next rows lines files start began did outcomes (Err s) told same on outcomes_are has whole = by_store began did (same ∙ told) has whole
@@ -74,13 +74,13 @@ whole_in base next rows lines files start began did outcomes (Err s) told same o
     listed (inr e) = subst (λ (x : Stop). IsOneOf (stop_status x) (4 ∷ 7 ∷ [])) (sym e) refl
 
     by_store : (began did : Option Files) → began ≡ Some files → Changes (Made base next rows lines) began did
-        → ((f : Files) (by : ℕ → List Row) → did ≡ Some f → CanSearch f by outcomes → (s ≡ stop.Fault fault.Store) ⊎ (s ≡ stop.NoMemory)) → IsOneOf (stop_status s) (4 ∷ 7 ∷ [])
+        → ((f : Files) → did ≡ Some f → CanRead f outcomes → (s ≡ stop.Fault fault.Store) ⊎ (s ≡ stop.NoMemory)) → IsOneOf (stop_status s) (4 ∷ 7 ∷ [])
     by_store None did t h whole = absurd cc
     by_store (Some x) None t h whole = absurd h
     by_store (Some x) (Some y) t h whole =
         let is : x ≡ files = cc in
-        let can = can_search base next rows lines (next + length (numbered lines)) x y (subst (λ (f : Files). IsOn f base next rows) (sym is) on) h in
-        listed (whole y (rows_of base rows (numbered lines)) refl (subst (λ (os : List Outcome). CanSearch y (rows_of base rows (numbered lines)) os) (sym outcomes_are) can))
+        let can = can_read base next rows lines (next + length (numbered lines)) x y (subst (λ (f : Files). IsOn f base next rows) (sym is) on) h in
+        listed (whole y refl (subst (λ (os : List Outcome). CanRead y os) (sym outcomes_are) can))
 
 pub kept_in : (start began did now : Option Files) → began ≡ start → now ≡ did → Changes KeepsCommits began did → Changes KeepsCommits start now
 kept_in start began did now same last kept =

@@ -8,7 +8,7 @@ use Rattle.ix_base.specs.declared.document.Operation.{Operation}
 use Rattle.ix_base.specs.declared.document.Operation.TheVariants.{Add, Update, DeleteTerm, DeleteQuery, SetNumber, Commit}
 use Rattle.ix_base.specs.declared.document.Row.{Row}
 use Rattle.ix_base.specs.Steps.{step, without, with_value}
-use Rattle.commit_point.specs.Fits.{BirthsRise}
+use Rattle.segment_files.specs.Fits.{BirthsRise}
 use Rattle.index_run.specs.declared.writer.Writer.{Writer}
 use Rattle.index_run.specs.Writer.{CanGoOn, CanCommit}
 

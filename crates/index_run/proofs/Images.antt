@@ -18,14 +18,15 @@ use Rattle.ix_outside.specs.CallLaws.{leaves_none, leaves_then}
 use Rattle.ix_outside.specs.Files.{Files, Changes}
 use Rattle.ix_outside.specs.Images.{Follows}
 use Rattle.commit_point.specs.Holds.{KeepsCommits}
-use Rattle.commit_point.specs.Laws.{holds_kept, other_commit}
+use Rattle.commit_point.specs.Laws.{commit_apart, holds_kept, inverted_kept, other_commit}
 use Rattle.ix_outside.specs.Images.{Reaches}
-use Rattle.commit_point.specs.Writing.{Commits, SameElsewhere, MayCommit, next_after}
+use Rattle.commit_point.specs.Writing.{SameElsewhere}
 use Rattle.op_script.specs.declared.script.Line.{Line}
 use Rattle.op_script.specs.declared.script.Act.{Act}
 use Rattle.op_script.specs.declared.script.Act.TheVariants.{Do, Search}
 use Rattle.run_report.specs.declared.outcome.Outcome.{Outcome}
 use Rattle.index_run.specs.declared.writer.Writer.{Writer}
+use Rattle.index_run.specs.Commits.{Commits, MayCommit, next_after}
 use Rattle.index_run.specs.Numbering.{numbered, is_numbered, commit_numbers}
 use Rattle.index_run.specs.Doing.{writer_after, FilesAfter, ImageAfter, MayLeave}
 use Rattle.index_run.specs.Headline.{HasCommits, Starts}
@@ -97,24 +98,25 @@ stands_line base next rows lines done rest l a w lasts outcomes d e c is act roo
       kept = kept_line base next (w.number + 1) w.next_id d (Some d) (Some e) (Some c) refl starts (omega (arith, far.number)) far.low (elsewhere_of w a (Some e) (Some c) room after) stands.kept;
     }
 
-each_still : (base next : ℕ) (rows : List Row) (log : List Line) (ns : List ℕ) (s id limit : ℕ) (old new : Files) → limit ≤ id → SameElsewhere s id old new → AllBelow s ns
+each_still : (base next : ℕ) (rows : List Row) (log : List Line) (ns : List ℕ) (s id limit : ℕ) (old new : Files) → limit ≤ id → SameElsewhere s (id ∷ []) old new → AllBelow s ns
     → AllByRecursion (Made base next rows log limit old) ns → AllByRecursion (Made base next rows log limit new) ns
 each_still base next rows log [] s id limit old new le same below each = tt
 each_still base next rows log (n ∷ ns) s id limit old new le same below each = (
-  (each.0.0, each.0.1, each.0.2, holds_kept n each.0.0 s id _ old new (omega (arith, each.0.2, le)) (λ e. absurd (omega (arith, e, below.0))) same each.0.3),
+  (each.0.0, each.0.1, each.0.2, inverted_kept n each.0.0 s (id ∷ []) _ old new (omega (arith, each.0.2, le), tt) (λ e. absurd (omega (arith, e, below.0))) same each.0.3),
   each_still base next rows log ns s id limit old new le same below.1 each.1,
 )
 
 -- files of a commit that was not made change no other
 commits_still : (base next : ℕ) (rows : List Row) (log : List Line) (ns : List ℕ) (s id limit : ℕ) (old mid new : Files) → base < s → next ≤ id → limit ≤ id
-    → AllBelow s ns → SameElsewhere s id mid new → new (Commit s) ≡ mid (Commit s) → HasCommits base next rows log ns limit old mid → HasCommits base next rows log ns limit old new
+    → AllBelow s ns → SameElsewhere s (id ∷ []) mid new → new (Commit s) ≡ mid (Commit s) → HasCommits base next rows log ns limit old mid → HasCommits base next rows log ns limit old new
 commits_still base next rows log ns s id limit old mid new above from_next le below same commit has = record {
   each = each_still base next rows log ns s id limit mid new le same below has.each;
   only = λ t there. elim (nat_or t s) [
     | inl e ↦ has.only t (subst (λ (o : Option (List ℕ)). IsSome o) (ap (λ (k : ℕ). new (Commit k)) e ∙ commit ∙ sym (ap (λ (k : ℕ). mid (Commit k)) e)) there)
-    | inr ne ↦ has.only t (subst (λ (o : Option (List ℕ)). IsSome o) (same (Commit t) (λ e. cc) (λ e. cc) (other_commit t s ne)) there)
+    | inr ne ↦ has.only t (subst (λ (o : Option (List ℕ)). IsSome o) (same (Commit t) (commit_apart t (id ∷ [])) (λ e. cc) (other_commit t s ne)) there)
   ];
-  older = λ t n held low small was. holds_kept t n s id held mid new (omega (arith, small, from_next)) (λ e. absurd (omega (arith, e, low, above))) same (has.older t n held low small was);
+  older = λ t n held low small was. inverted_kept t n s (id ∷ []) held mid new (omega (arith, small, from_next), tt) (λ e. absurd (omega (arith, e, low, above))) same (has.older t n held low small was);
+  older_rows = λ t n held low small was. holds_kept t n s (id ∷ []) held mid new (omega (arith, small, from_next), tt) (λ e. absurd (omega (arith, e, low, above))) same (has.older_rows t n held low small was);
 }
 
 -- the ids taken so far are as many as the numbered lines at most

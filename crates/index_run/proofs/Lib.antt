@@ -12,3 +12,4 @@ pub mod Searchable
 pub mod Finish
 pub mod Stopped
 pub mod Asked
+pub mod Making

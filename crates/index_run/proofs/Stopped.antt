@@ -6,15 +6,16 @@ use Rattle.std.specs.Prelude.{IsSome, Option, Contains, IfOk}
 use Rattle.std.specs.declared.alloc.Global.{Global}
 use Rattle.ix_base.specs.declared.document.Row.{Row}
 use Rattle.ix_base.specs.declared.file_name.FileName.{FileName}
-use Rattle.ix_base.specs.declared.file_name.FileName.TheVariants.{Commit, Rows}
+use Rattle.ix_base.specs.declared.file_name.FileName.TheVariants.{Commit, Rows, Posts}
 use Rattle.ix_outside.specs.Calls.{LeavesOnly}
 use Rattle.ix_outside.specs.CallLaws.{leaves_reading, leaves_then, leaves_now, may_hold_still}
 use Rattle.ix_outside.specs.Files.{Files, Changes}
 use Rattle.ix_outside.specs.Images.{Follows}
 use Rattle.commit_point.specs.declared.heads.HeadSegment.{HeadSegment}
-use Rattle.commit_point.specs.Holds.{Holds, HaveRows, IsFileOf, KeepsCommits}
+use Rattle.commit_point.specs.Holds.{Holds, HoldsInverted, HasSegments, HaveSegments, IsFileOf, KeepsCommits}
 use Rattle.ix_outside.specs.Images.{Reaches}
 use Rattle.op_script.specs.declared.script.Line.{Line}
+use Rattle.segment_core.specs.declared.segment.Segment.{Segment}
 use Rattle.index_run.specs.declared.stop.Stop.{Stop}
 use Rattle.index_run.specs.Numbering.{numbered, commit_numbers}
 use Rattle.index_run.specs.Report.{report}
@@ -32,30 +33,51 @@ here e es = (0, omega arith, refl)
 next_one : (e x : HeadSegment) (es : List HeadSegment) → Contains es x → Contains (e ∷ es) x
 next_one e x es h = (suc h.0, omega (arith, h.1), h.2)
 
-rows_there : (files d : Files) (t : ℕ) (segments : List HeadSegment) (parts : List (List Row)) → ((e : HeadSegment) → Contains segments e → d (Rows e.id) ≡ files (Rows e.id))
-    → HaveRows files t segments parts → HaveRows d t segments parts
-rows_there files d t [] [] same have = have
-rows_there files d t [] (p ∷ ps) same have = have
-rows_there files d t (e ∷ es) [] same have = have
-rows_there files d t (e ∷ es) (p ∷ ps) same have = (same e (here e es) ∙ have.0, have.1, have.2, rows_there files d t es ps (λ x h. same x (next_one e x es h)) have.3)
+segments_there : (files d : Files) (t : ℕ) (entries : List HeadSegment) (segments : List Segment)
+    → ((e : HeadSegment) → Contains entries e → (d (Rows e.id) ≡ files (Rows e.id)) × (d (Posts e.id) ≡ files (Posts e.id)))
+    → HaveSegments files t entries segments → HaveSegments d t entries segments
+segments_there files d t [] [] same have = have
+segments_there files d t [] (g ∷ gs) same have = have
+segments_there files d t (e ∷ es) [] same have = have
+segments_there files d t (e ∷ es) (g ∷ gs) same have = (
+  record {
+    id = have.0.id;
+    count = have.0.count;
+    rows = (same e (here e es)).0 ∙ have.0.rows;
+    posts = (same e (here e es)).1 ∙ have.0.posts;
+    rows_fit = have.0.rows_fit;
+    posts_fit = have.0.posts_fit;
+  },
+  segments_there files d t es gs (λ x h. same x (next_one e x es h)) have.1,
+)
 
 there_by : (files : Files) (s : ℕ) (bytes : List ℕ) → files (Commit s) ≡ Some bytes → IsSome (files (Commit s))
 there_by files s bytes is = subst (λ (o : Option (List ℕ)). IsSome o) (sym is) refl
 
-pub holds_there : (files d : Files) (s next : ℕ) (rows : List Row) → KeepsCommits files d → Holds files s next rows → Holds d s next rows
-holds_there files d s next rows kept h =
+has_there : (files d : Files) (s next : ℕ) (segments : List Segment) → KeepsCommits files d → HasSegments files s next segments → HasSegments d s next segments
+has_there files d s next segments kept h =
     let there = there_by files s _ h.has_head.file in
     record {
       head = h.head;
-      parts = h.parts;
       has_head = record { file = kept s there (Commit s) (inl refl) ∙ h.has_head.file; number = h.has_head.number; fits = h.has_head.fits };
       next_id = h.next_id;
       docs = h.docs;
-      each = rows_there files d s h.head.segments h.parts
-          (λ e listed. kept s there (Rows e.id) (inr (e.id, record { head = h.head; has_head = h.has_head; segment = e; listed = listed; is = refl }, refl))) h.each;
-      merged = h.merged;
-      births = h.births;
+      each = segments_there files d s h.head.segments segments
+          (λ e listed. (
+            kept s there (Rows e.id) (inr (e.id, record { head = h.head; has_head = h.has_head; segment = e; listed = listed; is = refl }, inl refl)),
+            kept s there (Posts e.id) (inr (e.id, record { head = h.head; has_head = h.has_head; segment = e; listed = listed; is = refl }, inr (inl refl))),
+          )) h.each;
+      differ = h.differ;
     }
+
+holds_there : (files d : Files) (s next : ℕ) (rows : List Row) → KeepsCommits files d → Holds files s next rows → Holds d s next rows
+holds_there files d s next rows kept h = record { segments = h.segments; spelled = has_there files d s next h.segments kept h.spelled; rows_are = h.rows_are }
+
+inverted_there : (files d : Files) (s next : ℕ) (rows : List Row) → KeepsCommits files d → HoldsInverted files s next rows → HoldsInverted d s next rows
+inverted_there files d s next rows kept h = record {
+  holds = record { segments = h.holds.segments; spelled = has_there files d s next h.holds.segments kept h.holds.spelled; rows_are = h.holds.rows_are };
+  inverted = h.inverted;
+}
 
 file_there : (files d : Files) (s : ℕ) (name : FileName) → KeepsCommits files d → IsSome (files (Commit s)) → IsFileOf files s name → IsFileOf d s name
 file_there files d s name kept there (inl e) = inl e
@@ -98,7 +120,8 @@ commits_through : (base next : ℕ) (rows : List Row) (log : List Line) (ns : Li
 commits_through base next rows log ns limit files d c kept only has = record {
   each = has.each;
   only = λ s there. elim (has.only s there) [ inl was ↦ inl (only s was) | inr in_ns ↦ inr in_ns ];
-  older = λ s id held low small was. has.older s id held low small (holds_there files d s id held kept was);
+  older = λ s id held low small was. has.older s id held low small (inverted_there files d s id held kept was);
+  older_rows = λ s id held low small was. has.older_rows s id held low small (holds_there files d s id held kept was);
 }
 
 wider : (base next : ℕ) (rows : List Row) (log : List Line) (ns : List ℕ) (limit more : ℕ) (d c : Files) → limit ≤ more → HasCommits base next rows log ns limit d c → HasCommits base next rows log ns more d c
@@ -108,7 +131,12 @@ wider base next rows log ns limit more d c le has = has_widen base next rows log
 no_front : (base next : ℕ) (rows : List Row) (log : List Line) (limit : ℕ) (files : Files) (images : Files → Type 0) → AreKept files images → (d : Files) → images d → HasFront base next rows log limit files d
 no_front base next rows log limit files images are d image = record {
   count = 0;
-  commits = record { each = tt; only = λ s there. inl (are.only d image s there); older = λ s id held low small was. holds_there files d s id held (are.kept d image) was };
+  commits = record {
+    each = tt;
+    only = λ s there. inl (are.only d image s there);
+    older = λ s id held low small was. inverted_there files d s id held (are.kept d image) was;
+    older_rows = λ s id held low small was. holds_there files d s id held (are.kept d image) was;
+  };
   kept = are.kept d image;
 }
 

@@ -9,6 +9,7 @@ use Rattle.ix_base.specs.declared.document.Operation.{Operation}
 use Rattle.ix_base.specs.declared.document.Operation.TheVariants.{Add, Update, DeleteTerm, DeleteQuery, SetNumber, Commit}
 use Rattle.ix_base.specs.declared.document.Row.{Row}
 use Rattle.ix_base.specs.Steps.{after}
+use Rattle.ix_base.specs.Hits.{hits}
 use Rattle.ix_base.specs.Refusals.{refusal}
 use Rattle.ix_base.specs.declared.refusal.Refusal.{Refusal}
 use Rattle.op_script.specs.Shape.{LinesRise}
@@ -17,7 +18,6 @@ use Rattle.op_script.specs.declared.script.Act.{Act}
 use Rattle.op_script.specs.declared.script.Act.TheVariants.{Do, Search}
 use Rattle.index_run.specs.Numbering.{is_numbered, is_commit, numbered, operations, number_of, rows_at}
 use Rattle.report_text.specs.Lines.{text_line, write_value, commit_value, search_value}
-use Rattle.run_report.specs.Texts.{matching}
 use Rattle.index_run.specs.Report.{report_from, act_text, done_text, told_text, last_commit}
 use Rattle.run_report.specs.Texts.{outcome_text, answer_text, texts}
 use Rattle.index_run.specs.Outcomes.{number_after, rows_after, commit_after, outcome_of, outcomes_from, answer_of, told_answer, done_answer}
@@ -132,8 +132,8 @@ line_told base rows lines front rest l (Search q) rise is none e =
     last_is base l.caller base lines [] front (l ∷ rest) rise is ∙ ap (λ (n : ℕ). commit_after n l.caller base front) (omega arith) in
     let s = commit_after base l.caller base front in
     let same = rows_of-is base rows (numbered lines) s (commit_after-le base l.caller base base front (omega arith) (omega arith)) none in
-    ap (λ (n : ℕ). text_line (search_value n (matching q (rows_at base rows (numbered lines) n)) l.line)) last
-    ∙ ap (λ (rs : List Row). text_line (search_value s (matching q rs) l.line)) (sym same)
+    ap (λ (n : ℕ). text_line (search_value n (hits q (rows_at base rows (numbered lines) n)) l.line)) last
+    ∙ ap (λ (rs : List Row). text_line (search_value s (hits q rs) l.line)) (sym same)
 line_told base rows lines front rest l (Do op) rise is none e = by_refusal (refusal op) refl
   where
     done : (op' : Operation) → l.act ≡ Do op' → refusal op' ≡ None

@@ -4,7 +4,7 @@ use Rattle.ix_base.specs.declared.document.Row.{Row}
 use Rattle.ix_base.specs.declared.damaged.Damaged.{Damaged}
 use Rattle.ix_outside.specs.Files.{Files, Was}
 use Rattle.commit_point.specs.Holds.{Holds}
-use Rattle.run_report.specs.Searching.{IsDamagedIn}
+use Rattle.searcher.specs.Searching.{IsDamagedIn}
 use Rattle.index_run.specs.Headline.{IsLast}
 
 -- the rows and the next id of the commit `base`, or those of no commit

@@ -5,7 +5,7 @@ use Rattle.ix_base.specs.declared.query.Query.{Query}
 use Rattle.ix_outside.specs.Files.{Files}
 use Rattle.op_script.specs.declared.script.Act.TheVariants.{Search}
 use Rattle.op_script.specs.declared.script.Line.{Line}
-use Rattle.run_report.specs.Searching.{IsDamagedIn}
+use Rattle.searcher.specs.Searching.{IsDamagedIn}
 use Rattle.index_run.specs.Beginning.{IsBase}
 use Rattle.index_run.specs.Causes.{IsScript}
 use Rattle.index_run.specs.Numbering.{Interleaves}

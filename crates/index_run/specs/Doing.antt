@@ -6,12 +6,12 @@ use Rattle.ix_base.specs.Refusals.{refusal}
 use Rattle.ix_base.specs.declared.refusal.Refusal.{Refusal}
 use Rattle.ix_base.specs.Steps.{step}
 use Rattle.ix_outside.specs.Files.{Files, Changes}
-use Rattle.commit_point.specs.Writing.{Commits, MayCommit, next_after}
 use Rattle.op_script.specs.declared.script.Act.{Act}
 use Rattle.op_script.specs.declared.script.Act.TheVariants.{Do, Search}
 use Rattle.run_report.specs.declared.outcome.Answer.{Answer}
 use Rattle.run_report.specs.declared.outcome.Answer.TheVariants.{Searched}
 use Rattle.index_run.specs.declared.writer.Writer.{Writer}
+use Rattle.index_run.specs.Commits.{Commits, MayCommit, next_after}
 use Rattle.index_run.specs.Outcomes.{told_answer, done_answer}
 
 -- a commit takes a segment id where there are rows

@@ -4,7 +4,7 @@ use Rattle.std.specs.List.{AllByRecursion}
 use Rattle.ix_base.specs.declared.file_name.FileName.TheVariants.{Commit}
 use Rattle.ix_base.specs.declared.document.Row.{Row}
 use Rattle.ix_outside.specs.Files.{Files}
-use Rattle.commit_point.specs.Holds.{Holds, ListsId, IsLawful, KeepsCommits}
+use Rattle.commit_point.specs.Holds.{Holds, HoldsInverted, ListsId, IsLawful, KeepsCommits}
 use Rattle.op_script.specs.declared.script.Line.{Line}
 use Rattle.index_run.specs.Numbering.{Interleaves, rows_at, commit_numbers}
 use Rattle.index_run.specs.Report.{report}
@@ -29,11 +29,12 @@ pub record Starts (files : Files) (base next : ℕ) : Type 0 where
   pub ids_below : (s id : ℕ) → ListsId files s id → id < next
 
 -- The commits above the base are those of the log, each with the rows by the operations numbered up to it and
--- a next id in range. What an older commit held it holds.
+-- a next id in range; the postings of each segment are the inversion of its rows. What an older commit held it holds.
 pub record HasCommits (base next : ℕ) (rows : List Row) (log : List Line) (numbers : List ℕ) (limit : ℕ) (old new : Files) : Type 0 where
-  pub each : AllByRecursion (λ s. (id : ℕ) × (next ≤ id) × (id ≤ limit) × Holds new s id (rows_at base rows log s)) numbers
+  pub each : AllByRecursion (λ s. (id : ℕ) × (next ≤ id) × (id ≤ limit) × HoldsInverted new s id (rows_at base rows log s)) numbers
   pub only : (s : ℕ) → IsSome (new (Commit s)) → IsSome (old (Commit s)) ⊎ IsIn numbers s
-  pub older : (s id : ℕ) (held : List Row) → s ≤ base → id ≤ next → Holds old s id held → Holds new s id held
+  pub older : (s id : ℕ) (held : List Row) → s ≤ base → id ≤ next → HoldsInverted old s id held → HoldsInverted new s id held
+  pub older_rows : (s id : ℕ) (held : List Row) → s ≤ base → id ≤ next → Holds old s id held → Holds new s id held
 
 -- A run that was done: for one order of the numbered lines, the commits of that order are in the store, and of the
 -- report of that order so much was written as `wrote` says. The commits that were there have their files and bytes.

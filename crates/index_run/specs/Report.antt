@@ -3,13 +3,13 @@ use Rattle.std.specs.Prelude.{ℕ, List, [], ◌∷◌, ◌++◌, length, ◌&&�
 use Rattle.ix_base.specs.declared.document.Operation.{Operation}
 use Rattle.ix_base.specs.declared.document.Operation.TheVariants.{Commit}
 use Rattle.ix_base.specs.declared.document.Row.{Row}
+use Rattle.ix_base.specs.Hits.{hits}
 use Rattle.ix_base.specs.Refusals.{refusal}
 use Rattle.ix_base.specs.declared.refusal.Refusal.{Refusal}
 use Rattle.op_script.specs.declared.script.Line.{Line}
 use Rattle.op_script.specs.declared.script.Act.{Act}
 use Rattle.op_script.specs.declared.script.Act.TheVariants.{Do, Search}
 use Rattle.report_text.specs.Lines.{text_line, write_value, commit_value, refused_value, search_value}
-use Rattle.run_report.specs.Texts.{matching}
 use Rattle.index_run.specs.Numbering.{is_commit, number_of, rows_at}
 
 -- The commit of a caller's search: that of the last commit line among these, or else the one that was found before.
@@ -30,7 +30,7 @@ told_text None line text = text
 -- the text of a line, with the lines that stand before it in the script
 abbrev pub act_text : ℕ → List Row → List Line → List Line → Line → Act → List ℕ
 act_text base rows log before l (Search query) =
-    let s = last_commit base log l.caller base before in text_line (search_value s (matching query (rows_at base rows log s)) l.line)
+    let s = last_commit base log l.caller base before in text_line (search_value s (hits query (rows_at base rows log s)) l.line)
 act_text base rows log before l (Do op) = told_text (refusal op) l.line (done_text base rows log l.line op)
 
 abbrev pub report_from : ℕ → List Row → List Line → List Line → List Line → List ℕ

@@ -1,6 +1,6 @@
 -- What a writer keeps, so that it can go on.
 use Rattle.std.specs.Prelude.{◌<◌, ◌≤◌, ◌^◌}
-use Rattle.commit_point.specs.Fits.{BirthsRise}
+use Rattle.segment_files.specs.Fits.{BirthsRise}
 use Rattle.index_run.specs.declared.writer.Writer.{Writer}
 
 -- the next line can be done

@@ -4,17 +4,17 @@ ghost use Rattle.ix_outside.specs.Disk.{told_files};
 ghost use Rattle.ix_base.specs.declared.document.Row.{Row};
 ghost use Rattle.ix_outside.specs.Causes.{Rose};
 ghost use Rattle.ix_outside.specs.Files.{Files};
-ghost use Rattle.commit_point.specs.Holds.{Holds};
+ghost use Rattle.commit_point.specs.Holds.{AreRowsOf, HasSegments, Holds};
 ghost use Rattle.ix_base.specs.declared.damaged.Damaged.{Damaged};
 ghost use Rattle.index_run.specs.Headline.{IsLast};
 ghost use Rattle.index_run.specs.Causes.{IsOneOf, stop_status};
-ghost use Rattle.run_report.specs.Searching.{IsDamagedIn};
+ghost use Rattle.searcher.specs.Searching.{IsDamagedIn};
 ghost use Rattle.index_run.specs.Beginning.{IsOn, IsBase, IsHighBase, IsDamagedBase, last_or_zero};
 ghost use Rattle.index_run.specs.Writer.{CanBegin};
 
 use crate::stop::Stop;
 use crate::writer::Writer;
-use commit_point::{OpenFault, list_commits, read_commit};
+use commit_point::{OpenFault, Opened, list_commits, read_commit};
 use ix_base::List;
 use ix_outside::{Store, StoreFault};
 use report_text::Fault;
@@ -97,14 +97,26 @@ fn begin_on<S: Store>(alloc: Global, store: &mut S, base: u64) -> Result<Writer,
     ensures others { IfErr result (λ stop. (stop ≡ Stop.Fault Fault.Store) ⊎ ((stop ≡ Stop.NoMemory) ⊎ ((damaged : Damaged) × (stop ≡ Stop.Fault (Fault.Damaged damaged))))) }
 {
     match read_commit(alloc, store, base) {
-        Ok(opened) => Ok(Writer {
-            rows: opened.rows,
-            number: base,
-            next_id: opened.next_id,
-        }),
+        Ok(opened) => writer_on(alloc, opened),
         Err(OpenFault::Store) => Err(Stop::Fault(Fault::Store)),
         Err(OpenFault::Damaged(damaged)) => Err(Stop::Fault(Fault::Damaged(damaged))),
         Err(OpenFault::NoSuch { number: _ }) => Err(Stop::NoMemory),
         Err(OpenFault::NoMemory) => Err(Stop::NoMemory),
     }
+}
+
+/// The writer on a commit that was read.
+fn writer_on(alloc: Global, opened: Opened) -> Result<Writer, Stop>
+    ensures number { IfOk result (λ writer. (writer.number ≡ opened.number) × (writer.next_id ≡ opened.next_id)) }
+    ensures rows { IfOk result (λ writer. (files : Files) (s next : ℕ) → HasSegments files s next opened.segments → AreRowsOf s opened.segments writer.rows) }
+    ensures err { IfErr result (λ stop. stop ≡ Stop.NoMemory) }
+{
+    let number = opened.number;
+    let next_id = opened.next_id;
+    let rows = opened.into_rows(alloc)?;
+    Ok(Writer {
+        rows,
+        number,
+        next_id,
+    })
 }

@@ -10,7 +10,7 @@ ghost use Rattle.commit_point.specs.Holds.{KeepsCommits};
 ghost use Rattle.ix_base.specs.declared.damaged.Damaged.{Damaged};
 ghost use Rattle.op_script.specs.Shape.{AreScriptLines};
 ghost use Rattle.run_report.specs.declared.outcome.Outcome.{Outcome};
-ghost use Rattle.run_report.specs.Searching.{CanSearch, SearchesDamaged};
+ghost use Rattle.run_report.specs.Searching.{CanRead, CanSearch, SearchesDamaged};
 ghost use Rattle.run_report.specs.Texts.{texts};
 ghost use Rattle.index_run.specs.Beginning.{IsOn, IsHighBase};
 ghost use Rattle.index_run.specs.Causes.{IsOneOf, stop_status};
@@ -75,8 +75,8 @@ pub fn do_script<S: Store, G: Gate>(
 fn report_of<S: Store>(alloc: Global, store: &mut S, outcomes: &[Outcome]) -> Result<Vec<u8>, Stop>
     ensures text { (files : Files) (rows_of : ℕ → List Row) → told_files (S.disk store.old) ≡ Some files
         → CanSearch files rows_of outcomes.now → IfOk result (λ bytes. bytes.items ≡ texts rows_of outcomes.now) }
-    ensures whole { (files : Files) (rows_of : ℕ → List Row) → told_files (S.disk store.old) ≡ Some files
-        → CanSearch files rows_of outcomes.now → IfErr result (λ stop. (stop ≡ Stop.Fault Fault.Store) ⊎ (stop ≡ Stop.NoMemory)) }
+    ensures whole { (files : Files) → told_files (S.disk store.old) ≡ Some files
+        → CanRead files outcomes.now → IfErr result (λ stop. (stop ≡ Stop.Fault Fault.Store) ⊎ (stop ≡ Stop.NoMemory)) }
     ensures damaged { (damaged : Damaged) → result ≡ Err (Stop.Fault (Fault.Damaged damaged))
         → (outcome : Outcome) × Contains outcomes.now outcome × SearchesDamaged (told_files (S.disk store.old)) outcome.answer damaged }
     ensures reads { S.disk store.new ≡ S.disk store.old }

@@ -1,5 +1,5 @@
 //! The lines of a script, done in its order.
-ghost use Rattle.std.specs.Prelude.{◌≡◌, ◌<◌, ◌≤◌, ◌+◌, ◌^◌, ℕ, List, [], length, OnOk, OnErr, IfOk, Err, Some, slice_index, replicate};
+ghost use Rattle.std.specs.Prelude.{◌≡◌, ◌<◌, ◌≤◌, ◌+◌, ◌^◌, ◌∷◌, ℕ, List, [], length, OnOk, OnErr, IfOk, Err, Some, slice_index, replicate};
 ghost use Rattle.ix_outside.specs.Crash.{MayHold};
 ghost use Rattle.ix_outside.specs.Disk.{told_files};
 ghost use Rattle.ix_base.specs.declared.document.Row.{Row};
@@ -39,7 +39,7 @@ fn do_operation<S: Store, G: Gate>(
     ensures writer { OnOk result (writer.new ≡ writer_after writer.old (Act.Do operation)) }
     ensures answer { IfOk result (λ answer. answer ≡ answer_by writer.old 0 (Act.Do operation)) }
     ensures files { OnOk result (FilesAfter writer.old (Act.Do operation) (told_files (S.disk store.old)) (told_files (S.disk store.new))) }
-    ensures err { OnErr result (Changes (SameElsewhere (writer.old.number + 1) writer.old.next_id) (told_files (S.disk store.old)) (told_files (S.disk store.new))) }
+    ensures err { OnErr result (Changes (SameElsewhere (writer.old.number + 1) (writer.old.next_id ∷ [])) (told_files (S.disk store.old)) (told_files (S.disk store.new))) }
     ensures acknowledged { (files : Files) → told_files (S.disk store.old) ≡ Some files → writer.old.next_id < 2 ^ 62
         → OnOk result (Follows (ImageAfter writer.old (Act.Do operation)) (MayHold (S.disk store.old)) (MayHold (S.disk store.new))) }
     ensures crash { (files : Files) → told_files (S.disk store.old) ≡ Some files → writer.old.next_id < 2 ^ 62
@@ -78,7 +78,7 @@ fn do_line<S: Store, G: Gate>(
     ensures lasts { OnOk result (lasts.new ≡ lasts_after writer.old line.caller line.act lasts.old) }
     ensures outcome { IfOk result (λ outcome. outcome ≡ record { line = line.line; answer = answer_by writer.old (slice_index lasts.old line.caller) line.act }) }
     ensures files { OnOk result (FilesAfter writer.old line.act (told_files (S.disk store.old)) (told_files (S.disk store.new))) }
-    ensures err { OnErr result (Changes (SameElsewhere (writer.old.number + 1) writer.old.next_id) (told_files (S.disk store.old)) (told_files (S.disk store.new))) }
+    ensures err { OnErr result (Changes (SameElsewhere (writer.old.number + 1) (writer.old.next_id ∷ [])) (told_files (S.disk store.old)) (told_files (S.disk store.new))) }
     ensures acknowledged { (files : Files) → told_files (S.disk store.old) ≡ Some files → writer.old.next_id < 2 ^ 62
         → OnOk result (Follows (ImageAfter writer.old line.act) (MayHold (S.disk store.old)) (MayHold (S.disk store.new))) }
     ensures crash { (files : Files) → told_files (S.disk store.old) ≡ Some files → writer.old.next_id < 2 ^ 62

@@ -224,6 +224,22 @@ fn sessions_and_faults(rt: HostRuntime) -> Result<(), Fail> {
     Ok(())
 }
 
+/// A segment's postings that are gone are damaged at 0, when a run begins on their commit.
+#[test]
+fn postings_are_gone(rt: HostRuntime) -> Result<(), Fail> {
+    let alloc = rt.alloc();
+    let first = run_script(&rt, alloc, &[ADD_A1, COMMIT], MemoryStore::new(alloc))?;
+    let mut store = first.store;
+    assert_eq!(rt; store.delete(FileName::Posts(1)), Ok(()));
+    let second = run_script(&rt, alloc, &[ADD_A2], store)?;
+    assert_eq!(rt; second.status, 8);
+    assert_eq!(rt;
+        second.written.as_slice(),
+        b"{\"at\":0,\"file\":\"seg_1.pst\",\"status\":8}\n".as_slice()
+    );
+    Ok(())
+}
+
 #[test]
 fn failing_streams(rt: HostRuntime) -> Result<(), Fail> {
     let alloc = rt.alloc();
@@ -248,16 +264,16 @@ fn failing_streams(rt: HostRuntime) -> Result<(), Fail> {
     Ok(())
 }
 
-/// The second session's commit makes its calls in this order: list, two reads, write and sync of the
-/// rows, write and sync of the pending file, rename, sync of the directory.
+/// The second session makes its calls in this order: list, three reads, write and sync of the rows,
+/// of the postings and of the pending file, rename, sync of the directory.
 #[test]
 fn stops_at_each_store_call(rt: HostRuntime) -> Result<(), Fail> {
     let alloc = rt.alloc();
-    for passes in 0..10u64 {
+    for passes in 0..13u64 {
         let first = run_script(&rt, alloc, &[ADD_A1, COMMIT], MemoryStore::new(alloc))?;
         let fuse = FuseStore::new(first.store, passes);
         let second = run_script(&rt, alloc, &[ADD_A2, COMMIT], fuse)?;
-        assert_eq!(rt; second.status, if passes < 9 { 7 } else { 0 });
+        assert_eq!(rt; second.status, if passes < 12 { 7 } else { 0 });
         let stopped = second.store.into_inner();
         for choice in 0..16u32 {
             let image = stopped.crash(alloc, choice).ok().ok_or("memory")?;
@@ -266,7 +282,7 @@ fn stops_at_each_store_call(rt: HostRuntime) -> Result<(), Fail> {
             let one = after.written.as_slice() == ONE_HIT.as_bytes();
             let two = after.written.as_slice() == TWO_HITS.as_bytes();
             assert!(rt;
-                (one && passes < 9) || (two && passes > 7),
+                (one && passes < 12) || (two && passes > 10),
                 "passes {passes} choice {choice}"
             );
         }

@@ -100,7 +100,7 @@ fn the_gate_hears_of_each_line(rt: HostRuntime) {
     }
 }
 
-/// A run without a commit leaves no file, an empty commit one, and a commit with rows two.
+/// A run without a commit leaves no file, an empty commit one, and a commit with rows three.
 #[test]
 fn files_of_a_run(rt: HostRuntime) -> Result<(), Fail> {
     let alloc = rt.alloc();
@@ -110,7 +110,7 @@ fn files_of_a_run(rt: HostRuntime) -> Result<(), Fail> {
         (&["{\"c\":0,\"op\":\"commit\"}\n"], 1),
         (
             &["{\"c\":0,\"op\":\"add\",\"doc\":{\"key\":\"a1\"}}\n{\"c\":0,\"op\":\"commit\"}\n"],
-            2,
+            3,
         ),
         (
             &["{\"c\":0,\"op\":\"commit\"}\n{\"c\":256,\"op\":\"commit\"}"],

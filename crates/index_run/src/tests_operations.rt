@@ -37,12 +37,15 @@ fn run_lines<R: Threads + Wait>(
 
 /// The birth of the first row of a commit, or 0.
 fn first_birth(alloc: Global, store: &mut MemoryStore, number: u64) -> u64 {
-    match read_commit(alloc, store, number) {
-        Ok(opened) => match opened.rows.as_slice().first() {
-            Some(row) => row.birth,
-            None => 0,
-        },
-        Err(_) => 0,
+    let Ok(opened) = read_commit(alloc, store, number) else {
+        return 0;
+    };
+    let Ok(rows) = opened.into_rows(alloc) else {
+        return 0;
+    };
+    match rows.as_slice().first() {
+        Some(row) => row.birth,
+        None => 0,
     }
 }
 

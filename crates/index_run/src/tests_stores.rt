@@ -112,6 +112,11 @@ fn files_byte_for_byte(rt: HostRuntime) -> Result<(), Fail> {
             "4958524f57303031 0000000000000001 00000001 0000000000000001 000000026131 00000000 00000000 0000000000000000",
         ),
         (
+            SHORT,
+            FileName::Posts(1),
+            "4958505354303031 0000000000000001 00000001 0000000000000001 000000036b6579 000000026131 00000001 00000000 00000001 00000000",
+        ),
+        (
             FULL,
             FileName::Commit(2),
             "4958434f4d303031 0000000000000002 0000000000000001 0000000000000002 0000000000000001 0000000000000001 00000001 0000000000000002",
@@ -120,6 +125,11 @@ fn files_byte_for_byte(rt: HostRuntime) -> Result<(), Fail> {
             FULL,
             FileName::Rows(1),
             "4958524f57303031 0000000000000001 00000001 0000000000000001 00000002 6d31 00000001 00000004 626f6479 00000006 486920796f75 00000001 00000003 626f78 00000002 696e 0000000000000001 00000004 73697a65 fffffffffffffffe",
+        ),
+        (
+            FULL,
+            FileName::Posts(1),
+            "4958505354303031 0000000000000001 00000001 0000000000000004 00000004 626f6479 00000002 6869 00000001 00000000 00000001 00000000 00000004 626f6479 00000003 796f75 00000001 00000000 00000001 00000001 00000003 626f78 00000002 696e 00000001 00000000 00000001 00000000 00000003 6b6579 00000002 6d31 00000001 00000000 00000001 00000000",
         ),
     ];
     for (script, name, fields) in cases {
@@ -165,7 +175,9 @@ fn commits_are_read_back(rt: HostRuntime) -> Result<(), Fail> {
         let opened = open_commit(alloc, &mut store, number)
             .ok()
             .ok_or("a fault")?;
-        assert_eq!(rt; (opened.rows.len() as u64, opened.next_id), (docs, next_id));
+        assert_eq!(rt; opened.next_id, next_id);
+        let rows = opened.into_rows(alloc).ok().ok_or("memory")?;
+        assert_eq!(rt; rows.len() as u64, docs);
     }
     let absent = OpenFault::NoSuch { number: 3 };
     assert!(rt; head(alloc, &mut store, 3).err() == Some(absent));

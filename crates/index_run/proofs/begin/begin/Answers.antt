@@ -5,7 +5,7 @@ use Rattle.std.proofs.lemmas.Result.{IfOk-weaker}
 use Rattle.ix_outside.specs.Files.{Files}
 use Rattle.commit_point.specs.Holds.{Holds}
 use Rattle.std.specs.Prelude.{IfOk, Option}
-use Rattle.run_report.specs.Searching.{IsDamagedIn}
+use Rattle.searcher.specs.Searching.{IsDamagedIn}
 use Rattle.index_run.specs.Beginning.{IsBase}
 use Rattle.index_run.specs.declared.writer.Writer.{Writer}
 use Rattle.index_run.proofs.begin.begin.Goals as goal

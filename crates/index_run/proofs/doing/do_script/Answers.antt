@@ -15,9 +15,9 @@ use Rattle.index_run.specs.Numbering.{numbered, commit_numbers}
 use Rattle.index_run.specs.Outcomes.{outcomes_from}
 use Rattle.index_run.specs.Headline.{HasCommits, Starts}
 use Rattle.index_run.specs.Crashes.{HasAll, HasFront}
-use Rattle.index_run.proofs.Beginnings.{begins_starts, begins_on, begins_room}
+use Rattle.index_run.proofs.Beginnings.{begins_inverted, begins_starts, begins_on, begins_room}
 use Rattle.index_run.proofs.Finish.{done_in, whole_in, kept_in}
-use Rattle.run_report.specs.Searching.{IsDamagedIn}
+use Rattle.searcher.specs.Searching.{IsDamagedIn}
 use Rattle.index_run.proofs.Asked.{is_asked}
 use Rattle.index_run.proofs.Stopped.{starts_all, script_crash, begun_crash, script_stands}
 use Rattle.index_run.proofs.doing.do_script.Goals as goal
@@ -62,7 +62,7 @@ returns-clause-done g c = λ files base next rows told begins.
     let room : w.next_id ≤ 2 ^ 61 = subst (λ (v : Writer). v.next_id ≤ 2 ^ 61) (sym is) (begins_room files base next rows begins) in
     let made = subst (λ (v : Writer). Changes (HasCommits v.number v.next_id v.rows (numbered lines) (commit_numbers v.number (numbered lines)) (v.next_id + length (numbered lines))) began did) is (c.in-Ok-do_lines.ensures.commits room) in
     let outcomes = subst (λ (v : Writer). c.as_slice.result.now ≡ outcomes_from v.number v.rows [] lines) is (c.as_slice.ensures.value ∙ c.in-Ok-do_lines.ensures.outcomes) in
-    done_in base next rows lines files _ began did _ c.as_slice.result.now c.report_of.result told (ap told_files c.begin.ensures.reads) (ap told_files c.report_of.ensures.reads) c.requires.rise (begins_on files base next rows begins) outcomes
+    done_in base next rows lines files _ began did _ c.as_slice.result.now c.report_of.result told (ap told_files c.begin.ensures.reads) (ap told_files c.report_of.ensures.reads) c.requires.rise (begins_inverted files base next rows begins) outcomes
     made (c.do_lines.ensures.kept files ((ap told_files c.begin.ensures.reads) ∙ told) starts room) c.report_of.ensures.text
 
 pub returns-clause-whole : goal.returns-clause-whole
