@@ -3,6 +3,7 @@ use Rattle.std.specs.Prelude.{◌≡◌, ℕ, ◌+◌, ◌<◌, List, [], ◌∷
 use Rattle.std.specs.List.{list_any, AllByRecursion}
 use Rattle.std.specs.List.Sorted.{IsStrictlySortedBy}
 use Rattle.std.specs.Str.{bytes_eq}
+use Rattle.ix_base.specs.Limits.{is_among}
 use Rattle.ix_base.specs.Grouped.{ArePostings}
 use Rattle.ix_base.specs.Inversion.{term_cmp, posted_at, posted, IsPostings, IsTermPostings, stands_in_row}
 use Rattle.ix_base.specs.Matches.{stands_at}
@@ -51,7 +52,8 @@ cut_places cut pair = placed_from 0 pair.0 (cut_words cut pair.1)
 
 -- all places of the word are before this one
 abbrev pub IsWordBefore : ℕ → ℕ → List ℕ → WordLists → Type 0
-IsWordBefore row position word lists = (r x : ℕ) → kept_in lists word r x ≡ true → (r < row) ⊎ ((r ≡ row) × (x < position))
+IsWordBefore row position word lists =
+    (r x : ℕ) → kept_in lists word r x ≡ true → (r < row) ⊎ ((r ≡ row) × (x < position))
 
 -- all places of all words are in earlier rows
 abbrev pub AreWordsBelow : ℕ → WordLists → Type 0
@@ -61,6 +63,11 @@ AreWordsBelow row lists = (word : List ℕ) (r x : ℕ) → kept_in lists word r
 abbrev pub IsFieldBelow : ℕ → List ℕ → FieldLists → Type 0
 IsFieldBelow row field fields = (word : List ℕ) (r x : ℕ) → kept fields field word r x ≡ true → r < row
 
+-- all places of the words of fields that have the names of these are in earlier rows
+abbrev pub AreNamedBelow : ℕ → List (List ℕ × List ℕ) → FieldLists → Type 0
+AreNamedBelow row pairs fields =
+    (field : List ℕ) → is_among (map (λ pair. pair.0) pairs) field ≡ true → IsFieldBelow row field fields
+
 -- all places are in earlier rows
 abbrev pub AreFieldsBelow : ℕ → FieldLists → Type 0
 AreFieldsBelow row fields = (field : List ℕ) → IsFieldBelow row field fields
@@ -68,7 +75,8 @@ AreFieldsBelow row fields = (field : List ℕ) → IsFieldBelow row field fields
 -- one more place of one word
 abbrev pub AddsWord : ℕ → ℕ → List ℕ → WordLists → WordLists → Type 0
 AddsWord row position word old new =
-    (w : List ℕ) (r x : ℕ) → kept_in new w r x ≡ (kept_in old w r x || (bytes_eq word w && ((row == r) && (position == x))))
+    (w : List ℕ) (r x : ℕ)
+    → kept_in new w r x ≡ (kept_in old w r x || (bytes_eq word w && ((row == r) && (position == x))))
 
 -- the places of words that follow one another, in one row
 abbrev pub AddsWords : ℕ → List (List ℕ) → WordLists → WordLists → Type 0

@@ -1,9 +1,9 @@
 //! The words of all fields of documents that are read one after another.
-ghost use Rattle.std.specs.Prelude.{◌≡◌, List, ℕ, map, true, IfOk, OnOk, codes};
+ghost use Rattle.std.specs.Prelude.{◌≡◌, map, true, IfOk, OnOk, codes};
 ghost use Rattle.std.specs.List.{flat_map};
-ghost use Rattle.ix_base.specs.Limits.{names_rise, is_among};
+ghost use Rattle.ix_base.specs.Limits.{names_rise};
 ghost use Rattle.ix_base.specs.Terms.{terms};
-ghost use Rattle.analysis.specs.Kept.{IsFieldBelow, AreFieldsBelow, AddsPlaces, AreAllTerms, cut_places};
+ghost use Rattle.analysis.specs.Kept.{IsFieldBelow, AreNamedBelow, AreFieldsBelow, AddsPlaces, AreAllTerms, cut_places};
 
 use crate::name_key::NameKey;
 use crate::word_lists::{Cut, WordLists};
@@ -47,7 +47,7 @@ fn add_fields(
     pairs: &[(Name, Text)],
 ) -> Result<(), NoMemory>
     requires rise { names_rise (map (λ pair. pair.0) pairs.now) ≡ true }
-    requires below { (field : List ℕ) → is_among (map (λ pair. pair.0) pairs.now) field ≡ true → IsFieldBelow row field fields.old.entries }
+    requires below { AreNamedBelow row pairs.now fields.old.entries }
     ensures { OnOk result (AddsPlaces row (flat_map (cut_places cut) pairs.now) fields.old.entries fields.new.entries) }
 {
     for (name, text) in pairs {

@@ -55,14 +55,14 @@ impl Eq for NameKey {
 
 impl PartialOrd for NameKey {
     ghost use Rattle.std.specs.Prelude.{Some, refl};
-    ghost use Rattle.std.specs.Cmp.{partial_order_from_agreeing_total};
+    ghost use Rattle.std.specs.Cmp.{partial_order_from_agreeing_total as agreeing_order};
     ghost use Rattle.std.specs.Cmp.Lexicographic.{slice_cmp};
     ghost use Rattle.std.specs.Ordering.{nat_cmp};
     ghost use Rattle.std.proofs.lemmas.Cmp.{nat_list_cmp_total};
 
     ghost partial_cmp = { λ a b. Some (slice_cmp nat_cmp a b) };
 
-    ghost laws = { partial_order_from_agreeing_total (slice_cmp nat_cmp) nat_list_cmp_total (λ a b. refl) (λ a b. refl) };
+    ghost laws = { agreeing_order (slice_cmp nat_cmp) nat_list_cmp_total (λ a b. refl) (λ a b. refl) };
 
     fn partial_cmp(&self, other: &NameKey) -> Option<Ordering> {
         Some(self.cmp(other))
