@@ -1,5 +1,5 @@
 -- What operations make of the marks of rows.
-use Rattle.std.specs.Prelude.{◌≡◌, ℕ, zero, suc, List, [], ◌∷◌, Bool, false, if◌then◌else◌, nat_lt}
+use Rattle.std.specs.Prelude.{ℕ, zero, suc, List, [], ◌∷◌, Bool, false, if◌then◌else◌, nat_lt}
 use Rattle.ix_base.specs.Matches.{matches, holds_term}
 use Rattle.ix_base.specs.Query.{tree_of}
 use Rattle.ix_base.specs.Documents.{Document}

@@ -6,15 +6,18 @@ use query_core::Inverted;
 use std::alloc::Global;
 use std::test::*;
 
-fn name_of(alloc: Global, text: &str) -> Result<Name, Fail> {
-    let text = Text::copy_of(alloc, text).ok().ok_or("memory")?;
-    Ok(Name::new(text).ok_or("no name")?)
+fn text_of(alloc: Global, text: &str) -> Result<Text, Fail> {
+    Ok(Text::new(String::from_str(alloc, text)?).ok_or("long")?)
+}
+
+pub fn name_of(alloc: Global, text: &str) -> Result<Name, Fail> {
+    Ok(Name::new(text_of(alloc, text)?).ok_or("no name")?)
 }
 
 /// A row whose document has this key and these words.
-fn row_of(alloc: Global, birth: u64, key: &str, words: &str) -> Result<Row, Fail> {
-    let key = Text::copy_of(alloc, key).ok().ok_or("memory")?;
-    let words = Text::copy_of(alloc, words).ok().ok_or("memory")?;
+pub fn row_of(alloc: Global, birth: u64, key: &str, words: &str) -> Result<Row, Fail> {
+    let key = text_of(alloc, key)?;
+    let words = text_of(alloc, words)?;
     let mut text = Vec::new(alloc);
     text.push((name_of(alloc, "body")?, words))?;
     let doc = Document::new(
@@ -40,10 +43,10 @@ fn two_rows(alloc: Global) -> Result<Segment, Fail> {
     })
 }
 
-fn term_of(alloc: Global, field: &str, word: &str) -> Result<Term, Fail> {
+pub fn term_of(alloc: Global, field: &str, word: &str) -> Result<Term, Fail> {
     Ok(Term {
         field: name_of(alloc, field)?,
-        bytes: Text::copy_of(alloc, word).ok().ok_or("memory")?,
+        bytes: text_of(alloc, word)?,
     })
 }
 

@@ -1,6 +1,5 @@
 use Rattle.segment_core.specs.Segments.{documents}
 use Rattle.std.proofs.Common.{◌≡◌, map, length, drop}
-use Rattle.ix_base.specs.declared.document.Row.{Row}
 use Rattle.frozen_packet.specs.Updates.{setting}
 use Rattle.segment_core.specs.LiveRows.{above, MarksLater}
 use Rattle.segment_core.specs.Marking.{marks_after}

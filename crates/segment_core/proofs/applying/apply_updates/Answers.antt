@@ -1,9 +1,9 @@
-use Rattle.std.proofs.Common.{◌≡◌, ℕ, List, subst, refl, sym, ap}
+use Rattle.std.proofs.Common.{◌≡◌, ℕ, List, subst}
 use Rattle.std.proofs.lemmas.Result.{on_ok_weaker}
 use Rattle.ix_base.specs.declared.document.Row.{Row}
 use Rattle.frozen_packet.specs.Updates.{as_operations}
 use Rattle.live_docs.specs.declared.live_docs.Mark.{Mark}
-use Rattle.segment_core.specs.Segments.{documents, IsInverted}
+use Rattle.segment_core.specs.Segments.{IsInverted}
 use Rattle.segment_core.specs.LiveRows.{above}
 use Rattle.segment_core.specs.Marking.{marks_after}
 use Rattle.segment_core.specs.declared.segment.Segment.{Segment}

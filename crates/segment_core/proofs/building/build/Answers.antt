@@ -1,8 +1,7 @@
-use Rattle.std.proofs.Common.{◌≡◌, ◌∙◌, ℕ, List, [], length, refl, sym, ap, subst}
+use Rattle.std.proofs.Common.{◌∙◌, List, length, refl, sym, ap, subst}
 use Rattle.ix_base.specs.declared.document.Row.{Row}
 use Rattle.live_docs.specs.Marks.{Marks}
-use Rattle.row_fates.specs.Fate.{Numbered}
-use Rattle.segment_core.specs.LiveRows.{Lived, IsBuilt}
+use Rattle.segment_core.specs.LiveRows.{IsBuilt}
 use Rattle.segment_core.specs.declared.segment.Segment.{Segment}
 use Rattle.segment_core.proofs.BuiltRows.{fates_of_new, of_given, none_live, some_live}
 use Rattle.segment_core.proofs.building.build.Goals as goal

@@ -1,0 +1,144 @@
+//! A packet applied to segments, worked out by hand.
+ghost use Rattle.std.specs.Prelude.{◌≡◌, All, IfOk};
+ghost use Rattle.segment_core.specs.LiveRows.{CanBuild};
+
+use crate::applying::apply;
+use crate::parallel::apply_all;
+use analysis::invert;
+use frozen_packet::{Packet, Updates};
+use ix_base::{Document, Fields, Name, Numbers, Row, Term, Text};
+use node_words::Entry;
+use ram_postings::Frozen;
+use segment_core::{LiveSegment, build};
+use std::alloc::Global;
+use std::fmt::Write;
+use std::test::*;
+
+fn text_of(alloc: Global, text: &str) -> Result<Text, Fail> {
+    Ok(Text::new(String::from_str(alloc, text)?).ok_or("long")?)
+}
+
+fn name_of(alloc: Global, text: &str) -> Result<Name, Fail> {
+    Ok(Name::new(text_of(alloc, text)?).ok_or("no name")?)
+}
+
+fn key_term(alloc: Global, key: &str) -> Result<Term, Fail> {
+    let field = name_of(alloc, "key")?;
+    let bytes = text_of(alloc, key)?;
+    Ok(Term { field, bytes })
+}
+
+fn row_of(alloc: Global, birth: u64, key: &str) -> Result<Row, Fail> {
+    let none = Numbers::none(alloc);
+    let fields = Fields::none(alloc);
+    let doc = Document::new(text_of(alloc, key)?, Fields::none(alloc), fields, none);
+    let doc = doc.ok_or("names that stand twice")?;
+    Ok(Row { birth, doc })
+}
+
+/// Two rows, with the keys `a` and `b`.
+fn two_rows(alloc: Global, birth: u64) -> Result<Frozen, Fail>
+    ensures { IfOk result (λ frozen. CanBuild frozen.rows.items frozen.postings) }
+{
+    let mut rows = Vec::new(alloc);
+    rows.push(row_of(alloc, birth, "a")?)?;
+    rows.push(row_of(alloc, birth, "b")?)?;
+    let postings = invert(alloc, rows.as_slice())?;
+    Ok(Frozen { rows, postings })
+}
+
+/// The segment of the two rows, with all in it up to 7.
+fn segment_of(alloc: Global, birth: u64) -> Result<LiveSegment, Fail>
+    ensures { IfOk result (λ segment. segment.live.applied ≡ 7) }
+{
+    let frozen = two_rows(alloc, birth)?;
+    match build(alloc, birth, frozen, &Updates::new(alloc), 7)? {
+        Some(segment) => Ok(segment),
+        None => Err("no row is live")?,
+    }
+}
+
+/// A packet of all after 5 up to 9, in which one number has two operations: the row `a` is deleted,
+/// and a number is set in the row `b`.
+fn packet_of(alloc: Global, number: u64) -> Result<Packet, Fail>
+    ensures { IfOk result (λ packet. (packet.after ≡ 5) × (packet.upto ≡ 9)) }
+{
+    let mut updates = Updates::new(alloc);
+    let deleted = key_term(alloc, "a")?;
+    updates.take(alloc, number, &Entry::DeleteTerm(deleted))?;
+    let term = key_term(alloc, "b")?;
+    let num = name_of(alloc, "n")?;
+    let value = 4;
+    updates.take(alloc, number, &Entry::SetNumber { term, num, value })?;
+    Ok(Packet {
+        after: 5,
+        upto: 9,
+        updates,
+    })
+}
+
+/// Up to which number operations are in the segment, and of each row whether it is live, `+` or `-`,
+/// and the number that was set.
+fn shown(alloc: Global, segment: &LiveSegment) -> Result<String, Fail> {
+    let mut out = String::new(alloc);
+    write!(out, "{}", segment.live().applied())?;
+    for row in 0..4 {
+        show_row(alloc, &mut out, segment, row)?;
+    }
+    Ok(out)
+}
+
+fn show_row(alloc: Global, out: &mut String, segment: &LiveSegment, row: u32) -> Result<(), Fail> {
+    let name = name_of(alloc, "n")?;
+    if (row as usize) < segment.segment().rows.len() {
+        let sign = if segment.live().is_live(row) { "+" } else { "-" };
+        let value = segment.live().value(row, &name).unwrap_or(0);
+        write!(out, "{sign}{value}")?;
+    }
+    Ok(())
+}
+
+/// A segment with rows of this birth, after the packet of this number.
+fn shown_after(alloc: Global, birth: u64, number: u64) -> Result<String, Fail> {
+    let mut segment = segment_of(alloc, birth)?;
+    let packet = packet_of(alloc, number)?;
+    let made = apply(alloc, &segment, &packet)?;
+    segment.set_live(made);
+    shown(alloc, &segment)
+}
+
+/// Only what is numbered above 7 counts, and that only for rows that were born before it.
+#[test]
+fn packets_at_each_number(rt: HostRuntime) -> Result<(), Fail> {
+    let alloc = rt.alloc();
+    assert_eq!(rt; shown_after(alloc, 1, 6)?.as_str(), "9+0+0");
+    assert_eq!(rt; shown_after(alloc, 1, 7)?.as_str(), "9+0+0");
+    assert_eq!(rt; shown_after(alloc, 1, 8)?.as_str(), "9-0+4");
+    assert_eq!(rt; shown_after(alloc, 8, 8)?.as_str(), "9+0+0");
+    Ok(())
+}
+
+/// Two segments, of rows born by the operations 1 and 8.
+fn two_segments(alloc: Global) -> Result<Vec<LiveSegment>, Fail>
+    ensures { IfOk result (λ all. All (λ s. s.live.applied ≡ 7) all.items) }
+{
+    let mut segments = Vec::new(alloc);
+    segments.push(segment_of(alloc, 1)?)?;
+    segments.push(segment_of(alloc, 8)?)?;
+    Ok(segments)
+}
+
+/// Live docs of two segments come in their order: only the first has rows that were born before 8.
+#[test]
+fn all_segments_in_order(rt: HostRuntime) -> Result<(), Fail> {
+    let alloc = rt.alloc();
+    let segments = two_segments(alloc)?;
+    let packet = packet_of(alloc, 8)?;
+    let all = apply_all(&rt, alloc, segments.as_slice(), &packet)?;
+    let mut lives = String::new(alloc);
+    for live in &all {
+        write!(lives, "{},", live.live_count())?;
+    }
+    assert_eq!(rt; lives.as_str(), "1,2,");
+    Ok(())
+}
