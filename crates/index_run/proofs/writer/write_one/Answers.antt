@@ -1,4 +1,4 @@
-use Rattle.std.proofs.Common.{◌∙◌, [], ◌∷◌, ap, append-nil, length, List, sym, subst}
+use Rattle.std.proofs.Common.{◌∙◌, ap, append-nil, length, List, sym, subst}
 use Rattle.std.specs.List.{AllByRecursion}
 use Rattle.ix_base.specs.declared.document.Row.{Row}
 use Rattle.segment_core.specs.Segments.{all_rows}
