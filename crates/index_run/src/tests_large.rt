@@ -120,9 +120,9 @@ fn members(alloc: Global, letter: &str, value: &str) -> Result<String, Fail> {
     Ok(list)
 }
 
-/// A document with 300 names of each kind, and 300 commits; the next run begins on the last of them.
+/// A document with 300 names of each kind; the next run begins on its commit.
 #[test]
-fn many_names_and_commits(rt: HostRuntime) -> Result<(), Fail> {
+fn many_names(rt: HostRuntime) -> Result<(), Fail> {
     let alloc = rt.alloc();
     let text = members(alloc, "t", "\"a b\"")?;
     let exact = members(alloc, "e", "\"x\"")?;
@@ -130,16 +130,35 @@ fn many_names_and_commits(rt: HostRuntime) -> Result<(), Fail> {
     let add = format!(in alloc;
         "{{\"c\":0,\"op\":\"add\",\"doc\":{{\"key\":\"m\",\"text\":{{{text}}},\"exact\":{{{exact}}},\"num\":{{{num}}}}}}}\n"
     )?;
-    let commits = "{\"c\":0,\"op\":\"commit\"}\n".repeat(alloc, 300)?;
-    let script = [add.as_str(), commits.as_str()];
+    let script = [add.as_str(), "{\"c\":0,\"op\":\"commit\"}\n"];
     let first = run_script(&rt, alloc, &script, MemoryStore::new(alloc))?;
     assert_eq!(rt; first.status, 0);
     let search =
         "{\"c\":0,\"op\":\"search\",\"query\":{\"bool\":{\"must\":[{\"phrase\":[\"t399\",\"a b\"]},{\"term\":[\"e399\",\"x\"]}]}}}\n";
     let second = run_script(&rt, alloc, &[search], first.store)?;
     let report = format!(in alloc;
-        "{{\"commit\":301,\"hits\":[{{\"key\":\"m\",\"num\":{{{num}}}}}],\"line\":1}}\n"
+        "{{\"commit\":2,\"hits\":[{{\"key\":\"m\",\"num\":{{{num}}}}}],\"line\":1}}\n"
     )?;
     assert_eq!(rt; second.written.as_slice(), report.as_bytes());
+    Ok(())
+}
+
+/// 300 commits; the next run begins on the last of them.
+#[test]
+fn many_commits(rt: HostRuntime) -> Result<(), Fail> {
+    let alloc = rt.alloc();
+    let commits = "{\"c\":0,\"op\":\"commit\"}\n".repeat(alloc, 300)?;
+    let script = [
+        "{\"c\":0,\"op\":\"add\",\"doc\":{\"key\":\"m\"}}\n",
+        commits.as_str(),
+    ];
+    let first = run_script(&rt, alloc, &script, MemoryStore::new(alloc))?;
+    assert_eq!(rt; first.status, 0);
+    let search = "{\"c\":0,\"op\":\"search\",\"query\":\"all\"}\n";
+    let second = run_script(&rt, alloc, &[search], first.store)?;
+    assert_eq!(rt;
+        second.written.as_slice(),
+        b"{\"commit\":301,\"hits\":[{\"key\":\"m\",\"num\":{}}],\"line\":1}\n".as_slice()
+    );
     Ok(())
 }
