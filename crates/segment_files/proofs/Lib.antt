@@ -6,3 +6,6 @@ pub mod Chains
 pub mod PostsRead
 pub mod Runs
 pub mod Counts
+pub mod Bits
+pub mod LiveRead
+pub mod ValuesRead

@@ -4,3 +4,6 @@ pub mod Fields
 pub mod Reading
 pub mod Placing
 pub mod PostLaws
+pub mod LiveSpelling
+pub mod LiveFits
+pub mod LiveReading
