@@ -21,7 +21,7 @@ Pads [] (y ∷ ys) = (y ≡ false) × Pads [] ys
 Pads (x ∷ xs) [] = ⊥
 Pads (x ∷ xs) (y ∷ ys) = (x ≡ y) × Pads xs ys
 
-abbrev bit_number : Bool → ℕ
+abbrev pub bit_number : Bool → ℕ
 bit_number bit = if bit then 1 else 0
 
 pads_drop : (n : ℕ) (xs ys : List Bool) → Pads xs ys → Pads (drop n xs) (drop n ys)

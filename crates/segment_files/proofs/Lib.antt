@@ -9,3 +9,5 @@ pub mod Counts
 pub mod Bits
 pub mod LiveRead
 pub mod ValuesRead
+pub mod LiveWrite
+pub mod ValuesWrite

@@ -28,7 +28,7 @@ use Rattle.segment_files.proofs.Chains.{rises, chain}
 -- ---- rows and names rise
 
 -- how one row and name come before others
-abbrev Before : ℕ → List ℕ → ℕ → List ℕ → Type 0
+abbrev pub Before : ℕ → List ℕ → ℕ → List ℕ → Type 0
 Before row name next_row next_name = (row < next_row) ⊎ ((row ≡ next_row) × (text_lt name next_name ≡ true))
 
 same_row : (row next_row : ℕ) (lower : Bool) → (eqb row next_row && lower) ≡ true → (row ≡ next_row) × (lower ≡ true)
@@ -41,7 +41,7 @@ before_of row name next_row next_name e =
       | inr h ↦ inr (same_row row next_row (text_lt name next_name) h)
     ]
 
-of_before : (row : ℕ) (name : List ℕ) (next_row : ℕ) (next_name : List ℕ) → Before row name next_row next_name → is_before row name next_row next_name ≡ true
+pub of_before : (row : ℕ) (name : List ℕ) (next_row : ℕ) (next_name : List ℕ) → Before row name next_row next_name → is_before row name next_row next_name ≡ true
 of_before row name next_row next_name (inl lt) = or_left (ltb row next_row) (eqb row next_row && text_lt name next_name) (lt-ltb row next_row lt)
 of_before row name next_row next_name (inr h) = or_right (ltb row next_row) (eqb row next_row && text_lt name next_name) (both_true (eq-eqb row next_row h.0) h.1)
 

@@ -55,7 +55,7 @@ pub fn encode_liv(
     requires rows { rows ≡ length live.now.marks }
     requires some { 1 ≤ count_live live.now.marks }
     ensures file { IfOk result (λ bytes. bytes.items ≡ live_file id v (live_bits live.now.marks)) }
-    ensures fits { LiveFits rows (live_bits live.now.marks) }
+    ensures fits { OnOk result (LiveFits rows (live_bits live.now.marks)) }
 {
     let mut out = Vec::new(alloc);
     put_live_mark(&mut out)?;
