@@ -5,3 +5,6 @@ pub mod Reading
 pub mod ReadLists
 pub mod Placing
 pub mod PostLaws
+pub mod LiveSpelling
+pub mod LiveFits
+pub mod LiveReading

@@ -1,0 +1,11 @@
+use Rattle.std.proofs.Common.{◌≡◌, ◌++◌, take}
+use Rattle.std.specs.List.{flat_map, AllByRecursion}
+use Rattle.segment_files.specs.LiveFits.{ValueFits}
+use Rattle.segment_files.specs.LiveSpelling.{value_bytes, values_of}
+use Rattle.segment_files.proofs.values.put_values.Given as goal
+
+abbrev pub invariant-loop-row : goal.invariant-loop-row
+invariant-loop-row l = record {
+  bytes : l.out.items ≡ l.fn.out.items ++ flat_map value_bytes (values_of (take l.row l.live.marks));
+  fits : AllByRecursion (ValueFits l.rows) (values_of (take l.row l.live.marks));
+}
