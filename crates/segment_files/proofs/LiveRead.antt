@@ -1,5 +1,5 @@
 -- A file of live bits that is read is the one that was written, and what was written is read again.
-use Rattle.std.proofs.Common.{◌≡◌, ℕ, ◌+◌, ◌*◌, ◌^◌, ◌<◌, ◌≤◌, Bool, true, false, not, cond, eqb, ltb, List, [], ◌∷◌, ◌++◌, length, take, drop, Result, Ok, Err, refl, sym, ap, subst, ◌∙◌, append_assoc, arith}
+use Rattle.std.proofs.Common.{◌≡◌, ℕ, ◌+◌, ◌^◌, ◌<◌, ◌≤◌, Bool, true, false, not, cond, eqb, ltb, List, [], ◌++◌, length, take, drop, Result, Ok, Err, refl, sym, ap, subst, ◌∙◌, arith}
 use Rattle.std.specs.Prelude.{IfOk}
 use Rattle.std.specs.Int.{w32, w64}
 use Rattle.std.specs.List.{flat_map}
@@ -49,13 +49,12 @@ all_of found = flat_map byte_bits found
 packed_again : (n : ℕ) (found : List ℕ) → AreBytes found → length found ≡ byte_count n → has_bit (drop n (all_of found)) ≡ false
     → (length (take n (all_of found)) ≡ n) × (live_bytes (take n (all_of found)) ≡ found)
 packed_again n found are count none =
-    let long : length (take n (all_of found)) ≡ n = omega (arith, length-take n (all_of found), all_length found, enough n, count) in
-    (
+    let long : length (take n (all_of found)) ≡ n = omega (arith, length-take n (all_of found), all_length found, enough n, count) in (
       long,
       ap (λ (k : ℕ). bytes_of_bits (byte_count k) (take n (all_of found))) long
-      ∙ ap (λ (k : ℕ). bytes_of_bits k (take n (all_of found))) (sym count)
-      ∙ pads_bytes (length found) (take n (all_of found)) (all_of found) (take_pads n (all_of found) none)
-      ∙ all_packed found are,
+          ∙ ap (λ (k : ℕ). bytes_of_bits k (take n (all_of found))) (sym count)
+          ∙ pads_bytes (length found) (take n (all_of found)) (all_of found) (take_pads n (all_of found) none)
+          ∙ all_packed found are,
     )
 
 bits_take : (n : ℕ) (bytes : List ℕ) (x : List Bool × List ℕ) → AreBytes bytes → bits_at n bytes ≡ Ok x → Takes bytes (live_bytes x.0) x.1 × LiveFits n x.0

@@ -1,3 +1,5 @@
+ghost use Rattle.std.specs.Prelude.{◌≡◌, length, IfOk};
+
 use super::*;
 use crate::tests::{changed, field_at};
 use ix_base::codec::{put_i64, put_name, put_u32, put_u64};
@@ -36,7 +38,7 @@ fn values_place(alloc: Global, bytes: &[u8], n: u32) -> Option<u64> {
 }
 
 fn name_of(alloc: Global, text: &str) -> Result<Name, Fail> {
-    let text = Text::copy_of(alloc, text).ok().ok_or("memory")?;
+    let text = Text::new(String::from_str(alloc, text)?).ok_or("too long")?;
     Ok(Name::new(text).ok_or("no name")?)
 }
 
@@ -165,7 +167,8 @@ fn bits_of_19_rows(rt: HostRuntime) -> Result<(), Fail> {
         let mut file = file_of(alloc, b"IXLIV001", 19)?;
         file.extend_from_slice(&bytes)?;
         assert_eq!(rt; live_place(alloc, &file, 19), place);
-        assert_eq!(rt; live_place(alloc, &file[..30], 19), Some(30));
+        file.truncate(30);
+        assert_eq!(rt; live_place(alloc, &file, 19), Some(30));
     }
     Ok(())
 }
@@ -193,7 +196,9 @@ fn values_rise(rt: HostRuntime) -> Result<(), Fail> {
 }
 
 // 19 rows, of which four are no longer live, with numbers in three of them, one of which is dead.
-fn many_rows(alloc: Global) -> Result<LiveDocs, Fail> {
+fn many_rows(alloc: Global) -> Result<LiveDocs, Fail>
+    ensures { IfOk result (λ docs. 19 ≡ length docs.marks) }
+{
     let mut docs = LiveDocs::new(alloc, 19, 0).ok().ok_or("memory")?;
     docs.kill(1);
     docs.kill(7);
@@ -212,6 +217,7 @@ fn many_rows(alloc: Global) -> Result<LiveDocs, Fail> {
 fn many_bits_both_ways(rt: HostRuntime) -> Result<(), Fail> {
     let alloc = rt.alloc();
     let docs = many_rows(alloc)?;
+    assert_eq!(rt; docs.live_count(), 15);
     let mut file = file_of(alloc, b"IXLIV001", 19)?;
     file.extend_from_slice(&[0x7d, 0xfe, 0x05])?;
     let written = encode_liv(alloc, 1, 2, 19, &docs).ok().ok_or("memory")?;

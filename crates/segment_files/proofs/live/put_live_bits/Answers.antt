@@ -1,5 +1,5 @@
 use Rattle.segment_files.specs.LiveSpelling.{live_bits}
-use Rattle.segment_files.proofs.LiveWrite.{one_byte, all_bytes}
+use Rattle.segment_files.proofs.LiveWrite.{one_byte}
 use Rattle.segment_files.proofs.live.put_live_bits.Goals as goal
 
 pub loop-index-preserved : goal.loop-index-preserved

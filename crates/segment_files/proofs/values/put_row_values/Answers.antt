@@ -1,4 +1,4 @@
-use Rattle.std.proofs.Common.{List, ap, subst, arith, take}
+use Rattle.std.proofs.Common.{List, subst}
 use Rattle.std.proofs.lemmas.List.{take_all}
 use Rattle.std.specs.List.{AllByRecursion}
 use Rattle.ix_base.specs.Steps.{Named}

@@ -1,6 +1,5 @@
 use Rattle.std.proofs.Common.{◌≡◌, ℕ, ◌<◌, ◌++◌, take}
 use Rattle.std.specs.List.{flat_map, AllByRecursion}
-use Rattle.ix_base.specs.Steps.{Named}
 use Rattle.segment_files.specs.LiveFits.{ValueFits}
 use Rattle.segment_files.specs.LiveSpelling.{row_values, value_bytes}
 use Rattle.segment_files.proofs.values.put_row_values.Given as goal
