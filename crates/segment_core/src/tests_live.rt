@@ -58,38 +58,49 @@ fn show_row(alloc: Global, out: &mut String, segment: &LiveSegment, row: u32) ->
     Ok(())
 }
 
-/// The three rows of a segment, each after the other.
+/// The segment's number, its applied number, and its rows.
 fn shown(alloc: Global, segment: &LiveSegment) -> Result<String, Fail> {
     let mut out = String::new(alloc);
+    let id = segment.segment().id;
+    let applied = segment.live().applied();
+    write!(out, "{id} {applied}")?;
     for row in 0..4 {
         show_row(alloc, &mut out, segment, row)?;
     }
     Ok(out)
 }
 
+/// The segment with the updates of this number.
+fn shown_at(alloc: Global, number: u64) -> Result<String, Fail> {
+    let updates = three_updates(alloc, number)?;
+    match built(alloc, &updates)? {
+        Some(segment) => shown(alloc, &segment),
+        None => Ok(String::new(alloc)),
+    }
+}
+
 /// Updates act only on rows that were born before them.
 #[test]
 fn updates_at_each_birth(rt: HostRuntime) -> Result<(), Fail> {
     let alloc = rt.alloc();
-    for (number, rows) in [(3, "+0+0+0"), (5, "-0+0+0"), (7, "-0+5+0"), (8, "-0+5-0")] {
-        let updates = three_updates(alloc, number)?;
-        let Some(segment) = built(alloc, &updates)? else {
-            panic!(rt; "no row is live");
-        };
-        assert_eq!(rt; shown(alloc, &segment)?.as_str(), rows, "number {number}");
-        assert_eq!(rt; (segment.segment().id, segment.live().applied()), (9, 8));
-    }
+    assert_eq!(rt; shown_at(alloc, 3)?.as_str(), "9 8+0+0+0");
+    assert_eq!(rt; shown_at(alloc, 5)?.as_str(), "9 8-0+0+0");
+    assert_eq!(rt; shown_at(alloc, 7)?.as_str(), "9 8-0+5+0");
+    assert_eq!(rt; shown_at(alloc, 8)?.as_str(), "9 8-0+5-0");
     Ok(())
+}
+
+fn is_built_at(alloc: Global, number: u64) -> Result<bool, Fail> {
+    let mut updates = Updates::new(alloc);
+    updates.take(alloc, number, &Entry::DeleteQuery(Query::All))?;
+    Ok(built(alloc, &updates)?.is_some())
 }
 
 /// Where all rows are deleted there is no segment.
 #[test]
 fn all_rows_deleted(rt: HostRuntime) -> Result<(), Fail> {
     let alloc = rt.alloc();
-    for (number, some) in [(7, true), (8, false)] {
-        let mut updates = Updates::new(alloc);
-        updates.take(alloc, number, &Entry::DeleteQuery(Query::All))?;
-        assert_eq!(rt; built(alloc, &updates)?.is_some(), some, "number {number}");
-    }
+    assert!(rt; is_built_at(alloc, 7)?);
+    assert!(rt; !is_built_at(alloc, 8)?);
     Ok(())
 }
