@@ -51,7 +51,11 @@ fn built(alloc: Global, updates: &Updates) -> Result<Option<LiveSegment>, Fail> 
 fn show_row(alloc: Global, out: &mut String, segment: &LiveSegment, row: u32) -> Result<(), Fail> {
     let name = name_of(alloc, "n")?;
     if (row as usize) < segment.segment().rows.len() {
-        let sign = if segment.live().is_live(row) { "+" } else { "-" };
+        let sign = if segment.live().is_live(row) {
+            "+"
+        } else {
+            "-"
+        };
         let value = segment.live().value(row, &name).unwrap_or(0);
         write!(out, "{sign}{value}")?;
     }
