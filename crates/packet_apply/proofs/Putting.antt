@@ -1,7 +1,6 @@
 -- A packet applied, as the calls tell it.
-use Rattle.std.proofs.Common.{◌≡◌, ◌∙◌, ℕ, List, length, sym, ap, subst}
+use Rattle.std.proofs.Common.{◌≡◌, ◌∙◌, ℕ, length, sym, ap, subst}
 use Rattle.live_docs.specs.Marks.{Marks}
-use Rattle.live_docs.specs.declared.live_docs.Mark.{Mark}
 use Rattle.frozen_packet.specs.declared.packet.Packet.{Packet}
 use Rattle.segment_core.specs.Segments.{IsInverted}
 use Rattle.segment_core.specs.LiveRows.{Lived, IsWhole, Fated, MarksLater}

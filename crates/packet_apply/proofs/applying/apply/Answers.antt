@@ -1,4 +1,3 @@
-use Rattle.std.proofs.Common.{◌≡◌, ◌∙◌, ap}
 use Rattle.packet_apply.proofs.Putting.{applied}
 use Rattle.packet_apply.proofs.applying.apply.Goals as goal
 
