@@ -1,12 +1,15 @@
 //! A packet applied to segments, worked out by hand.
-ghost use Rattle.std.specs.Prelude.{◌≡◌, All, IfOk};
+ghost use Rattle.std.specs.Prelude.{◌≡◌, All, IfOk, OnOk};
+ghost use Rattle.frozen_packet.specs.Updates.{as_operations, NumberedUpTo};
 ghost use Rattle.segment_core.specs.LiveRows.{CanBuild};
+ghost use Rattle.packet_apply.specs.Packets.{Meets};
 
 use crate::applying::apply;
 use crate::parallel::apply_all;
 use analysis::invert;
 use frozen_packet::{Packet, Updates};
 use ix_base::{Document, Fields, Name, Numbers, Row, Term, Text};
+use live_docs::LiveDocs;
 use node_words::Entry;
 use ram_postings::Frozen;
 use segment_core::{LiveSegment, build};
@@ -47,9 +50,10 @@ fn two_rows(alloc: Global, birth: u64) -> Result<Frozen, Fail>
     Ok(Frozen { rows, postings })
 }
 
-/// The segment of the two rows, with all in it up to 7.
-fn segment_of(alloc: Global, birth: u64) -> Result<LiveSegment, Fail>
-    ensures { IfOk result (λ segment. segment.live.applied ≡ 7) }
+/// The segment of the two rows, with all in it up to 7, which this packet meets.
+fn segment_of(alloc: Global, birth: u64, packet: &Packet) -> Result<LiveSegment, Fail>
+    requires { (packet.now.after ≡ 5) × (packet.now.upto ≡ 9) }
+    ensures { IfOk result (Meets packet.now) }
 {
     let frozen = two_rows(alloc, birth)?;
     match build(alloc, birth, frozen, &Updates::new(alloc), 7)? {
@@ -58,22 +62,40 @@ fn segment_of(alloc: Global, birth: u64) -> Result<LiveSegment, Fail>
     }
 }
 
-/// A packet of all after 5 up to 9, in which one number has two operations: the row `a` is deleted,
-/// and a number is set in the row `b`.
-fn packet_of(alloc: Global, number: u64) -> Result<Packet, Fail>
-    ensures { IfOk result (λ packet. (packet.after ≡ 5) × (packet.upto ≡ 9)) }
+/// Takes one more entry, under the same number as those before it.
+fn take_more(alloc: Global, updates: &mut Updates, number: u64, entry: Entry) -> Result<(), Fail>
+    requires { NumberedUpTo number (as_operations updates.old) }
+    ensures { OnOk result (NumberedUpTo number (as_operations updates.new)) }
 {
-    let mut updates = Updates::new(alloc);
-    let deleted = key_term(alloc, "a")?;
-    updates.take(alloc, number, &Entry::DeleteTerm(deleted))?;
+    updates.take(alloc, number, &entry)?;
+    Ok(())
+}
+
+/// A number that is set in the row `b`.
+fn setting(alloc: Global) -> Result<Entry, Fail> {
     let term = key_term(alloc, "b")?;
     let num = name_of(alloc, "n")?;
     let value = 4;
-    updates.take(alloc, number, &Entry::SetNumber { term, num, value })?;
+    Ok(Entry::SetNumber { term, num, value })
+}
+
+/// Two operations of one number: the row `a` is deleted, and a number is set in the row `b`.
+fn two_updates(alloc: Global, number: u64) -> Result<Updates, Fail> {
+    let mut updates = Updates::new(alloc);
+    let deleted = Entry::DeleteTerm(key_term(alloc, "a")?);
+    take_more(alloc, &mut updates, number, deleted)?;
+    take_more(alloc, &mut updates, number, setting(alloc)?)?;
+    Ok(updates)
+}
+
+/// A packet of all after 5 up to 9, in which one number has two operations.
+fn packet_of(alloc: Global, number: u64) -> Result<Packet, Fail>
+    ensures { IfOk result (λ packet. (packet.after ≡ 5) × (packet.upto ≡ 9)) }
+{
     Ok(Packet {
         after: 5,
         upto: 9,
-        updates,
+        updates: two_updates(alloc, number)?,
     })
 }
 
@@ -104,8 +126,8 @@ fn show_row(alloc: Global, out: &mut String, segment: &LiveSegment, row: u32) ->
 
 /// A segment with rows of this birth, after the packet of this number.
 fn shown_after(alloc: Global, birth: u64, number: u64) -> Result<String, Fail> {
-    let mut segment = segment_of(alloc, birth)?;
     let packet = packet_of(alloc, number)?;
+    let mut segment = segment_of(alloc, birth, &packet)?;
     let made = apply(alloc, &segment, &packet)?;
     segment.set_live(made);
     shown(alloc, &segment)
@@ -122,27 +144,33 @@ fn packets_at_each_number(rt: HostRuntime) -> Result<(), Fail> {
     Ok(())
 }
 
-/// Two segments, of rows born by the operations 1 and 8.
-fn two_segments(alloc: Global) -> Result<Vec<LiveSegment>, Fail>
-    ensures { IfOk result (λ all. All (λ s. s.live.applied ≡ 7) all.items) }
+/// Two segments, of rows born by the operations 1 and 8, which this packet meets.
+fn two_segments(alloc: Global, packet: &Packet) -> Result<Vec<LiveSegment>, Fail>
+    requires { (packet.now.after ≡ 5) × (packet.now.upto ≡ 9) }
+    ensures { IfOk result (λ all. All (Meets packet.now) all.items) }
 {
     let mut segments = Vec::new(alloc);
-    segments.push(segment_of(alloc, 1)?)?;
-    segments.push(segment_of(alloc, 8)?)?;
+    segments.push(segment_of(alloc, 1, packet)?)?;
+    segments.push(segment_of(alloc, 8, packet)?)?;
     Ok(segments)
+}
+
+/// How many rows live, of each segment.
+fn counts(alloc: Global, all: &[LiveDocs]) -> Result<String, Fail> {
+    let mut counts = String::new(alloc);
+    for live in all {
+        write!(counts, "{},", live.live_count())?;
+    }
+    Ok(counts)
 }
 
 /// Live docs of two segments come in their order: only the first has rows that were born before 8.
 #[test]
 fn all_segments_in_order(rt: HostRuntime) -> Result<(), Fail> {
     let alloc = rt.alloc();
-    let segments = two_segments(alloc)?;
     let packet = packet_of(alloc, 8)?;
+    let segments = two_segments(alloc, &packet)?;
     let all = apply_all(&rt, alloc, segments.as_slice(), &packet)?;
-    let mut lives = String::new(alloc);
-    for live in &all {
-        write!(lives, "{},", live.live_count())?;
-    }
-    assert_eq!(rt; lives.as_str(), "1,2,");
+    assert_eq!(rt; counts(alloc, all.as_slice())?.as_str(), "1,2,");
     Ok(())
 }

@@ -1,5 +1,6 @@
 //! Segments built of three rows, with updates that were worked out by hand.
-ghost use Rattle.std.specs.Prelude.{IfOk};
+ghost use Rattle.std.specs.Prelude.{IfOk, OnOk};
+ghost use Rattle.frozen_packet.specs.Updates.{as_operations, NumberedUpTo};
 ghost use Rattle.segment_core.specs.LiveRows.{CanBuild};
 
 use crate::building::build;
@@ -26,18 +27,32 @@ fn three_rows(alloc: Global) -> Result<Frozen, Fail>
     Ok(Frozen { rows, postings })
 }
 
+/// Takes one more entry, under the same number as those before it.
+fn take_more(alloc: Global, updates: &mut Updates, number: u64, entry: Entry) -> Result<(), Fail>
+    requires { NumberedUpTo number (as_operations updates.old) }
+    ensures { OnOk result (NumberedUpTo number (as_operations updates.new)) }
+{
+    updates.take(alloc, number, &entry)?;
+    Ok(())
+}
+
+/// A number that is set in the second row.
+fn setting(alloc: Global) -> Result<Entry, Fail> {
+    let term = term_of(alloc, "key", "k2")?;
+    let num = name_of(alloc, "n")?;
+    let value = 5;
+    Ok(Entry::SetNumber { term, num, value })
+}
+
 /// Operations of one number: a delete of the first row, a number set in the second, and an update of
 /// the third.
 fn three_updates(alloc: Global, number: u64) -> Result<Updates, Fail> {
-    let first = term_of(alloc, "key", "k1")?;
-    let term = term_of(alloc, "key", "k2")?;
-    let third = term_of(alloc, "key", "k3")?;
-    let num = name_of(alloc, "n")?;
+    let first = Entry::DeleteTerm(term_of(alloc, "key", "k1")?);
+    let third = Entry::Update(term_of(alloc, "key", "k3")?);
     let mut updates = Updates::new(alloc);
-    updates.take(alloc, number, &Entry::DeleteTerm(first))?;
-    let value = 5;
-    updates.take(alloc, number, &Entry::SetNumber { term, num, value })?;
-    updates.take(alloc, number, &Entry::Update(third))?;
+    take_more(alloc, &mut updates, number, first)?;
+    take_more(alloc, &mut updates, number, setting(alloc)?)?;
+    take_more(alloc, &mut updates, number, third)?;
     Ok(updates)
 }
 
@@ -96,7 +111,7 @@ fn updates_at_each_birth(rt: HostRuntime) -> Result<(), Fail> {
 
 fn is_built_at(alloc: Global, number: u64) -> Result<bool, Fail> {
     let mut updates = Updates::new(alloc);
-    updates.take(alloc, number, &Entry::DeleteQuery(Query::All))?;
+    take_more(alloc, &mut updates, number, Entry::DeleteQuery(Query::All))?;
     Ok(built(alloc, &updates)?.is_some())
 }
 
