@@ -136,7 +136,7 @@ begin_same files s next opened rows (Err stop) is holds read number are = tt
 begin_same files s next opened rows (Ok writer) is holds read number are =
     let has : HasSegments files s next opened.segments = subst (λ (gs : List Segment). HasSegments files s next gs) (sym read.1) holds.spelled in
     let theirs : AreRowsOf s opened.segments rows = subst (λ (gs : List Segment). AreRowsOf s gs rows) (sym read.1) holds.rows_are in
-    same_writer writer.rows rows writer.number s writer.next_id next (one_rows s s opened.segments writer.rows rows (are files s next has) theirs) (number.0 ∙ is) (number.1 ∙ read.0)
+    same_writer writer.rows rows writer.number s writer.next_id next (one_rows s opened.segments writer.rows rows (are files s next has) theirs) (number.0 ∙ is) (number.1 ∙ read.0)
 
 -- ids of one commit file rise below its next id
 in_range : (low limit : ℕ) (segments : List HeadSegment) (k : ℕ) (d : HeadSegment) → IdsRise low limit segments → k < length segments → (get_or segments k d).id < limit
