@@ -1,3 +1,5 @@
+pub mod SameMarks
 pub mod Counting
 mod NumbersRise
+mod RowsRise
 mod SetValues

@@ -1,7 +1,10 @@
 -- The live bits and set values of a segment's rows.
-use Rattle.std.specs.Prelude.{◌≡◌, ◌≢◌, ℕ, zero, suc, ℤ, List, [], ◌∷◌, true, false, Option, Some, None, length, if◌then◌else◌}
-use Rattle.std.specs.List.{filter}
+use Rattle.std.specs.Prelude.{◌≡◌, ◌≢◌, ℕ, zero, suc, ℤ, List, [], ◌∷◌, Bool, true, false, ◌&&◌, Option, Some, None, length, map, if◌then◌else◌}
+use Rattle.std.specs.Bool.{beq}
+use Rattle.std.specs.List.{filter, AllByRecursion}
+use Rattle.std.specs.Ordering.{int_eq}
 use Rattle.std.specs.Str.{bytes_eq}
+use Rattle.ix_base.specs.Limits.{names_rise}
 use Rattle.ix_base.specs.Steps.{Named, with_number}
 use Rattle.live_docs.specs.declared.live_docs.Mark.{Mark}
 
@@ -33,6 +36,15 @@ changed_at change (suc i) (m ∷ marks) = m ∷ changed_at change i marks
 abbrev pub count_live : List Mark → ℕ
 count_live marks = length (filter (λ (m : Mark). m.live) marks)
 
+-- the names of each row's numbers rise
+abbrev pub RowsNamesRise : List Mark → Type 0
+RowsNamesRise marks = AllByRecursion (λ (m : Mark). names_rise (map (λ number. number.0) m.values) ≡ true) marks
+
+-- So many of the rows are live, and the names of each row's numbers rise.
+pub record IsCounted (live : ℕ) (marks : List Mark) : Type 0 where
+  pub count : live ≡ count_live marks
+  pub rise : RowsNamesRise marks
+
 -- the number by this name, if there is one
 abbrev pub value_of : List ℕ → List Named → Option ℤ
 value_of name [] = None
@@ -46,3 +58,23 @@ pub record SetsOne (name : List ℕ) (value : ℤ) (values : List Named) : Type 
 -- Set numbers are a map from names to numbers.
 abbrev pub SetNumbersAreAMap : Type 0
 SetNumbersAreAMap = (name : List ℕ) (value : ℤ) (values : List Named) → SetsOne name value values
+
+-- ---- whether they are the same
+
+-- the same numbers by the same names
+abbrev pub same_numbers : List Named → List Named → Bool
+same_numbers [] [] = true
+same_numbers [] (n ∷ ns) = false
+same_numbers (m ∷ ms) [] = false
+same_numbers (m ∷ ms) (n ∷ ns) = bytes_eq m.0 n.0 && (int_eq m.1 n.1 && same_numbers ms ns)
+
+-- both rows are live or neither is, with the same numbers set
+abbrev pub same_mark : Mark → Mark → Bool
+same_mark m n = beq m.live n.live && same_numbers m.values n.values
+
+-- as many rows, and each of them the same
+abbrev pub same_marks : List Mark → List Mark → Bool
+same_marks [] [] = true
+same_marks [] (n ∷ ns) = false
+same_marks (m ∷ ms) [] = false
+same_marks (m ∷ ms) (n ∷ ns) = same_mark m n && same_marks ms ns

@@ -1,6 +1,7 @@
 //! Which rows of a segment are live, and the numbers that were set in them since they were added.
 #![tactic(auto)]
 
+mod comparing;
 mod laws;
 mod live_docs;
 mod numbers;

@@ -1,7 +1,9 @@
 //! Live bits and set values of the rows of a segment.
-ghost use Rattle.std.specs.Prelude.{◌≡◌, ◌<◌, length, replicate, IfOk, OnOk, OnErr, slice_index_or};
-ghost use Rattle.live_docs.specs.Marks.{fresh, killed, valued, changed_at, count_live, value_of};
+ghost use Rattle.std.specs.Prelude.{◌≡◌, ◌<◌, ◌^◌, true, length, map, replicate, IfOk, OnOk, OnErr, slice_index_or};
+ghost use Rattle.ix_base.specs.Limits.{names_rise};
+ghost use Rattle.live_docs.specs.Marks.{fresh, killed, valued, changed_at, count_live, value_of, RowsNamesRise, same_marks};
 
+use crate::comparing::same_marks;
 use crate::numbers::with_number;
 use ix_base::{Name, NoMemory, Numbers};
 use std::alloc::Global;
@@ -26,14 +28,13 @@ pub struct LiveDocs {
 }
 
 impl Model for LiveDocs {
-    ghost use Rattle.std.specs.Prelude.{◌≡◌};
-    ghost use Rattle.live_docs.specs.Marks.{Marks, count_live};
+    ghost use Rattle.live_docs.specs.Marks.{Marks, IsCounted};
 
     ghost Value = { Marks };
 
     ghost view = { λ docs. record { applied = docs.applied; marks = docs.marks.items } };
 
-    ghost invariant = { λ docs. docs.live ≡ count_live docs.marks.items };
+    ghost invariant = { λ docs. IsCounted docs.live docs.marks.items };
 }
 
 impl Mark {
@@ -65,6 +66,19 @@ impl LiveDocs {
             live: rows,
             marks,
         })
+    }
+
+    /// Rows with these marks. It takes no memory.
+    pub fn from_marks(applied: u64, marks: Vec<Mark>) -> LiveDocs
+        requires few { length marks.items < 2 ^ 32 }
+        requires rise { RowsNamesRise marks.items }
+        ensures { result ≡ record { applied = applied; marks = marks.items } }
+    {
+        LiveDocs {
+            applied,
+            live: count_live(&marks),
+            marks,
+        }
     }
 
     /// A copy of these.
@@ -115,7 +129,8 @@ impl LiveDocs {
     /// no longer live keeps its own. It takes no memory.
     pub fn values(&self, row: u32) -> &[(Name, i64)]
         requires { row < length self.now.marks }
-        ensures { result.now ≡ (slice_index_or self.now.marks row fresh).values }
+        ensures values { result.now ≡ (slice_index_or self.now.marks row fresh).values }
+        ensures rise { names_rise (map (λ number. number.0) result.now) ≡ true }
     {
         self.marks[row as usize].values.as_slice()
     }
@@ -126,6 +141,14 @@ impl LiveDocs {
         ensures { result ≡ value_of name.now (slice_index_or self.now.marks row fresh).values }
     {
         value_in(self.values(row), name)
+    }
+
+    /// Whether the same rows are live, with the same numbers set. It doesn't compare up to which
+    /// numbers operations are in them.
+    pub fn same_marks(&self, other: &LiveDocs) -> bool
+        ensures { result ≡ same_marks self.now.marks other.now.marks }
+    {
+        same_marks(&self.marks, &other.marks)
     }
 
     /// The row is no longer live. Its values, and all other rows, stay.
@@ -158,6 +181,18 @@ impl LiveDocs {
         mark.values = with_number(alloc, &mark.values, name, value)?;
         Ok(())
     }
+}
+
+/// How many of these rows are live.
+fn count_live(marks: &[Mark]) -> u32
+    requires { length marks.now < 2 ^ 32 }
+    ensures { result ≡ count_live marks.now }
+{
+    let mut live = 0;
+    for mark in marks {
+        live += u32::from(mark.live);
+    }
+    live
 }
 
 /// The number by this name among these.

@@ -1,8 +1,9 @@
 //! Rows killed and numbers set, in steps that were worked out by hand.
 ghost use Rattle.std.specs.Prelude.{◌≡◌, ◌<◌, length, IfOk, OnOk};
 
-use crate::live_docs::LiveDocs;
-use ix_base::{Name, NoMemory, Text};
+use crate::live_docs::{LiveDocs, Mark};
+use crate::numbers::with_number;
+use ix_base::{Name, NoMemory, Numbers, Text};
 use std::alloc::Global;
 
 fn name(alloc: Global, bytes: &str) -> Result<Name, NoMemory> {
@@ -52,4 +53,44 @@ fn rows_and_numbers(rt: HostRuntime) {
         assert_eq!(rt; docs.value(1, &name), None, "{bytes}");
     }
     assert_eq!(rt; docs.values(2).len(), 2);
+}
+
+/// Two rows: a live one with this number set in it, and one with none.
+fn two_rows(
+    alloc: Global,
+    bytes: &str,
+    value: i64,
+    second_lives: bool,
+) -> Result<LiveDocs, NoMemory> {
+    let none = Numbers::none(alloc);
+    let values = with_number(alloc, &none, &name(alloc, bytes)?, value)?;
+    let mut marks = Vec::new(alloc);
+    marks.push(Mark { live: true, values })?;
+    marks.push(Mark {
+        live: second_lives,
+        values: none,
+    })?;
+    Ok(LiveDocs::from_marks(9, marks))
+}
+
+#[test]
+fn compared(rt: HostRuntime) {
+    let alloc = rt.alloc();
+    let Ok(docs) = two_rows(alloc, "a", 1, false) else {
+        panic!(rt; "memory");
+    };
+    assert_eq!(rt; docs.applied(), 9);
+    assert_eq!(rt; docs.live_count(), 1);
+    let cases = [
+        ("a", 1, false, true),
+        ("a", 2, false, false),
+        ("b", 1, false, false),
+        ("a", 1, true, false),
+    ];
+    for (bytes, value, second_lives, same) in cases {
+        let Ok(other) = two_rows(alloc, bytes, value, second_lives) else {
+            panic!(rt; "memory");
+        };
+        assert_eq!(rt; docs.same_marks(&other), same, "{bytes} {value}");
+    }
 }

@@ -11,3 +11,4 @@ pub mod LiveRead
 pub mod ValuesRead
 pub mod LiveWrite
 pub mod ValuesWrite
+pub mod JoinLive

@@ -1,6 +1,6 @@
 -- A file of set numbers that is read is the one that was written, and what was written is read again.
-use Rattle.std.proofs.Common.{◌≡◌, ℕ, ◌^◌, ◌<◌, ◌≤◌, Bool, true, ◌&&◌, cond, eqb, ltb, List, [], ◌++◌, length, Option, Some, None, Result, Ok, Err, refl, sym, ap, subst, ◌∙◌, append_assoc, arith, inl, inr}
-use Rattle.std.specs.Prelude.{◌⊎◌, IfOk}
+use Rattle.std.proofs.Common.{◌≡◌, ℕ, ◌^◌, ◌<◌, Bool, true, ◌&&◌, cond, eqb, ltb, List, [], ◌++◌, length, Option, Some, None, Result, Ok, Err, refl, sym, ap, subst, ◌∙◌, append_assoc, arith, inl, inr}
+use Rattle.std.specs.Prelude.{IfOk}
 use Rattle.std.specs.Cmp.Derive.{both_true}
 use Rattle.std.specs.Cmp.Lexicographic.{slice_cmp}
 use Rattle.std.specs.Int.{w32, w64}
@@ -8,7 +8,7 @@ use Rattle.std.specs.List.{flat_map, AllPairs}
 use Rattle.std.specs.Ordering.{nat_cmp, is_lt}
 use Rattle.std.specs.declared.cmp.Ordering.{Ordering}
 use Rattle.std.specs.declared.cmp.Ordering.TheVariants.{Less, Equal, Greater}
-use Rattle.std.proofs.lemmas.Bool.{and_parts, or_cases, or_left, or_right, eqb-true, eq-eqb, le-leb, ltb-true, lt-ltb}
+use Rattle.std.proofs.lemmas.Bool.{and_parts, eqb-true, eq-eqb, le-leb, ltb-true, lt-ltb}
 use Rattle.std.proofs.lemmas.Cmp.{nat_list_cmp_total}
 use Rattle.std.proofs.lemmas.List.{append-nil}
 use Rattle.ix_base.specs.declared.file_name.FileName.{FileName}
@@ -21,29 +21,12 @@ use Rattle.ix_base.specs.ItemLaws.{AllGood, TakesItem, GivesItem, items_take, it
 use Rattle.ix_base.specs.Limits.{text_lt}
 use Rattle.ix_base.specs.Spelling.{be32, be64, signed64, text_bytes, AreBytes, IsName}
 use Rattle.segment_files.specs.LiveSpelling.{values_mark, SetValue, value_bytes, values_file}
-use Rattle.segment_files.specs.LiveFits.{is_before, IsBefore, ValueFits, ValuesFit}
+use Rattle.segment_files.specs.LiveFits.{IsBefore, ValueFits, ValuesFit}
 use Rattle.segment_files.specs.LiveReading.{row_comes, value_comes, value_name_at, value_at, values_in}
+use Rattle.segment_files.specs.ValueOrder.{Before, before_of, of_before, not_after}
 use Rattle.segment_files.proofs.Chains.{rises, chain}
 
 -- ---- rows and names rise
-
--- how one row and name come before others
-abbrev pub Before : ℕ → List ℕ → ℕ → List ℕ → Type 0
-Before row name next_row next_name = (row < next_row) ⊎ ((row ≡ next_row) × (text_lt name next_name ≡ true))
-
-same_row : (row next_row : ℕ) (lower : Bool) → (eqb row next_row && lower) ≡ true → (row ≡ next_row) × (lower ≡ true)
-same_row row next_row lower e = let h = and_parts (eqb row next_row) lower e in (eqb-true row next_row h.0, h.1)
-
-before_of : (row : ℕ) (name : List ℕ) (next_row : ℕ) (next_name : List ℕ) → is_before row name next_row next_name ≡ true → Before row name next_row next_name
-before_of row name next_row next_name e =
-    elim (or_cases (ltb row next_row) (eqb row next_row && text_lt name next_name) e) [
-      | inl h ↦ inl (ltb-true row next_row h)
-      | inr h ↦ inr (same_row row next_row (text_lt name next_name) h)
-    ]
-
-pub of_before : (row : ℕ) (name : List ℕ) (next_row : ℕ) (next_name : List ℕ) → Before row name next_row next_name → is_before row name next_row next_name ≡ true
-of_before row name next_row next_name (inl lt) = or_left (ltb row next_row) (eqb row next_row && text_lt name next_name) (lt-ltb row next_row lt)
-of_before row name next_row next_name (inr h) = or_right (ltb row next_row) (eqb row next_row && text_lt name next_name) (both_true (eq-eqb row next_row h.0) h.1)
 
 is_less : (o : Ordering) → is_lt o ≡ true → o ≡ Less
 is_less Less e = refl
@@ -62,10 +45,6 @@ joined a b c (inr p) (inr q) = inr (p.0 ∙ q.0, text_lt_trans a.1 b.1 c.1 p.1 q
 
 pub before_trans : (a b c : SetValue) → IsBefore a b → IsBefore b c → IsBefore a c
 before_trans a b c p q = of_before a.0 a.1 c.0 c.1 (joined a b c (before_of a.0 a.1 b.0 b.1 p) (before_of b.0 b.1 c.0 c.1 q))
-
-not_after : (row : ℕ) (name : List ℕ) (next_row : ℕ) (next_name : List ℕ) → Before row name next_row next_name → row ≤ next_row
-not_after row name next_row next_name (inl lt) = omega arith
-not_after row name next_row next_name (inr h) = omega (arith, h.0)
 
 row_too : (last : Option SetValue) (row : ℕ) (name : List ℕ) → value_comes last row name ≡ true → row_comes last row ≡ true
 row_too None row name e = refl

@@ -1,5 +1,5 @@
 -- The bytes of set numbers, as a loop over rows and one over the numbers of a row make them.
-use Rattle.std.proofs.Common.{◌≡◌, ℕ, zero, suc, ◌+◌, ◌-◌, ◌^◌, ◌<◌, ◌≤◌, true, List, [], ◌∷◌, ◌++◌, length, map, take, get_or, Option, Some, None, min, refl, sym, ap, ◌∙◌, append_assoc, arith, inl, inr}
+use Rattle.std.proofs.Common.{◌≡◌, ℕ, zero, suc, ◌+◌, ◌-◌, ◌^◌, ◌<◌, ◌≤◌, true, List, [], ◌∷◌, ◌++◌, length, map, take, get_or, Option, Some, None, min, refl, sym, ap, subst, ◌∙◌, append_assoc, arith, inl, inr}
 use Rattle.std.specs.Prelude.{ℤ, ⊤}
 use Rattle.std.specs.List.{flat_map, AllByRecursion}
 use Rattle.std.proofs.lemmas.Bool.{and_parts}
@@ -10,13 +10,17 @@ use Rattle.ix_base.specs.ItemLaws.{AllGood}
 use Rattle.ix_base.specs.Limits.{text_lt, rise_after, names_rise}
 use Rattle.ix_base.specs.Spelling.{be32, signed64, text_bytes}
 use Rattle.ix_base.specs.Steps.{Named}
-use Rattle.live_docs.specs.Marks.{fresh}
+use Rattle.live_docs.specs.Marks.{fresh, RowsNamesRise}
 use Rattle.live_docs.specs.declared.live_docs.Mark.{Mark}
 use Rattle.segment_files.specs.LiveSpelling.{SetValue, value_bytes, row_values, values_from, values_of}
-use Rattle.segment_files.specs.LiveFits.{IsBefore, ValueFits, ValuesFit, RowsNamesRise}
+use Rattle.segment_files.specs.LiveFits.{IsBefore, ValueFits, ValuesFit}
 use Rattle.segment_files.specs.LiveReading.{value_comes}
 use Rattle.segment_files.proofs.Chains.{rises}
-use Rattle.segment_files.proofs.ValuesRead.{ValueComes, itself, of_before, before_trans}
+use Rattle.segment_files.specs.ValueOrder.{of_before}
+use Rattle.segment_files.proofs.ValuesRead.{ValueComes, itself, before_trans}
+
+abbrev names : List Named → List (List ℕ)
+names numbers = map (λ number. number.0) numbers
 
 -- ---- the numbers of one row
 
@@ -88,6 +92,17 @@ row_fits n marks i numbers lt is all more =
     all_same (ValueFits n) (values_of (take i marks) ++ row_values i numbers) (values_of (take (i + 1) marks)) (mark_more marks i numbers lt is)
     (all_append (ValueFits n) (values_of (take i marks)) (row_values i numbers) all more)
 
+one_rises : (marks : List Mark) (i : ℕ) → i < length marks → names_rise (names (get_or marks i fresh).values) ≡ true → RowsNamesRise (take i marks) → RowsNamesRise (take (suc i) marks)
+one_rises [] i lt one rise = absurd (omega (arith, lt))
+one_rises (m ∷ ms) zero lt one rise = (one, tt)
+one_rises (m ∷ ms) (suc i) lt one rise = (rise.0, one_rises ms i (omega (arith, lt)) one rise.1)
+
+pub row_rises : (marks : List Mark) (i : ℕ) (numbers : List Named) → i < length marks → numbers ≡ (get_or marks i fresh).values → names_rise (names numbers) ≡ true
+    → RowsNamesRise (take i marks) → RowsNamesRise (take (i + 1) marks)
+row_rises marks i numbers lt is one rise =
+    let k : suc i ≡ i + 1 = omega arith in
+    subst (λ (j : ℕ). RowsNamesRise (take j marks)) k (one_rises marks i lt (subst (λ (ns : List Named). names_rise (names ns) ≡ true) is one) rise)
+
 -- ---- how many numbers there are
 
 abbrev Counted : List Mark → ℕ → Type 0
@@ -144,9 +159,6 @@ comes_first row name (Some last) below = of_before last.0 last.1 row name (inl b
 below_more : (row : ℕ) (last : Option SetValue) → Below row last → Below (row + 1) last
 below_more row None below = tt
 below_more row (Some last) below = omega arith
-
-abbrev names : List Named → List (List ℕ)
-names numbers = map (λ number. number.0) numbers
 
 in_row : (row : ℕ) (low : List ℕ) (value : ℤ) (numbers : List Named) (rest : List SetValue) → rise_after low (names numbers) ≡ true → ComeAfter (row + 1) rest → AllGood ValueComes itself (Some (row, low, value)) (row_values row numbers ++ rest)
 in_row row low value [] rest rise after = after (Some (row, low, value)) (omega arith)

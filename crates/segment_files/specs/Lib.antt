@@ -8,3 +8,6 @@ pub mod PostLaws
 pub mod LiveSpelling
 pub mod LiveFits
 pub mod LiveReading
+pub mod ValueOrder
+pub mod LiveMarks
+pub mod LiveMarkLaws

@@ -1,10 +1,9 @@
 -- Which live bits and which set numbers have a spelling in a segment's files: so that one file spells one value.
-use Rattle.std.specs.Prelude.{◌≡◌, ℕ, ◌<◌, ◌^◌, List, length, map, Bool, true, ◌&&◌, ◌||◌, nat_lt, ◌==◌, FitsSigned}
+use Rattle.std.specs.Prelude.{◌≡◌, ℕ, ◌<◌, ◌^◌, List, length, Bool, true, ◌&&◌, ◌||◌, nat_lt, ◌==◌, FitsSigned}
 use Rattle.std.specs.Int.{w64}
 use Rattle.std.specs.List.{AllByRecursion, AllPairs, list_any}
-use Rattle.ix_base.specs.Limits.{text_lt, names_rise}
+use Rattle.ix_base.specs.Limits.{text_lt}
 use Rattle.ix_base.specs.Spelling.{IsName}
-use Rattle.live_docs.specs.declared.live_docs.Mark.{Mark}
 use Rattle.segment_files.specs.LiveSpelling.{SetValue}
 
 -- ---- live rows
@@ -38,7 +37,3 @@ pub record ValuesFit (n : ℕ) (values : List SetValue) : Type 0 where
   pub count : length values < 2 ^ 64
   pub rise : AllPairs IsBefore values
   pub each : AllByRecursion (ValueFits n) values
-
--- the names of each row's numbers rise
-abbrev pub RowsNamesRise : List Mark → Type 0
-RowsNamesRise marks = AllByRecursion (λ (m : Mark). names_rise (map (λ number. number.0) m.values) ≡ true) marks

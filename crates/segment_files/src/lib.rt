@@ -6,6 +6,7 @@
 mod decode;
 mod documents;
 mod encode;
+mod join_live;
 mod live;
 mod marks;
 mod posts;
@@ -20,6 +21,7 @@ mod values;
 
 pub use decode::decode_row;
 pub use encode::encode_row;
+pub use join_live::live_docs_of;
 pub use live::encode_liv;
 pub use posts::encode_pst;
 pub use read_live::decode_liv;

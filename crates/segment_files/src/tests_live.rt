@@ -255,3 +255,32 @@ fn many_values_both_ways(rt: HostRuntime) -> Result<(), Fail> {
     }
     Ok(())
 }
+
+// The live docs of 19 rows that files with these bytes spell.
+fn read_back(alloc: Global, live: &[u8], values: &[u8]) -> Result<LiveDocs, Fail> {
+    let bits = decode_liv(alloc, live, 1, 2, 19)
+        .ok()
+        .ok_or("the bytes are live bits")?;
+    let numbers = decode_val(alloc, values, 1, 2, 19)
+        .ok()
+        .ok_or("the bytes are set numbers")?;
+    Ok(
+        live_docs_of(alloc, 5, &bits, &numbers)
+            .ok()
+            .ok_or("memory")?,
+    )
+}
+
+#[test]
+fn live_docs_both_ways(rt: HostRuntime) -> Result<(), Fail> {
+    let alloc = rt.alloc();
+    let docs = many_rows(alloc)?;
+    assert_eq!(rt; docs.live_count(), 15);
+    let live = encode_liv(alloc, 1, 2, 19, &docs).ok().ok_or("memory")?;
+    let values = encode_val(alloc, 1, 2, 19, &docs).ok().ok_or("memory")?;
+    let back = read_back(alloc, &live, &values)?;
+    assert_eq!(rt; back.applied(), 5);
+    assert_eq!(rt; back.live_count(), 15);
+    assert!(rt; back.same_marks(&docs));
+    Ok(())
+}

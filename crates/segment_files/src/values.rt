@@ -1,7 +1,8 @@
 //! The numbers that were set in the rows of a segment as bytes.
 ghost use Rattle.std.specs.Prelude.{◌≡◌, ℕ, ◌<◌, ◌^◌, ◌++◌, length, OnOk, IfOk};
 ghost use Rattle.std.specs.List.{flat_map, AllByRecursion};
-ghost use Rattle.segment_files.specs.LiveFits.{ValueFits, ValuesFit, RowsNamesRise};
+ghost use Rattle.live_docs.specs.Marks.{RowsNamesRise};
+ghost use Rattle.segment_files.specs.LiveFits.{ValueFits, ValuesFit};
 ghost use Rattle.segment_files.specs.LiveSpelling.{row_values, value_bytes, values_file, values_of};
 
 use crate::marks::put_values_mark;
@@ -50,6 +51,7 @@ fn put_values(out: &mut Vec<u8>, rows: u32, live: &LiveDocs) -> Result<(), NoMem
     requires { rows ≡ length live.now.marks }
     ensures bytes { OnOk result (out.new.items ≡ out.old.items ++ flat_map value_bytes (values_of live.now.marks)) }
     ensures fits { OnOk result (AllByRecursion (ValueFits rows) (values_of live.now.marks)) }
+    ensures rise { OnOk result (RowsNamesRise live.now.marks) }
 {
     for row in 0..rows {
         put_row_values(out, row, live.values(row))?;
@@ -68,7 +70,7 @@ pub fn encode_val(
 ) -> Result<Vec<u8>, NoMemory>
     requires { rows ≡ length live.now.marks }
     ensures file { IfOk result (λ bytes. bytes.items ≡ values_file id v rows (values_of live.now.marks)) }
-    ensures fits { RowsNamesRise live.now.marks → OnOk result (ValuesFit rows (values_of live.now.marks)) }
+    ensures fits { OnOk result (ValuesFit rows (values_of live.now.marks)) }
 {
     let mut out = Vec::new(alloc);
     put_values_mark(&mut out)?;

@@ -19,4 +19,4 @@ returns-clause-file c =
 pub returns-clause-fits : goal.returns-clause-fits
 returns-clause-fits c =
     let short : length c.put_values.new.out.items < 2 ^ 64 = omega arith in
-    values_fit c.args.rows c.args.live.now.marks (few (values_of c.args.live.now.marks) c.put_values.new.out.items c.put_u64-3.new.out.items c.in_ok-put_values.ensures.bytes short) c.in_ok-put_values.ensures.fits
+    values_fit c.args.rows c.args.live.now.marks (few (values_of c.args.live.now.marks) c.put_values.new.out.items c.put_u64-3.new.out.items c.in_ok-put_values.ensures.bytes short) c.in_ok-put_values.ensures.fits c.in_ok-put_values.ensures.rise

@@ -1,5 +1,6 @@
 use Rattle.std.proofs.Common.{◌≡◌, ◌++◌, take}
 use Rattle.std.specs.List.{flat_map, AllByRecursion}
+use Rattle.live_docs.specs.Marks.{RowsNamesRise}
 use Rattle.segment_files.specs.LiveFits.{ValueFits}
 use Rattle.segment_files.specs.LiveSpelling.{value_bytes, values_of}
 use Rattle.segment_files.proofs.values.put_values.Given as goal
@@ -8,4 +9,5 @@ abbrev pub invariant-loop-row : goal.invariant-loop-row
 invariant-loop-row l = record {
   bytes : l.out.items ≡ l.fn.out.items ++ flat_map value_bytes (values_of (take l.row l.live.marks));
   fits : AllByRecursion (ValueFits l.rows) (values_of (take l.row l.live.marks));
+  rise : RowsNamesRise (take l.row l.live.marks);
 }
