@@ -1,3 +1,4 @@
 pub mod Segments
 pub mod LiveRows
 pub mod Marking
+pub mod LiveLaws

@@ -1,6 +1,6 @@
 -- The live rows of a segment, and what updates make of them.
 use Rattle.std.specs.Prelude.{◌≡◌, ◌≢◌, ℕ, ◌<◌, ◌^◌, List, [], ◌∷◌, true, Option, Some, None, length, if◌then◌else◌, nat_lt}
-use Rattle.std.specs.List.{filter, cons_option}
+use Rattle.std.specs.List.{filter, flat_map, cons_option}
 use Rattle.ix_base.specs.Inversion.{IsInversion}
 use Rattle.ix_base.specs.Steps.{Named, with_number}
 use Rattle.ix_base.specs.declared.document.Row.{Row}
@@ -41,6 +41,14 @@ pub record IsWhole (segment : Segment) (marks : Marks) : Type 0 where
 -- the live rows of a segment
 abbrev pub live : Lived → List Row
 live s = live_rows s.segment.rows s.live.marks
+
+-- the rows of segments, live or not, one segment after another
+abbrev pub stored_rows : List Lived → List Row
+stored_rows segments = flat_map (λ (s : Lived). s.segment.rows) segments
+
+-- the live rows of segments, one segment after another
+abbrev pub all_live : List Lived → List Row
+all_live segments = flat_map live segments
 
 -- ---- what updates make of them
 
