@@ -1,31 +1,31 @@
--- Segments one after another: their rows so far, and their files.
-use Rattle.std.proofs.Common.{◌≡◌, ℕ, ◌+◌, ◌<◌, ◌≤◌, List, [], ◌∷◌, ◌++◌, length, get_or, take, drop, sym, ap, ◌∙◌, arith}
+-- How many rows of segments are live, so far.
+use Rattle.std.proofs.Common.{◌≡◌, ◌∙◌, ℕ, zero, suc, ◌+◌, ◌<◌, ◌≤◌, List, [], ◌∷◌, Bool, true, false, cond, length, get_or, drop, refl, sym, ap, arith}
+use Rattle.std.specs.Prelude.{nat_lt}
 use Rattle.std.proofs.Math.ListN.{length-append}
-use Rattle.std.proofs.lemmas.Grind.{take_at_read, flat_map-append}
-use Rattle.std.proofs.lemmas.List.{take-append-drop, append-nil}
-use Rattle.ix_base.specs.declared.document.Row.{Row}
-use Rattle.segment_core.specs.Segments.{all_rows}
-use Rattle.segment_core.specs.declared.segment.Segment.{Segment}
-use Rattle.commit_point.specs.Publishing.{File}
-use Rattle.commit_point.specs.Writing.{commit_files, files_of}
+use Rattle.std.proofs.lemmas.Bool.{lt-ltb}
+use Rattle.std.proofs.lemmas.List.{drop_more}
+use Rattle.live_docs.specs.Marks.{count_live}
+use Rattle.segment_core.specs.LiveLaws.{live_counted}
+use Rattle.segment_core.specs.LiveRows.{Lived, IsWhole, live, all_live}
+use Rattle.commit_point.specs.Writing.{is_alive, listed}
 
-pub next_taken : {X : Type 0} (xs : List X) (i : ℕ) (x : X) → i < length xs → x ≡ get_or xs i x → take (i + 1) xs ≡ take i xs ++ x ∷ []
-next_taken {X} xs i x lt is = (take_at_read xs i x lt).1 ∙ ap (λ (y : X). take i xs ++ y ∷ []) (sym is)
+none_live : (n : ℕ) → nat_lt 0 n ≡ false → n ≡ 0
+none_live zero e = refl
+none_live (suc n) e = absurd (let both : true ≡ false = sym (lt-ltb 0 (suc n) (omega arith)) ∙ e in cc)
+
+-- live rows are those of the segments that are listed
+pub live_first : (g : Lived) (gs : List Lived) → IsWhole g.segment g.live
+    → length (all_live (listed (g ∷ gs))) ≡ count_live g.live.marks + length (all_live (listed gs))
+live_first g gs whole = by (is_alive g) refl
+  where
+    by : (b : Bool) → is_alive g ≡ b → length (all_live (cond b (g ∷ listed gs) (listed gs))) ≡ count_live g.live.marks + length (all_live (listed gs))
+    by true e = length-append (live g) (all_live (listed gs)) ∙ ap (λ (n : ℕ). n + length (all_live (listed gs))) (live_counted g.segment.rows g.live.marks whole.rows)
+    by false e = let none = none_live (count_live g.live.marks) e in omega (arith, none)
 
 -- one segment more
-pub counted : (xs : List Segment) (i : ℕ) (x : Segment) → i < length xs → x ≡ get_or xs i x → length (all_rows (take (i + 1) xs)) ≡ length (all_rows (take i xs)) + length x.rows
-counted xs i x lt is =
-    let split : all_rows (take (i + 1) xs) ≡ all_rows (take i xs) ++ all_rows (x ∷ []) = ap all_rows (next_taken xs i x lt is) ∙ flat_map-append (λ (g : Segment). g.rows) (take i xs) (x ∷ []) in
-    ap length split ∙ length-append (all_rows (take i xs)) (all_rows (x ∷ [])) ∙ ap (λ (rs : List Row). length (all_rows (take i xs)) + length rs) (append-nil x.rows)
-
--- some segments don't have more rows than all
-pub at_most : (xs : List Segment) (i : ℕ) → length (all_rows (take i xs)) ≤ length (all_rows xs)
-at_most xs i =
-    let split : all_rows xs ≡ all_rows (take i xs) ++ all_rows (drop i xs) = ap all_rows (sym (take-append-drop i xs)) ∙ flat_map-append (λ (g : Segment). g.rows) (take i xs) (drop i xs) in
-    omega (arith, ap length split, length-append (all_rows (take i xs)) (all_rows (drop i xs)))
-
--- the files of one segment more
-pub files_more : (xs : List Segment) (i : ℕ) (x : Segment) (before now : List File) → i < length xs → x ≡ get_or xs i x → before ≡ commit_files (take i xs) → now ≡ before ++ files_of x → now ≡ commit_files (take (i + 1) xs)
-files_more xs i x before now lt is was writes =
-    let split : commit_files (take (i + 1) xs) ≡ commit_files (take i xs) ++ files_of x = ap commit_files (next_taken xs i x lt is) ∙ flat_map-append files_of (take i xs) (x ∷ []) in
-    writes ∙ ap (λ (fs : List File). fs ++ files_of x) was ∙ sym split
+pub rows_left : (gs : List Lived) (i : ℕ) (g : Lived) (count next : ℕ) → i < length gs → g ≡ get_or gs i g → IsWhole g.segment g.live → next ≡ count + count_live g.live.marks
+    → count + length (all_live (listed (drop i gs))) ≡ length (all_live (listed gs)) → next + length (all_live (listed (drop (i + 1) gs))) ≡ length (all_live (listed gs))
+rows_left gs i g count next lt is whole adds so_far =
+    let left : drop i gs ≡ g ∷ drop (i + 1) gs = drop_more gs i g lt ∙ ap (λ (x : Lived). x ∷ drop (i + 1) gs) (sym is) in
+    let first = ap (λ (xs : List Lived). length (all_live (listed xs))) left ∙ live_first g (drop (i + 1) gs) whole in
+    omega (arith, first, adds, so_far)

@@ -1,10 +1,14 @@
 pub mod PutFiles
 pub mod Joined
 pub mod Counting
+pub mod Names
 pub mod Made
 pub mod Making
+pub mod Settled
+pub mod LiveCounts
 pub mod Segments
 pub mod CommitNumbers
 pub mod Loading
+pub mod LiveReads
 pub mod Opening
 pub mod Telling

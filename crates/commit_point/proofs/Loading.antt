@@ -1,38 +1,32 @@
 -- Where a loop stands that reads the segments of a commit.
-use Rattle.std.proofs.Common.{◌≡◌, ℕ, zero, suc, ◌+◌, ◌^◌, ◌<◌, ◌≤◌, Bool, false, List, [], ◌∷◌, ◌++◌, length, get_or, take, drop, Option, Some, Err, refl, sym, ap, subst, ◌∙◌, append_assoc, arith}
+use Rattle.std.proofs.Common.{◌≡◌, ℕ, zero, suc, ◌+◌, ◌<◌, ◌≤◌, Bool, false, List, [], ◌∷◌, ◌++◌, length, get_or, take, drop, Option, Some, Err, refl, sym, ap, subst, ◌∙◌, append_assoc, arith}
 use Rattle.std.specs.Prelude.{◌||◌}
+use Rattle.std.specs.List.{AllByRecursion}
 use Rattle.std.proofs.lemmas.List.{take_more, take_all, take-append-drop}
-use Rattle.ix_base.specs.declared.file_name.FileName.TheVariants.{Commit, Rows, Posts}
+use Rattle.ix_base.specs.declared.file_name.FileName.TheVariants.{Commit}
 use Rattle.ix_base.specs.declared.damaged.Damaged.{Damaged}
-use Rattle.ix_outside.specs.Files.{Files, Was, Reads}
-use Rattle.segment_core.specs.Segments.{all_rows}
-use Rattle.segment_core.specs.declared.segment.Segment.{Segment}
-use Rattle.segment_files.specs.Fits.{IsSegment, PostingsFit}
+use Rattle.ix_outside.specs.Files.{Files, Was}
+use Rattle.segment_core.specs.LiveRows.{Lived, stored_rows}
+use Rattle.segment_files.specs.LiveSpelling.{live_bits, live_file, values_of, values_file}
 use Rattle.segment_files.specs.Spelling.{rows_file, posts_file}
 use Rattle.commit_point.specs.declared.heads.HeadSegment.{HeadSegment}
 use Rattle.commit_point.specs.declared.heads.Head.{Head}
-use Rattle.commit_point.specs.Fits.{IdsRise, HeadFits}
+use Rattle.commit_point.specs.Fits.{IdsRise, EntryFits, HeadFits}
 use Rattle.commit_point.specs.Holds.{HaveSegments}
 use Rattle.commit_point.specs.Loading.{Unknown, AreRead, BreakAt}
 use Rattle.commit_point.specs.Reading.{segment_from, segments_from, has_birth}
-use Rattle.commit_point.proofs.Segments.{SeenSegment, sees_both, BrokenThere, IsBrokenSegment, breaks_there, have_push, have_kept, has_push, unknown_push, segments_break, all_congr}
+use Rattle.commit_point.specs.SegmentLaws.{entry_short}
+use Rattle.commit_point.specs.SegmentReads.{SegmentBroken, SegmentRead}
+use Rattle.commit_point.proofs.Segments.{SeenSegment, sees_all, BrokenThere, breaks_there, have_push, have_kept, has_push, unknown_push, segments_break, all_congr}
 
 -- the first i segments were read, and these are their births
-pub record SoFar (told : Option Files) (head : Head) (before : Files) (i : ℕ) (earlier : ℕ → Bool) (segments : List Segment) : Type 0 where
+pub record SoFar (told : Option Files) (head : Head) (before : Files) (i : ℕ) (earlier : ℕ → Bool) (segments : List Lived) : Type 0 where
   pub files : Files
   pub was : Was told files
   pub commit : files (Commit head.number) ≡ before (Commit head.number)
   pub each : HaveSegments files head.number (take i head.segments) segments
   pub unknown : Unknown (λ b. false) segments
-  pub known : (b : ℕ) → earlier b ≡ has_birth (all_rows segments) b
-
--- a segment was read
-pub record IsRead (told : Option Files) (s : ℕ) (known : ℕ → Bool) (e : HeadSegment) (g : Segment) : Type 0 where
-  pub id : g.id ≡ e.id
-  pub rows : Reads told (Rows e.id) (Some (rows_file e.id g.rows))
-  pub segment : IsSegment s e.rows known g.rows
-  pub posts : Reads told (Posts e.id) (Some (posts_file e.id e.rows g.postings))
-  pub fits : PostingsFit e.rows g.postings
+  pub known : (b : ℕ) → earlier b ≡ has_birth (stored_rows segments) b
 
 id_above : (low limit : ℕ) (es : List HeadSegment) (i : ℕ) (d : HeadSegment) → i < length es → IdsRise low limit es → low ≤ (get_or es i d).id
 id_above low limit [] i d lt ids = absurd (omega arith)
@@ -57,45 +51,72 @@ ids_so_far head i e fits lt is = subst (λ (x : HeadSegment). IdsRise 1 x.id (ta
 taken : (es : List HeadSegment) (i : ℕ) (e : HeadSegment) → i < length es → e ≡ get_or es i e → take (i + 1) es ≡ take i es ++ e ∷ []
 taken es i e lt is = take_more es i e lt ∙ ap (λ (x : HeadSegment). take i es ++ x ∷ []) (sym is)
 
+fits_taken : (s i : ℕ) (es : List HeadSegment) → AllByRecursion (EntryFits s) es → AllByRecursion (EntryFits s) (take i es)
+fits_taken s zero es all = tt
+fits_taken s (suc i) [] all = tt
+fits_taken s (suc i) (e ∷ es) all = (all.0, fits_taken s i es all.1)
+
+fits_there : (s i : ℕ) (es : List HeadSegment) (d : HeadSegment) → i < length es → AllByRecursion (EntryFits s) es → EntryFits s (get_or es i d)
+fits_there s i [] d lt all = absurd (omega arith)
+fits_there s zero (e ∷ es) d lt all = all.0
+fits_there s (suc i) (e ∷ es) d lt all = fits_there s i es d (omega arith) all.1
+
 -- one segment more was read
-one_more : (told : Option Files) (head : Head) (before : Files) (i : ℕ) (earlier now : ℕ → Bool) (segments : List Segment) (e : HeadSegment) (g : Segment) → HeadFits head → i < length head.segments → e ≡ get_or head.segments i e
-    → SoFar told head before i earlier segments → IsRead told head.number earlier e g → ((b : ℕ) → now b ≡ (earlier b || has_birth g.rows b)) → SoFar told head before (i + 1) now (segments ++ g ∷ [])
+one_more : (told : Option Files) (head : Head) (before : Files) (i : ℕ) (earlier now : ℕ → Bool) (segments : List Lived) (e : HeadSegment) (g : Lived) → HeadFits head → i < length head.segments → e ≡ get_or head.segments i e
+    → SoFar told head before i earlier segments → SegmentRead told head.number earlier e g → ((b : ℕ) → now b ≡ (earlier b || has_birth g.segment.rows b)) → SoFar told head before (i + 1) now (segments ++ g ∷ [])
 one_more told head before i earlier now segments e g fits lt is so read more =
-    let see : SeenSegment told e.id so.files (Some (rows_file e.id g.rows)) (Some (posts_file e.id e.rows g.postings)) = sees_both told e.id so.files _ _ so.was read.rows read.posts in
-    let kept = have_kept so.files see.files head.number 1 e.id (take i head.segments) segments see.others (ids_so_far head i e fits lt is) so.each in
+    let see : SeenSegment told e so.files (Some (rows_file e.id g.segment.rows)) (Some (posts_file e.id e.rows g.segment.postings))
+    (Some (live_file e.id e.written (live_bits g.live.marks))) (Some (values_file e.id e.written e.rows (values_of g.live.marks))) =
+    sees_all told e so.files _ _ _ _ so.was read.rows.0 read.postings.0 read.bits.0 read.values.0 in
+    let kept = have_kept so.files see.files head.number 1 e (take i head.segments) segments see.others (ids_so_far head i e fits lt is) so.each in
     record {
       files = see.files;
       was = see.was;
-      commit = see.others (Commit head.number) (λ q. cc) (λ q. cc) ∙ so.commit;
+      commit = see.others (Commit head.number) (λ q. cc) (λ q. cc) (λ q. cc) (λ q. cc) ∙ so.commit;
       each = subst (λ (es : List HeadSegment). HaveSegments see.files head.number es (segments ++ g ∷ [])) (sym (taken head.segments i e lt is))
           (have_push see.files head.number (take i head.segments) segments e g kept
-          (record { id = read.id; count = read.segment.count; rows = see.rows_there; posts = see.posts_there; rows_fit = read.segment.fits; posts_fit = read.fits }));
-      unknown = unknown_push (λ b. false) segments g so.unknown (all_congr earlier (λ b. has_birth (all_rows segments) b) g.rows so.known read.segment.unknown);
-      known = λ b. more b ∙ ap (λ (t : Bool). t || has_birth g.rows b) (so.known b) ∙ sym (has_push segments g b);
+          (record {
+            id = read.id;
+            count = read.rows.1.count;
+            whole = read.whole;
+            applied = read.applied;
+            rows = see.rows_there;
+            posts = see.posts_there;
+            live = see.live_there;
+            values = see.values_there;
+            rows_fit = read.rows.1.fits;
+            posts_fit = read.postings.1;
+            live_fit = read.bits.1;
+            values_fit = read.values.1;
+          }));
+      unknown = unknown_push (λ b. false) segments g so.unknown (all_congr earlier (λ b. has_birth (stored_rows segments) b) g.segment.rows so.known read.rows.1.unknown);
+      known = λ b. more b ∙ ap (λ (t : Bool). t || has_birth g.segment.rows b) (so.known b) ∙ sym (has_push segments g b);
     }
 
 -- the next segment is broken
-breaks : (told : Option Files) (head : Head) (before : Files) (i : ℕ) (earlier : ℕ → Bool) (segments : List Segment) (e : HeadSegment) (d : Damaged) → HeadFits head → i < length head.segments → e ≡ get_or head.segments i e
-    → SoFar told head before i earlier segments → IsBrokenSegment told head.number earlier e d → BreakAt told head before d
+breaks : (told : Option Files) (head : Head) (before : Files) (i : ℕ) (earlier : ℕ → Bool) (segments : List Lived) (e : HeadSegment) (d : Damaged) → HeadFits head → i < length head.segments → e ≡ get_or head.segments i e
+    → SoFar told head before i earlier segments → SegmentBroken told head.number earlier e d → BreakAt told head before d
 breaks told head before i earlier segments e d fits lt is so broken =
     let below : e.id < head.next_id = subst (λ (x : HeadSegment). x.id < head.next_id) (sym is) (id_below 1 head.next_id head.segments i e lt fits.ids) in
-    let id_fits : e.id < 2 ^ 64 = omega (arith, below, fits.next) in
-    let at : BrokenThere told head.number earlier e d so.files = breaks_there told head.number earlier e d so.files id_fits fits.number so.was broken in
+    let entry_fits : EntryFits head.number e = subst (EntryFits head.number) (sym is) (fits_there head.number i head.segments e lt fits.entries) in
+    let short = entry_short head.number head.next_id e fits.number fits.next below entry_fits in
+    let at : BrokenThere told head.number earlier e d so.files = breaks_there told head.number earlier e d so.files short fits.number so.was broken in
     let ids = ids_so_far head i e fits lt is in
-    let kept = have_kept so.files at.files head.number 1 e.id (take i head.segments) segments at.others ids so.each in
-    let same : earlier ≡ (λ b. has_birth (all_rows segments) b) = λ j b. so.known b j in
-    let at_e : segment_from at.files head.number (λ b. has_birth (all_rows segments) b) e ≡ Err d = subst (λ (k : ℕ → Bool). segment_from at.files head.number k e ≡ Err d) same at.broken in
+    let kept = have_kept so.files at.files head.number 1 e (take i head.segments) segments at.others ids so.each in
+    let same : earlier ≡ (λ b. has_birth (stored_rows segments) b) = λ j b. so.known b j in
+    let at_e : segment_from at.files head.number (λ b. has_birth (stored_rows segments) b) e ≡ Err d = subst (λ (k : ℕ → Bool). segment_from at.files head.number k e ≡ Err d) same at.broken in
     let whole : take i head.segments ++ e ∷ drop (i + 1) head.segments ≡ head.segments =
     sym (append_assoc (take i head.segments) (e ∷ []) (drop (i + 1) head.segments)) ∙ ap (λ (es : List HeadSegment). es ++ drop (i + 1) head.segments) (sym (taken head.segments i e lt is)) ∙ take-append-drop (i + 1) head.segments in
     record {
       files = at.files;
       was = at.was;
-      commit = at.others (Commit head.number) (λ q. cc) (λ q. cc) ∙ so.commit;
+      commit = at.others (Commit head.number) (λ q. cc) (λ q. cc) (λ q. cc) (λ q. cc) ∙ so.commit;
       broken = ap (segments_from at.files head.number (λ b. false)) (sym whole)
-          ∙ segments_break at.files head.number 1 e.id (λ b. false) (take i head.segments) segments e (drop (i + 1) head.segments) d fits.number (omega (arith, below, fits.next)) ids kept so.unknown at_e;
+          ∙ segments_break at.files head.number 1 e.id (λ b. false) (take i head.segments) segments e (drop (i + 1) head.segments) d fits.number (omega (arith, below, fits.next)) ids
+          (fits_taken head.number i head.segments fits.entries) kept so.unknown at_e;
     }
 
-pub all_read : (told : Option Files) (head : Head) (before : Files) (i : ℕ) (earlier : ℕ → Bool) (segments : List Segment) → length head.segments ≤ i → SoFar told head before i earlier segments → AreRead told head before segments
+pub all_read : (told : Option Files) (head : Head) (before : Files) (i : ℕ) (earlier : ℕ → Bool) (segments : List Lived) → length head.segments ≤ i → SoFar told head before i earlier segments → AreRead told head before segments
 all_read told head before i earlier segments le so = record {
   files = so.files;
   was = so.was;
@@ -114,18 +135,18 @@ same_default (e ∷ es) (suc i) d x lt = same_default es i d x (omega arith)
 item_is : (es seen : List HeadSegment) (i : ℕ) (d : HeadSegment) → seen ≡ es → i < length seen → get_or seen i d ≡ get_or es i (get_or seen i d)
 item_is es seen i d is lt = same_default seen i d (get_or seen i d) lt ∙ ap (λ (xs : List HeadSegment). get_or xs i (get_or seen i d)) is
 
-pub one_more_seen : (told now_told : Option Files) (head : Head) (before : Files) (i : ℕ) (earlier now : ℕ → Bool) (segments all : List Segment) (seen : List HeadSegment) (d : HeadSegment) (g : Segment) → HeadFits head → now_told ≡ told → seen ≡ head.segments
-    → i < length seen → SoFar told head before i earlier segments → IsRead now_told head.number earlier (get_or seen i d) g → ((b : ℕ) → now b ≡ (earlier b || has_birth g.rows b))
+pub one_more_seen : (told now_told : Option Files) (head : Head) (before : Files) (i : ℕ) (earlier now : ℕ → Bool) (segments all : List Lived) (seen : List HeadSegment) (d : HeadSegment) (g : Lived) → HeadFits head → now_told ≡ told → seen ≡ head.segments
+    → i < length seen → SoFar told head before i earlier segments → SegmentRead now_told head.number earlier (get_or seen i d) g → ((b : ℕ) → now b ≡ (earlier b || has_birth g.segment.rows b))
     → all ≡ segments ++ g ∷ [] → SoFar told head before (i + 1) now all
 one_more_seen told now_told head before i earlier now segments all seen d g fits same is lt so read more more_all =
     let lt' : i < length head.segments = subst (λ (xs : List HeadSegment). i < length xs) is lt in
     let e = get_or seen i d in
     subst (SoFar told head before (i + 1) now) (sym more_all)
-    (one_more told head before i earlier now segments e g fits lt' (item_is head.segments seen i d is lt) so (subst (λ (o : Option Files). IsRead o head.number earlier e g) same read) more)
+    (one_more told head before i earlier now segments e g fits lt' (item_is head.segments seen i d is lt) so (subst (λ (o : Option Files). SegmentRead o head.number earlier e g) same read) more)
 
-pub breaks_seen : (told now_told : Option Files) (head : Head) (before : Files) (i : ℕ) (earlier : ℕ → Bool) (segments : List Segment) (seen : List HeadSegment) (d : HeadSegment) (damaged : Damaged) → HeadFits head → now_told ≡ told → seen ≡ head.segments
-    → i < length seen → SoFar told head before i earlier segments → IsBrokenSegment now_told head.number earlier (get_or seen i d) damaged → BreakAt told head before damaged
+pub breaks_seen : (told now_told : Option Files) (head : Head) (before : Files) (i : ℕ) (earlier : ℕ → Bool) (segments : List Lived) (seen : List HeadSegment) (d : HeadSegment) (damaged : Damaged) → HeadFits head → now_told ≡ told → seen ≡ head.segments
+    → i < length seen → SoFar told head before i earlier segments → SegmentBroken now_told head.number earlier (get_or seen i d) damaged → BreakAt told head before damaged
 breaks_seen told now_told head before i earlier segments seen d damaged fits same is lt so broken =
     let lt' : i < length head.segments = subst (λ (xs : List HeadSegment). i < length xs) is lt in
     let e = get_or seen i d in
-    breaks told head before i earlier segments e damaged fits lt' (item_is head.segments seen i d is lt) so (subst (λ (o : Option Files). IsBrokenSegment o head.number earlier e damaged) same broken)
+    breaks told head before i earlier segments e damaged fits lt' (item_is head.segments seen i d is lt) so (subst (λ (o : Option Files). SegmentBroken o head.number earlier e damaged) same broken)

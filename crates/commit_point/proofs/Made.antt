@@ -1,196 +1,252 @@
 -- What the files spell after a commit was published.
-use Rattle.std.proofs.Common.{◌≡◌, ℕ, ◌+◌, ◌<◌, ◌≤◌, ◌^◌, List, [], ◌∷◌, length, map, Some, refl, sym, ap, subst, inl, inr, arith}
-use Rattle.std.specs.Prelude.{◌⊎◌, All}
-use Rattle.std.proofs.lemmas.List.Elements.{All-from_recursion}
-use Rattle.std.specs.List.{flat_map, AllByRecursion}
-use Rattle.std.proofs.Math.ListN.{length-append, length-map}
-use Rattle.ix_base.specs.FileNames.{IsCounted, IsFileName}
-use Rattle.ix_base.specs.Inversion.{IsPostings}
+use Rattle.std.proofs.Common.{◌≡◌, ◌∙◌, ℕ, ◌+◌, ◌<◌, ◌≤◌, ◌^◌, List, [], ◌∷◌, ◌++◌, Bool, true, false, cond, Option, Some, None, length, refl, sym, ap, subst, inl, inr, arith}
+use Rattle.std.specs.Prelude.{◌⊎◌, ◌==◌, if◌then◌else◌}
+use Rattle.std.specs.List.{AllByRecursion, flat_map}
+use Rattle.std.proofs.lemmas.Bool.{ltb-true}
+use Rattle.std.proofs.lemmas.Grind.{flat_map-append}
 use Rattle.ix_base.specs.declared.document.Row.{Row}
 use Rattle.ix_base.specs.declared.file_name.FileName.{FileName}
-use Rattle.ix_base.specs.declared.file_name.FileName.TheVariants.{Commit, Pending, Rows, Posts}
+use Rattle.ix_base.specs.declared.file_name.FileName.TheVariants.{Commit, Pending, Rows, Posts, Live, Values}
 use Rattle.ix_outside.specs.Files.{Files}
-use Rattle.segment_core.specs.Segments.{all_rows, ids}
-use Rattle.segment_core.specs.declared.segment.Segment.{Segment}
-use Rattle.segment_files.specs.Fits.{DocumentFits, PostingsFit, RowsBelow}
+use Rattle.live_docs.specs.MarkLaws.{same_marks_is}
+use Rattle.live_docs.specs.Marks.{same_marks, count_live}
+use Rattle.live_docs.specs.declared.live_docs.Mark.{Mark}
+use Rattle.segment_core.specs.LiveRows.{Lived, IsWhole, all_live, stored_rows}
+use Rattle.segment_files.specs.LiveFits.{LiveFits, ValuesFit}
+use Rattle.segment_files.specs.LiveSpelling.{live_bits, values_of, live_file, values_file}
+use Rattle.commit_point.specs.declared.heads.HeadSegment.{HeadSegment}
+use Rattle.commit_point.specs.declared.written.Written.{Written}
+use Rattle.commit_point.specs.BirthLaws.{births_append}
+use Rattle.commit_point.specs.Encoding.{own_files, AreWhole, IsEncoded, AreEncoded, HaveSpelling}
 use Rattle.commit_point.specs.Fits.{IdsRise, EntryFits}
-use Rattle.commit_point.specs.Holds.{HasHead, HasSegments, HaveSegments, BirthsDiffer, names_of}
-use Rattle.commit_point.specs.Publishing.{File, IsNoneOf, AreApart, AreThere, SameBesides, IsWhole, Publishes, MayPublish, CanPublish}
+use Rattle.commit_point.specs.Holds.{HasHead, HasSegment, HasSegments, HaveSegments, BirthsDiffer, births_at}
+use Rattle.commit_point.specs.Publishing.{File, IsNoneOf, AreThere, SameBesides, IsWhole as IsAllThere, Publishes, MayPublish}
 use Rattle.commit_point.specs.Spelling.{commit_file}
-use Rattle.commit_point.specs.Writing.{CanWrite, Commits, MayCommit, SameElsewhere, IsNotAmong, commit_files, entry_of, new_head}
+use Rattle.commit_point.specs.Writing.{CanWrite, CanCommit, SegmentIdsRise, WrittenUpTo, IsWritten, AreWritten, Commits, MayCommit, is_alive, listed, version, row_files, files_of, commit_files, entry_of, entries_of, new_head}
+use Rattle.commit_point.proofs.Counting.{live_first}
+use Rattle.commit_point.proofs.Names.{own, there_append, none_own, none_both, none_before, elsewhere_of}
 
--- segments that may be written as a commit
-pub record AreNew (s next : ℕ) (segments : List Segment) : Type 0 where
+-- segments that can be written as a commit, and have a spelling
+pub record AreNew (s next : ℕ) (gs : List Lived) (ws : List (Option Written)) : Type 0 where
   pub number : 1 ≤ s
   pub fits : s < 2 ^ 64
   pub some_id : 1 ≤ next
   pub room : next ≤ 2 ^ 62
-  pub ids : IdsRise 1 next (map (entry_of s) segments)
-  pub can : AllByRecursion (CanWrite s) segments
-  pub differ : BirthsDiffer segments
-  pub count : length (all_rows segments) < 2 ^ 32
-  pub documents : AllByRecursion (λ (g : Segment). AllByRecursion (λ (r : Row). DocumentFits r.doc) g.rows) segments
-  pub postings : AllByRecursion (λ (g : Segment). PostingsFit (length g.rows) g.postings) segments
+  pub can : CanCommit s next gs ws
+  pub spelling : HaveSpelling gs ws
 
-pub are_new : (s next docs : ℕ) (segments : List Segment) → (1 ≤ s) × (s < 2 ^ 64) × (1 ≤ next) → next ≤ 2 ^ 62 → IdsRise 1 next (map (entry_of s) segments) → AllByRecursion (CanWrite s) segments → BirthsDiffer segments
-    → docs ≡ length (all_rows segments) → docs ≤ 2147483647 → AllByRecursion (λ (g : Segment). AllByRecursion (λ (r : Row). DocumentFits r.doc) g.rows) segments → AllByRecursion (λ (g : Segment). PostingsFit (length g.rows) g.postings) segments
-    → AreNew s next segments
-are_new s next docs segments numbers room rise can differ is most documents postings = record {
-  number = numbers.0;
-  fits = numbers.1;
-  some_id = numbers.2;
-  room = room;
-  ids = rise;
-  can = can;
-  differ = differ;
-  count = omega (arith, is, most);
-  documents = documents;
-  postings = postings;
-}
+-- ---- the commit file
 
--- ---- counts
+ids_from : (low next limit : ℕ) (es : List HeadSegment) → low ≤ next → IdsRise next limit es → IdsRise low limit es
+ids_from low next limit [] le rise = tt
+ids_from low next limit (e ∷ es) le rise = (omega (arith, le, rise.0), rise.1, rise.2)
 
-rows_more : (g : Segment) (gs : List Segment) → length (all_rows (g ∷ gs)) ≡ length g.rows + length (all_rows gs)
-rows_more g gs = length-append g.rows (all_rows gs)
+ids_rise : (s low limit : ℕ) (gs : List Lived) (ws : List (Option Written)) → SegmentIdsRise low limit gs → IdsRise low limit (entries_of s gs ws)
+ids_rise s low limit [] ws rise = tt
+ids_rise s low limit (g ∷ gs) [] rise = tt
+ids_rise s low limit (g ∷ gs) (w ∷ ws) rise = by (is_alive g) (ids_rise s (g.segment.id + 1) limit gs ws rise.2)
+  where
+    by : (b : Bool) → IdsRise (g.segment.id + 1) limit (entries_of s gs ws) → IdsRise low limit (cond b (entry_of s w g ∷ []) [] ++ entries_of s gs ws)
+    by true rest = (rise.0, rise.1, rest)
+    by false rest = ids_from low (g.segment.id + 1) limit (entries_of s gs ws) (omega (arith, rise.0)) rest
 
--- no segment has more rows than all together
-pub each_count : (most : ℕ) (segments : List Segment) → length (all_rows segments) < most → AllByRecursion (λ (g : Segment). length g.rows < most) segments
-each_count most [] lt = tt
-each_count most (g ∷ gs) lt = (omega (arith, rows_more g gs), each_count most gs (omega (arith, rows_more g gs)))
+entry_fits : (s : ℕ) (w : Option Written) (g : Lived) → 1 ≤ s → CanWrite s g → IsWhole g.segment g.live → WrittenUpTo s w → EntryFits s (entry_of s w g)
+entry_fits s None g some can whole was = record { rows = can.some; count = whole.few; some = some; not_later = omega arith }
+entry_fits s (Some w) g some can whole was = by (same_marks w.live.marks g.live.marks)
+  where
+    by : (b : Bool) → EntryFits s (record { id = g.segment.id; rows = length g.segment.rows; written = cond b w.v s })
+    by true = record { rows = can.some; count = whole.few; some = was.0; not_later = was.1 }
+    by false = record { rows = can.some; count = whole.few; some = some; not_later = omega arith }
 
--- there are no more segments than rows
-fewer : (s : ℕ) (segments : List Segment) → AllByRecursion (CanWrite s) segments → length segments ≤ length (all_rows segments)
-fewer s [] can = omega arith
-fewer s (g ∷ gs) can = omega (arith, rows_more g gs, can.0.some, fewer s gs can.1)
+entries_fit : (s : ℕ) (gs : List Lived) (ws : List (Option Written)) → 1 ≤ s → AllByRecursion (CanWrite s) gs → AreWhole gs → AllByRecursion (WrittenUpTo s) ws
+    → AllByRecursion (EntryFits s) (entries_of s gs ws)
+entries_fit s [] ws some can whole was = tt
+entries_fit s (g ∷ gs) [] some can whole was = tt
+entries_fit s (g ∷ gs) (w ∷ ws) some can whole was = by (is_alive g) (entries_fit s gs ws some can.1 whole.1 was.1)
+  where
+    by : (b : Bool) → AllByRecursion (EntryFits s) (entries_of s gs ws) → AllByRecursion (EntryFits s) (cond b (entry_of s w g ∷ []) [] ++ entries_of s gs ws)
+    by true rest = (entry_fits s w g some can.0 whole.0 was.0, rest)
+    by false rest = rest
 
-entries_fit : (s : ℕ) (segments : List Segment) → 1 ≤ s → AllByRecursion (CanWrite s) segments → AllByRecursion (λ (g : Segment). length g.rows < 2 ^ 32) segments → AllByRecursion (EntryFits s) (map (entry_of s) segments)
-entries_fit s [] some can count = tt
-entries_fit s (g ∷ gs) some can count = (record { rows = can.0.some; count = count.0; some = some; not_later = omega arith }, entries_fit s gs some can.1 count.1)
+-- each entry has a live row
+entries_few : (s : ℕ) (gs : List Lived) (ws : List (Option Written)) → AreWhole gs → length (entries_of s gs ws) ≤ length (all_live (listed gs))
+entries_few s [] ws whole = omega arith
+entries_few s (g ∷ gs) [] whole = omega arith
+entries_few s (g ∷ gs) (w ∷ ws) whole =
+    let first = live_first g gs whole.0 in
+    let here = by (is_alive g) refl (entries_few s gs ws whole.1) in
+    omega (arith, first, here)
+  where
+    by : (b : Bool) → is_alive g ≡ b → length (entries_of s gs ws) ≤ length (all_live (listed gs))
+        → length (cond b (entry_of s w g ∷ []) [] ++ entries_of s gs ws) ≤ count_live g.live.marks + length (all_live (listed gs))
+    by true e rest = let some = ltb-true 0 (count_live g.live.marks) e in omega (arith, some, rest)
+    by false e rest = omega (arith, rest)
 
--- what `encoded` asks of each segment
-pub each_ordered : (s : ℕ) (segments : List Segment) → AllByRecursion (CanWrite s) segments → AllByRecursion (λ (g : Segment). IsPostings g.postings.terms) segments
-each_ordered s [] can = tt
-each_ordered s (g ∷ gs) can = (can.0.ordered, each_ordered s gs can.1)
-
-pub each_below : (s : ℕ) (segments : List Segment) → AllByRecursion (CanWrite s) segments → AllByRecursion (λ (g : Segment). RowsBelow (length g.rows) g.postings) segments
-each_below s [] can = tt
-each_below s (g ∷ gs) can = (can.0.below, each_below s gs can.1)
-
--- each file of the segments has a name that a file may have
-names_real : (s low limit : ℕ) (segments : List Segment) → 1 ≤ low → limit < 2 ^ 64 → IdsRise low limit (map (entry_of s) segments) → AllByRecursion (λ (file : File). IsFileName file.0) (commit_files segments)
-names_real s low limit [] some fits rise = tt
-names_real s low limit (g ∷ gs) some fits rise =
-    let counted : IsCounted g.id = record { some = omega (arith, rise.0); fits = omega (arith, rise.1) } in
-    (counted, (counted, names_real s (g.id + 1) limit gs (omega arith) fits rise.2))
-
-pub are_names : (s next : ℕ) (segments : List Segment) (files : List File) → next < 2 ^ 64 → IdsRise 1 next (map (entry_of s) segments) → files ≡ commit_files segments → All (λ file. IsFileName file.0) files
-are_names s next segments files fits rise is =
-    subst (λ (fs : List File). All (λ file. IsFileName file.0) fs) (sym is) (All-from_recursion (λ (file : File). IsFileName file.0) (commit_files segments) (names_real s 1 next segments (omega arith) fits rise))
-
--- ---- what the files spell
-
-head_made : (s next : ℕ) (segments : List Segment) (now : Files) → AreNew s next segments → now (Commit s) ≡ Some (commit_file (new_head s next segments)) → HasHead now s (new_head s next segments)
-head_made s next segments now new commit = record {
+head_made : (s next : ℕ) (gs : List Lived) (ws : List (Option Written)) (now : Files) → AreNew s next gs ws → now (Commit s) ≡ Some (commit_file (new_head s next gs ws))
+    → HasHead now s (new_head s next gs ws)
+head_made s next gs ws now new commit = record {
   file = commit;
   number = refl;
   fits = record {
     some = new.number;
     number = new.fits;
-    docs = omega (arith, new.count);
+    docs = new.spelling.docs;
     next_some = new.some_id;
     next = new.room;
-    count = omega (arith, new.count, fewer s segments new.can, length-map segments (entry_of s));
-    ids = new.ids;
-    entries = entries_fit s segments new.number new.can (each_count (2 ^ 32) segments new.count);
+    count = let few = entries_few s gs ws new.spelling.whole in omega (arith, few, new.spelling.docs);
+    ids = ids_rise s 1 next gs ws new.can.ids;
+    entries = entries_fit s gs ws new.number new.can.can new.spelling.whole new.can.written;
   };
 }
 
-segments_made : (s : ℕ) (segments : List Segment) (now : Files) → AllByRecursion (CanWrite s) segments → AllByRecursion (λ (g : Segment). length g.rows < 2 ^ 32) segments
-    → AllByRecursion (λ (g : Segment). AllByRecursion (λ (r : Row). DocumentFits r.doc) g.rows) segments → AllByRecursion (λ (g : Segment). PostingsFit (length g.rows) g.postings) segments
-    → AreThere (commit_files segments) now → HaveSegments now s (map (entry_of s) segments) segments
-segments_made s [] now can count documents postings there = tt
-segments_made s (g ∷ gs) now can count documents postings there = (
-  record {
-    id = refl;
-    count = refl;
-    rows = there.0;
-    posts = there.1.0;
-    rows_fit = record { some = can.0.some; count = count.0; births = can.0.births; documents = documents.0 };
-    posts_fit = postings.0;
-  },
-  segments_made s gs now can.1 count.1 documents.1 postings.1 there.1.1,
-)
+-- ---- births
 
--- files with the commit file of new segments and the segments' files spell the segments
-has_made : (s next : ℕ) (segments : List Segment) (now : Files) → AreNew s next segments → now (Commit s) ≡ Some (commit_file (new_head s next segments)) → AreThere (commit_files segments) now → HasSegments now s next segments
-has_made s next segments now new commit there = record {
-  head = new_head s next segments;
-  has_head = head_made s next segments now new commit;
-  next_id = refl;
-  docs = refl;
-  each = segments_made s segments now new.can (each_count (2 ^ 32) segments new.count) new.documents new.postings there;
-  differ = new.differ;
+-- a birth doesn't stand more often in the segments that are listed
+births_fewer : (b : ℕ) (gs : List Lived) → births_at b (stored_rows (listed gs)) ≤ births_at b (stored_rows gs)
+births_fewer b [] = omega arith
+births_fewer b (g ∷ gs) =
+    let split = births_append b g.segment.rows (stored_rows gs) in
+    let here = by (is_alive g) (births_fewer b gs) in
+    omega (arith, split, here)
+  where
+    by : (alive : Bool) → births_at b (stored_rows (listed gs)) ≤ births_at b (stored_rows gs)
+        → births_at b (stored_rows (cond alive (g ∷ listed gs) (listed gs))) ≤ births_at b g.segment.rows + births_at b (stored_rows gs)
+    by true rest = let split = births_append b g.segment.rows (stored_rows (listed gs)) in omega (arith, split, rest)
+    by false rest = omega (arith, rest)
+
+listed_differ : (gs : List Lived) → BirthsDiffer gs → BirthsDiffer (listed gs)
+listed_differ gs differ b = let fewer = births_fewer b gs in let one = differ b in omega (arith, fewer, one)
+
+-- ---- a segment
+
+-- its files but those that are written are as before
+abbrev IsKept : ℕ → Option Written → Lived → Files → Files → Type 0
+IsKept s w g old new = (name : FileName) → own name ≡ g.segment.id → IsNoneOf (files_of s w g) name → new name ≡ old name
+
+-- what is written of live docs where they differ
+abbrev live_pair : ℕ → Lived → List File
+live_pair s g =
+    (Live g.segment.id s, live_file g.segment.id s (live_bits g.live.marks))
+    ∷ (Values g.segment.id s, values_file g.segment.id s (length g.segment.rows) (values_of g.live.marks))
+    ∷ []
+
+segment_made : (s : ℕ) (w : Option Written) (g : Lived) (old new : Files) → CanWrite s g → IsWhole g.segment g.live → IsEncoded w g → IsWritten old s w g
+    → AreThere (files_of s w g) new → IsKept s w g old new → HasSegment new s (entry_of s w g) g
+segment_made s None g old new can whole encoded was there kept = record {
+  id = refl;
+  count = refl;
+  whole = whole;
+  applied = can.applied;
+  rows = there.0;
+  posts = there.1.0;
+  live = there.1.1.0;
+  values = there.1.1.1.0;
+  rows_fit = record { some = can.some; count = whole.few; births = can.births; documents = encoded.documents refl };
+  posts_fit = encoded.postings refl;
+  live_fit = encoded.live refl;
+  values_fit = encoded.values refl;
 }
+segment_made s (Some w) g old new can whole encoded was there kept = by (same_marks w.live.marks g.live.marks) refl encoded.live encoded.values there kept
+  where
+    has : HasSegment old w.live.applied (record { id = g.segment.id; rows = length g.segment.rows; written = w.v }) (record { segment = g.segment; live = w.live })
+    has = was.1
 
--- ---- names apart
+    by : (b : Bool) → same_marks w.live.marks g.live.marks ≡ b
+        → (b ≡ false → LiveFits (length g.segment.rows) (live_bits g.live.marks)) → (b ≡ false → ValuesFit (length g.segment.rows) (values_of g.live.marks))
+        → AreThere (cond b [] (live_pair s g)) new
+        → ((name : FileName) → own name ≡ g.segment.id → IsNoneOf (cond b [] (live_pair s g)) name → new name ≡ old name)
+        → HasSegment new s (record { id = g.segment.id; rows = length g.segment.rows; written = cond b w.v s }) g
+    by true e live_fit values_fit there kept =
+        let same : w.live.marks ≡ g.live.marks = same_marks_is w.live.marks g.live.marks e in
+        record {
+          id = refl;
+          count = refl;
+          whole = whole;
+          applied = can.applied;
+          rows = kept (Rows g.segment.id) refl tt ∙ has.rows;
+          posts = kept (Posts g.segment.id) refl tt ∙ has.posts;
+          live = kept (Live g.segment.id w.v) refl tt ∙ has.live ∙ ap (λ (ms : List Mark). Some (live_file g.segment.id w.v (live_bits ms))) same;
+          values = kept (Values g.segment.id w.v) refl tt ∙ has.values ∙ ap (λ (ms : List Mark). Some (values_file g.segment.id w.v (length g.segment.rows) (values_of ms))) same;
+          rows_fit = record { some = can.some; count = whole.few; births = can.births; documents = has.rows_fit.documents };
+          posts_fit = has.posts_fit;
+          live_fit = subst (λ (ms : List Mark). LiveFits (length g.segment.rows) (live_bits ms)) same has.live_fit;
+          values_fit = subst (λ (ms : List Mark). ValuesFit (length g.segment.rows) (values_of ms)) same has.values_fit;
+        }
+    by false e live_fit values_fit there kept = record {
+      id = refl;
+      count = refl;
+      whole = whole;
+      applied = can.applied;
+      rows = kept (Rows g.segment.id) refl ((λ x. cc), ((λ x. cc), tt)) ∙ has.rows;
+      posts = kept (Posts g.segment.id) refl ((λ x. cc), ((λ x. cc), tt)) ∙ has.posts;
+      live = there.0;
+      values = there.1.0;
+      rows_fit = record { some = can.some; count = whole.few; births = can.births; documents = has.rows_fit.documents };
+      posts_fit = has.posts_fit;
+      live_fit = live_fit refl;
+      values_fit = values_fit refl;
+    }
 
--- the segment whose file this is; 0 where it is none's
-own : FileName → ℕ
-own (Rows id) = id
-own (Posts id) = id
-own name = 0
+-- ---- all segments
 
--- the files of segments with ids from `low` on don't have the name of a file of one before
-none_before : (s low limit : ℕ) (segments : List Segment) (name : FileName) (id : ℕ) → own name ≡ id → id < low → IdsRise low limit (map (entry_of s) segments) → IsNoneOf (commit_files segments) name
-unfolding own
-none_before s low limit [] name id is lt rise = tt
-none_before s low limit (g ∷ gs) name id is lt rise = (
-  (λ e. let same : g.id ≡ own name = ap own e in absurd (omega (arith, same, is, rise.0))),
-  ((λ e. let same : g.id ≡ own name = ap own e in absurd (omega (arith, same, is, rise.0))), none_before s (g.id + 1) limit gs name id is (omega (arith, rise.0)) rise.2),
-)
+-- the files of these segments but those that are written are as before
+abbrev AreKeptFrom : ℕ → ℕ → List Lived → List (Option Written) → Files → Files → Type 0
+AreKeptFrom s low gs ws old new = (name : FileName) → low ≤ own name → IsNoneOf (commit_files s gs ws) name → new name ≡ old name
 
-all_apart : (s low limit : ℕ) (segments : List Segment) → IdsRise low limit (map (entry_of s) segments) → AreApart (commit_files segments)
-unfolding own
-all_apart s low limit [] rise = tt
-all_apart s low limit (g ∷ gs) rise = (
-  ((λ e. cc), none_before s (g.id + 1) limit gs (Rows g.id) g.id refl (omega arith) rise.2),
-  (none_before s (g.id + 1) limit gs (Posts g.id) g.id refl (omega arith) rise.2, all_apart s (g.id + 1) limit gs rise.2),
-)
+segments_made : (s low limit : ℕ) (gs : List Lived) (ws : List (Option Written)) (old new : Files) → SegmentIdsRise low limit gs → length ws ≡ length gs → AllByRecursion (CanWrite s) gs
+    → AreWhole gs → AreEncoded gs ws → AreWritten old s gs ws → AreThere (commit_files s gs ws) new → AreKeptFrom s low gs ws old new
+    → HaveSegments new s (entries_of s gs ws) (listed gs)
+segments_made s low limit [] ws old new rise count can whole encoded was there kept = tt
+segments_made s low limit (g ∷ gs) [] old new rise count can whole encoded was there kept = absurd (omega (arith, count))
+segments_made s low limit (g ∷ gs) (w ∷ ws) old new rise count can whole encoded was there kept =
+    let parts = there_append (own_files s w g) (commit_files s gs ws) new there in
+    by (is_alive g) refl parts.0 kept_here
+    (segments_made s (g.segment.id + 1) limit gs ws old new rise.2 (omega (arith, count)) can.1 whole.1 encoded.1 was.1 parts.1 kept_later)
+  where
+    kept_here : (name : FileName) → own name ≡ g.segment.id → IsNoneOf (own_files s w g) name → new name ≡ old name
+    kept_here name is none =
+        kept name (omega (arith, is, rise.0)) (none_both s w g gs ws name none (none_before s (g.segment.id + 1) limit gs ws name (omega (arith, is)) rise.2))
 
--- the files of the segments, the pending name and that of the commit are apart
-pub can_publish : (s next : ℕ) (segments : List Segment) → IdsRise 1 next (map (entry_of s) segments) → CanPublish (commit_files segments) (Pending s) (Commit s)
-unfolding own
-can_publish s next segments rise = record {
-  files = all_apart s 1 next segments rise;
-  pending_none = none_before s 1 next segments (Pending s) 0 refl (omega arith) rise;
-  final_none = none_before s 1 next segments (Commit s) 0 refl (omega arith) rise;
-  differ = λ e. cc;
+    kept_later : AreKeptFrom s (g.segment.id + 1) gs ws old new
+    kept_later name from none =
+        kept name (omega (arith, from, rise.0)) (none_both s w g gs ws name (none_own s w g name (λ e. absurd (omega (arith, e, from)))) none)
+
+    by : (b : Bool) → is_alive g ≡ b → AreThere (cond b (files_of s w g) []) new
+        → ((name : FileName) → own name ≡ g.segment.id → IsNoneOf (cond b (files_of s w g) []) name → new name ≡ old name)
+        → HaveSegments new s (entries_of s gs ws) (listed gs)
+        → HaveSegments new s (cond b (entry_of s w g ∷ []) [] ++ entries_of s gs ws) (cond b (g ∷ listed gs) (listed gs))
+    by true e there kept rest = (segment_made s w g old new can.0 whole.0 (encoded.0 e) (was.0 e) there kept, rest)
+    by false e there kept rest = rest
+
+-- files with the commit file of segments and the files that it writes spell the segments, where the others are as before
+has_made : (s next : ℕ) (gs : List Lived) (ws : List (Option Written)) (old now : Files) → AreNew s next gs ws → now (Commit s) ≡ Some (commit_file (new_head s next gs ws))
+    → AreThere (commit_files s gs ws) now → SameBesides (commit_files s gs ws) (Pending s) (Commit s) old now → AreWritten old s gs ws
+    → HasSegments now s next (entries_of s gs ws) (listed gs)
+has_made s next gs ws old now new commit there same was = record {
+  head = head_made s next gs ws now new commit;
+  each = segments_made s 1 next gs ws old now new.can.ids new.can.count new.can.can new.spelling.whole new.spelling.encoded was there
+      (λ name from none. same name none (λ e. absurd (let zero : own name ≡ 0 = ap own e in omega (arith, zero, from))) (λ e. absurd (let zero : own name ≡ 0 = ap own e in omega (arith, zero, from))));
+  differ = listed_differ gs new.can.differ;
 }
-
--- who is none of the segments' files is none of the list
-none_of_list : (segments : List Segment) (name : FileName) → IsNotAmong (flat_map names_of (ids segments)) name → IsNoneOf (commit_files segments) name
-none_of_list [] name not = tt
-none_of_list (g ∷ gs) name not = ((λ e. not.0 (sym e)), ((λ e. not.1.0 (sym e)), none_of_list gs name not.1.1))
-
-pub elsewhere_of : (s : ℕ) (segments : List Segment) (a c : Files) → SameBesides (commit_files segments) (Pending s) (Commit s) a c → SameElsewhere s (ids segments) a c
-elsewhere_of s segments a c same name not pending commit = same name (none_of_list segments name not) pending commit
 
 -- ---- what was published
 
 -- all was published, so the commit was made
-pub made_of : (s next : ℕ) (segments : List Segment) (a c : Files) → AreNew s next segments → Publishes (commit_files segments) (Pending s) (Commit s) (commit_file (new_head s next segments)) a c → Commits s next segments a c
-made_of s next segments a c new all = record {
-  spelled = has_made s next segments c new all.whole.last all.whole.there;
+pub made_of : (s next : ℕ) (gs : List Lived) (ws : List (Option Written)) (a c : Files) → AreNew s next gs ws
+    → Publishes (commit_files s gs ws) (Pending s) (Commit s) (commit_file (new_head s next gs ws)) a c → Commits s next gs ws a c
+made_of s next gs ws a c new all = record {
+  spelled = has_made s next gs ws a c new all.whole.last all.whole.there all.elsewhere;
   commit = all.whole.last;
   files = all.whole.there;
   pending = all.whole.gone;
-  elsewhere = elsewhere_of s segments a c all.elsewhere;
+  elsewhere = elsewhere_of s gs ws a c all.elsewhere;
 }
 
 -- all was published, or the commit file is as before
-pub may_of : (s next : ℕ) (segments : List Segment) (a c : Files) → AreNew s next segments → MayPublish (commit_files segments) (Pending s) (Commit s) (commit_file (new_head s next segments)) a c → MayCommit s next segments a c
-may_of s next segments a c new may = record { elsewhere = elsewhere_of s segments a c may.elsewhere; whole = cases may.whole }
+pub may_of : (s next : ℕ) (gs : List Lived) (ws : List (Option Written)) (a c : Files) → AreNew s next gs ws
+    → MayPublish (commit_files s gs ws) (Pending s) (Commit s) (commit_file (new_head s next gs ws)) a c → MayCommit s next gs ws a c
+may_of s next gs ws a c new may = record { elsewhere = elsewhere_of s gs ws a c may.elsewhere; whole = cases may.whole }
   where
-    cases : (c (Commit s) ≡ a (Commit s)) ⊎ IsWhole (commit_files segments) (Pending s) (Commit s) (commit_file (new_head s next segments)) c → (c (Commit s) ≡ a (Commit s)) ⊎ Commits s next segments a c
+    cases : (c (Commit s) ≡ a (Commit s)) ⊎ IsAllThere (commit_files s gs ws) (Pending s) (Commit s) (commit_file (new_head s next gs ws)) c → (c (Commit s) ≡ a (Commit s)) ⊎ Commits s next gs ws a c
     cases (inl same) = inl same
-    cases (inr whole) = inr (made_of s next segments a c new (record { whole = whole; elsewhere = may.elsewhere }))
+    cases (inr whole) = inr (made_of s next gs ws a c new (record { whole = whole; elsewhere = may.elsewhere }))

@@ -1,25 +1,24 @@
 -- What the reads of a whole commit come to.
 use Rattle.std.proofs.Common.{◌≡◌, ℕ, ◌<◌, ◌^◌, Bool, true, false, not, eqb, List, length, Option, Some, Result, Ok, Err, refl, sym, ap, subst, ◌∙◌, inl, inr}
-use Rattle.std.specs.Prelude.{IsPermutation, IfOk, IfErr}
-use Rattle.std.specs.List.Sorted.{IsNonDecreasingBy}
+use Rattle.std.specs.Prelude.{IfOk, IfErr}
+use Rattle.std.specs.List.{AllByRecursion}
 use Rattle.std.proofs.lemmas.Bool.{eqb-true}
 use Rattle.ix_base.specs.FileReading.{of_file}
-use Rattle.segment_core.specs.Segments.{all_rows}
-use Rattle.segment_core.specs.declared.segment.Segment.{Segment}
+use Rattle.segment_core.specs.LiveRows.{Lived, all_live}
 use Rattle.ix_base.specs.declared.file_name.FileName.TheVariants.{Commit}
-use Rattle.ix_base.specs.declared.document.Row.{Row}
 use Rattle.ix_outside.specs.Files.{Files, Was, Reads}
 use Rattle.ix_base.specs.declared.damaged.Damaged.{Damaged}
 use Rattle.commit_point.specs.declared.fault.OpenFault.{OpenFault}
 use Rattle.commit_point.specs.declared.fault.OpenFault.TheVariants as open_faults
 use Rattle.commit_point.specs.declared.open.Opened.{Opened}
 use Rattle.commit_point.specs.declared.heads.Head.{Head}
+use Rattle.commit_point.specs.declared.heads.HeadSegment.{HeadSegment}
 use Rattle.commit_point.specs.Spelling.{commit_file}
-use Rattle.commit_point.specs.Fits.{HeadFits}
-use Rattle.commit_point.specs.Holds.{HasSegments, HaveSegments, AreRowsOf}
+use Rattle.commit_point.specs.Fits.{EntryFits, HeadFits}
+use Rattle.commit_point.specs.Holds.{HasHead, HasSegments, HaveSegments, head_of}
 use Rattle.commit_point.specs.Loading.{IsBroken, IsOutside, AreRead, BreakAt}
 use Rattle.commit_point.specs.Reading.{head_in, head_from, segments_from, reading}
-use Rattle.commit_point.specs.BirthLaws.{merged_rises, differ_of}
+use Rattle.commit_point.specs.BirthLaws.{differ_of}
 use Rattle.commit_point.specs.SegmentLaws.{head_reads, segments_read, has_reads, one_segments}
 use Rattle.commit_point.proofs.Segments.{Seen, sees, some_files, each_rises}
 
@@ -33,9 +32,15 @@ see_head told s head reads =
     let see : Seen told (Commit s) (Some (commit_file head)) first.0 = sees told (Commit s) (Some (commit_file head)) first.0 first.1 reads in
     (see.files, see.was, see.there)
 
-pub opens : (told next_told : Option Files) (s : ℕ) (head : Head) (segments : List Segment) → next_told ≡ told → Reads told (Commit s) (Some (commit_file head)) → head.number ≡ s → HeadFits head
-    → ((before : Files) → Was next_told before → AreRead next_told head before segments) → eqb head.docs (length (all_rows segments)) ≡ true
-    → (files : Files) × Was told files × HasSegments files s head.next_id segments
+-- a head with this number and sum is that of its entries and segments
+head_is : (s : ℕ) (head : Head) (segments : List Lived) → head.number ≡ s → head.docs ≡ length (all_live segments) → head ≡ head_of s head.next_id head.segments segments
+head_is s head segments number docs =
+    ap (λ (n : ℕ). record { number = n; docs = head.docs; next_id = head.next_id; segments = head.segments }) number
+    ∙ ap (λ (d : ℕ). record { number = s; docs = d; next_id = head.next_id; segments = head.segments }) docs
+
+pub opens : (told next_told : Option Files) (s : ℕ) (head : Head) (segments : List Lived) → next_told ≡ told → Reads told (Commit s) (Some (commit_file head)) → head.number ≡ s → HeadFits head
+    → ((before : Files) → Was next_told before → AreRead next_told head before segments) → eqb head.docs (length (all_live segments)) ≡ true
+    → (files : Files) × Was told files × HasSegments files s head.next_id head.segments segments
 opens told next_told s head segments same reads number fits each docs =
     let seen = see_head told s head reads in
     let read : AreRead next_told head seen.0 segments = each seen.0 (subst (λ (o : Option Files). Was o seen.0) (sym same) seen.1) in
@@ -44,10 +49,7 @@ opens told next_told s head segments same reads number fits each docs =
       read.files,
       subst (λ (o : Option Files). Was o read.files) same read.was,
       record {
-        head = head;
-        has_head = record { file = there; number = number; fits = fits };
-        next_id = refl;
-        docs = eqb-true _ _ docs;
+        head = subst (HasHead read.files s) (head_is s head segments number (eqb-true _ _ docs)) (record { file = there; number = number; fits = fits });
         each = have;
         differ = differ_of s segments (each_rises read.files s head.segments segments have) read.unknown;
       },
@@ -72,19 +74,19 @@ segment_breaks told next_told s head d same reads number fits each =
     (at.files, subst (λ (o : Option Files). Was o at.files) same at.was, rw (head_reads at.files s head there number fits, broken) refl)
 
 -- what the test of the number of rows says
-counts : (head : Head) (segments seen : List Segment) (b : Bool) → seen ≡ segments → b ≡ eqb head.docs (length (all_rows seen)) → eqb head.docs (length (all_rows segments)) ≡ b
-counts head segments seen b is test = ap (λ (gs : List Segment). eqb head.docs (length (all_rows gs))) (sym is) ∙ sym test
+counts : (head : Head) (segments seen : List Lived) (b : Bool) → seen ≡ segments → b ≡ eqb head.docs (length (all_live seen)) → eqb head.docs (length (all_live segments)) ≡ b
+counts head segments seen b is test = ap (λ (gs : List Lived). eqb head.docs (length (all_live gs))) (sym is) ∙ sym test
 
-pub counts_right : (head : Head) (segments seen : List Segment) (b : Bool) → seen ≡ segments → b ≡ eqb head.docs (length (all_rows seen)) → not b ≡ false → eqb head.docs (length (all_rows segments)) ≡ true
+pub counts_right : (head : Head) (segments seen : List Lived) (b : Bool) → seen ≡ segments → b ≡ eqb head.docs (length (all_live seen)) → not b ≡ false → eqb head.docs (length (all_live segments)) ≡ true
 counts_right head segments seen true is test right = counts head segments seen true is test
 counts_right head segments seen false is test right = absurd cc
 
-pub counts_wrong : (head : Head) (segments seen : List Segment) (b : Bool) → seen ≡ segments → b ≡ eqb head.docs (length (all_rows seen)) → not b ≡ true → eqb head.docs (length (all_rows segments)) ≡ false
+pub counts_wrong : (head : Head) (segments seen : List Lived) (b : Bool) → seen ≡ segments → b ≡ eqb head.docs (length (all_live seen)) → not b ≡ true → eqb head.docs (length (all_live segments)) ≡ false
 counts_wrong head segments seen true is test wrong = absurd cc
 counts_wrong head segments seen false is test wrong = counts head segments seen false is test
 
-pub docs_break : (told next_told : Option Files) (s : ℕ) (head : Head) (segments : List Segment) → next_told ≡ told → Reads told (Commit s) (Some (commit_file head)) → head.number ≡ s → HeadFits head
-    → ((before : Files) → Was next_told before → AreRead next_told head before segments) → eqb head.docs (length (all_rows segments)) ≡ false → (files : Files) × Was told files × (reading files s ≡ Err (record { file = Commit s; at = 16 }))
+pub docs_break : (told next_told : Option Files) (s : ℕ) (head : Head) (segments : List Lived) → next_told ≡ told → Reads told (Commit s) (Some (commit_file head)) → head.number ≡ s → HeadFits head
+    → ((before : Files) → Was next_told before → AreRead next_told head before segments) → eqb head.docs (length (all_live segments)) ≡ false → (files : Files) × Was told files × (reading files s ≡ Err (record { file = Commit s; at = 16 }))
 unfolding reading
 docs_break told next_told s head segments same reads number fits each wrong =
     let seen = see_head told s head reads in
@@ -94,30 +96,39 @@ docs_break told next_told s head segments same reads number fits each wrong =
     let s_fits : s < 2 ^ 64 = subst (λ (n : ℕ). n < 2 ^ 64) number fits.number in (
       read.files,
       subst (λ (o : Option Files). Was o read.files) same read.was,
-      rw (head_reads read.files s head there number fits, segments_read read.files s 1 head.next_id (λ b. false) head.segments segments s_fits fits.next fits.ids have read.unknown, wrong) refl,
+      rw (head_reads read.files s head there number fits, segments_read read.files s 1 head.next_id (λ b. false) head.segments segments s_fits fits.next fits.ids (subst (λ (n : ℕ). AllByRecursion (EntryFits n) head.segments) number fits.entries) have read.unknown, wrong) refl,
     )
 
--- the rows of a commit's segments, sorted by birth
-pub are_rows : (files : Files) (s next : ℕ) (segments : List Segment) (rows : List Row) → IsPermutation (all_rows segments) rows → IsNonDecreasingBy (λ (r : Row). r.birth) rows → HasSegments files s next segments → AreRowsOf s segments rows
-are_rows files s next segments rows moved sorted h = record { merged = moved; births = merged_rises s segments rows (each_rises files s h.head.segments segments h.each) h.differ moved sorted }
+-- a commit that was opened
+abbrev opened_of : ℕ → ℕ → List HeadSegment → List Lived → Opened
+opened_of s next entries segments = record { number = s; next_id = next; entries = entries; segments = segments }
 
-pub only_it : (told : Option Files) (s : ℕ) (r : Result Opened OpenFault) → IfOk r (λ opened. (files : Files) × Was told files × HasSegments files s opened.next_id opened.segments)
-    → (files : Files) (next : ℕ) (segments : List Segment) → told ≡ Some files → HasSegments files s next segments → IfOk r (λ opened. (opened.next_id ≡ next) × (opened.segments ≡ segments))
-only_it told s (Err e) found files next segments is h = tt
-only_it told s (Ok opened) found files next segments is h =
+opened_is : (s next : ℕ) (entries : List HeadSegment) (segments : List Lived) (opened : Opened) → opened.number ≡ s → (opened.segments ≡ segments) × (opened.entries ≡ entries) × (opened.next_id ≡ next)
+    → opened ≡ opened_of s next entries segments
+opened_is s next entries segments opened number same =
+    ap (λ (n : ℕ). opened_of n opened.next_id opened.entries opened.segments) number
+    ∙ ap (λ (n : ℕ). opened_of s n opened.entries opened.segments) same.2
+    ∙ ap (λ (es : List HeadSegment). opened_of s next es opened.segments) same.1
+    ∙ ap (opened_of s next entries) same.0
+
+pub only_it : (told : Option Files) (s : ℕ) (r : Result Opened OpenFault) → IfOk r (λ opened. opened.number ≡ s) → IfOk r (λ opened. (files : Files) × Was told files × HasSegments files s opened.next_id opened.entries opened.segments)
+    → (files : Files) (next : ℕ) (entries : List HeadSegment) (segments : List Lived) → told ≡ Some files → HasSegments files s next entries segments
+    → IfOk r (λ opened. opened ≡ record { number = s; next_id = next; entries = entries; segments = segments })
+only_it told s (Err e) number found files next entries segments is h = tt
+only_it told s (Ok opened) number found files next entries segments is h =
     let same : files ≡ found.0 = subst (λ (o : Option Files). Was o found.0) is found.1 in
-    let one = one_segments files s opened.next_id next opened.segments segments (subst (λ (f : Files). HasSegments f s opened.next_id opened.segments) (sym same) found.2) h in
-    (one.1, one.0)
+    opened_is s next entries segments opened number
+    (one_segments files s opened.next_id next opened.entries entries opened.segments segments (subst (λ (f : Files). HasSegments f s opened.next_id opened.entries opened.segments) (sym same) found.2) h)
 
 pub whole_is_read : (told : Option Files) (s : ℕ) (r : Result Opened OpenFault) → ((d : Damaged) → r ≡ Err (open_faults.Damaged d) → (files : Files) × Was told files × (reading files s ≡ Err d)) → ((other : ℕ) → r ≡ Err (open_faults.NoSuch other) → ⊥)
-    → (files : Files) (next : ℕ) (segments : List Segment) → told ≡ Some files → HasSegments files s next segments → IfErr r IsOutside
-whole_is_read told s (Ok x) damaged listed files next segments is h = tt
-whole_is_read told s (Err open_faults.Store) damaged listed files next segments is h = inl refl
-whole_is_read told s (Err open_faults.NoMemory) damaged listed files next segments is h = inr refl
-whole_is_read told s (Err (open_faults.NoSuch other)) damaged listed files next segments is h = absurd (listed other refl)
-whole_is_read told s (Err (open_faults.Damaged d)) damaged listed files next segments is h =
+    → (files : Files) (next : ℕ) (entries : List HeadSegment) (segments : List Lived) → told ≡ Some files → HasSegments files s next entries segments → IfErr r IsOutside
+whole_is_read told s (Ok x) damaged listed files next entries segments is h = tt
+whole_is_read told s (Err open_faults.Store) damaged listed files next entries segments is h = inl refl
+whole_is_read told s (Err open_faults.NoMemory) damaged listed files next entries segments is h = inr refl
+whole_is_read told s (Err (open_faults.NoSuch other)) damaged listed files next entries segments is h = absurd (listed other refl)
+whole_is_read told s (Err (open_faults.Damaged d)) damaged listed files next entries segments is h =
     let at = damaged d refl in
     let same : files ≡ at.0 = subst (λ (o : Option Files). Was o at.0) is at.1 in
     let broken : reading files s ≡ Err d = subst (λ (f : Files). reading f s ≡ Err d) (sym same) at.2 in
-    let read : reading files s ≡ Ok (next, segments) = has_reads files s next segments h in
+    let read : reading files s ≡ Ok (head_of s next entries segments, segments) = has_reads files s next entries segments h in
     absurd cc

@@ -1,6 +1,6 @@
 -- Reading the segments of a commit one after the other.
 use Rattle.std.proofs.Common.{◌≡◌, ◌≢◌, ℕ, ◌+◌, ◌^◌, ◌<◌, ◌≤◌, Bool, true, false, cond, eqb, List, [], ◌∷◌, ◌++◌, Option, Some, None, Err, refl, sym, ap, inl, inr, ◌∙◌, append_assoc, arith}
-use Rattle.std.specs.Prelude.{◌||◌, ◌&&◌, ◌⊎◌}
+use Rattle.std.specs.Prelude.{◌||◌, ◌&&◌}
 use Rattle.std.specs.List.{AllByRecursion}
 use Rattle.std.proofs.lemmas.Bool.{and_from, and_parts, eqb-true, eq-eqb}
 use Rattle.std.proofs.Math.Bool.{or_assoc, or-false}
@@ -12,17 +12,18 @@ use Rattle.ix_outside.specs.Files.{Files, Was, Reads, SameBut}
 use Rattle.ix_base.specs.declared.damaged.Damaged.{Damaged}
 use Rattle.commit_point.specs.declared.heads.HeadSegment.{HeadSegment}
 use Rattle.ix_base.specs.FileReading.{of_file}
-use Rattle.segment_core.specs.Segments.{all_rows}
-use Rattle.segment_core.specs.declared.segment.Segment.{Segment}
-use Rattle.segment_files.specs.Fits.{IsSegment}
+use Rattle.segment_core.specs.LiveRows.{Lived, stored_rows}
+use Rattle.segment_files.specs.LiveReading.{live_in, values_in}
+use Rattle.segment_files.specs.LiveSpelling.{live_file}
 use Rattle.segment_files.specs.Reading.{rows_in, posts_in}
-use Rattle.segment_files.specs.Spelling.{rows_file}
-use Rattle.commit_point.specs.Fits.{IdsRise}
+use Rattle.segment_files.specs.Spelling.{rows_file, posts_file}
+use Rattle.commit_point.specs.Fits.{IdsRise, EntryFits}
 use Rattle.commit_point.specs.Holds.{HasSegment, HaveSegments}
 use Rattle.commit_point.specs.Reading.{segment_from, segments_from, has_birth}
-use Rattle.commit_point.specs.Loading.{IsBroken, Unknown}
+use Rattle.commit_point.specs.Loading.{Unknown}
 use Rattle.commit_point.specs.BirthLaws.{EachRises}
-use Rattle.commit_point.specs.SegmentLaws.{rows_read, segment_reads}
+use Rattle.commit_point.specs.SegmentLaws.{EntryShort, entry_short, rows_read, posts_read, live_read, segment_reads}
+use Rattle.commit_point.specs.SegmentReads.{SegmentBroken}
 
 -- ---- files that are given by what was read of them
 
@@ -81,6 +82,11 @@ pub sees : (told : Option Files) (name : FileName) (found : Option (List ℕ)) (
 sees None name found before was reads = record { files = with_file name found before; was = tt; there = with_there name found before; others = with_others name found before }
 sees (Some files) name found before was reads = record { files = before; was = was; there = ap (λ (f : Files). f name) (sym was) ∙ sym reads; others = λ other ne. refl }
 
+-- a file as it is may be read so
+reads_itself : (told : Option Files) (before : Files) (name : FileName) → Was told before → Reads told name (before name)
+reads_itself None before name was = tt
+reads_itself (Some files) before name was = ap (λ (f : Files). f name) (sym was)
+
 pub no_files : Files
 no_files name = None
 
@@ -90,129 +96,154 @@ some_files (Some files) = (files, refl)
 
 -- ---- segments
 
-pub each_rises : (files : Files) (s : ℕ) (es : List HeadSegment) (segments : List Segment) → HaveSegments files s es segments → EachRises s segments
+pub each_rises : (files : Files) (s : ℕ) (es : List HeadSegment) (segments : List Lived) → HaveSegments files s es segments → EachRises s segments
 each_rises files s [] [] have = tt
 each_rises files s [] (g ∷ gs) have = absurd have
 each_rises files s (e ∷ es) [] have = absurd have
 each_rises files s (e ∷ es) (g ∷ gs) have = (have.0.rows_fit.births, each_rises files s es gs have.1)
 
 -- the segments so far with one more
-pub have_push : (files : Files) (s : ℕ) (es : List HeadSegment) (segments : List Segment) (e : HeadSegment) (g : Segment) → HaveSegments files s es segments
+pub have_push : (files : Files) (s : ℕ) (es : List HeadSegment) (segments : List Lived) (e : HeadSegment) (g : Lived) → HaveSegments files s es segments
     → HasSegment files s e g → HaveSegments files s (es ++ e ∷ []) (segments ++ g ∷ [])
 have_push files s [] [] e g have last = (last, tt)
 have_push files s [] (p ∷ ps) e g have last = absurd have
 have_push files s (d ∷ ds) [] e g have last = absurd have
 have_push files s (d ∷ ds) (p ∷ ps) e g have last = (have.0, have_push files s ds ps e g have.1 last)
 
--- every file is as it was, but those of the segment of this id
-abbrev pub SameButSegment : ℕ → Files → Files → Type 0
-SameButSegment id old new = (name : FileName) → name ≢ Rows id → name ≢ Posts id → new name ≡ old name
+-- every file is as it was, but those of this segment
+abbrev pub SameButSegment : HeadSegment → Files → Files → Type 0
+SameButSegment e old new = (name : FileName) → name ≢ Rows e.id → name ≢ Posts e.id → name ≢ Live e.id e.written → name ≢ Values e.id e.written
+    → new name ≡ old name
 
-pub have_kept : (files now : Files) (s low id : ℕ) (es : List HeadSegment) (segments : List Segment) → SameButSegment id files now → IdsRise low id es → HaveSegments files s es segments → HaveSegments now s es segments
-have_kept files now s low id [] [] same ids have = have
-have_kept files now s low id [] (p ∷ ps) same ids have = have
-have_kept files now s low id (e ∷ es) [] same ids have = have
-have_kept files now s low id (e ∷ es) (p ∷ ps) same ids have =
-    let rows_apart : Rows e.id ≢ Rows id = λ is. let same_id : e.id ≡ id = cc in absurd (omega (arith, same_id, ids.1)) in
-    let posts_apart : Posts e.id ≢ Posts id = λ is. let same_id : e.id ≡ id = cc in absurd (omega (arith, same_id, ids.1)) in (
+pub have_kept : (files now : Files) (s low : ℕ) (last : HeadSegment) (es : List HeadSegment) (segments : List Lived) → SameButSegment last files now → IdsRise low last.id es → HaveSegments files s es segments → HaveSegments now s es segments
+have_kept files now s low last [] [] same ids have = have
+have_kept files now s low last [] (p ∷ ps) same ids have = have
+have_kept files now s low last (e ∷ es) [] same ids have = have
+have_kept files now s low last (e ∷ es) (p ∷ ps) same ids have =
+    let apart : e.id ≢ last.id = λ is. absurd (omega (arith, is, ids.1)) in (
       record {
         id = have.0.id;
         count = have.0.count;
-        rows = same (Rows e.id) rows_apart (λ f. cc) ∙ have.0.rows;
-        posts = same (Posts e.id) (λ f. cc) posts_apart ∙ have.0.posts;
+        whole = have.0.whole;
+        applied = have.0.applied;
+        rows = same (Rows e.id) (λ is. let same_id : e.id ≡ last.id = cc in apart same_id) (λ f. cc) (λ f. cc) (λ f. cc) ∙ have.0.rows;
+        posts = same (Posts e.id) (λ f. cc) (λ is. let same_id : e.id ≡ last.id = cc in apart same_id) (λ f. cc) (λ f. cc) ∙ have.0.posts;
+        live = same (Live e.id e.written) (λ f. cc) (λ f. cc) (λ is. let same_id : e.id ≡ last.id = cc in apart same_id) (λ f. cc) ∙ have.0.live;
+        values = same (Values e.id e.written) (λ f. cc) (λ f. cc) (λ f. cc) (λ is. let same_id : e.id ≡ last.id = cc in apart same_id) ∙ have.0.values;
         rows_fit = have.0.rows_fit;
         posts_fit = have.0.posts_fit;
+        live_fit = have.0.live_fit;
+        values_fit = have.0.values_fit;
       },
-      have_kept files now s (e.id + 1) id es ps same ids.2 have.1,
+      have_kept files now s (e.id + 1) last es ps same ids.2 have.1,
     )
 
-pub all_rows_push : (segments : List Segment) (g : Segment) → all_rows (segments ++ g ∷ []) ≡ all_rows segments ++ g.rows
-all_rows_push [] g = append-nil g.rows
-all_rows_push (p ∷ ps) g = ap (λ (r : List Row). p.rows ++ r) (all_rows_push ps g) ∙ sym (append_assoc p.rows (all_rows ps) g.rows)
+pub stored_rows_push : (segments : List Lived) (g : Lived) → stored_rows (segments ++ g ∷ []) ≡ stored_rows segments ++ g.segment.rows
+stored_rows_push [] g = append-nil g.segment.rows
+stored_rows_push (p ∷ ps) g = ap (λ (r : List Row). p.segment.rows ++ r) (stored_rows_push ps g) ∙ sym (append_assoc p.segment.rows (stored_rows ps) g.segment.rows)
 
 has_append : (xs ys : List Row) (b : ℕ) → has_birth (xs ++ ys) b ≡ (has_birth xs b || has_birth ys b)
 has_append [] ys b = refl
 has_append (x ∷ xs) ys b = ap (λ (t : Bool). eqb x.birth b || t) (has_append xs ys b) ∙ sym (or_assoc (eqb x.birth b) (has_birth xs b) (has_birth ys b))
 
 -- the births so far with those of one segment more
-pub has_push : (segments : List Segment) (g : Segment) (b : ℕ) → has_birth (all_rows (segments ++ g ∷ [])) b ≡ (has_birth (all_rows segments) b || has_birth g.rows b)
-has_push segments g b = ap (λ (rs : List Row). has_birth rs b) (all_rows_push segments g) ∙ has_append (all_rows segments) g.rows b
+pub has_push : (segments : List Lived) (g : Lived) (b : ℕ) → has_birth (stored_rows (segments ++ g ∷ [])) b ≡ (has_birth (stored_rows segments) b || has_birth g.segment.rows b)
+has_push segments g b = ap (λ (rs : List Row). has_birth rs b) (stored_rows_push segments g) ∙ has_append (stored_rows segments) g.segment.rows b
 
 -- what is known before a segment and with it, together with what stands in the segments after it
-known_more : (known : ℕ → Bool) (p : Segment) (ps : List Segment) (b : ℕ) → ((known b || has_birth p.rows b) || has_birth (all_rows ps) b) ≡ (known b || has_birth (all_rows (p ∷ ps)) b)
-known_more known p ps b = or_assoc (known b) (has_birth p.rows b) (has_birth (all_rows ps) b) ∙ ap (λ (t : Bool). known b || t) (sym (has_append p.rows (all_rows ps) b))
+known_more : (known : ℕ → Bool) (p : Lived) (ps : List Lived) (b : ℕ) → ((known b || has_birth p.segment.rows b) || has_birth (stored_rows ps) b) ≡ (known b || has_birth (stored_rows (p ∷ ps)) b)
+known_more known p ps b = or_assoc (known b) (has_birth p.segment.rows b) (has_birth (stored_rows ps) b) ∙ ap (λ (t : Bool). known b || t) (sym (has_append p.segment.rows (stored_rows ps) b))
 
 pub all_congr : (f g : ℕ → Bool) (rows : List Row) → ((b : ℕ) → f b ≡ g b) → AllByRecursion (λ (r : Row). f r.birth ≡ false) rows → AllByRecursion (λ (r : Row). g r.birth ≡ false) rows
 all_congr f g [] same all = tt
 all_congr f g (r ∷ rs) same all = (sym (same r.birth) ∙ all.0, all_congr f g rs same all.1)
 
-pub unknown_push : (known : ℕ → Bool) (segments : List Segment) (g : Segment) → Unknown known segments → AllByRecursion (λ (r : Row). (known r.birth || has_birth (all_rows segments) r.birth) ≡ false) g.rows → Unknown known (segments ++ g ∷ [])
-unknown_push known [] g unknown all = (all_congr (λ b. known b || false) known g.rows (λ b. or-false (known b)) all, tt)
+pub unknown_push : (known : ℕ → Bool) (segments : List Lived) (g : Lived) → Unknown known segments → AllByRecursion (λ (r : Row). (known r.birth || has_birth (stored_rows segments) r.birth) ≡ false) g.segment.rows → Unknown known (segments ++ g ∷ [])
+unknown_push known [] g unknown all = (all_congr (λ b. known b || false) known g.segment.rows (λ b. or-false (known b)) all, tt)
 unknown_push known (p ∷ ps) g unknown all = (
   unknown.0,
-  unknown_push (λ b. known b || has_birth p.rows b) ps g unknown.1
-      (all_congr (λ b. known b || has_birth (all_rows (p ∷ ps)) b) (λ b. (known b || has_birth p.rows b) || has_birth (all_rows ps) b) g.rows (λ b. sym (known_more known p ps b)) all),
+  unknown_push (λ b. known b || has_birth p.segment.rows b) ps g unknown.1
+      (all_congr (λ b. known b || has_birth (stored_rows (p ∷ ps)) b) (λ b. (known b || has_birth p.segment.rows b) || has_birth (stored_rows ps) b) g.segment.rows (λ b. sym (known_more known p ps b)) all),
 )
 
 -- a segment that is broken, after segments that are there
-pub segments_break : (files : Files) (s low limit : ℕ) (known : ℕ → Bool) (es : List HeadSegment) (segments : List Segment) (e : HeadSegment) (rest : List HeadSegment) (d : Damaged) → s < 2 ^ 64 → limit ≤ 2 ^ 62 → IdsRise low limit es
-    → HaveSegments files s es segments → Unknown known segments → segment_from files s (λ b. known b || has_birth (all_rows segments) b) e ≡ Err d → segments_from files s known (es ++ e ∷ rest) ≡ Err d
+pub segments_break : (files : Files) (s low limit : ℕ) (known : ℕ → Bool) (es : List HeadSegment) (segments : List Lived) (e : HeadSegment) (rest : List HeadSegment) (d : Damaged) → s < 2 ^ 64 → limit ≤ 2 ^ 62 → IdsRise low limit es → AllByRecursion (EntryFits s) es
+    → HaveSegments files s es segments → Unknown known segments → segment_from files s (λ b. known b || has_birth (stored_rows segments) b) e ≡ Err d → segments_from files s known (es ++ e ∷ rest) ≡ Err d
 unfolding segments_from
-segments_break files s low limit known [] [] e rest d s_fits room ids have unknown broken =
+segments_break files s low limit known [] [] e rest d s_fits room ids fit have unknown broken =
     let same : (λ b. known b || false) ≡ known = λ i b. or-false (known b) i in
     let h : segment_from files s known e ≡ Err d = ap (λ (k : ℕ → Bool). segment_from files s k e) (sym same) ∙ broken in
     rw h refl
-segments_break files s low limit known [] (p ∷ ps) e rest d s_fits room ids have unknown broken = absurd have
-segments_break files s low limit known (g ∷ gs) [] e rest d s_fits room ids have unknown broken = absurd have
-segments_break files s low limit known (g ∷ gs) (p ∷ ps) e rest d s_fits room ids have unknown broken =
-    let same : (λ b. (known b || has_birth p.rows b) || has_birth (all_rows ps) b) ≡ (λ b. known b || has_birth (all_rows (p ∷ ps)) b) = λ i b. known_more known p ps b i in
-    let h : segment_from files s (λ b. (known b || has_birth p.rows b) || has_birth (all_rows ps) b) e ≡ Err d = ap (λ (k : ℕ → Bool). segment_from files s k e) same ∙ broken in
+segments_break files s low limit known [] (p ∷ ps) e rest d s_fits room ids fit have unknown broken = absurd have
+segments_break files s low limit known (g ∷ gs) [] e rest d s_fits room ids fit have unknown broken = absurd have
+segments_break files s low limit known (g ∷ gs) (p ∷ ps) e rest d s_fits room ids fit have unknown broken =
+    let same : (λ b. (known b || has_birth p.segment.rows b) || has_birth (stored_rows ps) b) ≡ (λ b. known b || has_birth (stored_rows (p ∷ ps)) b) = λ i b. known_more known p ps b i in
+    let h : segment_from files s (λ b. (known b || has_birth p.segment.rows b) || has_birth (stored_rows ps) b) e ≡ Err d = ap (λ (k : ℕ → Bool). segment_from files s k e) same ∙ broken in
     rw (
-      segment_reads files s known g p (omega (arith, ids.1)) s_fits have.0 unknown.0,
-      segments_break files s (g.id + 1) limit (λ b. known b || has_birth p.rows b) gs ps e rest d s_fits room ids.2 have.1 unknown.1 h,
+      segment_reads files s known g p (entry_short s limit g s_fits room ids.1 fit.0) s_fits have.0 unknown.0,
+      segments_break files s (g.id + 1) limit (λ b. known b || has_birth p.segment.rows b) gs ps e rest d s_fits room ids.2 fit.1 have.1 unknown.1 h,
     ) refl
 
 -- ---- the files of one segment, as they are read
 
 -- files of which all that was read of a segment is so
-pub record SeenSegment (told : Option Files) (id : ℕ) (before : Files) (rows posts : Option (List ℕ)) : Type 0 where
+pub record SeenSegment (told : Option Files) (e : HeadSegment) (before : Files) (rows posts live values : Option (List ℕ)) : Type 0 where
   pub files : Files
   pub was : Was told files
-  pub rows_there : files (Rows id) ≡ rows
-  pub posts_there : files (Posts id) ≡ posts
-  pub others : SameButSegment id before files
+  pub rows_there : files (Rows e.id) ≡ rows
+  pub posts_there : files (Posts e.id) ≡ posts
+  pub live_there : files (Live e.id e.written) ≡ live
+  pub values_there : files (Values e.id e.written) ≡ values
+  pub others : SameButSegment e before files
 
-pub sees_both : (told : Option Files) (id : ℕ) (before : Files) (rows posts : Option (List ℕ)) → Was told before → Reads told (Rows id) rows → Reads told (Posts id) posts → SeenSegment told id before rows posts
-sees_both told id before rows posts was first second =
-    let one : Seen told (Rows id) rows before = sees told (Rows id) rows before was first in
-    let two : Seen told (Posts id) posts one.files = sees told (Posts id) posts one.files one.was second in
+pub sees_all : (told : Option Files) (e : HeadSegment) (before : Files) (rows posts live values : Option (List ℕ)) → Was told before → Reads told (Rows e.id) rows → Reads told (Posts e.id) posts
+    → Reads told (Live e.id e.written) live → Reads told (Values e.id e.written) values → SeenSegment told e before rows posts live values
+sees_all told e before rows posts live values was first second third fourth =
+    let one : Seen told (Rows e.id) rows before = sees told (Rows e.id) rows before was first in
+    let two : Seen told (Posts e.id) posts one.files = sees told (Posts e.id) posts one.files one.was second in
+    let three : Seen told (Live e.id e.written) live two.files = sees told (Live e.id e.written) live two.files two.was third in
+    let four : Seen told (Values e.id e.written) values three.files = sees told (Values e.id e.written) values three.files three.was fourth in
     record {
-      files = two.files;
-      was = two.was;
-      rows_there = two.others (Rows id) (λ e. cc) ∙ one.there;
-      posts_there = two.there;
-      others = λ name r p. two.others name p ∙ one.others name r;
+      files = four.files;
+      was = four.was;
+      rows_there = four.others (Rows e.id) (λ q. cc) ∙ three.others (Rows e.id) (λ q. cc) ∙ two.others (Rows e.id) (λ q. cc) ∙ one.there;
+      posts_there = four.others (Posts e.id) (λ q. cc) ∙ three.others (Posts e.id) (λ q. cc) ∙ two.there;
+      live_there = four.others (Live e.id e.written) (λ q. cc) ∙ three.there;
+      values_there = four.there;
+      others = λ name r p l v. four.others name v ∙ three.others name l ∙ two.others name p ∙ one.others name r;
     }
 
 -- files of which a segment is broken
 pub record BrokenThere (told : Option Files) (s : ℕ) (known : ℕ → Bool) (e : HeadSegment) (d : Damaged) (before : Files) : Type 0 where
   pub files : Files
   pub was : Was told files
-  pub others : SameButSegment e.id before files
+  pub others : SameButSegment e before files
   pub broken : segment_from files s known e ≡ Err d
 
--- the rows of a segment are broken, or they were read and its postings are
-abbrev pub IsBrokenSegment : Option Files → ℕ → (ℕ → Bool) → HeadSegment → Damaged → Type 0
-IsBrokenSegment told s known e d = IsBroken told (Rows e.id) (rows_in e.id e.rows s known) d
-    ⊎ ((rows : List Row) × Reads told (Rows e.id) (Some (rows_file e.id rows)) × IsSegment s e.rows known rows × IsBroken told (Posts e.id) (posts_in e.id e.rows) d)
-
-pub breaks_there : (told : Option Files) (s : ℕ) (known : ℕ → Bool) (e : HeadSegment) (d : Damaged) (before : Files) → e.id < 2 ^ 64 → s < 2 ^ 64 → Was told before → IsBrokenSegment told s known e d → BrokenThere told s known e d before
-breaks_there told s known e d before id_fits s_fits was (inl rows) =
-    let see : Seen told (Rows e.id) rows.found before = sees told (Rows e.id) rows.found before was rows.seen in
-    let h : of_file (Rows e.id) (rows_in e.id e.rows s known) (see.files (Rows e.id)) ≡ Err d = ap (of_file (Rows e.id) (rows_in e.id e.rows s known)) see.there ∙ rows.broken in
-    record { files = see.files; was = see.was; others = λ name r p. see.others name r; broken = rw h refl }
-breaks_there told s known e d before id_fits s_fits was (inr posts) =
-    let see : SeenSegment told e.id before (Some (rows_file e.id posts.0)) posts.3.found = sees_both told e.id before (Some (rows_file e.id posts.0)) posts.3.found was posts.1 posts.3.seen in
-    let rows = rows_read see.files s known e posts.0 id_fits s_fits see.rows_there posts.2 in
-    let h : of_file (Posts e.id) (posts_in e.id e.rows) (see.files (Posts e.id)) ≡ Err d = ap (of_file (Posts e.id) (posts_in e.id e.rows)) see.posts_there ∙ posts.3.broken in
-    record { files = see.files; was = see.was; others = see.others; broken = rw (rows, h) refl }
+pub breaks_there : (told : Option Files) (s : ℕ) (known : ℕ → Bool) (e : HeadSegment) (d : Damaged) (before : Files) → EntryShort e → s < 2 ^ 64 → Was told before → SegmentBroken told s known e d → BrokenThere told s known e d before
+breaks_there told s known e d before short s_fits was (inl broken) =
+    let see : SeenSegment told e before broken.found (before (Posts e.id)) (before (Live e.id e.written)) (before (Values e.id e.written)) =
+    sees_all told e before _ _ _ _ was broken.seen (reads_itself told before _ was) (reads_itself told before _ was) (reads_itself told before _ was) in
+    let h : of_file (Rows e.id) (rows_in e.id e.rows s known) (see.files (Rows e.id)) ≡ Err d = ap (of_file (Rows e.id) (rows_in e.id e.rows s known)) see.rows_there ∙ broken.broken in
+    record { files = see.files; was = see.was; others = see.others; broken = rw h refl }
+breaks_there told s known e d before short s_fits was (inr (rows, rows_are, inl broken)) =
+    let see : SeenSegment told e before (Some (rows_file e.id rows)) broken.found (before (Live e.id e.written)) (before (Values e.id e.written)) =
+    sees_all told e before _ _ _ _ was rows_are.0 broken.seen (reads_itself told before _ was) (reads_itself told before _ was) in
+    let first = rows_read see.files s known e rows short.id s_fits see.rows_there rows_are.1 in
+    let h : of_file (Posts e.id) (posts_in e.id e.rows) (see.files (Posts e.id)) ≡ Err d = ap (of_file (Posts e.id) (posts_in e.id e.rows)) see.posts_there ∙ broken.broken in
+    record { files = see.files; was = see.was; others = see.others; broken = rw (first, h) refl }
+breaks_there told s known e d before short s_fits was (inr (rows, rows_are, inr (postings, postings_are, inl broken))) =
+    let see : SeenSegment told e before (Some (rows_file e.id rows)) (Some (posts_file e.id e.rows postings)) broken.found (before (Values e.id e.written)) =
+    sees_all told e before _ _ _ _ was rows_are.0 postings_are.0 broken.seen (reads_itself told before _ was) in
+    let first = rows_read see.files s known e rows short.id s_fits see.rows_there rows_are.1 in
+    let second = posts_read see.files e postings short see.posts_there postings_are.1 in
+    let h : of_file (Live e.id e.written) (live_in e.id e.written e.rows) (see.files (Live e.id e.written)) ≡ Err d = ap (of_file (Live e.id e.written) (live_in e.id e.written e.rows)) see.live_there ∙ broken.broken in
+    record { files = see.files; was = see.was; others = see.others; broken = rw (first, second, h) refl }
+breaks_there told s known e d before short s_fits was (inr (rows, rows_are, inr (postings, postings_are, inr (bits, bits_are, broken)))) =
+    let see : SeenSegment told e before (Some (rows_file e.id rows)) (Some (posts_file e.id e.rows postings)) (Some (live_file e.id e.written bits)) broken.found =
+    sees_all told e before _ _ _ _ was rows_are.0 postings_are.0 bits_are.0 broken.seen in
+    let first = rows_read see.files s known e rows short.id s_fits see.rows_there rows_are.1 in
+    let second = posts_read see.files e postings short see.posts_there postings_are.1 in
+    let third = live_read see.files e bits short see.live_there bits_are.1 in
+    let h : of_file (Values e.id e.written) (values_in e.id e.written e.rows) (see.files (Values e.id e.written)) ≡ Err d = ap (of_file (Values e.id e.written) (values_in e.id e.written e.rows)) see.values_there ∙ broken.broken in
+    record { files = see.files; was = see.was; others = see.others; broken = rw (first, second, third, h) refl }

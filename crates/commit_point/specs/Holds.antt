@@ -2,12 +2,14 @@
 use Rattle.std.specs.Prelude.{◌≡◌, ◌⊎◌, ℕ, ◌+◌, ◌==◌, ◌<◌, ◌≤◌, ◌^◌, List, [], ◌∷◌, length, Some, IsSome, ⊤, IsPermutation, Contains, if◌then◌else◌}
 use Rattle.std.specs.List.{AllByRecursion}
 use Rattle.ix_base.specs.declared.file_name.FileName.{FileName}
-use Rattle.ix_base.specs.declared.file_name.FileName.TheVariants.{Commit, Rows, Posts}
+use Rattle.ix_base.specs.declared.file_name.FileName.TheVariants.{Commit, Rows, Posts, Live, Values}
 use Rattle.ix_base.specs.declared.document.Row.{Row}
 use Rattle.ix_outside.specs.Files.{Files}
-use Rattle.segment_core.specs.Segments.{IsInverted, all_rows}
-use Rattle.segment_core.specs.declared.segment.Segment.{Segment}
+use Rattle.segment_core.specs.LiveRows.{Lived, IsWhole, stored_rows, all_live}
+use Rattle.segment_core.specs.Segments.{IsInverted}
 use Rattle.segment_files.specs.Fits.{RowsFit, PostingsFit, BirthsRise}
+use Rattle.segment_files.specs.LiveFits.{LiveFits, ValuesFit}
+use Rattle.segment_files.specs.LiveSpelling.{live_file, values_file, live_bits, values_of}
 use Rattle.segment_files.specs.Spelling.{rows_file, posts_file}
 use Rattle.commit_point.specs.declared.heads.HeadSegment.{HeadSegment}
 use Rattle.commit_point.specs.declared.heads.Head.{Head}
@@ -22,85 +24,110 @@ pub record HasHead (files : Files) (s : ℕ) (head : Head) : Type 0 where
   pub number : head.number ≡ s
   pub fits : HeadFits head
 
--- the files of a segment that a commit file names spell this segment
-pub record HasSegment (files : Files) (s : ℕ) (e : HeadSegment) (segment : Segment) : Type 0 where
-  pub id : segment.id ≡ e.id
-  pub count : length segment.rows ≡ e.rows
-  pub rows : files (Rows e.id) ≡ Some (rows_file e.id segment.rows)
-  pub posts : files (Posts e.id) ≡ Some (posts_file e.id e.rows segment.postings)
-  pub rows_fit : RowsFit s segment.rows
-  pub posts_fit : PostingsFit e.rows segment.postings
+-- The four files of a segment that a commit file names spell this segment: its rows and postings, its live bits and its
+-- set numbers. All operations up to s are in it.
+pub record HasSegment (files : Files) (s : ℕ) (e : HeadSegment) (g : Lived) : Type 0 where
+  pub id : g.segment.id ≡ e.id
+  pub count : length g.segment.rows ≡ e.rows
+  pub whole : IsWhole g.segment g.live
+  pub applied : g.live.applied ≡ s
+  pub rows : files (Rows e.id) ≡ Some (rows_file e.id g.segment.rows)
+  pub posts : files (Posts e.id) ≡ Some (posts_file e.id e.rows g.segment.postings)
+  pub live : files (Live e.id e.written) ≡ Some (live_file e.id e.written (live_bits g.live.marks))
+  pub values : files (Values e.id e.written) ≡ Some (values_file e.id e.written e.rows (values_of g.live.marks))
+  pub rows_fit : RowsFit s g.segment.rows
+  pub posts_fit : PostingsFit e.rows g.segment.postings
+  pub live_fit : LiveFits e.rows (live_bits g.live.marks)
+  pub values_fit : ValuesFit e.rows (values_of g.live.marks)
 
 -- the segments that a commit file names, one by one
-abbrev pub HaveSegments : Files → ℕ → List HeadSegment → List Segment → Type 0
+abbrev pub HaveSegments : Files → ℕ → List HeadSegment → List Lived → Type 0
 HaveSegments files s [] [] = ⊤
-HaveSegments files s (e ∷ es) (segment ∷ more) = HasSegment files s e segment × HaveSegments files s es more
-HaveSegments files s es more = ⊥
+HaveSegments files s (e ∷ es) (g ∷ gs) = HasSegment files s e g × HaveSegments files s es gs
+HaveSegments files s es gs = ⊥
 
 -- how many rows have this birth
 abbrev pub births_at : ℕ → List Row → ℕ
 births_at b [] = 0
 births_at b (r ∷ rs) = (if r.birth == b then 1 else 0) + births_at b rs
 
--- no two rows of the segments have one birth
-abbrev pub BirthsDiffer : List Segment → Type 0
-BirthsDiffer segments = (b : ℕ) → births_at b (all_rows segments) ≤ 1
+-- no two rows of the segments have one birth, live or not
+abbrev pub BirthsDiffer : List Lived → Type 0
+BirthsDiffer segments = (b : ℕ) → births_at b (stored_rows segments) ≤ 1
 
--- The files of commit s spell these segments, by rising id, and this next id.
-pub record HasSegments (files : Files) (s next : ℕ) (segments : List Segment) : Type 0 where
-  pub head : Head
-  pub has_head : HasHead files s head
-  pub next_id : head.next_id ≡ next
-  pub docs : head.docs ≡ length (all_rows segments)
-  pub each : HaveSegments files s head.segments segments
+-- what the commit file of these segments says
+abbrev pub head_of : ℕ → ℕ → List HeadSegment → List Lived → Head
+head_of s next entries segments = record {
+  number = s;
+  docs = length (all_live segments);
+  next_id = next;
+  segments = entries;
+}
+
+-- The files of commit s spell these segments, by rising id, as these entries name them, and this next id.
+pub record HasSegments (files : Files) (s next : ℕ) (entries : List HeadSegment) (segments : List Lived) : Type 0 where
+  pub head : HasHead files s (head_of s next entries segments)
+  pub each : HaveSegments files s entries segments
   pub differ : BirthsDiffer segments
 
--- the rows of the segments, by rising birth; births are at most s
-pub record AreRowsOf (s : ℕ) (segments : List Segment) (rows : List Row) : Type 0 where
-  pub merged : IsPermutation (all_rows segments) rows
+-- the live rows of the segments, by rising birth; births are at most s
+pub record AreRowsOf (s : ℕ) (segments : List Lived) (rows : List Row) : Type 0 where
+  pub merged : IsPermutation (all_live segments) rows
   pub births : BirthsRise 1 s rows
 
 -- The files of commit s spell these rows, by birth, and this next id.
 pub record Holds (files : Files) (s next : ℕ) (rows : List Row) : Type 0 where
-  pub segments : List Segment
-  pub spelled : HasSegments files s next segments
+  pub entries : List HeadSegment
+  pub segments : List Lived
+  pub spelled : HasSegments files s next entries segments
   pub rows_are : AreRowsOf s segments rows
+
+-- the postings of each segment are the inversion of its rows
+abbrev pub AreInverted : List Lived → Type 0
+AreInverted segments = AllByRecursion (λ (g : Lived). IsInverted g.segment) segments
 
 -- The same, and the postings of each segment are the inversion of its rows.
 pub record HoldsInverted (files : Files) (s next : ℕ) (rows : List Row) : Type 0 where
   pub holds : Holds files s next rows
-  pub inverted : AllByRecursion IsInverted holds.segments
+  pub inverted : AreInverted holds.segments
 
 -- ---- whose files these are
 
--- the files of the segment of this id
-abbrev pub names_of : ℕ → List FileName
-names_of id = Rows id ∷ Posts id ∷ []
+-- the files of a segment that a commit file names
+abbrev pub names_of : HeadSegment → List FileName
+names_of e = Rows e.id ∷ Posts e.id ∷ Live e.id e.written ∷ Values e.id e.written ∷ []
 
 -- the name is one of these
 abbrev pub IsAmong : List FileName → FileName → Type 0
 IsAmong [] name = ⊥
 IsAmong (n ∷ ns) name = (name ≡ n) ⊎ IsAmong ns name
 
--- the commit s is in the grammar, and lists a segment of this id
-pub record ListsId (files : Files) (s id : ℕ) : Type 0 where
+-- the commit s is in the grammar, and lists this segment
+pub record Lists (files : Files) (s : ℕ) (e : HeadSegment) : Type 0 where
   pub head : Head
   pub has_head : HasHead files s head
-  pub segment : HeadSegment
-  pub listed : Contains head.segments segment
-  pub is : segment.id ≡ id
+  pub listed : Contains head.segments e
 
 -- The files of commit s: its commit file and, where that is in the grammar, those of the segments that it lists.
 abbrev pub IsFileOf : Files → ℕ → FileName → Type 0
-IsFileOf files s name = (name ≡ Commit s) ⊎ ((id : ℕ) × ListsId files s id × IsAmong (names_of id) name)
+IsFileOf files s name = (name ≡ Commit s) ⊎ ((e : HeadSegment) × Lists files s e × IsAmong (names_of e) name)
+
+-- the id is above each that a commit before s lists
+abbrev pub IsAboveIds : Files → ℕ → ℕ → Type 0
+IsAboveIds files s id = (t : ℕ) (e : HeadSegment) → t < s → Lists files t e → e.id < id
 
 -- A commit is lawful: its files spell its rows, each segment's postings are the inversion of its rows, and its next id
 -- leaves room and is above each id that an earlier commit lists.
 pub record IsLawful (files : Files) (s next : ℕ) (rows : List Row) : Type 0 where
   pub holds : HoldsInverted files s next rows
   pub room : next ≤ 2 ^ 61
-  pub above : (t id : ℕ) → t < s → ListsId files t id → id < next
+  pub above : IsAboveIds files s next
 
 -- each commit that was there has the files and bytes that it had
 abbrev pub KeepsCommits : Files → Files → Type 0
 KeepsCommits old new = (s : ℕ) → IsSome (old (Commit s)) → (name : FileName) → IsFileOf old s name → new name ≡ old name
+
+-- Each commit is kept: every image has its files with the bytes that reads give. And no image has another commit.
+pub record AreKept (files : Files) (images : Files → Type 0) : Type 0 where
+  pub kept : (d : Files) → images d → KeepsCommits files d
+  pub only : (d : Files) → images d → (s : ℕ) → IsSome (d (Commit s)) → IsSome (files (Commit s))

@@ -3,6 +3,8 @@ pub mod Fits
 pub mod Holds
 pub mod Reading
 pub mod Writing
+pub mod Encoding
+pub mod Settling
 pub mod HeadLaws
 pub mod Laws
 pub mod Publishing
@@ -12,3 +14,4 @@ pub mod RowsLaws
 pub mod HeadReading
 pub mod BirthLaws
 pub mod SegmentLaws
+pub mod SegmentReads

@@ -9,7 +9,7 @@ use Rattle.ix_base.specs.declared.damaged.Damaged.{Damaged}
 use Rattle.commit_point.specs.declared.fault.OpenFault.{OpenFault}
 use Rattle.commit_point.specs.declared.fault.OpenFault.TheVariants as faults
 use Rattle.commit_point.specs.declared.heads.Head.{Head}
-use Rattle.segment_core.specs.declared.segment.Segment.{Segment}
+use Rattle.segment_core.specs.LiveRows.{Lived}
 use Rattle.commit_point.specs.Holds.{HaveSegments}
 use Rattle.ix_base.specs.FileReading.{of_file}
 use Rattle.commit_point.specs.Reading.{segments_from, has_birth}
@@ -36,12 +36,12 @@ pub record IsBroken {A : Type 0} (told : Option Files) (name : FileName) (read :
   pub broken : of_file name read found ≡ Err damaged
 
 -- no birth of a segment is known or stands in an earlier segment
-abbrev pub Unknown : (ℕ → Bool) → List Segment → Type 0
+abbrev pub Unknown : (ℕ → Bool) → List Lived → Type 0
 Unknown known [] = ⊤
-Unknown known (g ∷ gs) = AllByRecursion (λ (r : Row). known r.birth ≡ false) g.rows × Unknown (λ b. known b || has_birth g.rows b) gs
+Unknown known (g ∷ gs) = AllByRecursion (λ (r : Row). known r.birth ≡ false) g.segment.rows × Unknown (λ b. known b || has_birth g.segment.rows b) gs
 
 -- the segments of a commit were read
-pub record AreRead (told : Option Files) (head : Head) (before : Files) (segments : List Segment) : Type 0 where
+pub record AreRead (told : Option Files) (head : Head) (before : Files) (segments : List Lived) : Type 0 where
   pub files : Files
   pub was : Was told files
   pub commit : files (Commit head.number) ≡ before (Commit head.number)

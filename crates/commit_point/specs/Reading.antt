@@ -1,4 +1,4 @@
--- What is read of a commit, field by field: its next id and segments, or the first broken place.
+-- What is read of a commit, field by field: what its commit file says and its segments, or the first broken place.
 use Rattle.std.specs.Prelude.{ℕ, ◌+◌, ◌^◌, List, [], ◌∷◌, length, Bool, false, ◌&&◌, ◌||◌, Result, Ok, Err, nat_lt, nat_le, ◌==◌, if◌then◌else◌}
 use Rattle.std.specs.Int.{w32, w64}
 use Rattle.std.specs.List.{list_any}
@@ -6,10 +6,11 @@ use Rattle.ix_base.specs.Codec.{◌>>=◌, number_at, items_at}
 use Rattle.ix_base.specs.FileReading.{number_where, mark_at, ended, ◌then◌, of_file}
 use Rattle.ix_base.specs.declared.damaged.Damaged.{Damaged}
 use Rattle.ix_base.specs.declared.document.Row.{Row}
-use Rattle.ix_base.specs.declared.file_name.FileName.TheVariants.{Commit, Rows, Posts}
+use Rattle.ix_base.specs.declared.file_name.FileName.TheVariants.{Commit, Rows, Posts, Live, Values}
 use Rattle.ix_outside.specs.Files.{Files}
-use Rattle.segment_core.specs.Segments.{all_rows}
-use Rattle.segment_core.specs.declared.segment.Segment.{Segment}
+use Rattle.segment_core.specs.LiveRows.{Lived, all_live}
+use Rattle.segment_files.specs.LiveMarks.{marks_of}
+use Rattle.segment_files.specs.LiveReading.{live_in, values_in}
 use Rattle.segment_files.specs.Reading.{rows_in, posts_in}
 use Rattle.commit_point.specs.declared.heads.HeadSegment.{HeadSegment}
 use Rattle.commit_point.specs.declared.heads.Head.{Head}
@@ -44,24 +45,29 @@ head_from files s = of_file (Commit s) (head_in s) (files (Commit s))
 abbrev pub has_birth : List Row → ℕ → Bool
 has_birth rows b = list_any (λ r. r.birth == b) rows
 
--- the segment that a commit file names: its rows, and then its postings
-abbrev pub segment_from : Files → ℕ → (ℕ → Bool) → HeadSegment → Result Segment Damaged
+-- the segment that a commit file names: its rows, its postings, its live bits, and last its set numbers
+abbrev pub segment_from : Files → ℕ → (ℕ → Bool) → HeadSegment → Result Lived Damaged
 segment_from files s known e =
     of_file (Rows e.id) (rows_in e.id e.rows s known) (files (Rows e.id)) then λ rows.
     of_file (Posts e.id) (posts_in e.id e.rows) (files (Posts e.id)) then λ postings.
-    Ok (record { id = e.id; rows = rows; postings = postings })
+    of_file (Live e.id e.written) (live_in e.id e.written e.rows) (files (Live e.id e.written)) then λ bits.
+    of_file (Values e.id e.written) (values_in e.id e.written e.rows) (files (Values e.id e.written)) then λ values.
+    Ok (record {
+      segment = record { id = e.id; rows = rows; postings = postings };
+      live = record { applied = s; marks = marks_of bits values };
+    })
 
 -- each segment, in the order of the commit file
-unfoldable pub segments_from : Files → ℕ → (ℕ → Bool) → List HeadSegment → Result (List Segment) Damaged
+unfoldable pub segments_from : Files → ℕ → (ℕ → Bool) → List HeadSegment → Result (List Lived) Damaged
 segments_from files s known [] = Ok []
 segments_from files s known (e ∷ es) =
-    segment_from files s known e then λ segment.
-    segments_from files s (λ b. known b || has_birth segment.rows b) es then λ more.
-    Ok (segment ∷ more)
+    segment_from files s known e then λ g.
+    segments_from files s (λ b. known b || has_birth g.segment.rows b) es then λ more.
+    Ok (g ∷ more)
 
--- The next id of the commit s, and its segments. The number of rows is tested last.
-unfoldable pub reading : Files → ℕ → Result (ℕ × List Segment) Damaged
+-- What the commit file of s says, and its segments. The number of live rows is tested last.
+unfoldable pub reading : Files → ℕ → Result (Head × List Lived) Damaged
 reading files s =
     head_from files s then λ head.
     segments_from files s (λ b. false) head.segments then λ segments.
-    (if head.docs == length (all_rows segments) then Ok (head.next_id, segments) else Err (record { file = Commit s; at = 16 }))
+    (if head.docs == length (all_live segments) then Ok (head, segments) else Err (record { file = Commit s; at = 16 }))

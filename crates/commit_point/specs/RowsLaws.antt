@@ -3,8 +3,7 @@ use Rattle.std.specs.Prelude.{◌≡◌, ◌⊎◌, ℕ, ◌+◌, ◌<◌, ◌�
 use Rattle.std.proofs.Common.{zero, suc, get_or, refl, sym, ap, subst, ◌∙◌, inl, inr, arith}
 use Rattle.std.proofs.lemmas.List.Sorted.{Contains-permutation, IsPermutation-sym}
 use Rattle.ix_base.specs.declared.document.Row.{Row}
-use Rattle.segment_core.specs.Segments.{all_rows}
-use Rattle.segment_core.specs.declared.segment.Segment.{Segment}
+use Rattle.segment_core.specs.LiveRows.{Lived, all_live}
 use Rattle.segment_files.specs.Fits.{BirthsRise}
 use Rattle.commit_point.specs.Holds.{AreRowsOf}
 
@@ -63,6 +62,6 @@ one_order s t all xs ys p q rise rise' =
     (λ z h. in_from xs z (Contains-permutation all xs z p (Contains-permutation ys all z (IsPermutation-sym all ys q) (in_to ys z h))))
 
 -- segments have one list of rows by rising birth
-pub one_rows : (s : ℕ) (segments : List Segment) (a b : List Row) → AreRowsOf s segments a → AreRowsOf s segments b
+pub one_rows : (s : ℕ) (segments : List Lived) (a b : List Row) → AreRowsOf s segments a → AreRowsOf s segments b
     → a ≡ b
-one_rows s segments a b p q = one_order s s (all_rows segments) a b p.merged q.merged p.births q.births
+one_rows s segments a b p q = one_order s s (all_live segments) a b p.merged q.merged p.births q.births

@@ -10,8 +10,10 @@ mod listing;
 mod load;
 mod marks;
 mod open;
+mod prepare;
 mod publishing;
 mod write;
+mod written;
 
 pub use decode::decode_commit;
 pub use encode::encode_commit;
@@ -20,8 +22,15 @@ pub use heads::{Head, HeadSegment};
 pub use listing::list_commits;
 pub use open::{Opened, head, open_commit, read_commit};
 pub use write::write_commit;
+pub use written::Written;
 
 #[cfg(test)]
 mod tests;
 #[cfg(test)]
 mod tests_damage;
+#[cfg(test)]
+mod tests_files;
+#[cfg(test)]
+mod tests_live;
+#[cfg(test)]
+mod tests_write;

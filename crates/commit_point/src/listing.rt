@@ -1,5 +1,5 @@
 //! The commits of a store.
-ghost use Rattle.std.specs.Prelude.{◌≡◌, ◌<◌, ◌≤◌, ◌↔◌, ◌||◌, ℕ, Contains, All, AllPairs, IfOk, OnOk, IsSome, IfSome, Err};
+ghost use Rattle.std.specs.Prelude.{◌≡◌, ◌<◌, ◌≤◌, ◌↔◌, ◌||◌, ℕ, Contains, AllPairs, IfOk, OnOk, IsSome, IfSome, Err};
 ghost use Rattle.ix_outside.specs.Disk.{told_files};
 ghost use Rattle.std.specs.BTreeSet.{contains};
 ghost use Rattle.std.specs.List.{list_any};

@@ -1,25 +1,24 @@
 //! Reading a commit back.
-ghost use Rattle.std.specs.Prelude.{◌≡◌, ◌≤◌, ◌↔◌, ◌++◌, ◌==◌, ℕ, length, List, IfOk, IfErr, OnOk, IsPermutation, IsSome, IsTrue, Some, None, Err};
-ghost use Rattle.ix_outside.specs.Disk.{told_files};
-ghost use Rattle.std.specs.List.Sorted.{IsNonDecreasingBy};
+ghost use Rattle.std.specs.Prelude.{◌≡◌, ◌≤◌, ◌↔◌, ◌==◌, ℕ, length, List, IfOk, IfErr, IsSome, IsTrue, Some, None, Err};
 ghost use Rattle.ix_base.specs.declared.file_name.FileName.TheVariants.{Commit};
+ghost use Rattle.ix_outside.specs.Disk.{told_files};
 ghost use Rattle.ix_outside.specs.Causes.{Rose};
 ghost use Rattle.ix_outside.specs.Files.{Files, Was};
-ghost use Rattle.segment_core.specs.Segments.{all_rows};
-ghost use Rattle.segment_core.specs.declared.segment.Segment.{Segment};
-ghost use Rattle.commit_point.specs.Holds.{HasHead, HasSegments, AreRowsOf};
+ghost use Rattle.segment_core.specs.LiveRows.{Lived, all_live};
+ghost use Rattle.commit_point.specs.Holds.{HasHead, HasSegments};
 ghost use Rattle.commit_point.specs.Loading.{IsOutside, TellsNone};
 ghost use Rattle.commit_point.specs.Reading.{head_from, reading};
 ghost use Rattle.ix_base.specs.declared.damaged.Damaged.{Damaged};
 ghost use Rattle.commit_point.specs.declared.heads.Head.{Head};
+ghost use Rattle.commit_point.specs.declared.heads.HeadSegment.{HeadSegment};
 
 use crate::fault::OpenFault;
-use crate::heads::Head;
+use crate::heads::{Head, HeadSegment};
 use crate::listing::list_commits;
 use crate::load::{read_head, read_segments};
-use ix_base::{Damaged, FileName, List, NoMemory, Row};
+use ix_base::{Damaged, FileName, List};
 use ix_outside::{Store, StoreFault};
-use segment_core::Segment;
+use segment_core::LiveSegment;
 use std::alloc::Global;
 
 /// A commit that was read back.
@@ -28,57 +27,19 @@ pub struct Opened {
     pub number: u64,
     /// The id that the next segment takes.
     pub next_id: u64,
-    /// By rising id.
-    pub segments: List<Segment>,
+    /// The segments as the commit file names them, by rising id.
+    pub entries: List<HeadSegment>,
+    /// The segments, at the same places.
+    pub segments: List<LiveSegment>,
 }
 
-impl Opened {
-    /// The rows of all segments, by rising birth.
-    pub fn into_rows(self, alloc: Global) -> Result<List<Row>, NoMemory>
-        ensures { IfOk result (λ rows. (files : Files) (s next : ℕ) → HasSegments files s next self.segments → AreRowsOf s self.segments rows) }
-    {
-        let mut rows = joined_rows(alloc, self.segments)?;
-        sort_by_birth(&mut rows);
-        Ok(List::from_vec(rows))
-    }
-}
-
-/// Appends the rows of a segment. After an error some of them may stand there.
-fn take_rows(rows: &mut Vec<Row>, segment: Segment) -> Result<(), NoMemory>
-    ensures { OnOk result (rows.new.items ≡ rows.old.items ++ segment.rows) }
-{
-    for row in segment.rows.into_vec() {
-        rows.push(row)?;
-    }
-    Ok(())
-}
-
-/// The rows of the segments, one segment after another.
-fn joined_rows(alloc: Global, segments: List<Segment>) -> Result<Vec<Row>, NoMemory>
-    ensures { IfOk result (λ rows. rows.items ≡ all_rows segments) }
-{
-    let mut rows = Vec::new(alloc);
-    for segment in segments.into_vec() {
-        take_rows(&mut rows, segment)?;
-    }
-    Ok(rows)
-}
-
-/// Sorts rows by their births.
-fn sort_by_birth(rows: &mut Vec<Row>)
-    ensures moved { IsPermutation rows.old.items rows.new.items }
-    ensures sorted { IsNonDecreasingBy (λ row. row.birth) rows.new.items }
-{
-    rows.sort_unstable_by_key(|row| row.birth);
-}
-
-/// Whether the segments have so many rows in all.
-fn have_rows(segments: &[Segment], docs: u64) -> bool
-    ensures { result ≡ (docs == length (all_rows segments.now)) }
+/// Whether so many rows of the segments are live in all.
+fn have_rows(segments: &[LiveSegment], docs: u64) -> bool
+    ensures { result ≡ (docs == length (all_live segments.now)) }
 {
     let mut left = docs;
     for segment in segments {
-        match left.checked_sub(segment.rows.len() as u64) {
+        match left.checked_sub(u64::from(segment.live().live_count())) {
             Some(fewer) => left = fewer,
             None => return false,
         }
@@ -89,7 +50,8 @@ fn have_rows(segments: &[Segment], docs: u64) -> bool
 /// Reads the commit of this number, whose commit file should be there.
 fn read_whole<S: Store>(alloc: Global, store: &mut S, number: u64) -> Result<Opened, OpenFault>
     ensures number { IfOk result (λ opened. opened.number ≡ number) }
-    ensures found { IfOk result (λ opened. (files : Files) × Was (told_files (S.disk store.old)) files × HasSegments files number opened.next_id opened.segments) }
+    ensures found { IfOk result (λ opened. (files : Files) × Was (told_files (S.disk store.old)) files
+        × HasSegments files number opened.next_id opened.entries opened.segments) }
     ensures damaged { (damaged : Damaged) → result ≡ Err (OpenFault.Damaged damaged)
         → (files : Files) × Was (told_files (S.disk store.old)) files × (reading files number ≡ Err damaged) }
     ensures listed { (other : ℕ) → result ≡ Err (OpenFault.NoSuch other) → ⊥ }
@@ -108,6 +70,7 @@ fn read_whole<S: Store>(alloc: Global, store: &mut S, number: u64) -> Result<Ope
     Ok(Opened {
         number,
         next_id: head.next_id,
+        entries: head.segments,
         segments: List::from_vec(segments),
     })
 }
@@ -117,11 +80,14 @@ fn read_whole<S: Store>(alloc: Global, store: &mut S, number: u64) -> Result<Ope
 pub fn read_commit<S: Store>(alloc: Global, store: &mut S, number: u64) -> Result<Opened, OpenFault>
     ensures number { IfOk result (λ opened. opened.number ≡ number) }
     // What is read is what the files spell.
-    ensures found { IfOk result (λ opened. (files : Files) × Was (told_files (S.disk store.old)) files × HasSegments files number opened.next_id opened.segments) }
+    ensures found { IfOk result (λ opened. (files : Files) × Was (told_files (S.disk store.old)) files
+        × HasSegments files number opened.next_id opened.entries opened.segments) }
     // What the files spell is read, unless the store fails or memory runs out.
-    ensures only { (files : Files) (next : ℕ) (segments : List Segment) → told_files (S.disk store.old) ≡ Some files → HasSegments files number next segments
-        → IfOk result (λ opened. (opened.next_id ≡ next) × (opened.segments ≡ segments)) }
-    ensures whole { (files : Files) (next : ℕ) (segments : List Segment) → told_files (S.disk store.old) ≡ Some files → HasSegments files number next segments
+    ensures only { (files : Files) (next : ℕ) (entries : List HeadSegment) (segments : List Lived)
+        → told_files (S.disk store.old) ≡ Some files → HasSegments files number next entries segments
+        → IfOk result (λ opened. opened ≡ record { number = number; next_id = next; entries = entries; segments = segments }) }
+    ensures whole { (files : Files) (next : ℕ) (entries : List HeadSegment) (segments : List Lived)
+        → told_files (S.disk store.old) ≡ Some files → HasSegments files number next entries segments
         → IfErr result IsOutside }
     // Which place is the first broken one.
     ensures damaged { (damaged : Damaged) → result ≡ Err (OpenFault.Damaged damaged)
@@ -136,7 +102,8 @@ pub fn read_commit<S: Store>(alloc: Global, store: &mut S, number: u64) -> Resul
 
 /// Whether the store's list has the commit of this number.
 fn is_listed<S: Store>(alloc: Global, store: &mut S, number: u64) -> Result<bool, OpenFault>
-    ensures told { IfOk result (λ listed. (files : Files) → told_files (S.disk store.old) ≡ Some files → (IsTrue listed ↔ IsSome (files (Commit number)))) }
+    ensures told { IfOk result (λ listed. (files : Files) → told_files (S.disk store.old) ≡ Some files
+        → (IsTrue listed ↔ IsSome (files (Commit number)))) }
     ensures fault { IfErr result IsOutside }
     ensures reads { S.disk store.new ≡ S.disk store.old }
     ensures later { S.fault_count store.old ≤ S.fault_count store.new }
@@ -153,9 +120,11 @@ fn is_listed<S: Store>(alloc: Global, store: &mut S, number: u64) -> Result<bool
 /// number.
 pub fn head<S: Store>(alloc: Global, store: &mut S, number: u64) -> Result<Head, OpenFault>
     // What is read is what the file spells.
-    ensures found { IfOk result (λ head. (files : Files) × Was (told_files (S.disk store.old)) files × HasHead files number head) }
+    ensures found { IfOk result (λ head. (files : Files) × Was (told_files (S.disk store.old)) files
+        × HasHead files number head) }
     // What the file spells is read, unless the store fails or memory runs out.
-    ensures only { (files : Files) (head : Head) → told_files (S.disk store.old) ≡ Some files → HasHead files number head → IfOk result (λ read. read ≡ head) }
+    ensures only { (files : Files) (head : Head) → told_files (S.disk store.old) ≡ Some files → HasHead files number head
+        → IfOk result (λ read. read ≡ head) }
     ensures whole { (files : Files) (head : Head) → told_files (S.disk store.old) ≡ Some files → HasHead files number head
         → IfErr result IsOutside }
     // Which place is the first broken one.
@@ -178,11 +147,14 @@ pub fn head<S: Store>(alloc: Global, store: &mut S, number: u64) -> Result<Head,
 pub fn open_commit<S: Store>(alloc: Global, store: &mut S, number: u64) -> Result<Opened, OpenFault>
     ensures number { IfOk result (λ opened. opened.number ≡ number) }
     // What is read is what the files spell.
-    ensures found { IfOk result (λ opened. (files : Files) × Was (told_files (S.disk store.old)) files × HasSegments files number opened.next_id opened.segments) }
+    ensures found { IfOk result (λ opened. (files : Files) × Was (told_files (S.disk store.old)) files
+        × HasSegments files number opened.next_id opened.entries opened.segments) }
     // What the files spell is read, unless the store fails or memory runs out.
-    ensures only { (files : Files) (next : ℕ) (segments : List Segment) → told_files (S.disk store.old) ≡ Some files → HasSegments files number next segments
-        → IfOk result (λ opened. (opened.next_id ≡ next) × (opened.segments ≡ segments)) }
-    ensures whole { (files : Files) (next : ℕ) (segments : List Segment) → told_files (S.disk store.old) ≡ Some files → HasSegments files number next segments
+    ensures only { (files : Files) (next : ℕ) (entries : List HeadSegment) (segments : List Lived)
+        → told_files (S.disk store.old) ≡ Some files → HasSegments files number next entries segments
+        → IfOk result (λ opened. opened ≡ record { number = number; next_id = next; entries = entries; segments = segments }) }
+    ensures whole { (files : Files) (next : ℕ) (entries : List HeadSegment) (segments : List Lived)
+        → told_files (S.disk store.old) ≡ Some files → HasSegments files number next entries segments
         → IfErr result IsOutside }
     // Which place is the first broken one.
     ensures damaged { (damaged : Damaged) → result ≡ Err (OpenFault.Damaged damaged)

@@ -1,18 +1,9 @@
+//! Commit files alone.
 use super::*;
-use ix_base::{Document, FileFault, List, Postings, Row, Text};
-use segment_core::Segment;
+use crate::tests_files::{COMMIT, COMMIT_FIELDS};
+use ix_base::{FileFault, List};
 use std::alloc::Global;
 use std::test::*;
-
-// The commit file of a commit numbered 2 of one segment with one row.
-const COMMIT: [u8; 60] = [
-    0x49, 0x58, 0x43, 0x4f, 0x4d, 0x30, 0x30, 0x31, 0, 0, 0, 0, 0, 0, 0, 2, 0, 0, 0, 0, 0, 0, 0, 1,
-    0, 0, 0, 0, 0, 0, 0, 2, 0, 0, 0, 0, 0, 0, 0, 1, 0, 0, 0, 0, 0, 0, 0, 1, 0, 0, 0, 1, 0, 0, 0, 0,
-    0, 0, 0, 2,
-];
-
-// Where its fields begin.
-const FIELDS: [u64; 8] = [0, 8, 16, 24, 32, 40, 48, 52];
 
 fn broken_place(alloc: Global, bytes: &[u8]) -> Option<u64> {
     match decode_commit(alloc, bytes, 2) {
@@ -24,7 +15,7 @@ fn broken_place(alloc: Global, bytes: &[u8]) -> Option<u64> {
 // The last field that begins at this length or before it.
 fn field_at(len: u64) -> Option<u64> {
     let mut last = None;
-    for field in &FIELDS {
+    for field in &COMMIT_FIELDS {
         if *field <= len {
             last = Some(*field);
         }
@@ -135,47 +126,5 @@ fn changed_files_name_the_field(rt: HostRuntime) -> Result<(), Fail> {
     let mut longer = Vec::from_slice(alloc, &COMMIT)?;
     longer.push(0)?;
     assert_eq!(rt; broken_place(alloc, &longer), Some(60));
-    Ok(())
-}
-
-fn row_born(alloc: Global, birth: u64) -> Result<Row, Fail> {
-    let key = Text::copy_of(alloc, "a1").ok().ok_or("memory")?;
-    Ok(Row {
-        birth,
-        doc: Document::of_key(alloc, key),
-    })
-}
-
-// A segment of two rows with these births.
-fn segment_of(alloc: Global, id: u64, first: u64, second: u64) -> Result<Segment, Fail> {
-    let mut rows = Vec::new(alloc);
-    rows.push(row_born(alloc, first)?)?;
-    rows.push(row_born(alloc, second)?)?;
-    Ok(Segment {
-        id,
-        rows: List::from_vec(rows),
-        postings: Postings {
-            terms: List::from_vec(Vec::new(alloc)),
-        },
-    })
-}
-
-#[test]
-fn rows_come_by_birth(rt: HostRuntime) -> Result<(), Fail> {
-    let alloc = rt.alloc();
-    let mut segments = Vec::new(alloc);
-    segments.push(segment_of(alloc, 1, 2, 4)?)?;
-    segments.push(segment_of(alloc, 2, 1, 3)?)?;
-    let opened = Opened {
-        number: 4,
-        next_id: 3,
-        segments: List::from_vec(segments),
-    };
-    let rows = opened.into_rows(alloc).ok().ok_or("memory")?;
-    let mut births = Vec::new(alloc);
-    for row in rows.as_slice() {
-        births.push(row.birth)?;
-    }
-    assert_eq!(rt; births.as_slice(), [1, 2, 3, 4].as_slice());
     Ok(())
 }

@@ -1,62 +1,16 @@
-//! The files of one commit, cut at every length and changed byte by byte: its row has texts, exact
-//! texts and numbers, and several terms and positions. These are the files that the formats show.
+//! The files of one commit, cut at every length and changed byte by byte.
 use crate::fault::OpenFault;
-use crate::open::open_commit;
+use crate::open::{head, open_commit, read_commit};
+use crate::tests_files::{
+    Bytes, COMMIT, COMMIT_FIELDS, LIVE, LIVE_FIELDS, POSTS, POSTS_FIELDS, ROWS, ROWS_FIELDS,
+    SMALL_POSTS, SMALL_POSTS_FIELDS, SMALL_ROWS, SMALL_ROWS_FIELDS, SMALL_VALUES,
+    SMALL_VALUES_FIELDS, VALUES, VALUES_FIELDS, exchanged, full, small, store_of,
+};
 use ix_base::{Damaged, FileName};
 use ix_memory::MemoryStore;
-use ix_outside::{Store, StoreFault};
+use ix_outside::Store;
 use std::alloc::Global;
 use std::test::*;
-
-/// `segments_2`: one segment of one row.
-const COMMIT: [u8; 60] = [
-    0x49, 0x58, 0x43, 0x4f, 0x4d, 0x30, 0x30, 0x31, 0, 0, 0, 0, 0, 0, 0, 2, 0, 0, 0, 0, 0, 0, 0, 1,
-    0, 0, 0, 0, 0, 0, 0, 2, 0, 0, 0, 0, 0, 0, 0, 1, 0, 0, 0, 0, 0, 0, 0, 1, 0, 0, 0, 1, 0, 0, 0, 0,
-    0, 0, 0, 2,
-];
-
-/// `seg_1.row`: the key `m1`, a text, an exact text and a number.
-const ROWS: [u8; 97] = [
-    0x49, 0x58, 0x52, 0x4f, 0x57, 0x30, 0x30, 0x31, 0, 0, 0, 0, 0, 0, 0, 1, 0, 0, 0, 1, 0, 0, 0, 0,
-    0, 0, 0, 1, 0, 0, 0, 2, 0x6d, 0x31, 0, 0, 0, 1, 0, 0, 0, 4, 0x62, 0x6f, 0x64, 0x79, 0, 0, 0, 6,
-    0x48, 0x69, 0x20, 0x79, 0x6f, 0x75, 0, 0, 0, 1, 0, 0, 0, 3, 0x62, 0x6f, 0x78, 0, 0, 0, 2, 0x69,
-    0x6e, 0, 0, 0, 0, 0, 0, 0, 1, 0, 0, 0, 4, 0x73, 0x69, 0x7a, 0x65, 0xff, 0xff, 0xff, 0xff, 0xff,
-    0xff, 0xff, 0xfe,
-];
-
-/// `seg_1.pst`: four terms, of which two are of one field.
-const POSTS: [u8; 147] = [
-    0x49, 0x58, 0x50, 0x53, 0x54, 0x30, 0x30, 0x31, 0, 0, 0, 0, 0, 0, 0, 1, 0, 0, 0, 1, 0, 0, 0, 0,
-    0, 0, 0, 4, 0, 0, 0, 4, 0x62, 0x6f, 0x64, 0x79, 0, 0, 0, 2, 0x68, 0x69, 0, 0, 0, 1, 0, 0, 0, 0,
-    0, 0, 0, 1, 0, 0, 0, 0, 0, 0, 0, 4, 0x62, 0x6f, 0x64, 0x79, 0, 0, 0, 3, 0x79, 0x6f, 0x75, 0, 0,
-    0, 1, 0, 0, 0, 0, 0, 0, 0, 1, 0, 0, 0, 1, 0, 0, 0, 3, 0x62, 0x6f, 0x78, 0, 0, 0, 2, 0x69, 0x6e,
-    0, 0, 0, 1, 0, 0, 0, 0, 0, 0, 0, 1, 0, 0, 0, 0, 0, 0, 0, 3, 0x6b, 0x65, 0x79, 0, 0, 0, 2, 0x6d,
-    0x31, 0, 0, 0, 1, 0, 0, 0, 0, 0, 0, 0, 1, 0, 0, 0, 0,
-];
-
-/// Where the fields of each file begin.
-const COMMIT_FIELDS: [u64; 8] = [0, 8, 16, 24, 32, 40, 48, 52];
-
-const ROWS_FIELDS: [u64; 14] = [0, 8, 16, 20, 28, 34, 38, 46, 56, 60, 67, 73, 81, 89];
-
-const POSTS_FIELDS: [u64; 28] = [
-    0, 8, 16, 20, 28, 36, 42, 46, 50, 54, 58, 66, 73, 77, 81, 85, 89, 96, 102, 106, 110, 114, 118,
-    125, 131, 135, 139, 143,
-];
-
-/// A store with these files.
-fn store_of(
-    alloc: Global,
-    commit: &[u8],
-    rows: &[u8],
-    posts: &[u8],
-) -> Result<MemoryStore, StoreFault> {
-    let mut store = MemoryStore::new(alloc);
-    store.write(FileName::Rows(1), rows)?;
-    store.write(FileName::Posts(1), posts)?;
-    store.write(FileName::Commit(2), commit)?;
-    Ok(store)
-}
 
 /// The first broken place of a store's commit.
 fn broken_in(alloc: Global, store: &mut MemoryStore) -> Option<Damaged> {
@@ -67,8 +21,8 @@ fn broken_in(alloc: Global, store: &mut MemoryStore) -> Option<Damaged> {
 }
 
 /// The first broken place of a commit with these files.
-fn broken(alloc: Global, commit: &[u8], rows: &[u8], posts: &[u8]) -> Option<Damaged> {
-    match store_of(alloc, commit, rows, posts) {
+fn broken(alloc: Global, bytes: Bytes<'_>) -> Option<Damaged> {
+    match store_of(alloc, bytes) {
         Ok(mut store) => broken_in(alloc, &mut store),
         Err(_) => None,
     }
@@ -96,76 +50,139 @@ fn changed(alloc: Global, bytes: &[u8], at: usize, to: u8) -> Result<Vec<u8>, Fa
     Ok(other)
 }
 
+/// The first length at which a file, cut there, isn't told to be broken in the field that it ends in.
+fn wrong_cut(
+    alloc: Global,
+    bytes: Bytes<'_>,
+    file: FileName,
+    whole: &[u8],
+    fields: &[u64],
+) -> Option<usize> {
+    for len in 0..whole.len() {
+        let at = field_at(fields, len as u64);
+        if broken(alloc, exchanged(bytes, file, &whole[..len])) != Some(Damaged { file, at }) {
+            return Some(len);
+        }
+    }
+    None
+}
+
+/// The first of these changes of a file, each a byte and what it becomes, that isn't told to be broken
+/// at the place beside it.
+fn wrong_change(
+    alloc: Global,
+    bytes: Bytes<'_>,
+    file: FileName,
+    whole: &[u8],
+    cases: &[(usize, u8, u64)],
+) -> Result<Option<usize>, Fail> {
+    for (i, case) in cases.iter().enumerate() {
+        let other = changed(alloc, whole, case.0, case.1)?;
+        let place = Damaged { file, at: case.2 };
+        if broken(alloc, exchanged(bytes, file, other.as_slice())) != Some(place) {
+            return Ok(Some(i));
+        }
+    }
+    Ok(None)
+}
+
 #[test]
 fn the_files_are_whole(rt: HostRuntime) {
     let alloc = rt.alloc();
-    let Ok(mut store) = store_of(alloc, &COMMIT, &ROWS, &POSTS) else {
+    let Ok(mut store) = store_of(alloc, full()) else {
         panic!(rt; "memory");
     };
     let Ok(opened) = open_commit(alloc, &mut store, 2) else {
         panic!(rt; "the commit is whole");
     };
     assert_eq!(rt; opened.next_id, 2);
+    assert_eq!(rt; opened.entries.as_slice().len(), 1);
     let segments = opened.segments.as_slice();
     assert_eq!(rt; segments.len(), 1);
-    assert_eq!(rt; segments[0].id, 1);
-    assert_eq!(rt; segments[0].rows.len(), 1);
-    assert_eq!(rt; segments[0].postings.terms.len(), 4);
+    let segment = segments[0].segment();
+    assert_eq!(rt; segment.id, 1);
+    assert_eq!(rt; segment.rows.len(), 1);
+    assert_eq!(rt; segment.postings.terms.len(), 4);
+    let live = segments[0].live();
+    assert_eq!(rt; live.applied(), 2);
+    assert_eq!(rt; live.live_count(), 1);
+    let values = live.values(0);
+    assert_eq!(rt; values.len(), 1);
+    assert_eq!(rt; values[0].0.as_str(), "size");
+    assert_eq!(rt; values[0].1, 7);
 }
 
 #[test]
-fn cut_commit_files(rt: HostRuntime) {
+fn the_smallest_commit_is_whole(rt: HostRuntime) {
     let alloc = rt.alloc();
-    for len in 0..COMMIT.len() {
-        let at = field_at(&COMMIT_FIELDS, len as u64);
-        let found = broken(alloc, &COMMIT[..len], &ROWS, &POSTS);
-        assert_eq!(rt;
-            found,
-            Some(Damaged {
-                file: FileName::Commit(2),
-                at
-            })
-        );
-    }
+    let Ok(mut store) = store_of(alloc, small()) else {
+        panic!(rt; "memory");
+    };
+    let Ok(head) = head(alloc, &mut store, 2) else {
+        panic!(rt; "the commit file is whole");
+    };
+    assert_eq!(rt; head.docs, 1);
+    let Ok(opened) = read_commit(alloc, &mut store, 2) else {
+        panic!(rt; "the commit is whole");
+    };
+    assert_eq!(rt; opened.segments.as_slice().len(), 1);
 }
 
 #[test]
-fn cut_row_files(rt: HostRuntime) {
+fn cut_files(rt: HostRuntime) {
     let alloc = rt.alloc();
-    for len in 0..ROWS.len() {
-        let at = field_at(&ROWS_FIELDS, len as u64);
-        let found = broken(alloc, &COMMIT, &ROWS[..len], &POSTS);
-        assert_eq!(rt;
-            found,
-            Some(Damaged {
-                file: FileName::Rows(1),
-                at
-            })
-        );
-    }
+    let cut = wrong_cut(alloc, full(), FileName::Commit(2), &COMMIT, &COMMIT_FIELDS);
+    assert_eq!(rt; cut, None);
+    let cut = wrong_cut(alloc, full(), FileName::Rows(1), &ROWS, &ROWS_FIELDS);
+    assert_eq!(rt; cut, None);
+    let cut = wrong_cut(alloc, full(), FileName::Posts(1), &POSTS, &POSTS_FIELDS);
+    assert_eq!(rt; cut, None);
+    let cut = wrong_cut(alloc, full(), FileName::Live(1, 2), &LIVE, &LIVE_FIELDS);
+    assert_eq!(rt; cut, None);
+    let cut = wrong_cut(
+        alloc,
+        full(),
+        FileName::Values(1, 2),
+        &VALUES,
+        &VALUES_FIELDS,
+    );
+    assert_eq!(rt; cut, None);
 }
 
 #[test]
-fn cut_posting_files(rt: HostRuntime) {
+fn cut_files_of_the_smallest_commit(rt: HostRuntime) {
     let alloc = rt.alloc();
-    for len in 0..POSTS.len() {
-        let at = field_at(&POSTS_FIELDS, len as u64);
-        let found = broken(alloc, &COMMIT, &ROWS, &POSTS[..len]);
-        assert_eq!(rt;
-            found,
-            Some(Damaged {
-                file: FileName::Posts(1),
-                at
-            })
-        );
-    }
+    let cut = wrong_cut(
+        alloc,
+        small(),
+        FileName::Rows(1),
+        &SMALL_ROWS,
+        &SMALL_ROWS_FIELDS,
+    );
+    assert_eq!(rt; cut, None);
+    let cut = wrong_cut(
+        alloc,
+        small(),
+        FileName::Posts(1),
+        &SMALL_POSTS,
+        &SMALL_POSTS_FIELDS,
+    );
+    assert_eq!(rt; cut, None);
+    let cut = wrong_cut(
+        alloc,
+        small(),
+        FileName::Values(1, 2),
+        &SMALL_VALUES,
+        &SMALL_VALUES_FIELDS,
+    );
+    assert_eq!(rt; cut, None);
 }
 
 #[test]
 fn changed_commit_files(rt: HostRuntime) -> Result<(), Fail> {
     let alloc = rt.alloc();
-    // The byte, what it becomes, and the place: mark, number, sum of rows, next id (too great, and
-    // that of the segment), count of segments, id, commit of the entry, and one byte more.
+    // Mark, number, number of live rows, next id (too great, and that of the segment), count of
+    // segments, id, rows and commit of the entry, and one byte more.
     let cases = [
         (7, 0x32, 0),
         (15, 3, 8),
@@ -182,17 +199,8 @@ fn changed_commit_files(rt: HostRuntime) -> Result<(), Fail> {
         (59, 3, 52),
         (60, 0, 60),
     ];
-    for (byte, to, at) in cases {
-        let other = changed(alloc, &COMMIT, byte, to)?;
-        let found = broken(alloc, other.as_slice(), &ROWS, &POSTS);
-        assert_eq!(rt;
-            found,
-            Some(Damaged {
-                file: FileName::Commit(2),
-                at
-            })
-        );
-    }
+    let change = wrong_change(alloc, full(), FileName::Commit(2), &COMMIT, &cases)?;
+    assert_eq!(rt; change, None);
     Ok(())
 }
 
@@ -216,17 +224,8 @@ fn changed_row_files(rt: HostRuntime) -> Result<(), Fail> {
         (80, 2, 97),
         (97, 0, 97),
     ];
-    for (byte, to, at) in cases {
-        let other = changed(alloc, &ROWS, byte, to)?;
-        let found = broken(alloc, &COMMIT, other.as_slice(), &POSTS);
-        assert_eq!(rt;
-            found,
-            Some(Damaged {
-                file: FileName::Rows(1),
-                at
-            })
-        );
-    }
+    let change = wrong_change(alloc, full(), FileName::Rows(1), &ROWS, &cases)?;
+    assert_eq!(rt; change, None);
     Ok(())
 }
 
@@ -254,25 +253,70 @@ fn changed_posting_files(rt: HostRuntime) -> Result<(), Fail> {
         (93, 0x61, 89),
         (147, 0, 147),
     ];
-    for (byte, to, at) in cases {
-        let other = changed(alloc, &POSTS, byte, to)?;
-        let found = broken(alloc, &COMMIT, &ROWS, other.as_slice());
-        assert_eq!(rt;
-            found,
-            Some(Damaged {
-                file: FileName::Posts(1),
-                at
-            })
-        );
-    }
+    let change = wrong_change(alloc, full(), FileName::Posts(1), &POSTS, &cases)?;
+    assert_eq!(rt; change, None);
+    Ok(())
+}
+
+#[test]
+fn changed_live_files(rt: HostRuntime) -> Result<(), Fail> {
+    let alloc = rt.alloc();
+    // Mark, id, commit, number of rows, no live row, a bit past the last row, and one byte more.
+    let cases = [
+        (7, 0x32, 0),
+        (15, 2, 8),
+        (23, 3, 16),
+        (23, 1, 16),
+        (27, 2, 24),
+        (27, 0, 24),
+        (28, 0, 28),
+        (28, 3, 28),
+        (29, 0, 29),
+    ];
+    let change = wrong_change(alloc, full(), FileName::Live(1, 2), &LIVE, &cases)?;
+    assert_eq!(rt; change, None);
+    Ok(())
+}
+
+#[test]
+fn changed_value_files(rt: HostRuntime) -> Result<(), Fail> {
+    let alloc = rt.alloc();
+    // Mark, id, commit, number of rows, count of numbers (none, and one more), a row that there
+    // isn't, a name without bytes, longer than names are, shorter, and of no UTF-8, and one byte more.
+    let cases = [
+        (7, 0x32, 0),
+        (15, 2, 8),
+        (23, 3, 16),
+        (27, 2, 24),
+        (35, 0, 36),
+        (35, 2, 56),
+        (39, 1, 36),
+        (43, 0, 40),
+        (42, 1, 40),
+        (43, 3, 55),
+        (44, 0xff, 40),
+        (56, 0, 56),
+    ];
+    let change = wrong_change(alloc, full(), FileName::Values(1, 2), &VALUES, &cases)?;
+    assert_eq!(rt; change, None);
+    // One number is counted, and none is there.
+    let none = [(35, 1, 36)];
+    let change = wrong_change(alloc, small(), FileName::Values(1, 2), &SMALL_VALUES, &none)?;
+    assert_eq!(rt; change, None);
     Ok(())
 }
 
 #[test]
 fn absent_files(rt: HostRuntime) {
     let alloc = rt.alloc();
-    for name in [FileName::Rows(1), FileName::Posts(1)] {
-        let Ok(mut store) = store_of(alloc, &COMMIT, &ROWS, &POSTS) else {
+    let names = [
+        FileName::Rows(1),
+        FileName::Posts(1),
+        FileName::Live(1, 2),
+        FileName::Values(1, 2),
+    ];
+    for name in names {
+        let Ok(mut store) = store_of(alloc, full()) else {
             panic!(rt; "memory");
         };
         let Ok(()) = store.delete(name) else {
@@ -283,4 +327,32 @@ fn absent_files(rt: HostRuntime) {
             Some(Damaged { file: name, at: 0 })
         );
     }
+}
+
+/// A commit whose file is gone: a list doesn't show it, and a read finds it absent.
+#[test]
+fn absent_commit_file(rt: HostRuntime) {
+    let alloc = rt.alloc();
+    let Ok(mut store) = store_of(alloc, full()) else {
+        panic!(rt; "memory");
+    };
+    let Ok(()) = store.delete(FileName::Commit(2)) else {
+        panic!(rt; "memory");
+    };
+    let gone = matches!(
+        open_commit(alloc, &mut store, 2),
+        Err(OpenFault::NoSuch { number: 2 })
+    );
+    assert!(rt; gone);
+    let damaged = match read_commit(alloc, &mut store, 2) {
+        Err(OpenFault::Damaged(damaged)) => Some(damaged),
+        _ => None,
+    };
+    assert_eq!(rt;
+        damaged,
+        Some(Damaged {
+            file: FileName::Commit(2),
+            at: 0
+        })
+    );
 }

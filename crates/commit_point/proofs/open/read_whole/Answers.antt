@@ -3,7 +3,7 @@ use Rattle.std.proofs.lemmas.Result.{err_from_is_err_and}
 use Rattle.ix_base.specs.declared.damaged.Damaged.{Damaged}
 use Rattle.ix_base.specs.declared.file_name.FileName.TheVariants.{Commit}
 use Rattle.ix_outside.specs.Disk.{told_files}
-use Rattle.segment_core.specs.declared.segment.Segment.{Segment}
+use Rattle.segment_core.specs.LiveRows.{Lived}
 use Rattle.commit_point.specs.Holds.{HasSegments}
 use Rattle.commit_point.specs.Reading.{reading}
 use Rattle.commit_point.proofs.Opening.{opens, head_breaks, segment_breaks, docs_break, counts_right, counts_wrong}
@@ -35,4 +35,4 @@ returns-clause-found g c =
     let at = opens (told_files (g.S.Store.disk c.args.store.now)) (told_files (g.S.Store.disk c.read_head.new.store)) c.args.number c.in_ok-head.head c.in_ok-segments.segments.items (ap told_files c.in_ok-head.ensures.reads)
     c.in_ok-head.ensures.found.0 c.in_ok-head.ensures.found.1 c.in_ok-head.ensures.found.2 c.in_ok-segments.ensures.found
     (counts_right c.in_ok-head.head c.in_ok-segments.segments.items c.as_slice.result.now c.have_rows.result c.as_slice.ensures.value c.have_rows.ensures (ap not c.if-not-have_rows.false)) in
-    (at.0, at.1, subst (λ (segments : List Segment). HasSegments at.0 c.args.number c.in_ok-head.head.next_id segments) (sym c.from_vec.ensures) at.2)
+    (at.0, at.1, subst (λ (segments : List Lived). HasSegments at.0 c.args.number c.in_ok-head.head.next_id c.in_ok-head.head.segments segments) (sym c.from_vec.ensures) at.2)
