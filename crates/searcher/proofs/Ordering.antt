@@ -10,12 +10,11 @@ use Rattle.ix_base.specs.Query.{tree_of}
 use Rattle.ix_base.specs.declared.document.Hit.{Hit}
 use Rattle.ix_base.specs.declared.document.Row.{Row}
 use Rattle.ix_base.specs.declared.query.Query.{Query}
-use Rattle.segment_core.specs.Segments.{all_rows}
-use Rattle.segment_core.specs.declared.segment.Segment.{Segment}
+use Rattle.segment_core.specs.LiveRows.{Lived, all_live}
 use Rattle.segment_files.specs.Fits.{BirthsRise}
 use Rattle.searcher.specs.Finding.{AreByBirth, found_of, found_among}
 use Rattle.searcher.specs.Searching.{Searches}
-use Rattle.searcher.specs.declared.found.Found.{Found}
+use Rattle.searcher.specs.declared.shown.Found.{Found}
 use Rattle.searcher.proofs.Order.{Rises, counted, unit, IsIn, in_from, in_to, AreAlike, one_order, climbs_from}
 
 abbrev birth_of : Found → ℕ
@@ -102,11 +101,11 @@ hits_of [] = refl
 hits_of (r ∷ rs) = ap (λ (hs : List Hit). hit_of r ∷ hs) (hits_of rs)
 
 -- What was found in the segments, by birth, is what matches among all their rows.
-pub hits_by_birth : (query : Query) (segments : List Segment) (rows : List Row) (found : List Hit) → AreByBirth (found_among query (all_rows segments)) found → Searches segments rows
+pub hits_by_birth : (query : Query) (segments : List Lived) (rows : List Row) (found : List Hit) → AreByBirth (found_among query (all_live segments)) found → Searches segments rows
     → found ≡ hits query rows
 hits_by_birth query segments rows found by searches =
     let test = λ (row : Row). matches (tree_of query) row.doc in
     let climbs = climbs_from birth_of 0 by.sorted (λ d some. omega arith) by.rise in
     let rises = rise_tested test 1 searches.number rows searches.rows_are.births in
-    let alike = tested_alike test (all_rows segments) rows by.sorted searches.rows_are.merged by.merged in
+    let alike = tested_alike test (all_live segments) rows by.sorted searches.rows_are.merged by.merged in
     by.are ∙ ap (map (λ (f : Found). f.hit)) (sym (one_order birth_of 1 0 (tested test rows) by.sorted rises climbs alike)) ∙ hits_of (matching query rows)

@@ -1,46 +1,32 @@
 //! What a query finds in segments, and its order.
-ghost use Rattle.std.specs.Prelude.{◌≡◌, ◌<◌, ◌^◌, ◌++◌, length, map, OnOk, IfOk};
-ghost use Rattle.std.specs.List.{AllByRecursion, filter_map, slice_get};
-ghost use Rattle.segment_core.specs.Segments.{IsInverted, all_rows};
-ghost use Rattle.segment_core.specs.declared.segment.Segment.{Segment};
-ghost use Rattle.searcher.specs.Finding.{AreByBirth, found_of, found_among};
+ghost use Rattle.std.specs.Prelude.{◌≡◌, ◌++◌, length, map, OnOk, IfOk};
+ghost use Rattle.std.specs.List.{AllByRecursion, filter_map};
+ghost use Rattle.segment_core.specs.LiveRows.{Lived, IsWhole, live, all_live};
+ghost use Rattle.segment_core.specs.Segments.{IsInverted};
+ghost use Rattle.commit_point.specs.Holds.{AreInverted};
+ghost use Rattle.searcher.specs.Finding.{AreByBirth, found_among, found_at};
 
+use crate::shown::{Found, shown};
 use ix_base::{Hit, NoMemory, Query, Row};
+use live_docs::LiveDocs;
 use query_core::answer;
-use segment_core::Segment;
+use segment_core::LiveSegment;
 use std::alloc::Global;
 
-/// A hit, with the birth of its row.
-#[derive(Drop)]
-pub struct Found {
-    pub birth: u64,
-    pub hit: Hit,
-}
-
-impl Found {
-    fn of_row(alloc: Global, row: &Row) -> Result<Found, NoMemory>
-        ensures { IfOk result (λ found. found ≡ found_of row.now) }
-    {
-        Ok(Found {
-            birth: row.birth,
-            hit: Hit::of_row(alloc, row)?,
-        })
-    }
-}
-
-/// Adds the rows of these numbers.
+/// Adds the live ones of the rows of these numbers.
 fn add_rows(
     alloc: Global,
     found: &mut Vec<Found>,
     rows: &[Row],
+    live: &LiveDocs,
     numbers: &[u32],
 ) -> Result<(), NoMemory>
-    ensures { OnOk result (found.new.items
-        ≡ found.old.items ++ map found_of (filter_map (slice_get rows.now) numbers.now)) }
+    requires { length live.now.marks ≡ length rows.now }
+    ensures { OnOk result (found.new.items ≡ found.old.items ++ found_at rows.now live.now.marks numbers.now) }
 {
     for number in numbers {
-        if let Some(row) = rows.get(*number as usize) {
-            found.push(Found::of_row(alloc, row)?)?;
+        if let Some(one) = shown(alloc, rows, live, *number)? {
+            found.push(one)?;
         }
     }
     Ok(())
@@ -51,20 +37,25 @@ fn add_matching(
     alloc: Global,
     found: &mut Vec<Found>,
     query: &Query,
-    segment: &Segment,
+    segment: &LiveSegment,
 ) -> Result<(), NoMemory>
-    ensures { OnOk result (length segment.now.rows < 2 ^ 32 → IsInverted segment.now
-        → found.new.items ≡ found.old.items ++ found_among query.now segment.now.rows) }
+    ensures { OnOk result (IsInverted segment.now.segment
+        → found.new.items ≡ found.old.items ++ found_among query.now (live segment.now)) }
 {
-    let numbers = answer(alloc, query, segment)?;
-    add_rows(alloc, found, segment.rows.as_slice(), numbers.as_slice())
+    let live = segment.live();
+    let rows = segment.segment();
+    let numbers = answer(alloc, query, rows)?;
+    add_rows(alloc, found, rows.rows.as_slice(), live, numbers.as_slice())
 }
 
 /// What matches in segments, one segment after another.
-pub fn found_in(alloc: Global, query: &Query, segments: &[Segment]) -> Result<Vec<Found>, NoMemory>
-    ensures { IfOk result (λ found. AllByRecursion (λ (segment : Segment). length segment.rows < 2 ^ 32) segments.now
-        → AllByRecursion IsInverted segments.now
-        → found.items ≡ found_among query.now (all_rows segments.now)) }
+pub fn found_in(
+    alloc: Global,
+    query: &Query,
+    segments: &[LiveSegment],
+) -> Result<Vec<Found>, NoMemory>
+    ensures { IfOk result (λ found. AreInverted segments.now
+        → found.items ≡ found_among query.now (all_live segments.now)) }
 {
     let mut found = Vec::new(alloc);
     for segment in segments {

@@ -3,6 +3,7 @@
 
 mod found;
 mod searcher;
+mod shown;
 #[cfg(test)]
 mod tests;
 

@@ -14,13 +14,13 @@ use crate::found::{found_in, hits_by_birth};
 use commit_point::{OpenFault, open_commit, read_commit};
 use ix_base::{Hit, List, NoMemory, Query};
 use ix_outside::Store;
-use segment_core::Segment;
+use segment_core::LiveSegment;
 use std::alloc::Global;
 
 /// The segments of a commit, to be searched any number of times.
 #[derive(Drop)]
 pub struct Searcher {
-    pub segments: List<Segment>,
+    pub segments: List<LiveSegment>,
 }
 
 impl Searcher {

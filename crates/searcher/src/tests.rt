@@ -1,4 +1,6 @@
 //! Searches of segments whose births interleave, and of a commit in a store.
+ghost use Rattle.std.specs.Prelude.{◌≤◌};
+
 use crate::Searcher;
 use analysis::invert;
 use commit_point::OpenFault;
@@ -8,7 +10,8 @@ use ix_base::{
 };
 use ix_memory::MemoryStore;
 use ix_outside::Store;
-use segment_core::Segment;
+use live_docs::LiveDocs;
+use segment_core::{LiveSegment, Segment};
 use std::alloc::Global;
 use std::fmt::Write;
 use std::test::*;
@@ -42,14 +45,17 @@ fn row_of(alloc: Global, birth: u64, key: &str, body: &str, pages: i64) -> Resul
     Ok(Row { birth, doc })
 }
 
-fn segment_of(alloc: Global, id: u64, rows: Vec<Row>) -> Result<Segment, Fail> {
+/// A segment of these rows, which are all live.
+fn segment_of(alloc: Global, id: u64, rows: Vec<Row>) -> Result<LiveSegment, Fail> {
     if rows.len() < 1 << 32 {
         let postings = invert(alloc, rows.as_slice())?;
-        Ok(Segment {
+        let live = LiveDocs::new(alloc, rows.len() as u32, 4)?;
+        let segment = Segment {
             id,
             rows: List::from_vec(rows),
             postings,
-        })
+        };
+        Ok(LiveSegment::new(segment, live))
     } else {
         Err("many")?
     }
@@ -137,6 +143,35 @@ fn rows_that_must_not_match_are_left_out(rt: HostRuntime) -> Result<(), Fail> {
     Ok(())
 }
 
+/// The same rows, of which the first is dead and the third has numbers that were set in it.
+fn three_of_four(alloc: Global) -> Result<Searcher, Fail> {
+    let mut first = Vec::new(alloc);
+    first.push(row_of(alloc, 1, "a", "red fox", 10)?)?;
+    first.push(row_of(alloc, 4, "d", "red blue", -40)?)?;
+    let mut segment = segment_of(alloc, 1, first)?;
+    let mut live = LiveDocs::new(alloc, 2, 4)?;
+    live.kill(0);
+    live.set_value(alloc, 1, &name_of(alloc, "pages")?, 41)?;
+    live.set_value(alloc, 1, &name_of(alloc, "copies")?, 2)?;
+    if segment.segment().rows.len() == 2 {
+        segment.set_live(live);
+    }
+    Ok(Searcher {
+        segments: List::from_vec(vec![in alloc; segment]?),
+    })
+}
+
+#[test]
+fn dead_rows_are_not_found_and_set_numbers_are_shown(rt: HostRuntime) -> Result<(), Fail> {
+    let alloc = rt.alloc();
+    let searcher = three_of_four(alloc)?;
+    let all = shown(alloc, &searcher, &Query::All)?;
+    assert_eq!(rt; all.as_str(), "d copies 2 pages 41;");
+    let fox = shown(alloc, &searcher, &term(alloc, "body", "fox")?)?;
+    assert_eq!(rt; fox.as_str(), "");
+    Ok(())
+}
+
 #[test]
 fn no_segment_no_hit(rt: HostRuntime) -> Result<(), Fail> {
     let alloc = rt.alloc();
@@ -218,6 +253,24 @@ const COMMIT: [u8; 80] = [
     0, 0, 0, 4, 0, 0, 0, 0, 0, 0, 0, 2, 0, 0, 0, 2, 0, 0, 0, 0, 0, 0, 0, 4,
 ];
 
+/// Writes the live bits and the set numbers of a segment of two rows: both live, and no number.
+fn put_live(store: &mut MemoryStore, alloc: Global, id: u8) -> Result<(), Fail>
+    requires { 1 ≤ id }
+{
+    let head = [0, 0, 0, 0, 0, 0, 0, id, 0, 0, 0, 0, 0, 0, 0, 4, 0, 0, 0, 2];
+    let mut bits = Vec::new(alloc);
+    bits.extend_from_slice(b"IXLIV001")?;
+    bits.extend_from_slice(&head)?;
+    bits.push(3)?;
+    store.write(FileName::Live(u64::from(id), 4), bits.as_slice())?;
+    let mut numbers = Vec::new(alloc);
+    numbers.extend_from_slice(b"IXVAL001")?;
+    numbers.extend_from_slice(&head)?;
+    numbers.extend_from_slice(&[0; 8])?;
+    store.write(FileName::Values(u64::from(id), 4), numbers.as_slice())?;
+    Ok(())
+}
+
 /// A store of this commit, in whose segments the births are 1 and 4, and 2 and 3.
 fn store_of_four(alloc: Global) -> Result<MemoryStore, Fail> {
     let mut store = MemoryStore::new(alloc);
@@ -229,6 +282,8 @@ fn store_of_four(alloc: Global) -> Result<MemoryStore, Fail> {
     let second = posts_of(alloc, 2, [b'b', b'c'])?;
     store.write(FileName::Posts(1), first.as_slice())?;
     store.write(FileName::Posts(2), second.as_slice())?;
+    put_live(&mut store, alloc, 1)?;
+    put_live(&mut store, alloc, 2)?;
     store.write(FileName::Commit(4), &COMMIT)?;
     Ok(store)
 }

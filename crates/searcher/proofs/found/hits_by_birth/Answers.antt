@@ -2,7 +2,7 @@ use Rattle.std.proofs.Common.{rules, ◌≡◌, ◌++◌, [], ◌∷◌, length,
 use Rattle.std.specs.Vec.Iter.{into_iter_items}
 use Rattle.std.proofs.lemmas.List.{append-nil}
 use Rattle.std.proofs.lemmas.List.Sorted.{IsNonDecreasingBy-from_sort_by_key}
-use Rattle.searcher.specs.declared.found.Found.{Found}
+use Rattle.searcher.specs.declared.shown.Found.{Found}
 use Rattle.searcher.proofs.found.hits_by_birth.Goals as goal
 
 nothing_left : (found : List Found) → length found ≡ 0 → found ≡ []

@@ -1,6 +1,6 @@
 use Rattle.std.proofs.Common.{◌≡◌, ◌++◌, length, map}
 use Rattle.std.specs.Vec.Iter.{into_iter_items, into_iter_len}
-use Rattle.searcher.specs.declared.found.Found.{Found}
+use Rattle.searcher.specs.declared.shown.Found.{Found}
 use Rattle.searcher.proofs.found.hits_by_birth.Given as goal
 
 abbrev pub invariant-loop-one : goal.invariant-loop-one

@@ -1,0 +1,5 @@
+pub mod Writing
+pub mod Storing
+pub mod Laws
+pub mod Taking
+pub mod Drafting
