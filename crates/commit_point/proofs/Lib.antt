@@ -12,3 +12,4 @@ pub mod Loading
 pub mod LiveReads
 pub mod Opening
 pub mod Telling
+pub mod Trials

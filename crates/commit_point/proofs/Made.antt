@@ -1,10 +1,8 @@
 -- What the files spell after a commit was published.
-use Rattle.std.proofs.Common.{◌≡◌, ◌∙◌, ℕ, ◌+◌, ◌<◌, ◌≤◌, ◌^◌, List, [], ◌∷◌, ◌++◌, Bool, true, false, cond, Option, Some, None, length, refl, sym, ap, subst, inl, inr, arith}
-use Rattle.std.specs.Prelude.{◌⊎◌, ◌==◌, if◌then◌else◌}
-use Rattle.std.specs.List.{AllByRecursion, flat_map}
+use Rattle.std.proofs.Common.{◌≡◌, ◌∙◌, ℕ, ◌+◌, ◌<◌, ◌≤◌, ◌^◌, List, [], ◌∷◌, ◌++◌, Bool, true, false, cond, Option, Some, None, length, refl, ap, subst, inl, inr, arith}
+use Rattle.std.specs.Prelude.{◌⊎◌}
+use Rattle.std.specs.List.{AllByRecursion}
 use Rattle.std.proofs.lemmas.Bool.{ltb-true}
-use Rattle.std.proofs.lemmas.Grind.{flat_map-append}
-use Rattle.ix_base.specs.declared.document.Row.{Row}
 use Rattle.ix_base.specs.declared.file_name.FileName.{FileName}
 use Rattle.ix_base.specs.declared.file_name.FileName.TheVariants.{Commit, Pending, Rows, Posts, Live, Values}
 use Rattle.ix_outside.specs.Files.{Files}
@@ -22,7 +20,7 @@ use Rattle.commit_point.specs.Fits.{IdsRise, EntryFits}
 use Rattle.commit_point.specs.Holds.{HasHead, HasSegment, HasSegments, HaveSegments, BirthsDiffer, births_at}
 use Rattle.commit_point.specs.Publishing.{File, IsNoneOf, AreThere, SameBesides, IsWhole as IsAllThere, Publishes, MayPublish}
 use Rattle.commit_point.specs.Spelling.{commit_file}
-use Rattle.commit_point.specs.Writing.{CanWrite, CanCommit, SegmentIdsRise, WrittenUpTo, IsWritten, AreWritten, Commits, MayCommit, is_alive, listed, version, row_files, files_of, commit_files, entry_of, entries_of, new_head}
+use Rattle.commit_point.specs.Writing.{CanWrite, CanCommit, SegmentIdsRise, WrittenUpTo, IsWritten, AreWritten, Commits, MayCommit, is_alive, listed, files_of, commit_files, entry_of, entries_of, new_head}
 use Rattle.commit_point.proofs.Counting.{live_first}
 use Rattle.commit_point.proofs.Names.{own, there_append, none_own, none_both, none_before, elsewhere_of}
 

@@ -9,9 +9,7 @@ use crate::heads::Head;
 use crate::tests_files::small;
 use crate::write::write_commit;
 use crate::written::Written;
-use ix_base::{
-    Document, FileName, List, Name, Postings, Row, Spots, Term, TermPostings, Text,
-};
+use ix_base::{Document, FileName, List, Name, Postings, Row, Spots, Term, TermPostings, Text};
 use ix_memory::{FuseStore, SteadyStore};
 use ix_outside::Store;
 use live_docs::LiveDocs;
@@ -99,7 +97,8 @@ fn two_rows(alloc: Global, live: LiveDocs) -> Result<LiveSegment, Fail>
 /// What stands on the store of a segment whose live docs the commit `v` wrote, when all its rows
 /// were live.
 fn written_with(alloc: Global, v: u64, rows: u32) -> Result<Option<Written>, Fail>
-    ensures { IfOk result (λ written. (s : ℕ) → 1 ≤ v → v ≤ s → WrittenUpTo s written) }
+    requires { (1 ≤ v) × (v ≤ 4) }
+    ensures { IfOk result (WrittenUpTo 4) }
 {
     let live = LiveDocs::new(alloc, rows, v)?;
     Ok(Some(Written { v, live }))

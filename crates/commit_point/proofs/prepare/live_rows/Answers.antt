@@ -1,4 +1,4 @@
-use Rattle.std.proofs.Common.{rules, ◌∙◌}
+use Rattle.std.proofs.Common.{rules}
 use Rattle.ix_base.specs.WriteLoops.{all_more}
 use Rattle.segment_core.specs.LiveRows.{Lived, IsWhole}
 use Rattle.commit_point.proofs.Counting.{rows_left}
