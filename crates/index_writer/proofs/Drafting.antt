@@ -1,9 +1,9 @@
 -- The draft of a writer's commit: it can be written, and what it says of the store is so.
-use Rattle.std.proofs.Common.{◌≡◌, ◌≢◌, ◌∙◌, ◌⊎◌, inl, inr, ℕ, suc, ◌+◌, ◌<◌, ◌≤◌, ◌^◌, ◌==◌, nat_lt, if◌then◌else◌, cond, Bool, true, false, List, [], ◌∷◌, ◌++◌, Option, Some, None, length, map, refl, sym, ap, subst, arith, length-append, append-nil, append_assoc}
+use Rattle.std.proofs.Common.{◌≡◌, ◌≢◌, ◌∙◌, ◌⊎◌, inl, inr, ℕ, ◌+◌, ◌<◌, ◌≤◌, ◌^◌, ◌==◌, nat_lt, if◌then◌else◌, cond, Bool, true, false, List, [], ◌∷◌, ◌++◌, Option, Some, None, length, map, refl, sym, ap, subst, arith, length-append, append-nil, append_assoc}
 use Rattle.std.specs.List.{AllZip, AllByRecursion}
 use Rattle.std.proofs.lemmas.List.{length-map}
 use Rattle.std.proofs.lemmas.Bool.{eqb-true}
-use borrow.Author.Tests.{ltb-true, ltb-false}
+use Rattle.std.proofs.lemmas.Bool.{ltb-true, ltb-false}
 use Rattle.ix_base.specs.Documents.{Document}
 use Rattle.ix_base.specs.Inversion.{IsInversion}
 use Rattle.ix_base.specs.declared.document.Row.{Row}
@@ -21,9 +21,11 @@ use Rattle.segment_files.specs.PostLaws.{inverted_below}
 use Rattle.commit_point.specs.declared.heads.HeadSegment.{HeadSegment}
 use Rattle.commit_point.specs.declared.written.Written.{Written}
 use Rattle.commit_point.specs.Holds.{HasSegment, HaveSegments, BirthsDiffer, births_at}
-use Rattle.commit_point.specs.Writing.{CanWrite, SegmentIdsRise, WrittenUpTo, IsWritten, AreWritten, IsOldId}
+use Rattle.commit_point.specs.Writing.{CanWrite, CanCommit, SegmentIdsRise, WrittenUpTo, IsWritten, AreWritten, IsOldId}
 use Rattle.index_writer.specs.Drafting.{HasMarks, renewed}
-use Rattle.index_writer.specs.Writing.{written_of}
+use Rattle.index_writer.specs.Storing.{AreStored}
+use Rattle.index_writer.specs.Writing.{IsReady, written_of}
+use Rattle.index_writer.specs.declared.writer.IndexWriter.{IndexWriter}
 use Rattle.index_writer.proofs.Taking.{births_more}
 
 -- ---- the rows in memory
@@ -81,7 +83,7 @@ pub all_added : {X : Type 0} (P : X → Type 0) (xs : List X) (x : X) → AllByR
 all_added P [] x all one = (one, tt)
 all_added P (y ∷ ys) x all one = (all.0, all_added P ys x all.1 one)
 
-births_lower : (low more limit : ℕ) (rows : List Row) → low ≤ more → BirthsRise more limit rows → BirthsRise low limit rows
+pub births_lower : (low more limit : ℕ) (rows : List Row) → low ≤ more → BirthsRise more limit rows → BirthsRise low limit rows
 births_lower low more limit [] le rise = tt
 births_lower low more limit (r ∷ rs) le rise = (omega (arith, rise.0), rise.1, rise.2)
 
@@ -187,7 +189,7 @@ is_written : (files : Files) (s n : ℕ) (e : HeadSegment) (g : Lived) (m : Mark
 is_written files s n e g m le has = (
   omega (arith, has.applied),
   subst (λ (k : ℕ). HasSegment files k (record { id = g.segment.id; rows = length g.segment.rows; written = e.written }) g) (sym has.applied)
-  (subst (λ (x : HeadSegment). HasSegment files s x g) same has),
+      (subst (λ (x : HeadSegment). HasSegment files s x g) same has),
 )
   where
     same : e ≡ record { id = g.segment.id; rows = length g.segment.rows; written = e.written }
@@ -202,14 +204,14 @@ are_written files s n (e ∷ es) (g ∷ gs) [] le have = tt
 are_written files s n (e ∷ es) (g ∷ gs) (m ∷ ms) le have =
     (λ alive. is_written files s n e g m le have.0, are_written files s n es gs ms le have.1)
 
-written_added : (files : Files) (n : ℕ) (gs : List Lived) (ws : List (Option Written)) (g : Lived) → length ws ≡ length gs → AreWritten files n gs ws
+pub written_added : (files : Files) (n : ℕ) (gs : List Lived) (ws : List (Option Written)) (g : Lived) → length ws ≡ length gs → AreWritten files n gs ws
     → AreWritten files n (gs ++ g ∷ []) (ws ++ None ∷ [])
 written_added files n [] [] g same are = (λ alive. tt, tt)
 written_added files n [] (w ∷ ws) g same are = absurd (omega (arith, same))
 written_added files n (x ∷ gs) [] g same are = absurd (omega (arith, same))
 written_added files n (x ∷ gs) (w ∷ ws) g same are = (are.0, written_added files n gs ws g (omega (arith, same)) are.1)
 
-old_ids : (id : ℕ) (es : List HeadSegment) (gs xs : List Lived) → IsOldId xs (written_of es gs) id
+pub old_ids : (id : ℕ) (es : List HeadSegment) (gs xs : List Lived) → IsOldId xs (written_of es gs) id
 old_ids id [] gs [] = tt
 old_ids id [] gs (x ∷ xs) = tt
 old_ids id (e ∷ es) [] [] = tt
@@ -217,10 +219,52 @@ old_ids id (e ∷ es) [] (x ∷ xs) = tt
 old_ids id (e ∷ es) (g ∷ gs) [] = tt
 old_ids id (e ∷ es) (g ∷ gs) (x ∷ xs) = old_ids id es gs xs
 
-old_added : (id : ℕ) (gs : List Lived) (ws : List (Option Written)) (g : Lived) → length ws ≡ length gs → g.segment.id ≢ id → IsOldId gs ws id
+pub old_added : (id : ℕ) (gs : List Lived) (ws : List (Option Written)) (g : Lived) → length ws ≡ length gs → g.segment.id ≢ id → IsOldId gs ws id
     → IsOldId (gs ++ g ∷ []) (ws ++ None ∷ []) id
 old_added id [] [] g same differ old = (differ, tt)
 old_added id [] (w ∷ ws) g same differ old = absurd (omega (arith, same))
 old_added id (x ∷ gs) [] g same differ old = absurd (omega (arith, same))
 old_added id (x ∷ gs) (None ∷ ws) g same differ old = (old.0, old_added id gs ws g (omega (arith, same)) differ old.1)
 old_added id (x ∷ gs) (Some w ∷ ws) g same differ old = old_added id gs ws g (omega (arith, same)) differ old
+
+-- ---- the draft
+
+-- of the last commit's segments alone
+pub renewed_can : (w : IndexWriter) (all : List Marks) → IsReady w
+    → AllZip (Applied (record { after = w.last.number; upto = w.number; updates = w.updates })) w.last.segments all
+    → CanCommit w.number w.last.next_id (renewed w.last.segments all) (written_of w.last.entries w.last.segments)
+renewed_can w all ready zip =
+    let p : Packet = record { after = w.last.number; upto = w.number; updates = w.updates } in
+    let marks = have_marks p w.last.segments all zip in
+    let old = ready.last.can in
+    record {
+      can = can_renewed w.last.number p w.last.segments all ready.not_before old.can zip;
+      ids = ids_renewed 1 w.last.next_id w.last.segments all old.ids;
+      differ = λ b. subst (λ (rs : List Row). births_at b rs ≤ 1) (sym (stored_renewed w.last.segments all marks)) (old.differ b);
+      count = old.count ∙ sym (renewed_count w.last.segments all marks);
+      written = written_more w.last.number w.number (written_of w.last.entries w.last.segments) ready.not_before old.written;
+    }
+
+-- and of a new one
+pub added_can : (w : IndexWriter) (all : List Marks) (g : Lived) → IsReady w
+    → AllZip (Applied (record { after = w.last.number; upto = w.number; updates = w.updates })) w.last.segments all
+    → IsBuilt (born_rows w.buffer) w.updates w.last.next_id w.number g
+    → CanCommit w.number (w.last.next_id + 1) (renewed w.last.segments all ++ g ∷ []) (written_of w.last.entries w.last.segments ++ None ∷ [])
+added_can w all g ready zip built =
+    let p : Packet = record { after = w.last.number; upto = w.number; updates = w.updates } in
+    let marks = have_marks p w.last.segments all zip in
+    let gs = renewed w.last.segments all in
+    let ws = written_of w.last.entries w.last.segments in
+    let old = ready.last.can in
+    let can = renewed_can w all ready zip in
+    record {
+      can = all_added (CanWrite w.number) gs g can.can (can_new (w.last.number + 1) w.last.next_id w.number (born_rows w.buffer) w.updates g built (omega arith) ready.births);
+      ids = ids_added 1 w.last.next_id gs g ready.last.some_id can.ids built.id;
+      differ = differ_added w.last.number w.number gs w.last.segments g (stored_renewed w.last.segments all marks) old.differ old.can (rw built.rows ready.births);
+      count = omega (arith, length-append ws (None ∷ []), length-append gs (g ∷ []), can.count);
+      written = all_added (WrittenUpTo w.number) ws None can.written tt;
+    }
+
+pub renewed_written : (w : IndexWriter) (all : List Marks) (files : Files) → IsReady w → AreStored files w.last
+    → AreWritten files w.number (renewed w.last.segments all) (written_of w.last.entries w.last.segments)
+renewed_written w all files ready stored = are_written files w.last.number w.number w.last.entries w.last.segments all ready.not_before stored

@@ -18,7 +18,7 @@ use Rattle.frozen_packet.specs.Updates.{NumberedUpTo, NumberedWithin, as_operati
 use Rattle.commit_point.specs.declared.open.Opened.{Opened}
 use Rattle.segment_files.specs.Fits.{BirthsRise}
 use Rattle.index_writer.specs.Taking.{TakesParts, DoesParts, rows_for, refusal_for}
-use Rattle.index_writer.specs.Writing.{CanFollow, IsCommitOf, IsReady, Came, StandsFor, Stays, Does, document_of}
+use Rattle.index_writer.specs.Writing.{CanFollow, IsCommitOf, IsReady, Came, Stays, Does, document_of}
 use Rattle.index_writer.specs.declared.writer.IndexWriter.{IndexWriter}
 
 -- ---- births

@@ -44,14 +44,14 @@ ids_rise files s low limit [] [] have rise = tt
 ids_rise files s low limit [] (g ∷ gs) have rise = absurd have
 ids_rise files s low limit (e ∷ es) [] have rise = absurd have
 ids_rise files s low limit (e ∷ es) (g ∷ gs) have rise =
-    let rest = ids_rise files s (e.id + 1) limit es gs have.1 rise.2 in
-    (
+    let rest = ids_rise files s (e.id + 1) limit es gs have.1 rise.2 in (
       omega (arith, have.0.id, rise.0),
       omega (arith, have.0.id, rise.1),
       subst (λ (n : ℕ). SegmentIdsRise (n + 1) limit gs) (sym have.0.id) rest,
     )
 
-as_many : (es : List HeadSegment) (gs : List Lived) → length es ≡ length gs → length (written_of es gs) ≡ length gs
+-- of each segment is said what is on the store of it
+pub as_many : (es : List HeadSegment) (gs : List Lived) → length es ≡ length gs → length (written_of es gs) ≡ length gs
 as_many [] [] same = omega arith
 as_many [] (g ∷ gs) same = absurd (omega (arith, same))
 as_many (e ∷ es) [] same = absurd (omega (arith, same))

@@ -118,12 +118,7 @@ fn renewed_of<R: Threads + Sync>(
 
 /// The draft of a commit's segments with these live docs, of each segment one, in place of their
 /// own.
-fn renew(
-    alloc: Global,
-    number: u64,
-    last: Opened,
-    lives: Vec<LiveDocs>,
-) -> Result<Draft, NoMemory>
+fn renew(alloc: Global, number: u64, last: Opened, lives: Vec<LiveDocs>) -> Result<Draft, NoMemory>
     requires count { length last.entries ≡ length last.segments }
     requires lives { AllZip HasMarks last.segments lives.items }
     ensures number { IfOk result (λ draft. draft.number ≡ number) }

@@ -4,6 +4,7 @@
 
 mod draft;
 mod parts;
+mod publish;
 mod writer;
 
 pub use writer::IndexWriter;

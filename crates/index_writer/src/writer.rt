@@ -13,7 +13,9 @@ ghost use Rattle.index_writer.specs.Writing.{CanFollow, IsCommitOf, IsReady, Sta
 ghost use Rattle.index_writer.specs.Taking.{TakesEntry, TakesParts, DoesParts, refusal_for};
 ghost use Rattle.index_writer.specs.Storing.{Commits, MayCommit, SameBelow, IsOnCommit, Settles};
 
+use crate::draft::draft_of;
 use crate::parts::{own_refusal, parts_of};
+use crate::publish::publish;
 use analysis::analyse;
 use commit_point::Opened;
 use frozen_packet::{Updates, taking_stands};
@@ -84,7 +86,11 @@ impl IndexWriter {
     ///
     /// After an error the writer stands for the rows for which it stood before. A buffer of
     /// 2,147,483,647 documents is full, which is said as out of memory.
-    pub fn apply(&mut self, alloc: Global, operation: Operation) -> Result<Option<Refusal>, NoMemory>
+    pub fn apply(
+        &mut self,
+        alloc: Global,
+        operation: Operation,
+    ) -> Result<Option<Refusal>, NoMemory>
         requires ready { IsReady self.old }
         requires number { self.old.number < 2 ^ 62 }
         ensures refusal { IfOk result (λ told. told ≡ refusal operation) }
@@ -220,6 +226,7 @@ impl IndexWriter {
         ensures later { S.fault_count store.old ≤ S.fault_count store.new }
         ensures failed { result ≡ Err StoreFault.Failed → Rose (S.fault_count store.old) (S.fault_count store.new) }
     {
-        Err(StoreFault::NoMemory)
+        let draft = draft_of(rt, alloc, self)?;
+        publish(alloc, store, draft)
     }
 }

@@ -1,6 +1,5 @@
-use Rattle.std.proofs.Common.{List, subst, sym}
+use Rattle.std.proofs.Common.{List, subst}
 use Rattle.std.specs.List.{AllZip}
-use Rattle.packet_apply.specs.Packets.{Applied}
 use Rattle.segment_core.specs.LiveRows.{Lived}
 use Rattle.index_writer.specs.Drafting.{HasMarks}
 use Rattle.index_writer.proofs.Drafting.{have_marks}

@@ -1,6 +1,4 @@
-use Rattle.std.proofs.Common.{◌≡◌, ◌∙◌, ℕ, ◌+◌, List, refl, ap}
-use Rattle.ix_base.specs.Documents.{Document}
-use Rattle.ram_postings.specs.Buffer.{Staged}
+use Rattle.std.proofs.Common.{◌∙◌, refl}
 use Rattle.index_writer.specs.declared.writer.IndexWriter.{IndexWriter}
 use Rattle.index_writer.proofs.Taking.{staged, on_err, born_added, all_before}
 use Rattle.index_writer.proofs.writer.IndexWriter.add.Goals as goal
