@@ -242,7 +242,8 @@ pub(crate) fn prepare(
     requires count { length written.now ≡ length segments.now }
     requires can { AllByRecursion (CanWrite number) segments.now }
     ensures head { IfOk result (λ commit. commit.head ≡ new_head number next_id segments.now written.now) }
-    ensures bytes { IfOk result (λ commit. commit.bytes ≡ commit_file (new_head number next_id segments.now written.now)) }
+    ensures bytes { let head = new_head number next_id segments.now written.now in
+        IfOk result (λ commit. commit.bytes ≡ commit_file head) }
     ensures files { IfOk result (λ commit. commit.files ≡ commit_files number segments.now written.now) }
     ensures spelling { OnOk result (HaveSpelling segments.now written.now) }
 {

@@ -30,6 +30,7 @@ use std::alloc::Global;
 /// and postings are written where it is new, and live bits and set numbers where they differ from
 /// those written last. Then the commit file is written under its pending name and renamed. Each file
 /// is synced before the next is written, and last the directory.
+/// More live rows than a `u64` can count are refused as out of memory, and nothing is written.
 ///
 /// After an error every file is as before but those that this commit writes, and the commit isn't
 /// there or, where `renamed` is set, is there whole.

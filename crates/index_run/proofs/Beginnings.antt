@@ -1,25 +1,23 @@
 -- The last commit of a store, and what a run finds there.
-use Rattle.std.proofs.Common.{◌≡◌, ◌≢◌, ◌⊎◌, inl, inr, ◌∙◌, ℕ, zero, suc, ◌+◌, ◌-◌, ◌<◌, ◌≤◌, ◌^◌, false, cond, eqb, List, [], ◌∷◌, length, get_or, Ok, Err, Result, refl, sym, ap, subst, arith}
-use Rattle.std.specs.Prelude.{Option, Some, None, IfOk, IsSome, IfSome, AllPairs, Contains, ◌↔◌, slice_get, unwrap_or}
+use Rattle.std.proofs.Common.{◌≡◌, ◌≢◌, ◌⊎◌, inl, inr, ◌∙◌, ℕ, zero, suc, ◌+◌, ◌-◌, ◌<◌, ◌≤◌, ◌^◌, false, cond, eqb, List, [], ◌∷◌, length, get_or, refl, sym, ap, subst, arith}
+use Rattle.std.specs.Prelude.{Option, Some, None, IsPermutation, IsSome, IfSome, AllPairs, Contains, ◌↔◌, slice_get, unwrap_or}
 use Rattle.std.proofs.lemmas.Bool.{cases_lt, eq-eqb}
 use Rattle.std.proofs.lemmas.Bool.Decides.{eqb_tells}
 use Rattle.ix_base.specs.declared.file_name.FileName.TheVariants.{Commit}
 use Rattle.ix_base.specs.declared.document.Row.{Row}
 use Rattle.ix_outside.specs.Files.{Files, Was}
-use Rattle.segment_core.specs.declared.segment.Segment.{Segment}
+use Rattle.segment_core.specs.LiveRows.{Lived}
+use Rattle.segment_files.specs.Fits.{BirthsRise}
 use Rattle.commit_point.specs.declared.heads.HeadSegment.{HeadSegment}
-use Rattle.commit_point.specs.declared.heads.Head.{Head}
-use Rattle.commit_point.specs.Fits.{IdsRise}
-use Rattle.commit_point.specs.Holds.{AreRowsOf, Holds, HasHead, HasSegments, ListsId, IsLawful}
-use Rattle.commit_point.specs.Laws.{one_head}
-use Rattle.commit_point.specs.RowsLaws.{one_rows}
 use Rattle.commit_point.specs.declared.open.Opened.{Opened}
-use Rattle.index_run.specs.declared.stop.Stop.{Stop}
-use Rattle.index_run.specs.declared.writer.Writer.{Writer}
+use Rattle.commit_point.specs.Holds.{HasSegments, Holds, HoldsInverted, IsLawful, Lists}
+use Rattle.index_writer.specs.declared.writer.IndexWriter.{IndexWriter}
+use Rattle.index_writer.specs.Storing.{IsStored}
+use Rattle.index_writer.specs.Writing.{IsCommitOf, StandsFor}
 use Rattle.index_run.specs.Headline.{IsLast, Begins, Starts}
-use Rattle.index_run.specs.Beginning.{last_or_zero, IsOn}
-use Rattle.index_run.specs.Writer.{CanBegin}
-use Rattle.index_run.proofs.Kept.{nat_or}
+use Rattle.index_run.specs.Beginning.{BeginsOn, IsOn, last_or_zero}
+use Rattle.index_run.specs.Doing.{CanBegin, GoesOn, HasLast}
+use Rattle.index_run.proofs.Kept.{listed_below, nat_or}
 use Rattle.index_run.proofs.Searchable.{IsOnInverted}
 
 pub none_of : {A : Type 0} (o : Option A) → (IsSome o → ⊥) → o ≡ None
@@ -105,76 +103,27 @@ last_one files a b p q = elim (nat_or a b) [
         let none : IsSome {T = List ℕ} None = subst (λ (o : Option (List ℕ)). IsSome o) gone (k.there (λ e. absurd (omega (arith, e, lt)))) in
         cc
 
-pub can_begin : (files : Files) (s next : ℕ) (segments : List Segment) (rows : List Row) → s ≤ 2 ^ 61 → HasSegments files s next segments → AreRowsOf s segments rows
-    → CanBegin (record { rows = rows; number = s; next_id = next })
-can_begin files s next segments rows low h are = record {
-  number = low;
-  some_id = omega (arith, h.has_head.fits.next_some, h.next_id);
-  next_id = omega (arith, h.has_head.fits.next, h.next_id);
-  births = are.births;
-}
-
-pub same_writer : (rows rows' : List Row) (base base' next next' : ℕ) → rows ≡ rows' → base ≡ base' → next ≡ next'
-    → (let a : Writer = record { rows = rows; number = base; next_id = next } in let b : Writer = record { rows = rows'; number = base'; next_id = next' } in a ≡ b)
-same_writer rows rows' base base' next next' p q r = cc
-
--- a writer on a commit that was read
-pub begin_ready : (files : Files) (s : ℕ) (opened : Opened) (result : Result Writer Stop) → s ≤ 2 ^ 61 → opened.number ≡ s → HasSegments files s opened.next_id opened.segments
-    → IfOk result (λ writer. (writer.number ≡ opened.number) × (writer.next_id ≡ opened.next_id))
-    → IfOk result (λ writer. (files : Files) (s next : ℕ) → HasSegments files s next opened.segments → AreRowsOf s opened.segments writer.rows) → IfOk result CanBegin
-begin_ready files s opened (Err stop) low is has number rows = tt
-begin_ready files s opened (Ok writer) low is has number rows =
-    subst (λ (w : Writer). CanBegin w) (sym (same_writer writer.rows writer.rows writer.number s writer.next_id opened.next_id refl (number.0 ∙ is) number.1))
-    (can_begin files s opened.next_id opened.segments writer.rows low has (rows files s opened.next_id has))
-
-pub begin_same : (files : Files) (s next : ℕ) (opened : Opened) (rows : List Row) (result : Result Writer Stop) → opened.number ≡ s
-    → (holds : Holds files s next rows) → (opened.next_id ≡ next) × (opened.segments ≡ holds.segments)
-    → IfOk result (λ writer. (writer.number ≡ opened.number) × (writer.next_id ≡ opened.next_id))
-    → IfOk result (λ writer. (files : Files) (s next : ℕ) → HasSegments files s next opened.segments → AreRowsOf s opened.segments writer.rows)
-    → IfOk result (λ writer. writer ≡ record { rows = rows; number = s; next_id = next })
-begin_same files s next opened rows (Err stop) is holds read number are = tt
-begin_same files s next opened rows (Ok writer) is holds read number are =
-    let has : HasSegments files s next opened.segments = subst (λ (gs : List Segment). HasSegments files s next gs) (sym read.1) holds.spelled in
-    let theirs : AreRowsOf s opened.segments rows = subst (λ (gs : List Segment). AreRowsOf s gs rows) (sym read.1) holds.rows_are in
-    same_writer writer.rows rows writer.number s writer.next_id next (one_rows s opened.segments writer.rows rows (are files s next has) theirs) (number.0 ∙ is) (number.1 ∙ read.0)
-
--- ids of one commit file rise below its next id
-in_range : (low limit : ℕ) (segments : List HeadSegment) (k : ℕ) (d : HeadSegment) → IdsRise low limit segments → k < length segments → (get_or segments k d).id < limit
-in_range low limit [] k d rise lt = absurd (omega arith)
-in_range low limit (e ∷ es) zero d rise lt = rise.1
-in_range low limit (e ∷ es) (suc k) d rise lt = in_range (e.id + 1) limit es k d rise.2 (omega arith)
-
-listed_below : (head : Head) (segment : HeadSegment) → IdsRise 1 head.next_id head.segments → Contains head.segments segment → segment.id < head.next_id
-listed_below head segment rise has =
-    subst (λ (e : HeadSegment). e.id < head.next_id) has.2 (in_range 1 head.next_id head.segments has.0 segment rise has.1)
-
 -- a run that begins on a lawful commit, or on nothing, finds no commit above it and no id from its next id on
 pub begins_starts : (files : Files) (base next : ℕ) (rows : List Row) → Begins files base next rows → Starts files base next
 begins_starts files base next rows begins = record {
   none_above = begins.0.none_above;
-  ids_below = λ s id lists. below s id lists begins.1;
+  ids_below = λ s e lists. below s e lists begins.1;
 }
   where
-    not_above : (s id : ℕ) → ListsId files s id → base < s → ⊥
-    not_above s id lists above = let gone = begins.0.none_above s above in let here = lists.has_head.file in cc
+    not_above : (s : ℕ) (e : HeadSegment) → Lists files s e → base < s → ⊥
+    not_above s e lists above = let gone = begins.0.none_above s above in let here = lists.has_head.file in cc
 
-    own_id : (s id : ℕ) → ListsId files s id → Holds files base next rows → s ≡ base → id < next
-    own_id s id lists holds e =
-        let at_base : HasHead files base lists.head = subst (λ (n : ℕ). HasHead files n lists.head) e lists.has_head in
-        let spelled = holds.spelled in
-        let same : lists.head ≡ spelled.head = one_head files base lists.head spelled.head at_base spelled.has_head in
-        let next_is : lists.head.next_id ≡ next = ap (λ (h : Head). h.next_id) same ∙ spelled.next_id in
-        omega (arith, listed_below lists.head lists.segment lists.has_head.fits.ids lists.listed, lists.is, next_is)
-
-    below : (s id : ℕ) → ListsId files s id → ((base ≡ 0) × (next ≡ 1) × (rows ≡ [])) ⊎ ((1 ≤ base) × IsLawful files base next rows) → id < next
-    below s id lists (inl none) =
+    below : (s : ℕ) (e : HeadSegment) → Lists files s e → ((base ≡ 0) × (next ≡ 1) × (rows ≡ [])) ⊎ ((1 ≤ base) × IsLawful files base next rows) → e.id < next
+    below s e lists (inl none) =
         let some = lists.has_head.fits.some in
         let number = lists.has_head.number in
-        absurd (not_above s id lists (omega (arith, none.0, some, number)))
-    below s id lists (inr on) = elim (nat_or s base) [
-      | inl e ↦ own_id s id lists on.1.holds.holds e
-      | inr ne ↦ elim (cases_lt s base) [ inl lt ↦ on.1.above s id lt lists | inr ge ↦ absurd (not_above s id lists (omega (arith, ne, ge))) ]
-    ]
+        absurd (not_above s e lists (omega (arith, none.0, some, number)))
+    below s e lists (inr on) =
+        let holds = on.1.holds.holds in
+        elim (nat_or s base) [
+          | inl is ↦ listed_below files base next holds.entries holds.segments e holds.spelled (subst (λ (n : ℕ). Lists files n e) is lists)
+          | inr ne ↦ elim (cases_lt s base) [ inl lt ↦ on.1.above s e lt lists | inr ge ↦ absurd (not_above s e lists (omega (arith, ne, ge))) ]
+        ]
 
 pub begins_on : (files : Files) (base next : ℕ) (rows : List Row) → Begins files base next rows → IsOn files base next rows
 begins_on files base next rows begins = by_case begins.1
@@ -196,3 +145,58 @@ begins_room files base next rows begins = by_case begins.1
     by_case : ((base ≡ 0) × (next ≡ 1) × (rows ≡ [])) ⊎ ((1 ≤ base) × IsLawful files base next rows) → next ≤ 2 ^ 61
     by_case (inl none) = omega (arith, none.1)
     by_case (inr on) = on.1.room
+
+-- the writer that began there goes on from there
+pub begins_goes_on : (files : Files) (base next : ℕ) (rows : List Row) (w : IndexWriter) → Begins files base next rows → BeginsOn files base next w → CanBegin w → GoesOn files w
+begins_goes_on files base next rows w begins on can =
+    let starts = begins_starts files base next rows begins in
+    let here : Starts files w.last.number next = subst (λ (n : ℕ). Starts files n next) (sym (can.last ∙ on.number)) starts in
+    record { starts = subst (λ (n : ℕ). Starts files w.last.number n) (sym on.next_id) here; last = on.last }
+
+-- what is said of the beginning, said of the writer
+pub at_writer : (P : ℕ → ℕ → Type 0) (files : Files) (base next : ℕ) (w : IndexWriter) → BeginsOn files base next w → P base next → P w.number w.last.next_id
+at_writer P files base next w on h =
+    let here : P w.number next = subst (λ (n : ℕ). P n next) (sym on.number) h in
+    subst (λ (n : ℕ). P w.number n) (sym on.next_id) here
+
+pub from_writer : (P : ℕ → ℕ → Type 0) (files : Files) (base next : ℕ) (w : IndexWriter) → BeginsOn files base next w → P w.number w.last.next_id → P base next
+from_writer P files base next w on h =
+    let here : P base w.last.next_id = subst (λ (n : ℕ). P n w.last.next_id) on.number h in
+    subst (λ (n : ℕ). P base n) on.next_id here
+
+-- ---- a run gives back what the next one asks for
+
+none_born : (rows : List Row) → BirthsRise 1 0 rows → rows ≡ []
+none_born [] rise = refl
+none_born (r ∷ rs) rise = absurd (omega (arith, rise.0, rise.1))
+
+pub begins_again : (files : Files) (w : IndexWriter) (rows : List Row) → w.last.next_id ≤ 2 ^ 61 → GoesOn files w → StandsFor w rows
+    → (before : List Row) × Begins files w.last.number w.last.next_id before
+begins_again files w rows room on stands = (
+  stands.before,
+  (record { there = there on.last; none_above = on.starts.none_above }, by_last on.last),
+)
+  where
+    there : HasLast files w.last → w.last.number ≢ 0 → IsSome (files (Commit w.last.number))
+    there (inl none) some = absurd (some (ap (λ (x : Opened). x.number) none))
+    there (inr has) some = subst (λ (o : Option (List ℕ)). IsSome o) (sym has.1.head.file) refl
+
+    commit : IsCommitOf w.last stands.before
+    commit = stands.came.commit
+
+    by_last : HasLast files w.last → ((w.last.number ≡ 0) × (w.last.next_id ≡ 1) × (stands.before ≡ [])) ⊎ ((1 ≤ w.last.number) × IsLawful files w.last.number w.last.next_id stands.before)
+    by_last (inl none) =
+        let number : w.last.number ≡ 0 = ap (λ (x : Opened). x.number) none in (
+          inl (number, ap (λ (x : Opened). x.next_id) none, none_born stands.before (subst (λ (n : ℕ). BirthsRise 1 n stands.before) number commit.rows_are.births))
+        )
+    by_last (inr has) = inr (
+      has.0,
+      record {
+        holds = record {
+          holds = record { entries = w.last.entries; segments = w.last.segments; spelled = has.1; rows_are = commit.rows_are };
+          inverted = commit.inverted;
+        };
+        room = room;
+        above = λ t e below lists. on.starts.ids_below t e lists;
+      },
+    )

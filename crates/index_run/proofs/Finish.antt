@@ -1,86 +1,101 @@
 -- A script that was done.
-use Rattle.std.proofs.Common.{◌≡◌, ◌∙◌, ◌⊎◌, inl, inr, ℕ, ◌+◌, ◌*◌, Bool, true, false, ◌||◌, eqb, List, [], ◌∷◌, length, Some, None, Ok, Err, Result, refl, sym, ap, subst, arith, Vec}
+use Rattle.std.proofs.Common.{◌≡◌, ◌∙◌, ◌⊎◌, inl, inr, ℕ, ◌+◌, ◌*◌, ◌≤◌, Bool, true, false, ◌||◌, eqb, List, [], ◌∷◌, length, Some, None, Ok, Err, Result, refl, sym, ap, subst, arith, Vec}
 use Rattle.std.specs.Prelude.{Option, IfOk, IfErr}
+use Rattle.std.specs.List.{AllByRecursion}
 use Rattle.std.specs.declared.alloc.Global.{Global}
 use Rattle.ix_base.specs.declared.document.Row.{Row}
 use Rattle.ix_outside.specs.Files.{Files, Changes, onto}
 use Rattle.commit_point.specs.Holds.{KeepsCommits}
+use Rattle.index_writer.specs.declared.writer.IndexWriter.{IndexWriter}
+use Rattle.index_writer.specs.Writing.{StandsFor}
 use Rattle.op_script.specs.Shape.{LinesRise}
 use Rattle.op_script.specs.declared.script.Line.{Line}
-use Rattle.run_report.specs.declared.outcome.Outcome.{Outcome}
-use Rattle.index_run.specs.declared.stop.Stop.{Stop}
-use Rattle.index_run.specs.declared.stop.Stop.TheVariants as stop
 use Rattle.report_text.specs.declared.fault.Fault.{Fault}
 use Rattle.report_text.specs.declared.fault.Fault.TheVariants as fault
 use Rattle.report_text.specs.Faults.{status_of}
-use Rattle.index_run.specs.Causes.{IsOneOf, stop_status}
-use Rattle.index_run.specs.Numbering.{numbered, commit_numbers}
-use Rattle.run_report.specs.Texts.{texts}
-use Rattle.index_run.specs.Outcomes.{outcomes_from}
-use Rattle.index_run.specs.Beginning.{IsOn}
-use Rattle.index_run.specs.Headline.{HasCommits, RunsRight}
-use Rattle.index_run.specs.Script.{DoesScript}
+use Rattle.run_report.specs.declared.outcome.Outcome.{Outcome}
 use Rattle.run_report.specs.Searching.{CanRead, CanSearch}
-use Rattle.index_run.proofs.Far.{has_widen}
+use Rattle.run_report.specs.Texts.{texts}
+use Rattle.index_run.specs.declared.stop.Stop.{Stop}
+use Rattle.index_run.specs.declared.stop.Stop.TheVariants as stop
+use Rattle.index_run.specs.Beginning.{IsOn}
+use Rattle.index_run.specs.Causes.{IsOneOf, stop_status}
+use Rattle.index_run.specs.Doing.{DoesLines, HasRows}
+use Rattle.index_run.specs.Headline.{HasCommits, RunsRight, Starts}
+use Rattle.index_run.specs.Numbering.{numbered, commit_numbers}
+use Rattle.index_run.specs.Outcomes.{IsAskedFor, outcomes_from}
+use Rattle.index_run.specs.Script.{DoesScript}
+use Rattle.index_run.proofs.Kept.{Rowed, has_commits, made_other}
 use Rattle.index_run.proofs.Searchable.{IsOnInverted, can_read, can_search, no_rows, on_rows}
 use Rattle.index_run.proofs.Told.{rows_of, report_is}
 
 abbrev Bytes : Type 0
 Bytes = Vec ℕ Global
 
-abbrev Made : ℕ → ℕ → List Row → List Line → Files → Files → Type 0
-Made base next rows lines = HasCommits base next rows (numbered lines) (commit_numbers base (numbered lines)) (next + length (numbered lines))
+-- the lines of a run whose rows are known leave its commits
+pub commits_of : (w : IndexWriter) (rows : List Row) (lines : List Line) (limit : ℕ) (old new : Files) → w.last.next_id + length (numbered lines) ≤ limit → StandsFor w rows
+    → Starts old w.number w.last.next_id → DoesLines w lines old new → HasCommits w.number w.last.next_id rows (numbered lines) (commit_numbers w.number (numbered lines)) limit old new
+commits_of w rows lines limit old new le for starts does =
+    has_commits w.number w.last.next_id limit rows (numbered lines) (commit_numbers w.number (numbered lines)) old new starts
+    (made_other (HasRows w lines) (Rowed w.number rows (numbered lines)) w.number w.last.next_id (w.last.next_id + length (numbered lines)) limit (commit_numbers w.number (numbered lines)) old new le
+    (λ last s known. known rows for) does.commits)
 
-script_done : (base next : ℕ) (rows : List Row) (lines : List Line) (old new : Files) (outcomes : List Outcome) (text : List ℕ) → LinesRise 1 lines → IsOnInverted old base next rows → outcomes ≡ outcomes_from base rows [] lines
-    → Made base next rows lines old new → KeepsCommits old new → ((by : ℕ → List Row) → CanSearch new by outcomes → text ≡ texts by outcomes) → DoesScript base next rows lines text old new
-script_done base next rows lines old new outcomes text rise on outcomes_are has kept told =
-    let can : CanSearch new (rows_of base rows (numbered lines)) outcomes = subst (λ (os : List Outcome). CanSearch new (rows_of base rows (numbered lines)) os) (sym outcomes_are) (can_search base next rows lines (next + length (numbered lines)) old new on has) in
+script_done : (w : IndexWriter) (rows : List Row) (lines : List Line) (old new : Files) (outcomes : List Outcome) (text : List ℕ) → LinesRise 1 lines → StandsFor w rows
+    → Starts old w.number w.last.next_id → IsOnInverted old w.number w.last.next_id rows → AllByRecursion (IsAskedFor w.number lines) outcomes → outcomes ≡ outcomes_from w.number rows [] lines
+    → DoesLines w lines old new → ((by : ℕ → List Row) → CanSearch new by outcomes → text ≡ texts by outcomes) → DoesScript w.number w.last.next_id rows lines text old new
+script_done w rows lines old new outcomes text rise for starts on asked outcomes_are does told =
+    let base = w.number in
+    let commits = commits_of w rows lines (w.last.next_id + 2 * length (numbered lines)) old new (omega arith) for starts does in
+    let can = can_search base w.last.next_id rows lines (w.last.next_id + 2 * length (numbered lines)) old new outcomes on commits asked in
     record {
-      commits = has_widen base next rows (numbered lines) (commit_numbers base (numbered lines)) (next + length (numbered lines)) (next + 2 * length (numbered lines)) (Some old) (Some new) (omega arith) has;
-      kept = kept;
-      text_is = told (rows_of base rows (numbered lines)) can ∙ ap (λ (os : List Outcome). texts (rows_of base rows (numbered lines)) os) outcomes_are ∙ sym (report_is base rows lines rise (no_rows old base next rows (on_rows old base next rows on)));
+      commits = commits;
+      kept = does.kept starts;
+      text_is = told (rows_of base rows (numbered lines)) can ∙ ap (λ (os : List Outcome). texts (rows_of base rows (numbered lines)) os) outcomes_are
+          ∙ sym (report_is base rows lines rise (no_rows old base w.last.next_id rows (on_rows old base w.last.next_id rows on)));
     }
 
 -- the same where the store goes on telling its files
-pub done_in : (base next : ℕ) (rows : List Row) (lines : List Line) (files : Files) (start began did now : Option Files) (outcomes : List Outcome) (result : Result Bytes Stop)
-    → start ≡ Some files → began ≡ start → now ≡ did → LinesRise 1 lines → IsOnInverted files base next rows → outcomes ≡ outcomes_from base rows [] lines
-    → Changes (Made base next rows lines) began did → Changes KeepsCommits began did
+pub done_in : (w : IndexWriter) (rows : List Row) (lines : List Line) (files : Files) (start began did now : Option Files) (outcomes : List Outcome) (result : Result Bytes Stop)
+    → start ≡ Some files → began ≡ start → now ≡ did → LinesRise 1 lines → StandsFor w rows → Starts files w.number w.last.next_id → IsOnInverted files w.number w.last.next_id rows
+    → AllByRecursion (IsAskedFor w.number lines) outcomes → outcomes ≡ outcomes_from w.number rows [] lines
+    → Changes (DoesLines w lines) began did
     → ((f : Files) (by : ℕ → List Row) → did ≡ Some f → CanSearch f by outcomes → IfOk result (λ bytes. bytes.items ≡ texts by outcomes))
-    → IfOk result (λ bytes. Changes (DoesScript base next rows lines bytes.items) start now)
-done_in base next rows lines files start began did now outcomes (Err stop) told same last rise on outcomes_are has kept text = tt
-done_in base next rows lines files start began did now outcomes (Ok bytes) told same last rise on outcomes_are has kept text =
-    subst (λ (o : Option Files). Changes (DoesScript base next rows lines bytes.items) o now) same
-    (subst (λ (o : Option Files). Changes (DoesScript base next rows lines bytes.items) began o) (sym last) (by_store began did (same ∙ told) has kept text))
+    → IfOk result (λ bytes. Changes (DoesScript w.number w.last.next_id rows lines bytes.items) start now)
+done_in w rows lines files start began did now outcomes (Err stop) told same last rise for starts on asked outcomes_are does text = tt
+done_in w rows lines files start began did now outcomes (Ok bytes) told same last rise for starts on asked outcomes_are does text =
+    subst (λ (o : Option Files). Changes (DoesScript w.number w.last.next_id rows lines bytes.items) o now) same
+    (subst (λ (o : Option Files). Changes (DoesScript w.number w.last.next_id rows lines bytes.items) began o) (sym last) (by_store began did (same ∙ told) does text))
   where
-    by_store : (began did : Option Files) → began ≡ Some files → Changes (Made base next rows lines) began did → Changes KeepsCommits began did
+    by_store : (began did : Option Files) → began ≡ Some files → Changes (DoesLines w lines) began did
         → ((f : Files) (by : ℕ → List Row) → did ≡ Some f → CanSearch f by outcomes → bytes.items ≡ texts by outcomes)
-        → Changes (DoesScript base next rows lines bytes.items) began did
-    by_store None did t h k text = tt
-    by_store (Some x) None t h k text = absurd h
-    by_store (Some x) (Some y) t h k text =
-        let is : x ≡ files = cc in
-        script_done base next rows lines x y outcomes bytes.items rise (subst (λ (f : Files). IsOnInverted f base next rows) (sym is) on) outcomes_are h k (λ by can. text y by refl can)
+        → Changes (DoesScript w.number w.last.next_id rows lines bytes.items) began did
+    by_store None did t h text = tt
+    by_store (Some x) None t h text = absurd h
+    by_store (Some x) (Some y) t h text =
+        let is : files ≡ x = cc in
+        script_done w rows lines x y outcomes bytes.items rise for (subst (λ (f : Files). Starts f w.number w.last.next_id) is starts)
+        (subst (λ (f : Files). IsOnInverted f w.number w.last.next_id rows) is on) asked outcomes_are h (λ by can. text y by refl can)
 
 -- what is read after the lines were done is there
-pub whole_in : (base next : ℕ) (rows : List Row) (lines : List Line) (files : Files) (start began did : Option Files) (outcomes : List Outcome) (result : Result Bytes Stop)
-    → start ≡ Some files → began ≡ start → IsOn files base next rows → outcomes ≡ outcomes_from base rows [] lines → Changes (Made base next rows lines) began did
+pub whole_in : (w : IndexWriter) (rows : List Row) (lines : List Line) (files : Files) (start began did : Option Files) (outcomes : List Outcome) (result : Result Bytes Stop)
+    → start ≡ Some files → began ≡ start → IsOn files w.number w.last.next_id rows → AllByRecursion (IsAskedFor w.number lines) outcomes → Changes (DoesLines w lines) began did
     → ((f : Files) → did ≡ Some f → CanRead f outcomes → IfErr result (λ s. (s ≡ stop.Fault fault.Store) ⊎ (s ≡ stop.NoMemory)))
     → IfErr result (λ s. IsOneOf (stop_status s) (4 ∷ 7 ∷ []))
-whole_in base next rows lines files start began did outcomes (Ok bytes) told same on outcomes_are has whole = tt
-whole_in base next rows lines files start began did outcomes (Err s) told same on outcomes_are has whole = by_store began did (same ∙ told) has whole
+whole_in w rows lines files start began did outcomes (Ok bytes) told same on asked does whole = tt
+whole_in w rows lines files start began did outcomes (Err s) told same on asked does whole = by_store began did (same ∙ told) does whole
   where
     listed : (s ≡ stop.Fault fault.Store) ⊎ (s ≡ stop.NoMemory) → IsOneOf (stop_status s) (4 ∷ 7 ∷ [])
     listed (inl e) = subst (λ (x : Stop). IsOneOf (stop_status x) (4 ∷ 7 ∷ [])) (sym e) refl
     listed (inr e) = subst (λ (x : Stop). IsOneOf (stop_status x) (4 ∷ 7 ∷ [])) (sym e) refl
 
-    by_store : (began did : Option Files) → began ≡ Some files → Changes (Made base next rows lines) began did
+    by_store : (began did : Option Files) → began ≡ Some files → Changes (DoesLines w lines) began did
         → ((f : Files) → did ≡ Some f → CanRead f outcomes → (s ≡ stop.Fault fault.Store) ⊎ (s ≡ stop.NoMemory)) → IsOneOf (stop_status s) (4 ∷ 7 ∷ [])
     by_store None did t h whole = absurd cc
     by_store (Some x) None t h whole = absurd h
     by_store (Some x) (Some y) t h whole =
-        let is : x ≡ files = cc in
-        let can = can_read base next rows lines (next + length (numbered lines)) x y (subst (λ (f : Files). IsOn f base next rows) (sym is) on) h in
-        listed (whole y refl (subst (λ (os : List Outcome). CanRead y os) (sym outcomes_are) can))
+        let is : files ≡ x = cc in
+        listed (whole y refl (can_read (HasRows w lines) w.number w.last.next_id rows lines (w.last.next_id + length (numbered lines)) x y outcomes
+        (subst (λ (f : Files). IsOn f w.number w.last.next_id rows) is on) h.commits asked))
 
 pub kept_in : (start began did now : Option Files) → began ≡ start → now ≡ did → Changes KeepsCommits began did → Changes KeepsCommits start now
 kept_in start began did now same last kept =

@@ -1,214 +1,386 @@
--- What the images of a store have while the lines of a script are done.
-use Rattle.std.proofs.Common.{◌≡◌, ◌⊎◌, inl, inr, ℕ, ◌+◌, ◌<◌, ◌≤◌, ◌^◌, true, List, [], ◌∷◌, ◌++◌, length, take, Some, None, refl, sym, ap, subst, ◌∙◌, append_assoc, arith}
-use Rattle.ix_outside.specs.Crash.{MayHold}
-use Rattle.ix_outside.specs.Disk.{Disk}
+-- What the disk and its images have while the lines of a script are done.
+use Rattle.std.proofs.Common.{◌≡◌, ◌≢◌, ◌⊎◌, inl, inr, ℕ, ◌+◌, ◌<◌, ◌≤◌, ◌^◌, false, List, [], ◌∷◌, ◌++◌, length, take, Some, None, refl, sym, ap, subst, ◌∙◌, append_assoc, arith}
 use Rattle.std.specs.Prelude.{IsSome, Option}
-use Rattle.std.specs.List.{AllByRecursion}
 use Rattle.std.proofs.lemmas.List.{length-append}
 use Rattle.std.proofs.lemmas.List.Elements.{filter-append}
 use Rattle.std.proofs.Math.Seq.{take-append_seam}
-use Rattle.ix_base.specs.declared.document.Operation.{Operation}
 use Rattle.ix_base.specs.declared.document.Operation.TheVariants.{Add, Update, DeleteTerm, DeleteQuery, SetNumber, Commit as CommitOperation}
 use Rattle.ix_base.specs.declared.document.Row.{Row}
 use Rattle.ix_base.specs.declared.file_name.FileName.TheVariants.{Commit}
-use Rattle.ix_base.specs.Refusals.{refusal}
-use Rattle.ix_base.specs.declared.refusal.Refusal.{Refusal}
 use Rattle.ix_outside.specs.Calls.{LeavesOnly}
 use Rattle.ix_outside.specs.CallLaws.{leaves_none, leaves_then}
-use Rattle.ix_outside.specs.Files.{Files, Changes}
-use Rattle.ix_outside.specs.Images.{Follows}
-use Rattle.commit_point.specs.Holds.{KeepsCommits}
-use Rattle.commit_point.specs.Laws.{commit_apart, holds_kept, inverted_kept, other_commit}
-use Rattle.ix_outside.specs.Images.{Reaches}
-use Rattle.commit_point.specs.Writing.{SameElsewhere}
+use Rattle.ix_outside.specs.Crash.{MayHold}
+use Rattle.ix_outside.specs.Disk.{Disk, told_files}
+use Rattle.ix_outside.specs.Files.{Files, Changes, onto, stays, then}
+use Rattle.ix_outside.specs.Images.{Follows, Reaches}
+use Rattle.commit_point.specs.declared.heads.HeadSegment.{HeadSegment}
+use Rattle.commit_point.specs.declared.open.Opened.{Opened}
+use Rattle.commit_point.specs.Holds.{AreKept, HoldsInverted, KeepsCommits, Lists}
+use Rattle.index_writer.specs.declared.writer.IndexWriter.{IndexWriter}
+use Rattle.index_writer.specs.Storing.{AreStored, Commits, IsStored, MayCommit, SameBelow}
+use Rattle.index_writer.specs.Writing.{IsCommitOf, IsReady, StandsFor}
 use Rattle.op_script.specs.declared.script.Line.{Line}
 use Rattle.op_script.specs.declared.script.Act.{Act}
 use Rattle.op_script.specs.declared.script.Act.TheVariants.{Do, Search}
 use Rattle.run_report.specs.declared.outcome.Outcome.{Outcome}
-use Rattle.index_run.specs.declared.writer.Writer.{Writer}
-use Rattle.index_run.specs.Commits.{Commits, MayCommit, next_after}
-use Rattle.index_run.specs.Numbering.{numbered, is_numbered, commit_numbers}
-use Rattle.index_run.specs.Doing.{writer_after, FilesAfter, ImageAfter, MayLeave}
+use Rattle.index_run.specs.Crashes.{HasFront}
+use Rattle.index_run.specs.Doing.{AreMade, CanBegin, DiskAfter, DoesLines, GoesOn, HasLast, HasRows, IsMade, IsOnNext, MakesCommit, MayLeave, WriterAfter, next_number}
 use Rattle.index_run.specs.Headline.{HasCommits, Starts}
-use Rattle.index_run.specs.Crashes.{HasAll, HasFront}
-use Rattle.index_run.proofs.Far.{Far, SoFar, files_line, kept_line, elsewhere_of, has_widen, commits_done}
-use Rattle.index_run.proofs.Kept.{AllBelow, Made, commits_none, kept_more, keeps_itself, nat_or}
+use Rattle.index_run.specs.Numbering.{is_commit, is_numbered, numbered, commit_numbers, rows_at}
+use Rattle.index_run.specs.Outcomes.{number_after, rows_after}
+use Rattle.index_run.proofs.Far.{Far, commits_or, count_commit, last_next, last_same, numbers_more, numbers_same}
+use Rattle.index_run.proofs.Kept.{AllBelow, Rowed, has_commits, keeps_itself, kept_more, listed_below, lists_before, made_more, made_none, made_other, made_still, nat_or}
+use Rattle.index_run.proofs.Log.{number_after-push, rows_after-push, rows_at-front}
 
 -- the first of the script's commits, up to some number
 abbrev pub Front : ℕ → ℕ → List Row → List Line → Files → Files → Type 0
 Front base next rows lines = HasFront base next rows (numbered lines) (next + length (numbered lines))
 
--- the commits of the lines that are done
-pub record Stands (base next : ℕ) (rows : List Row) (lines done : List Line) (limit : ℕ) (old new : Files) : Type 0 where
-  pub commits : SoFar base next rows lines done limit old new
-  pub kept : KeepsCommits old new
+-- what stands in the files, or in an image, after the lines that are done, where the last commit is this one
+pub record Stands (first : IndexWriter) (lines done : List Line) (last : Opened) (old new : Files) : Type 0 where
+  pub commits : AreMade (HasRows first lines) first.number first.last.next_id (commit_numbers first.number (numbered done)) last.next_id old new
+  pub last_is : HasLast new last
+  pub starts : Starts old first.number first.last.next_id → Starts new last.number last.next_id
+  pub kept : Starts old first.number first.last.next_id → KeepsCommits old new
+
+-- ---- the last commit
+
+pub stored_last : (files : Files) (last : Opened) → HasLast files last → AreStored files last
+stored_last files last (inl none) = subst (λ (x : Opened). AreStored files x) (sym none) tt
+stored_last files last (inr on) = on.1.each
+
+-- a run that begins here goes on from here
+pub begins_here : (files : Files) (w : IndexWriter) → CanBegin w → GoesOn files w → Starts files w.number w.last.next_id
+begins_here files w can on = subst (λ (n : ℕ). Starts files n w.last.next_id) can.last on.starts
+
+pub goes_on : (first w : IndexWriter) (lines done : List Line) (old new : Files) → Starts old first.number first.last.next_id → Stands first lines done w.last old new → GoesOn new w
+goes_on first w lines done old new starts stands = record { starts = stands.starts starts; last = stands.last_is }
+
+-- ---- one line more
+
+-- the rows of a commit line's commit are those of the lines up to it
+rows_here : (base : ℕ) (rows : List Row) (lines done rest : List Line) (l : Line) (s : ℕ) → lines ≡ done ++ l ∷ rest → l.act ≡ Do CommitOperation
+    → s ≡ number_after base done + 1 → rows_after base rows done ≡ rows_at base rows (numbered lines) s
+rows_here base rows lines done rest l s is e at =
+    let whole : lines ≡ (done ++ l ∷ []) ++ rest = is ∙ sym (append_assoc done (l ∷ []) rest) in
+    let up_to : s ≡ number_after base (done ++ l ∷ []) = omega (arith, at, number_after-push base done l (rw e refl)) in
+    sym (ap (λ (ls : List Line). rows_at base rows (numbered ls) s) whole ∙ rows_at-front base rows (done ++ l ∷ []) rest s up_to
+    ∙ rows_after-push base rows done l CommitOperation e (rw e refl))
+
+-- the last commit is that of a commit line
+starts_next : (w v : IndexWriter) (mid new : Files) → IsReady w → IsOnNext w v → IsStored new v.last → SameBelow (w.number + 1) w.last.next_id mid new
+    → Starts mid w.last.number w.last.next_id → Starts new v.last.number v.last.next_id
+starts_next w v mid new ready next stored same starts = record {
+  none_above = λ t above. same (Commit t) (λ e. absurd (omega (arith, e, above, next.number))) ∙ starts.none_above t (omega (arith, above, next.number, ready.not_before));
+  ids_below = λ t e lists. elim (nat_or t v.last.number) [
+    | inl is ↦ listed_below new v.last.number v.last.next_id v.last.entries v.last.segments e stored (subst (λ (n : ℕ). Lists new n e) is lists)
+    | inr ne ↦
+        let before = lists_before (w.number + 1) w.last.next_id t mid new e same (λ h. ne (h ∙ sym next.number)) lists in
+        omega (arith, starts.ids_below t e before, next.next_id)
+  ];
+}
+
+stands_commit : (first : IndexWriter) (lines done rest : List Line) (l : Line) (w v : IndexWriter) (lasts : List ℕ) (outcomes : List Outcome) (old mid new : Files)
+    → lines ≡ done ++ l ∷ rest → l.act ≡ Do CommitOperation → IsOnNext w v → Far first lines done w lasts outcomes
+    → Stands first lines done w.last old mid → Commits (next_number w) v mid new → Stands first lines (done ++ l ∷ []) v.last old new
+stands_commit first lines done rest l w v lasts outcomes old mid new is e next far stands made =
+    let s = w.number + 1 in
+    let base = first.number in
+    let at : s ≡ number_after base done + 1 = ap (λ (n : ℕ). n + 1) far.number in
+    let above : base < s = omega (arith, at) in
+    let stored : IsStored new v.last = made.spelled (stored_last mid w.last stands.last_is) in
+    let this : IsMade (HasRows first lines) base first.last.next_id v.last.next_id old new s = record {
+      last = v.last;
+      number = next.number;
+      from_next = omega (arith, far.low, next.next_id);
+      to_limit = omega arith;
+      stored = stored;
+      above = λ starts t x below lists.
+          let before = lists_before s w.last.next_id t mid new x made.elsewhere (λ h. absurd (omega (arith, h, below))) lists in
+          omega (arith, (stands.starts starts).ids_below t x before, next.next_id);
+      known = λ rows for.
+          subst (λ (rs : List Row). IsCommitOf v.last rs) (rows_here base rows lines done rest l s is e at) (next.commit (rows_after base rows done) (far.stands rows for));
+    } in
+    let more = made_more (HasRows first lines) base first.last.next_id s w.last.next_id v.last.next_id (commit_numbers base (numbered done)) old mid new
+    above far.low next.next_id far.below made.elsewhere stands.commits this in
+    record {
+      commits = subst (λ (ns : List ℕ). AreMade (HasRows first lines) base first.last.next_id ns v.last.next_id old new) (sym (numbers_more base done l s e at)) more;
+      last_is = inr (omega (arith, next.number), stored);
+      starts = λ starts. starts_next w v mid new far.ready next stored made.elsewhere (stands.starts starts);
+      kept = λ starts. kept_more base first.last.next_id s w.last.next_id old mid new starts above far.low made.elsewhere (stands.kept starts);
+    }
+
+stands_other : (first : IndexWriter) (lines done : List Line) (l : Line) (last now : Opened) (old new : Files) → is_commit l.act ≡ false → now ≡ last
+    → Stands first lines done last old new → Stands first lines (done ++ l ∷ []) now old new
+stands_other first lines done l last now old new other same stands =
+    subst (λ (x : Opened). Stands first lines (done ++ l ∷ []) x old new) (sym same) (record {
+      commits = subst (λ (ns : List ℕ). AreMade (HasRows first lines) first.number first.last.next_id ns last.next_id old new) (sym (numbers_same first.number done l other)) stands.commits;
+      last_is = stands.last_is;
+      starts = stands.starts;
+      kept = stands.kept;
+    })
+
+-- ---- the disk after one line more
+
+disk_same : (a : Act) (w v : IndexWriter) (old new : Option Disk) → is_commit a ≡ false → DiskAfter a w v old new → new ≡ old
+disk_same (Search q) w v old new other same = same
+disk_same (Do (Add doc)) w v old new other same = same
+disk_same (Do (Update t doc)) w v old new other same = same
+disk_same (Do (DeleteTerm t)) w v old new other same = same
+disk_same (Do (DeleteQuery q)) w v old new other same = same
+disk_same (Do (SetNumber t n x)) w v old new other same = same
+disk_same (Do CommitOperation) w v old new other h = absurd cc
+
+leaves_same : (a : Act) (w : IndexWriter) (rows : List Row) (old new : Files) → is_commit a ≡ false → MayLeave a w rows old new → new ≡ old
+leaves_same (Search q) w rows old new other same = same
+leaves_same (Do (Add doc)) w rows old new other same = same
+leaves_same (Do (Update t doc)) w rows old new other same = same
+leaves_same (Do (DeleteTerm t)) w rows old new other same = same
+leaves_same (Do (DeleteQuery q)) w rows old new other same = same
+leaves_same (Do (SetNumber t n x)) w rows old new other same = same
+leaves_same (Do CommitOperation) w rows old new other h = absurd cc
+
+-- the commit that a line makes
+makes : (a : Act) (w v : IndexWriter) (old new : Option Disk) → a ≡ Do CommitOperation → w.last.next_id < 2 ^ 62 → DiskAfter a w v old new → MakesCommit w v old new
+makes a w v old new commits room h = let here : DiskAfter (Do CommitOperation) w v old new = subst (λ (x : Act). DiskAfter x w v old new) commits h in here room
+
+next_of : (a : Act) (w v : IndexWriter) → a ≡ Do CommitOperation → WriterAfter a w v → IsOnNext w v
+next_of a w v commits h = last_next w v (subst (λ (x : Act). WriterAfter x w v) commits h)
+
+-- the files after one line more
+pub files_more : (first : IndexWriter) (lines done rest : List Line) (l : Line) (w v : IndexWriter) (lasts : List ℕ) (outcomes : List Outcome) (start : Option Files) (mid now : Option Disk)
+    → lines ≡ done ++ l ∷ rest → w.last.next_id < 2 ^ 62 → Far first lines done w lasts outcomes → WriterAfter l.act w v → DiskAfter l.act w v mid now
+    → Changes (Stands first lines done w.last) start (told_files mid) → Changes (Stands first lines (done ++ l ∷ []) v.last) start (told_files now)
+files_more first lines done rest l w v lasts outcomes start mid now is room far after disk stands = elim (commits_or l.act) [
+  | inl e ↦
+      let made = makes l.act w v mid now e room disk in
+      then (Stands first lines done w.last) (Commits (next_number w) v) (Stands first lines (done ++ l ∷ []) v.last) start (told_files mid) (told_files now)
+      (λ x y z. stands_commit first lines done rest l w v lasts outcomes x y z is e (next_of l.act w v e after) far) stands made.made
+  | inr other ↦
+      let same = disk_same l.act w v mid now other disk in
+      subst (λ (d : Option Disk). Changes (Stands first lines (done ++ l ∷ []) v.last) start (told_files d)) (sym same)
+      (onto (Stands first lines done w.last) (Stands first lines (done ++ l ∷ []) v.last) start (told_files mid)
+      (λ x y. stands_other first lines done l w.last v.last x y other (last_same l.act w v other after)) stands)
+]
+
+-- the images after one line more
+pub images_more : (first : IndexWriter) (lines done rest : List Line) (l : Line) (w v : IndexWriter) (lasts : List ℕ) (outcomes : List Outcome) (start : Files → Type 0) (mid now : Option Disk)
+    → lines ≡ done ++ l ∷ rest → w.last.next_id < 2 ^ 62 → Far first lines done w lasts outcomes → WriterAfter l.act w v → DiskAfter l.act w v mid now
+    → Follows (Stands first lines done w.last) start (MayHold mid) → Follows (Stands first lines (done ++ l ∷ []) v.last) start (MayHold now)
+images_more first lines done rest l w v lasts outcomes start mid now is room far after disk stands c image = elim (commits_or l.act) [
+  | inl e ↦
+      let made = makes l.act w v mid now e room disk in
+      let d = made.acknowledged c image in
+      let b = stands d.0 d.1 in
+      (b.0, b.1, stands_commit first lines done rest l w v lasts outcomes b.0 d.0 c is e (next_of l.act w v e after) far b.2 d.2)
+  | inr other ↦
+      let same = disk_same l.act w v mid now other disk in
+      let b = stands c (subst (λ (d : Option Disk). MayHold d c) same image) in
+      (b.0, b.1, stands_other first lines done l w.last v.last b.0 c other (last_same l.act w v other after) b.2)
+]
+
+-- the commits are kept after one line more
+pub settled_more : (first : IndexWriter) (lines done : List Line) (l : Line) (w v : IndexWriter) (files : Files) (start : Files → Type 0) (mid now : Option Disk)
+    → w.last.next_id < 2 ^ 62 → IsReady w → Starts files first.number first.last.next_id → ((d : Files) → start d → Starts d first.number first.last.next_id)
+    → DiskAfter l.act w v mid now → Changes (Stands first lines done w.last) (Some files) (told_files mid) → Follows (Stands first lines done w.last) start (MayHold mid)
+    → ((f : Files) → told_files mid ≡ Some f → AreKept f (MayHold mid)) → (f : Files) → told_files now ≡ Some f → AreKept f (MayHold now)
+settled_more first lines done l w v files start mid now room ready starts image_starts disk stands images settled f told = elim (commits_or l.act) [
+  | inl e ↦ at (told_files mid) refl stands (makes l.act w v mid now e room disk)
+  | inr other ↦
+      let same = disk_same l.act w v mid now other disk in
+      subst (λ (d : Option Disk). AreKept f (MayHold d)) (sym same) (settled f (subst (λ (d : Option Disk). told_files d ≡ Some f) same told))
+]
+  where
+    at : (t : Option Files) → told_files mid ≡ t → Changes (Stands first lines done w.last) (Some files) t → MakesCommit w v mid now → AreKept f (MayHold now)
+    at None is h made = absurd h
+    at (Some m) is h made =
+        let here = h.starts starts in
+        made.settled m f is told
+        (record { none_from = λ t from_s. here.none_above t (omega (arith, from_s, ready.not_before)); ids = here.ids_below })
+        (stored_last m w.last h.last_is)
+        (λ d image. let b = images d image in stored_last d w.last b.2.last_is)
+        (settled m is)
+
+-- ---- a crash
 
 -- the lines that are done are a prefix of the log
-front_of : (base next : ℕ) (rows : List Row) (lines done rest : List Line) (limit : ℕ) (d c : Files) → lines ≡ done ++ rest → limit ≤ next + length (numbered lines)
-    → Stands base next rows lines done limit d c → Front base next rows lines d c
-front_of base next rows lines done rest limit d c is le stands =
+front_of : (first : IndexWriter) (rows : List Row) (lines done rest : List Line) (numbers : List ℕ) (limit : ℕ) (old new : Files) → lines ≡ done ++ rest
+    → numbers ≡ commit_numbers first.number (numbered done) → limit ≤ first.last.next_id + length (numbered lines) → Starts old first.number first.last.next_id
+    → AreMade (Rowed first.number rows (numbered lines)) first.number first.last.next_id numbers limit old new → KeepsCommits old new
+    → Front first.number first.last.next_id rows lines old new
+front_of first rows lines done rest numbers limit old new is numbers_are le starts made kept =
+    let base = first.number in
+    let next = first.last.next_id in
     let front : take (length (numbered done)) (numbered lines) ≡ numbered done =
     ap (λ (ls : List Line). take (length (numbered done)) (numbered ls)) is ∙ ap (λ (ls : List Line). take (length (numbered done)) ls) (filter-append (λ (x : Line). is_numbered x.act) done rest)
     ∙ take-append_seam (numbered done) (numbered rest) in
-    let wide : HasCommits base next rows (numbered lines) (commit_numbers base (numbered done)) (next + length (numbered lines)) d c =
-    has_widen base next rows (numbered lines) (commit_numbers base (numbered done)) limit (next + length (numbered lines)) (Some d) (Some c) le stands.commits in
+    let wide = made_other (Rowed base rows (numbered lines)) (Rowed base rows (numbered lines)) base next limit (next + length (numbered lines)) numbers old new le (λ last s known. known) made in
+    let commits : HasCommits base next rows (numbered lines) numbers (next + length (numbered lines)) old new = has_commits base next (next + length (numbered lines)) rows (numbered lines) numbers old new starts wide in
     record {
       count = length (numbered done);
-      commits = subst (λ (ls : List Line). HasCommits base next rows (numbered lines) (commit_numbers base ls) (next + length (numbered lines)) d c) (sym front) wide;
-      kept = stands.kept;
+      commits = subst (λ (ns : List ℕ). HasCommits base next rows (numbered lines) ns (next + length (numbered lines)) old new)
+          (numbers_are ∙ ap (λ (ls : List Line). commit_numbers base ls) (sym front)) commits;
+      kept = kept;
     }
-
--- ---- an image after a line
-
-after_of : (w : Writer) (a : Act) (d c : Files) → ImageAfter w a d c → FilesAfter w a (Some d) (Some c)
-after_of w (Search q) d c same = ap (λ (f : Files). Some f) same
-after_of w (Do (Add doc)) d c same = ap (λ (f : Files). Some f) same
-after_of w (Do (Update t doc)) d c same = ap (λ (f : Files). Some f) same
-after_of w (Do (DeleteTerm t)) d c same = ap (λ (f : Files). Some f) same
-after_of w (Do (DeleteQuery q)) d c same = ap (λ (f : Files). Some f) same
-after_of w (Do (SetNumber t n v)) d c same = ap (λ (f : Files). Some f) same
-after_of w (Do CommitOperation) d c made = λ room. made
-
--- a line that did nothing leaves each image as it is
-pub may_stay : (w : Writer) (a : Act) (c : Files) → MayLeave w a c c
-may_stay w (Search q) c = refl
-may_stay w (Do (Add doc)) c = refl
-may_stay w (Do (Update t doc)) c = refl
-may_stay w (Do (DeleteTerm t)) c = refl
-may_stay w (Do (DeleteQuery q)) c = refl
-may_stay w (Do (SetNumber t n v)) c = refl
-may_stay w (Do CommitOperation) c = record { elsewhere = λ name x y z. refl; whole = inl refl }
-
--- so does one that was refused, and no commit is
-pub image_stays : (w : Writer) (op : Operation) (r : Refusal) → refusal op ≡ Some r → (c : Files) → ImageAfter w (Do op) c c
-image_stays w (Add doc) r is c = refl
-image_stays w (Update t doc) r is c = refl
-image_stays w (DeleteTerm t) r is c = refl
-image_stays w (DeleteQuery q) r is c = refl
-image_stays w (SetNumber t n v) r is c = refl
-image_stays w CommitOperation r is c = absurd cc
-
-stands_line : (base next : ℕ) (rows : List Row) (lines done rest : List Line) (l : Line) (a : Act) (w : Writer) (lasts : List ℕ) (outcomes : List Outcome) (d e c : Files)
-    → lines ≡ done ++ l ∷ rest → l.act ≡ a → w.next_id < 2 ^ 62 → Far base next rows done w lasts outcomes → Starts d base next
-    → Stands base next rows lines done w.next_id d e → ImageAfter w a e c → Stands base next rows lines (done ++ l ∷ []) (writer_after w a).next_id d c
-stands_line base next rows lines done rest l a w lasts outcomes d e c is act room far starts stands image =
-    let after = after_of w a e c image in
-    record {
-      commits = files_line base next rows lines done rest l a w lasts outcomes (Some d) (Some e) (Some c) is act room far after stands.commits;
-      kept = kept_line base next (w.number + 1) w.next_id d (Some d) (Some e) (Some c) refl starts (omega (arith, far.number)) far.low (elsewhere_of w a (Some e) (Some c) room after) stands.kept;
-    }
-
-each_still : (base next : ℕ) (rows : List Row) (log : List Line) (ns : List ℕ) (s id limit : ℕ) (old new : Files) → limit ≤ id → SameElsewhere s (id ∷ []) old new → AllBelow s ns
-    → AllByRecursion (Made base next rows log limit old) ns → AllByRecursion (Made base next rows log limit new) ns
-each_still base next rows log [] s id limit old new le same below each = tt
-each_still base next rows log (n ∷ ns) s id limit old new le same below each = (
-  (each.0.0, each.0.1, each.0.2, inverted_kept n each.0.0 s (id ∷ []) _ old new (omega (arith, each.0.2, le), tt) (λ e. absurd (omega (arith, e, below.0))) same each.0.3),
-  each_still base next rows log ns s id limit old new le same below.1 each.1,
-)
-
--- files of a commit that was not made change no other
-commits_still : (base next : ℕ) (rows : List Row) (log : List Line) (ns : List ℕ) (s id limit : ℕ) (old mid new : Files) → base < s → next ≤ id → limit ≤ id
-    → AllBelow s ns → SameElsewhere s (id ∷ []) mid new → new (Commit s) ≡ mid (Commit s) → HasCommits base next rows log ns limit old mid → HasCommits base next rows log ns limit old new
-commits_still base next rows log ns s id limit old mid new above from_next le below same commit has = record {
-  each = each_still base next rows log ns s id limit mid new le same below has.each;
-  only = λ t there. elim (nat_or t s) [
-    | inl e ↦ has.only t (subst (λ (o : Option (List ℕ)). IsSome o) (ap (λ (k : ℕ). new (Commit k)) e ∙ commit ∙ sym (ap (λ (k : ℕ). mid (Commit k)) e)) there)
-    | inr ne ↦ has.only t (subst (λ (o : Option (List ℕ)). IsSome o) (same (Commit t) (commit_apart t (id ∷ [])) (λ e. cc) (other_commit t s ne)) there)
-  ];
-  older = λ t n held low small was. inverted_kept t n s (id ∷ []) held mid new (omega (arith, small, from_next), tt) (λ e. absurd (omega (arith, e, low, above))) same (has.older t n held low small was);
-  older_rows = λ t n held low small was. holds_kept t n s (id ∷ []) held mid new (omega (arith, small, from_next), tt) (λ e. absurd (omega (arith, e, low, above))) same (has.older_rows t n held low small was);
-}
 
 -- the ids taken so far are as many as the numbered lines at most
 ids_left : (lines done rest : List Line) → lines ≡ done ++ rest → length (numbered lines) ≡ length (numbered done) + length (numbered rest)
 ids_left lines done rest is =
     ap (λ (ls : List Line). length (numbered ls)) is ∙ ap (λ (ls : List Line). length ls) (filter-append (λ (x : Line). is_numbered x.act) done rest) ∙ length-append (numbered done) (numbered rest)
 
-one_more : (l : Line) (rest : List Line) → is_numbered l.act ≡ true → length (numbered (l ∷ rest)) ≡ length (numbered rest) + 1
-one_more l rest one = rw one (omega arith)
+rowed : (first : IndexWriter) (rows : List Row) (lines : List Line) (numbers : List ℕ) (limit : ℕ) (old new : Files) → StandsFor first rows
+    → AreMade (HasRows first lines) first.number first.last.next_id numbers limit old new → AreMade (Rowed first.number rows (numbered lines)) first.number first.last.next_id numbers limit old new
+rowed first rows lines numbers limit old new for made =
+    made_other (HasRows first lines) (Rowed first.number rows (numbered lines)) first.number first.last.next_id limit limit numbers old new (omega arith) (λ last s known. known rows for) made
 
-next-le : (id : ℕ) (rows : List Row) → next_after id rows ≤ id + 1
-next-le id [] = omega arith
-next-le id (r ∷ rows) = omega arith
+front_stands : (first : IndexWriter) (rows : List Row) (lines done rest : List Line) (w : IndexWriter) (lasts : List ℕ) (outcomes : List Outcome) (old new : Files) → lines ≡ done ++ rest
+    → StandsFor first rows → Starts old first.number first.last.next_id → Far first lines done w lasts outcomes → Stands first lines done w.last old new
+    → Front first.number first.last.next_id rows lines old new
+front_stands first rows lines done rest w lasts outcomes old new is for starts far stands =
+    front_of first rows lines done rest (commit_numbers first.number (numbered done)) w.last.next_id old new is refl (omega (arith, far.high, ids_left lines done rest is)) starts
+    (rowed first rows lines (commit_numbers first.number (numbered done)) w.last.next_id old new for stands.commits) (stands.kept starts)
 
 -- a crash while a commit is made
-commit_line : (base next : ℕ) (rows : List Row) (lines done rest : List Line) (l : Line) (w : Writer) (lasts : List ℕ) (outcomes : List Outcome) (d e c : Files)
-    → lines ≡ done ++ l ∷ rest → l.act ≡ Do CommitOperation → w.next_id < 2 ^ 62 → Far base next rows done w lasts outcomes → Starts d base next
-    → Stands base next rows lines done w.next_id d e → MayCommit (w.number + 1) w.next_id w.rows e c → Front base next rows lines d c
-commit_line base next rows lines done rest l w lasts outcomes d e c is act room far starts stands image = by_case image.whole
+front_commit : (first : IndexWriter) (rows : List Row) (lines done rest : List Line) (l : Line) (w : IndexWriter) (lasts : List ℕ) (outcomes : List Outcome) (old mid new : Files)
+    → lines ≡ done ++ l ∷ rest → l.act ≡ Do CommitOperation → StandsFor first rows → Starts old first.number first.last.next_id → Far first lines done w lasts outcomes
+    → Stands first lines done w.last old mid → MayCommit (next_number w) (rows_after first.number rows done) mid new → Front first.number first.last.next_id rows lines old new
+front_commit first rows lines done rest l w lasts outcomes old mid new is e for starts far stands may = by_case (may.whole (stored_last mid w.last stands.last_is))
   where
-    by_case : (c (Commit (w.number + 1)) ≡ e (Commit (w.number + 1))) ⊎ Commits (w.number + 1) w.next_id w.rows e c → Front base next rows lines d c
+    at : w.number + 1 ≡ number_after first.number done + 1
+    at = ap (λ (n : ℕ). n + 1) far.number
+
+    by_case : (new (Commit (w.number + 1)) ≡ mid (Commit (w.number + 1)))
+        ⊎ ((id : ℕ) × (w.last.next_id ≤ id) × (id ≤ w.last.next_id + 1) × HoldsInverted new (w.number + 1) id (rows_after first.number rows done))
+        → Front first.number first.last.next_id rows lines old new
     by_case (inl same) =
-        front_of base next rows lines done (l ∷ rest) w.next_id d c is (omega (arith, far.high, ids_left lines done (l ∷ rest) is)) (record {
-          commits = commits_still base next rows (numbered lines) (commit_numbers base (numbered done)) (w.number + 1) w.next_id w.next_id d e c (omega (arith, far.number)) far.low (omega arith) far.below image.elsewhere same stands.commits;
-          kept = kept_more base next (w.number + 1) w.next_id d e c starts (omega (arith, far.number)) far.low image.elsewhere stands.kept;
-        })
-    by_case (inr made) =
-        let whole : lines ≡ (done ++ l ∷ []) ++ rest = is ∙ sym (append_assoc done (l ∷ []) rest) in
-        let one = one_more l rest (ap is_numbered act) in
-        front_of base next rows lines (done ++ l ∷ []) rest (next_after w.next_id w.rows) d c whole (omega (arith, far.high, next-le w.next_id w.rows, ids_left lines done (l ∷ rest) is, one))
-        (stands_line base next rows lines done rest l (Do CommitOperation) w lasts outcomes d e c is act room far starts stands made)
+        let numbers = commit_numbers first.number (numbered done) in
+        let known = rowed first rows lines numbers w.last.next_id old mid for stands.commits in
+        front_of first rows lines done (l ∷ rest) numbers w.last.next_id old new is refl (omega (arith, far.high, ids_left lines done (l ∷ rest) is)) starts
+        (made_still (Rowed first.number rows (numbered lines)) first.number first.last.next_id (w.number + 1) w.last.next_id numbers old mid new (omega (arith, at)) far.low far.below may.elsewhere same known)
+        (kept_more first.number first.last.next_id (w.number + 1) w.last.next_id old mid new starts (omega (arith, at)) far.low may.elsewhere (stands.kept starts))
+    by_case (inr whole) =
+        let numbers = commit_numbers first.number (numbered done) in
+        let id = whole.0 in
+        let holds = whole.3 in
+        let known = rowed first rows lines numbers w.last.next_id old mid for stands.commits in
+        let rows_are = rows_here first.number rows lines done rest l (w.number + 1) is e at in
+        let this : IsMade (Rowed first.number rows (numbered lines)) first.number first.last.next_id id old new (w.number + 1) = record {
+          last = record { number = w.number + 1; next_id = id; entries = holds.holds.entries; segments = holds.holds.segments };
+          number = refl;
+          from_next = omega (arith, far.low, whole.1);
+          to_limit = omega arith;
+          stored = holds.holds.spelled;
+          above = λ given t x below lists.
+              let before = lists_before (w.number + 1) w.last.next_id t mid new x may.elsewhere (λ h. absurd (omega (arith, h, below))) lists in
+              omega (arith, (stands.starts given).ids_below t x before, whole.1);
+          known = subst (λ (rs : List Row). IsCommitOf (record { number = w.number + 1; next_id = id; entries = holds.holds.entries; segments = holds.holds.segments }) rs) rows_are
+              (record { rows_are = holds.holds.rows_are; inverted = holds.inverted });
+        } in
+        let more = made_more (Rowed first.number rows (numbered lines)) first.number first.last.next_id (w.number + 1) w.last.next_id id numbers old mid new
+        (omega (arith, at)) far.low whole.1 far.below may.elsewhere known this in
+        let left = ids_left lines (done ++ l ∷ []) rest (is ∙ sym (append_assoc done (l ∷ []) rest)) in
+        front_of first rows lines (done ++ l ∷ []) rest (numbers ++ (w.number + 1) ∷ []) id old new (is ∙ sym (append_assoc done (l ∷ []) rest)) (sym (numbers_more first.number done l (w.number + 1) e at))
+        (omega (arith, far.high, left, count_commit done l e, whole.2)) starts more
+        (kept_more first.number first.last.next_id (w.number + 1) w.last.next_id old mid new starts (omega (arith, at)) far.low may.elsewhere (stands.kept starts))
 
--- a crash while a line is done leaves the first of the commits
-front_line : (base next : ℕ) (rows : List Row) (lines done rest : List Line) (l : Line) (a : Act) (w : Writer) (lasts : List ℕ) (outcomes : List Outcome) (d e c : Files)
-    → lines ≡ done ++ l ∷ rest → l.act ≡ a → w.next_id < 2 ^ 62 → Far base next rows done w lasts outcomes → Starts d base next
-    → Stands base next rows lines done w.next_id d e → MayLeave w a e c → Front base next rows lines d c
-front_line base next rows lines done rest l a w lasts outcomes d e c is act room far starts stands = by_act a act
+-- a crash while a line is done
+front_line : (first : IndexWriter) (rows : List Row) (lines done rest : List Line) (l : Line) (w : IndexWriter) (lasts : List ℕ) (outcomes : List Outcome) (old mid new : Files)
+    → lines ≡ done ++ l ∷ rest → StandsFor first rows → Starts old first.number first.last.next_id → Far first lines done w lasts outcomes
+    → Stands first lines done w.last old mid → MayLeave l.act w (rows_after first.number rows done) mid new → Front first.number first.last.next_id rows lines old new
+front_line first rows lines done rest l w lasts outcomes old mid new is for starts far stands left = elim (commits_or l.act) [
+  | inl e ↦
+      front_commit first rows lines done rest l w lasts outcomes old mid new is e for starts far stands
+      (subst (λ (x : Act). MayLeave x w (rows_after first.number rows done) mid new) e left)
+  | inr other ↦
+      let same = leaves_same l.act w (rows_after first.number rows done) mid new other left in
+      subst (λ (f : Files). Front first.number first.last.next_id rows lines old f) (sym same) (front_stands first rows lines done (l ∷ rest) w lasts outcomes old mid is for starts far stands)
+]
+
+pub crash_more : (first : IndexWriter) (rows : List Row) (lines done rest : List Line) (l : Line) (w : IndexWriter) (lasts : List ℕ) (outcomes : List Outcome) (start mid now : Option Disk)
+    → lines ≡ done ++ l ∷ rest → StandsFor first rows → ((d : Files) → MayHold start d → Starts d first.number first.last.next_id) → Far first lines done w lasts outcomes
+    → Follows (Stands first lines done w.last) (MayHold start) (MayHold mid)
+    → LeavesOnly start mid (Reaches (Front first.number first.last.next_id rows lines) (MayHold start))
+    → LeavesOnly mid now (Reaches (MayLeave l.act w (rows_after first.number rows done)) (MayHold mid))
+    → LeavesOnly start now (Reaches (Front first.number first.last.next_id rows lines) (MayHold start))
+crash_more first rows lines done rest l w lasts outcomes start mid now is for starts far stands before during =
+    leaves_then start mid now (Reaches (Front first.number first.last.next_id rows lines) (MayHold start)) (Reaches (MayLeave l.act w (rows_after first.number rows done)) (MayHold mid))
+    (Reaches (Front first.number first.last.next_id rows lines) (MayHold start)) before during (λ c front. front)
+    (λ c left.
+    let d = stands left.0 left.1 in
+    (d.0, d.1, front_line first rows lines done rest l w lasts outcomes d.0 left.0 c is for (starts d.0 d.1) far d.2 left.2))
+
+-- ---- at the beginning, and at the end
+
+pub stands_none : (first : IndexWriter) (lines : List Line) (files : Files) → CanBegin first → HasLast files first.last → Stands first lines [] first.last files files
+stands_none first lines files can last = record {
+  commits = made_none (HasRows first lines) first.number first.last.next_id files;
+  last_is = last;
+  starts = λ starts. subst (λ (n : ℕ). Starts files n first.last.next_id) (sym can.last) starts;
+  kept = λ starts. keeps_itself files;
+}
+
+pub files_start : (first : IndexWriter) (lines : List Line) (start : Option Files) (files : Files) → CanBegin first → start ≡ Some files → HasLast files first.last
+    → Changes (Stands first lines [] first.last) start start
+files_start first lines None files can told last = absurd cc
+files_start first lines (Some x) files can told last = let is : files ≡ x = cc in subst (λ (f : Files). Stands first lines [] first.last f f) is (stands_none first lines files can last)
+
+pub images_start : (first : IndexWriter) (lines : List Line) (start : Files → Type 0) → CanBegin first → ((d : Files) → start d → HasLast d first.last)
+    → Follows (Stands first lines [] first.last) start start
+images_start first lines start can last c image = (c, image, stands_none first lines c can (last c image))
+
+pub crash_start : (first : IndexWriter) (rows : List Row) (lines : List Line) (start : Option Disk) → CanBegin first → StandsFor first rows
+    → ((d : Files) → MayHold start d → GoesOn d first) → LeavesOnly start start (Reaches (Front first.number first.last.next_id rows lines) (MayHold start))
+crash_start first rows lines start can for on =
+    leaves_none start (Reaches (Front first.number first.last.next_id rows lines) (MayHold start)) (λ c image.
+    let here = on c image in
+    let starts = begins_here c first can here in
+    (c, image, front_of first rows lines [] lines [] first.last.next_id c c refl refl (omega arith) starts
+    (made_none (Rowed first.number rows (numbered lines)) first.number first.last.next_id c) (keeps_itself c)))
+
+-- the commits that were there stay through one line more, also where it fails
+pub kept_err : (first w : IndexWriter) (lines done : List Line) (lasts : List ℕ) (outcomes : List Outcome) (files : Files) (start mid now : Option Files) → start ≡ Some files
+    → Starts files first.number first.last.next_id → Far first lines done w lasts outcomes
+    → Changes (Stands first lines done w.last) start mid → Changes (SameBelow (w.number + 1) w.last.next_id) mid now → Changes KeepsCommits start now
+kept_err first w lines done lasts outcomes files start mid now told starts far stands same =
+    let both = then (Stands first lines done w.last) (SameBelow (w.number + 1) w.last.next_id) (λ x z. Starts x first.number first.last.next_id → KeepsCommits x z) (Some files) mid now
+    (λ x y z h e begins. kept_more first.number first.last.next_id (w.number + 1) w.last.next_id x y z begins (omega (arith, far.number)) far.low e (h.kept begins))
+    (subst (λ (o : Option Files). Changes (Stands first lines done w.last) o mid) told stands) same in
+    subst (λ (o : Option Files). Changes KeepsCommits o now) (sym told) (at now both)
   where
-    before : c ≡ e → Front base next rows lines d c
-    before same =
-        let le : w.next_id ≤ next + length (numbered lines) = omega (arith, far.high, ids_left lines done (l ∷ rest) is) in
-        subst (λ (f : Files). Front base next rows lines d f) (sym same) (front_of base next rows lines done (l ∷ rest) w.next_id d e is le stands)
+    at : (now : Option Files) → Changes (λ x z. Starts x first.number first.last.next_id → KeepsCommits x z) (Some files) now → Changes KeepsCommits (Some files) now
+    at None h = h
+    at (Some z) h = h starts
 
-    by_act : (b : Act) → l.act ≡ b → MayLeave w b e c → Front base next rows lines d c
-    by_act (Search q) act same = before same
-    by_act (Do (Add doc)) act same = before same
-    by_act (Do (Update t doc)) act same = before same
-    by_act (Do (DeleteTerm t)) act same = before same
-    by_act (Do (DeleteQuery q)) act same = before same
-    by_act (Do (SetNumber t n v)) act same = before same
-    by_act (Do CommitOperation) act image = commit_line base next rows lines done rest l w lasts outcomes d e c is act room far starts stands image
-
--- ---- the images while the lines are done
-
-pub stands_start : (base next : ℕ) (rows : List Row) (lines : List Line) (images : Files → Type 0) → Follows (Stands base next rows lines [] next) images images
-stands_start base next rows lines images c image = (c, image, record { commits = commits_none base next rows (numbered lines) c; kept = keeps_itself c })
-
-pub crash_start : (store : Option Disk) (base next : ℕ) (rows : List Row) (lines : List Line) → LeavesOnly store store (Reaches (Front base next rows lines) (MayHold store))
-crash_start store base next rows lines =
-    leaves_none store (Reaches (Front base next rows lines) (MayHold store))
-    (λ c image. (c, image, front_of base next rows lines [] lines next c c refl (omega arith) (record { commits = commits_none base next rows (numbered lines) c; kept = keeps_itself c })))
-
-pub stands_more : (base next : ℕ) (rows : List Row) (lines done rest : List Line) (l : Line) (a : Act) (w : Writer) (lasts : List ℕ) (outcomes : List Outcome) (start mid now : Files → Type 0)
-    → lines ≡ done ++ l ∷ rest → l.act ≡ a → w.next_id < 2 ^ 62 → Far base next rows done w lasts outcomes → ((d : Files) → start d → Starts d base next)
-    → Follows (Stands base next rows lines done w.next_id) start mid → Follows (ImageAfter w a) mid now
-    → Follows (Stands base next rows lines (done ++ l ∷ []) (writer_after w a).next_id) start now
-stands_more base next rows lines done rest l a w lasts outcomes start mid now is act room far starts stands after c image =
-    let e = after c image in
-    let d = stands e.0 e.1 in
-    (d.0, d.1, stands_line base next rows lines done rest l a w lasts outcomes d.0 e.0 c is act room far (starts d.0 d.1) d.2 e.2)
-
-pub crash_more : (start mid now : Option Disk) (base next : ℕ) (rows : List Row) (lines done rest : List Line) (l : Line) (a : Act) (w : Writer) (lasts : List ℕ) (outcomes : List Outcome)
-    → lines ≡ done ++ l ∷ rest → l.act ≡ a → w.next_id < 2 ^ 62 → Far base next rows done w lasts outcomes → ((d : Files) → MayHold start d → Starts d base next)
-    → Follows (Stands base next rows lines done w.next_id) (MayHold start) (MayHold mid)
-    → LeavesOnly start mid (Reaches (Front base next rows lines) (MayHold start)) → LeavesOnly mid now (Reaches (MayLeave w a) (MayHold mid))
-    → LeavesOnly start now (Reaches (Front base next rows lines) (MayHold start))
-crash_more start mid now base next rows lines done rest l a w lasts outcomes is act room far starts stands first second =
-    leaves_then start mid now (Reaches (Front base next rows lines) (MayHold start)) (Reaches (MayLeave w a) (MayHold mid)) (Reaches (Front base next rows lines) (MayHold start)) first second (λ c front. front)
-    (λ c left. let d = stands left.0 left.1 in (d.0, d.1, front_line base next rows lines done rest l a w lasts outcomes d.0 left.0 c is act room far (starts d.0 d.1) d.2 left.2))
+pub kept_stands : (first w : IndexWriter) (lines done : List Line) (files : Files) (start now : Option Files) → start ≡ Some files
+    → Starts files first.number first.last.next_id → Changes (Stands first lines done w.last) start now → Changes KeepsCommits start now
+kept_stands first w lines done files None now told starts stands = tt
+kept_stands first w lines done files (Some x) None told starts stands = absurd stands
+kept_stands first w lines done files (Some x) (Some y) told starts stands = let is : files ≡ x = cc in stands.kept (subst (λ (f : Files). Starts f first.number first.last.next_id) is starts)
 
 -- all lines are done
-pub all_stands : (base next : ℕ) (rows : List Row) (lines done : List Line) (w : Writer) (lasts : List ℕ) (outcomes : List Outcome) (start now : Files → Type 0)
-    → done ≡ lines → Far base next rows done w lasts outcomes → Follows (Stands base next rows lines done w.next_id) start now → Follows (HasAll base next rows lines) start now
-all_stands base next rows lines done w lasts outcomes start now is far stands c image =
-    let d = stands c image in (
-      d.0,
-      d.1,
-      record { commits = commits_done base next rows lines done w lasts outcomes (Some d.0) (Some c) is far d.2.commits; kept = d.2.kept },
-    )
+does_lines : (first w : IndexWriter) (lines done : List Line) (lasts : List ℕ) (outcomes : List Outcome) (old new : Files) → done ≡ lines
+    → Far first lines done w lasts outcomes → Stands first lines done w.last old new → DoesLines first lines old new
+does_lines first w lines done lasts outcomes old new is far stands =
+    let le : w.last.next_id ≤ first.last.next_id + length (numbered lines) = subst (λ (ls : List Line). w.last.next_id ≤ first.last.next_id + length (numbered ls)) is far.high in
+    record {
+      commits = made_other (HasRows first lines) (HasRows first lines) first.number first.last.next_id w.last.next_id (first.last.next_id + length (numbered lines))
+          (commit_numbers first.number (numbered lines)) old new le (λ last s known. known)
+          (subst (λ (ls : List Line). AreMade (HasRows first lines) first.number first.last.next_id (commit_numbers first.number (numbered ls)) w.last.next_id old new) is stands.commits);
+      kept = stands.kept;
+    }
 
--- the store goes on telling
-pub told_mid : (P : Files → Files → Type 0) (files : Files) (start mid : Option Files) → start ≡ Some files → Changes P start mid → (m : Files) × (mid ≡ Some m)
-told_mid P files None mid is has = absurd cc
-told_mid P files (Some x) None is has = absurd has
-told_mid P files (Some x) (Some m) is has = (m, refl)
+pub files_done : (first w : IndexWriter) (lines done : List Line) (lasts : List ℕ) (outcomes : List Outcome) (start now : Option Files) → done ≡ lines
+    → Far first lines done w lasts outcomes → Changes (Stands first lines done w.last) start now → Changes (DoesLines first lines) start now
+files_done first w lines done lasts outcomes start now is far stands =
+    onto (Stands first lines done w.last) (DoesLines first lines) start now (λ x y. does_lines first w lines done lasts outcomes x y is far) stands
+
+pub images_done : (first w : IndexWriter) (lines done : List Line) (lasts : List ℕ) (outcomes : List Outcome) (start now : Files → Type 0) → done ≡ lines
+    → Far first lines done w lasts outcomes → Follows (Stands first lines done w.last) start now → Follows (DoesLines first lines) start now
+images_done first w lines done lasts outcomes start now is far stands c image =
+    let d = stands c image in (d.0, d.1, does_lines first w lines done lasts outcomes d.0 c is far d.2)
+
+pub changes_at : (P : Files → Files → Type 0) (a b : Option Files) (x y : Files) → a ≡ Some x → b ≡ Some y → Changes P a b → P x y
+changes_at P a b x y is at h =
+    let here : Changes P (Some x) b = subst (λ (o : Option Files). Changes P o b) is h in
+    let both : Changes P (Some x) (Some y) = subst (λ (o : Option Files). Changes P (Some x) o) at here in
+    both

@@ -2,14 +2,14 @@ pub mod Pieces
 pub mod OneWord
 pub mod Log
 pub mod Kept
-pub mod Going
 pub mod Far
 pub mod Images
+pub mod Operating
 pub mod Told
 pub mod Beginnings
 pub mod Inputs
+pub mod SomeRows
 pub mod Searchable
 pub mod Finish
 pub mod Stopped
 pub mod Asked
-pub mod Making

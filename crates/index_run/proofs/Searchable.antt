@@ -1,29 +1,24 @@
 -- After the lines are done, each search line's commit can be read back.
-use Rattle.std.proofs.Common.{◌≡◌, ◌⊎◌, inl, inr, ◌∙◌, ℕ, ◌+◌, ◌-◌, ◌<◌, ◌≤◌, Bool, true, false, cond, eqb, ◌&&◌, List, [], ◌∷◌, ◌++◌, length, take, refl, sym, ap, subst, append_assoc, arith}
-use Rattle.std.specs.Prelude.{Option, Some, None}
+use Rattle.std.proofs.Common.{◌≡◌, ◌⊎◌, inl, inr, ◌∙◌, ℕ, ◌+◌, ◌-◌, ◌<◌, ◌≤◌, Bool, true, false, cond, eqb, ◌&&◌, List, [], ◌∷◌, ◌++◌, take, refl, sym, ap, subst, arith}
 use Rattle.std.specs.List.{AllByRecursion}
 use Rattle.std.proofs.lemmas.List.Elements.{filter-append, All-from_recursion}
-use Rattle.ix_base.specs.declared.document.Operation.{Operation}
-use Rattle.ix_base.specs.declared.document.Operation.TheVariants.{Add, Update, DeleteTerm, DeleteQuery, SetNumber, Commit}
 use Rattle.ix_base.specs.declared.document.Row.{Row}
-use Rattle.ix_base.specs.Refusals.{refusal}
-use Rattle.ix_base.specs.declared.refusal.Refusal.{Refusal}
 use Rattle.ix_base.specs.Steps.{after}
-use Rattle.ix_outside.specs.Files.{Files}
 use Rattle.ix_base.specs.declared.query.Query.{Query}
-use Rattle.commit_point.specs.Holds.{Holds, HoldsInverted}
+use Rattle.ix_outside.specs.Files.{Files}
+use Rattle.commit_point.specs.declared.open.Opened.{Opened}
+use Rattle.commit_point.specs.Holds.{HasSegments, Holds, HoldsInverted}
 use Rattle.op_script.specs.declared.script.Line.{Line}
-use Rattle.op_script.specs.declared.script.Act.{Act}
-use Rattle.op_script.specs.declared.script.Act.TheVariants.{Do, Search}
 use Rattle.run_report.specs.declared.outcome.Answer.{Answer}
-use Rattle.run_report.specs.declared.outcome.Answer.TheVariants.{Searched}
+use Rattle.run_report.specs.declared.outcome.Answer.TheVariants.{Numbered, Committed, Refused, Searched}
 use Rattle.run_report.specs.declared.outcome.Outcome.{Outcome}
-use Rattle.index_run.specs.Numbering.{is_numbered, is_commit, numbered, operations, commit_numbers, rows_at}
-use Rattle.index_run.specs.Outcomes.{commit_after, outcomes_from, answer_of, told_answer, done_answer, number_after, rows_after}
-use Rattle.index_run.specs.Headline.{HasCommits, IsIn}
+use Rattle.run_report.specs.Searching.{AnswerHolds, AnswerReads, CanRead, CanSearch, HoldsCommit, ReadsCommit}
 use Rattle.index_run.specs.Beginning.{IsOn}
-use Rattle.run_report.specs.Searching.{AnswerHolds, AnswerReads, CanRead, CanSearch, HoldsCommit}
-use Rattle.index_run.proofs.Kept.{Made}
+use Rattle.index_run.specs.Doing.{AreMade, IsMade}
+use Rattle.index_run.specs.Headline.{HasCommits, IsIn, IsNewCommit}
+use Rattle.index_run.specs.Numbering.{is_numbered, is_commit, numbered, operations, commit_numbers}
+use Rattle.index_run.specs.Outcomes.{AsksFor, IsAskedFor, commit_after}
+use Rattle.index_run.proofs.SomeRows.{some_rows}
 use Rattle.index_run.proofs.Told.{rows_of, rows_of-is}
 
 -- a caller's last commit is the base, or one of the log's
@@ -68,10 +63,10 @@ above_base last (x ∷ log) s h = by_test (is_commit x.act) (above_base (last + 
     by_test true more (inr i) = omega (arith, more i)
     by_test false more i = omega (arith, more i)
 
-made_at : (base next : ℕ) (rows : List Row) (log : List Line) (limit : ℕ) (new : Files) (ns : List ℕ) (s : ℕ) → AllByRecursion (Made base next rows log limit new) ns → IsIn ns s → Made base next rows log limit new s
-made_at base next rows log limit new [] s each h = absurd h
-made_at base next rows log limit new (n ∷ ns) s each (inl e) = subst (λ (k : ℕ). Made base next rows log limit new k) (sym e) each.0
-made_at base next rows log limit new (n ∷ ns) s each (inr i) = made_at base next rows log limit new ns s each.1 i
+each_at : (P : ℕ → Type 0) (ns : List ℕ) (s : ℕ) → AllByRecursion P ns → IsIn ns s → P s
+each_at P [] s each h = absurd h
+each_at P (n ∷ ns) s each (inl e) = subst P (sym e) each.0
+each_at P (n ∷ ns) s each (inr i) = each_at P ns s each.1 i
 
 pub no_rows : (files : Files) (base next : ℕ) (rows : List Row) → IsOn files base next rows → base ≡ 0 → rows ≡ []
 no_rows files base next rows (inl none) e = none.2
@@ -85,19 +80,23 @@ pub on_rows : (files : Files) (base next : ℕ) (rows : List Row) → IsOnInvert
 on_rows files base next rows (inl none) = inl none
 on_rows files base next rows (inr on) = inr (on.0, on.1.holds)
 
--- a commit of the lines so far is one of the log
-made_in : (base next : ℕ) (rows : List Row) (lines front rest : List Line) (limit : ℕ) (old new : Files) → lines ≡ front ++ rest
-    → HasCommits base next rows (numbered lines) (commit_numbers base (numbered lines)) limit old new → (s : ℕ) → IsIn (commit_numbers base (numbered front)) s
-    → (base < s) × Made base next rows (numbered lines) limit new s
-made_in base next rows lines front rest limit old new is has s among =
-    let log : numbered lines ≡ numbered front ++ numbered rest = ap (λ (ls : List Line). numbered ls) is ∙ filter-append (λ (x : Line). is_numbered x.act) front rest in
-    let in_log : IsIn (commit_numbers base (numbered lines)) s = subst (λ (ls : List Line). IsIn (commit_numbers base ls) s) (sym log) (in_front base (numbered front) (numbered rest) s among) in
-    (above_base base (numbered lines) s in_log, made_at base next rows (numbered lines) limit new (commit_numbers base (numbered lines)) s has.each in_log)
+-- a commit that a line asks for is the one at the beginning, or one of the log
+asked_in : (base : ℕ) (lines : List Line) (s : ℕ) → AsksFor base lines s → (s ≡ base) ⊎ IsIn (commit_numbers base (numbered lines)) s
+asked_in base lines s asks = by_case (in_after base asks.line.caller base asks.before)
+  where
+    by_case : (commit_after base asks.line.caller base asks.before ≡ base) ⊎ IsIn (commit_numbers base (numbered asks.before)) (commit_after base asks.line.caller base asks.before)
+        → (s ≡ base) ⊎ IsIn (commit_numbers base (numbered lines)) s
+    by_case (inl e) = inl (asks.is ∙ e)
+    by_case (inr among) =
+        let log : numbered lines ≡ numbered asks.before ++ numbered (asks.line ∷ asks.rest) =
+        ap (λ (ls : List Line). numbered ls) asks.at ∙ filter-append (λ (x : Line). is_numbered x.act) asks.before (asks.line ∷ asks.rest) in
+        let here : IsIn (commit_numbers base (numbered asks.before)) s = subst (λ (n : ℕ). IsIn (commit_numbers base (numbered asks.before)) n) (sym asks.is) among in
+        inr (subst (λ (ls : List Line). IsIn (commit_numbers base ls) s) (sym log) (in_front base (numbered asks.before) (numbered (asks.line ∷ asks.rest)) s here))
 
-searched : (base next : ℕ) (rows : List Row) (lines front rest : List Line) (limit : ℕ) (old new : Files) → lines ≡ front ++ rest → IsOnInverted old base next rows
-    → HasCommits base next rows (numbered lines) (commit_numbers base (numbered lines)) limit old new → (s : ℕ) → (s ≡ base) ⊎ IsIn (commit_numbers base (numbered front)) s
+searched : (base next : ℕ) (rows : List Row) (lines : List Line) (limit : ℕ) (old new : Files) → IsOnInverted old base next rows
+    → HasCommits base next rows (numbered lines) (commit_numbers base (numbered lines)) limit old new → (s : ℕ) → (s ≡ base) ⊎ IsIn (commit_numbers base (numbered lines)) s
     → (s ≡ 0) ⊎ ((1 ≤ s) × HoldsCommit new s (rows_of base rows (numbered lines) s))
-searched base next rows lines front rest limit old new is on has s (inl at_base) =
+searched base next rows lines limit old new on has s (inl at_base) =
     by_on on
   where
     rows_are : (1 ≤ base) → rows_of base rows (numbered lines) s ≡ rows
@@ -112,65 +111,75 @@ searched base next rows lines front rest limit old new is on has s (inl at_base)
         let kept = has.older base next rows (omega arith) (omega arith) held.1 in
         let here : HoldsInverted new s next rows = subst (λ (n : ℕ). HoldsInverted new n next rows) (sym at_base) kept in
         inr (omega (arith, held.0, at_base), (next, subst (λ (rs : List Row). HoldsInverted new s next rs) (sym (rows_are held.0)) here))
-searched base next rows lines front rest limit old new is on has s (inr among) =
-    let made = made_in base next rows lines front rest limit old new is has s among in
-    let rows_are = rows_of-is base rows (numbered lines) s (omega (arith, made.0)) (no_rows old base next rows (on_rows old base next rows on)) in
-    inr (omega (arith, made.0), (made.1.0, subst (λ (rs : List Row). HoldsInverted new s made.1.0 rs) (sym rows_are) made.1.3))
+searched base next rows lines limit old new on has s (inr among) =
+    let above = above_base base (numbered lines) s among in
+    let made = each_at (IsNewCommit base next rows (numbered lines) limit new) (commit_numbers base (numbered lines)) s has.each among in
+    let rows_are = rows_of-is base rows (numbered lines) s (omega (arith, above)) (no_rows old base next rows (on_rows old base next rows on)) in
+    inr (omega (arith, above), (made.id, subst (λ (rs : List Row). HoldsInverted new s made.id rs) (sym rows_are) made.holds))
+
+reads_of : (files : Files) (s : ℕ) (last : Opened) → last.number ≡ s → HasSegments files last.number last.next_id last.entries last.segments → ReadsCommit files s
+reads_of files s last is has =
+    let found = some_rows files last.number last.next_id last.entries last.segments has in (
+      last.next_id,
+      found.0,
+      subst (λ (n : ℕ). Holds files n last.next_id found.0) is (record { entries = last.entries; segments = last.segments; spelled = has; rows_are = found.1 }),
+    )
 
 -- what is searched can be read, also where the commit that the run began on only holds its rows
-read : (base next : ℕ) (rows : List Row) (lines front rest : List Line) (limit : ℕ) (old new : Files) → lines ≡ front ++ rest → IsOn old base next rows
-    → HasCommits base next rows (numbered lines) (commit_numbers base (numbered lines)) limit old new → (s : ℕ) → (s ≡ base) ⊎ IsIn (commit_numbers base (numbered front)) s
-    → (s ≡ 0) ⊎ ((1 ≤ s) × ((n : ℕ) × (rs : List Row) × Holds new s n rs))
-read base next rows lines front rest limit old new is (inl none) has s (inl at_base) = inl (at_base ∙ none.0)
-read base next rows lines front rest limit old new is (inr held) has s (inl at_base) =
-    let kept = has.older_rows base next rows (omega arith) (omega arith) held.1 in
+read : (Known : Opened → ℕ → Type 0) (base next : ℕ) (rows : List Row) (lines : List Line) (limit : ℕ) (old new : Files) → IsOn old base next rows
+    → AreMade Known base next (commit_numbers base (numbered lines)) limit old new → (s : ℕ) → (s ≡ base) ⊎ IsIn (commit_numbers base (numbered lines)) s
+    → (s ≡ 0) ⊎ ((1 ≤ s) × ReadsCommit new s)
+read Known base next rows lines limit old new (inl none) has s (inl at_base) = inl (at_base ∙ none.0)
+read Known base next rows lines limit old new (inr held) has s (inl at_base) =
+    let was = held.1 in
+    let kept : Holds new base next rows = record {
+      entries = was.entries;
+      segments = was.segments;
+      spelled = has.older base next was.entries was.segments (omega arith) (omega arith) was.spelled;
+      rows_are = was.rows_are;
+    } in
     inr (omega (arith, held.0, at_base), (next, rows, subst (λ (n : ℕ). Holds new n next rows) (sym at_base) kept))
-read base next rows lines front rest limit old new is on has s (inr among) =
-    let made = made_in base next rows lines front rest limit old new is has s among in
-    inr (omega (arith, made.0), (made.1.0, rows_at base rows (numbered lines) s, made.1.3.holds))
+read Known base next rows lines limit old new on has s (inr among) =
+    let above = above_base base (numbered lines) s among in
+    let made = each_at (IsMade Known base next limit old new) (commit_numbers base (numbered lines)) s has.each among in
+    inr (omega (arith, above), reads_of new s made.last made.number made.stored)
 
--- what holds of each answer that searches, and of each that doesn't, holds of all outcomes
-each_from : (P : Answer → Type 0) (base : ℕ) (rows : List Row) (lines front ls : List Line) → lines ≡ front ++ ls
-    → ((before rest : List Line) (s : ℕ) (q : Query) → lines ≡ before ++ rest → (s ≡ base) ⊎ IsIn (commit_numbers base (numbered before)) s → P (Searched s q))
-    → ((r : Option Refusal) (s docs : ℕ) (op : Operation) → P (told_answer r (done_answer s docs op)))
-    → AllByRecursion (λ (o : Outcome). P o.answer) (outcomes_from base rows front ls)
-each_from P base rows lines front [] is asks tells = tt
-each_from P base rows lines front (l ∷ ls) is asks tells =
-    (one l.act, each_from P base rows lines (front ++ l ∷ []) ls (is ∙ sym (append_assoc front (l ∷ []) ls)) asks tells)
+each_answer : (P : Answer → Type 0) (base : ℕ) (lines : List Line) (outcomes : List Outcome)
+    → ((s : ℕ) (q : Query) → AsksFor base lines s → P (Searched s q)) → ((a : Answer) → ((s : ℕ) (q : Query) → a ≡ Searched s q → ⊥) → P a)
+    → AllByRecursion (IsAskedFor base lines) outcomes → AllByRecursion (λ (o : Outcome). P o.answer) outcomes
+each_answer P base lines [] asks tells asked = tt
+each_answer P base lines (o ∷ os) asks tells asked = (one o.answer refl, each_answer P base lines os asks tells asked.1)
   where
-    one : (a : Act) → P (answer_of base rows front l a)
-    one (Search q) = asks front (l ∷ ls) (commit_after base l.caller base front) q is (in_after base l.caller base front)
-    one (Do op) = tells (refusal op) (number_after base front + 1) (length (rows_after base rows front)) op
+    one : (a : Answer) → o.answer ≡ a → P a
+    one (Searched s q) is = asks s q (asked.0 s q is)
+    one (Numbered s) is = tells (Numbered s) (λ t q e. cc)
+    one (Committed s docs) is = tells (Committed s docs) (λ t q e. cc)
+    one (Refused refusal) is = tells (Refused refusal) (λ t q e. cc)
 
-no_search : (files : Files) (rows_by : ℕ → List Row) (r : Option Refusal) (s docs : ℕ) (op : Operation) → AnswerHolds files rows_by (told_answer r (done_answer s docs op))
-no_search files rows_by (Some refused) s docs op = tt
-no_search files rows_by None s docs (Add doc) = tt
-no_search files rows_by None s docs (Update t doc) = tt
-no_search files rows_by None s docs (DeleteTerm t) = tt
-no_search files rows_by None s docs (DeleteQuery q) = tt
-no_search files rows_by None s docs (SetNumber t n v) = tt
-no_search files rows_by None s docs Commit = tt
+holds_other : (files : Files) (rows_by : ℕ → List Row) (a : Answer) → ((s : ℕ) (q : Query) → a ≡ Searched s q → ⊥) → AnswerHolds files rows_by a
+holds_other files rows_by (Searched s q) none = absurd (none s q refl)
+holds_other files rows_by (Numbered s) none = tt
+holds_other files rows_by (Committed s docs) none = tt
+holds_other files rows_by (Refused refusal) none = tt
 
-no_read : (files : Files) (r : Option Refusal) (s docs : ℕ) (op : Operation) → AnswerReads files (told_answer r (done_answer s docs op))
-no_read files (Some refused) s docs op = tt
-no_read files None s docs (Add doc) = tt
-no_read files None s docs (Update t doc) = tt
-no_read files None s docs (DeleteTerm t) = tt
-no_read files None s docs (DeleteQuery q) = tt
-no_read files None s docs (SetNumber t n v) = tt
-no_read files None s docs Commit = tt
+reads_other : (files : Files) (a : Answer) → ((s : ℕ) (q : Query) → a ≡ Searched s q → ⊥) → AnswerReads files a
+reads_other files (Searched s q) none = absurd (none s q refl)
+reads_other files (Numbered s) none = tt
+reads_other files (Committed s docs) none = tt
+reads_other files (Refused refusal) none = tt
 
-pub can_search : (base next : ℕ) (rows : List Row) (lines : List Line) (limit : ℕ) (old new : Files) → IsOnInverted old base next rows
-    → HasCommits base next rows (numbered lines) (commit_numbers base (numbered lines)) limit old new → CanSearch new (rows_of base rows (numbered lines)) (outcomes_from base rows [] lines)
-can_search base next rows lines limit old new on has = record {
+pub can_search : (base next : ℕ) (rows : List Row) (lines : List Line) (limit : ℕ) (old new : Files) (outcomes : List Outcome) → IsOnInverted old base next rows
+    → HasCommits base next rows (numbered lines) (commit_numbers base (numbered lines)) limit old new → AllByRecursion (IsAskedFor base lines) outcomes
+    → CanSearch new (rows_of base rows (numbered lines)) outcomes
+can_search base next rows lines limit old new outcomes on has asked = record {
   none = refl;
-  each = All-from_recursion (λ (o : Outcome). AnswerHolds new (rows_of base rows (numbered lines)) o.answer) (outcomes_from base rows [] lines)
-      (each_from (AnswerHolds new (rows_of base rows (numbered lines))) base rows lines [] lines refl
-      (λ before rest s q is among. searched base next rows lines before rest limit old new is on has s among) (no_search new (rows_of base rows (numbered lines))));
+  each = All-from_recursion (λ (o : Outcome). AnswerHolds new (rows_of base rows (numbered lines)) o.answer) outcomes
+      (each_answer (AnswerHolds new (rows_of base rows (numbered lines))) base lines outcomes
+      (λ s q asks. searched base next rows lines limit old new on has s (asked_in base lines s asks)) (holds_other new (rows_of base rows (numbered lines))) asked);
 }
 
-pub can_read : (base next : ℕ) (rows : List Row) (lines : List Line) (limit : ℕ) (old new : Files) → IsOn old base next rows
-    → HasCommits base next rows (numbered lines) (commit_numbers base (numbered lines)) limit old new → CanRead new (outcomes_from base rows [] lines)
-can_read base next rows lines limit old new on has =
-    All-from_recursion (λ (o : Outcome). AnswerReads new o.answer) (outcomes_from base rows [] lines)
-    (each_from (AnswerReads new) base rows lines [] lines refl (λ before rest s q is among. read base next rows lines before rest limit old new is on has s among) (no_read new))
+pub can_read : (Known : Opened → ℕ → Type 0) (base next : ℕ) (rows : List Row) (lines : List Line) (limit : ℕ) (old new : Files) (outcomes : List Outcome) → IsOn old base next rows
+    → AreMade Known base next (commit_numbers base (numbered lines)) limit old new → AllByRecursion (IsAskedFor base lines) outcomes → CanRead new outcomes
+can_read Known base next rows lines limit old new outcomes on has asked =
+    All-from_recursion (λ (o : Outcome). AnswerReads new o.answer) outcomes
+    (each_answer (AnswerReads new) base lines outcomes (λ s q asks. read Known base next rows lines limit old new on has s (asked_in base lines s asks)) (reads_other new) asked)

@@ -5,11 +5,19 @@ use Rattle.ix_base.specs.declared.damaged.Damaged.{Damaged}
 use Rattle.ix_outside.specs.Files.{Files, Was}
 use Rattle.commit_point.specs.Holds.{Holds}
 use Rattle.searcher.specs.Searching.{IsDamagedIn}
+use Rattle.index_writer.specs.declared.writer.IndexWriter.{IndexWriter}
+use Rattle.index_run.specs.Doing.{HasLast}
 use Rattle.index_run.specs.Headline.{IsLast}
 
 -- the rows and the next id of the commit `base`, or those of no commit
 abbrev pub IsOn : Files → ℕ → ℕ → List Row → Type 0
 IsOn files base next rows = ((base ≡ 0) × (next ≡ 1) × (rows ≡ [])) ⊎ ((1 ≤ base) × Holds files base next rows)
+
+-- the writer is on the commit `base`, or on none
+pub record BeginsOn (files : Files) (base next : ℕ) (w : IndexWriter) : Type 0 where
+  pub number : w.number ≡ base
+  pub next_id : w.last.next_id ≡ next
+  pub last : HasLast files w.last
 
 -- the last commit's number is this one, or there is no commit and it is 0
 abbrev pub IsBase : Option Files → ℕ → Type 0

@@ -1,17 +1,13 @@
 -- What a crash at some moment of a run may leave.
-use Rattle.std.specs.Prelude.{ℕ, ◌+◌, ◌*◌, List, length, take, IsSome}
-use Rattle.ix_base.specs.declared.file_name.FileName.TheVariants.{Commit}
+use Rattle.std.specs.Prelude.{◌≡◌, ℕ, ◌+◌, ◌*◌, List, length, take, Option, Some}
 use Rattle.ix_base.specs.declared.document.Row.{Row}
+use Rattle.ix_outside.specs.Crash.{MayHold}
+use Rattle.ix_outside.specs.Disk.{Disk, told_files}
 use Rattle.ix_outside.specs.Files.{Files}
-use Rattle.commit_point.specs.Holds.{KeepsCommits}
+use Rattle.commit_point.specs.Holds.{AreKept, KeepsCommits}
 use Rattle.op_script.specs.declared.script.Line.{Line}
 use Rattle.index_run.specs.Numbering.{Interleaves, numbered, commit_numbers}
-use Rattle.index_run.specs.Headline.{HasCommits}
-
--- Each commit is kept: every image has its files with the bytes that reads give. And no image has another commit.
-pub record AreKept (files : Files) (images : Files → Type 0) : Type 0 where
-  pub kept : (d : Files) → images d → KeepsCommits files d
-  pub only : (d : Files) → images d → (s : ℕ) → IsSome (d (Commit s)) → IsSome (files (Commit s))
+use Rattle.index_run.specs.Headline.{Begins, HasCommits}
 
 -- Of the log's commits the first ones are there, each whole: those of its first `count` lines. There is no other new
 -- commit, and the commits that were there have their files and bytes.
@@ -20,13 +16,13 @@ pub record HasFront (base next : ℕ) (rows : List Row) (log : List Line) (limit
   pub commits : HasCommits base next rows log (commit_numbers base (take count log)) limit old new
   pub kept : KeepsCommits old new
 
--- All commits of the script's own order are there, and the commits that were there have their files and bytes.
-pub record HasAll (base next : ℕ) (rows : List Row) (lines : List Line) (old new : Files) : Type 0 where
-  pub commits : HasCommits base next rows (numbered lines) (commit_numbers base (numbered lines)) (next + length (numbered lines)) old new
-  pub kept : KeepsCommits old new
-
 -- A run that was stopped: for one order of the numbered lines, the store has the first of that order's commits, up to some number.
 pub record StopsRight (base next : ℕ) (rows : List Row) (lines : List Line) (old new : Files) : Type 0 where
   pub log : List Line
   pub numbering : Interleaves lines log
   pub front : HasFront base next rows log (next + 2 * length log) old new
+
+-- The store is such as a run asks for: it ends with a lawful commit or has none, and each commit is kept.
+abbrev pub GivesBack : Option Disk → Type 0
+GivesBack disk = (files : Files) → told_files disk ≡ Some files
+    → (base next : ℕ) × (rows : List Row) × Begins files base next rows × AreKept files (MayHold disk)

@@ -4,7 +4,8 @@ use Rattle.std.specs.List.{AllByRecursion}
 use Rattle.ix_base.specs.declared.file_name.FileName.TheVariants.{Commit}
 use Rattle.ix_base.specs.declared.document.Row.{Row}
 use Rattle.ix_outside.specs.Files.{Files}
-use Rattle.commit_point.specs.Holds.{Holds, HoldsInverted, ListsId, IsLawful, KeepsCommits}
+use Rattle.commit_point.specs.declared.heads.HeadSegment.{HeadSegment}
+use Rattle.commit_point.specs.Holds.{Holds, HoldsInverted, IsAboveIds, IsLawful, KeepsCommits, Lists}
 use Rattle.op_script.specs.declared.script.Line.{Line}
 use Rattle.index_run.specs.Numbering.{Interleaves, rows_at, commit_numbers}
 use Rattle.index_run.specs.Report.{report}
@@ -26,12 +27,20 @@ Begins files base next rows = IsLast files base × (((base ≡ 0) × (next ≡ 1
 -- The store has no commit above the base, and no commit lists a segment id from `next` on.
 pub record Starts (files : Files) (base next : ℕ) : Type 0 where
   pub none_above : (s : ℕ) → base < s → files (Commit s) ≡ None
-  pub ids_below : (s id : ℕ) → ListsId files s id → id < next
+  pub ids_below : (s : ℕ) (e : HeadSegment) → Lists files s e → e.id < next
 
--- The commits above the base are those of the log, each with the rows by the operations numbered up to it and
--- a next id in range; the postings of each segment are the inversion of its rows. What an older commit held it holds.
+-- A commit of the log: it has the rows by the operations numbered up to it, and the postings of each segment are the
+-- inversion of its rows. Its next id is in range, and above each id that a commit below it lists.
+pub record IsNewCommit (base next : ℕ) (rows : List Row) (log : List Line) (limit : ℕ) (files : Files) (s : ℕ) : Type 0 where
+  pub id : ℕ
+  pub from_next : next ≤ id
+  pub to_limit : id ≤ limit
+  pub holds : HoldsInverted files s id (rows_at base rows log s)
+  pub above : IsAboveIds files s id
+
+-- The commits above the base are those of the log. What an older commit held it holds.
 pub record HasCommits (base next : ℕ) (rows : List Row) (log : List Line) (numbers : List ℕ) (limit : ℕ) (old new : Files) : Type 0 where
-  pub each : AllByRecursion (λ s. (id : ℕ) × (next ≤ id) × (id ≤ limit) × HoldsInverted new s id (rows_at base rows log s)) numbers
+  pub each : AllByRecursion (IsNewCommit base next rows log limit new) numbers
   pub only : (s : ℕ) → IsSome (new (Commit s)) → IsSome (old (Commit s)) ⊎ IsIn numbers s
   pub older : (s id : ℕ) (held : List Row) → s ≤ base → id ≤ next → HoldsInverted old s id held → HoldsInverted new s id held
   pub older_rows : (s id : ℕ) (held : List Row) → s ≤ base → id ≤ next → Holds old s id held → Holds new s id held

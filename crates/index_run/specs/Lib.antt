@@ -5,8 +5,6 @@ pub mod Outcomes
 pub mod Headline
 pub mod Crashes
 pub mod Causes
-pub mod Writer
-pub mod Commits
 pub mod Doing
 pub mod Beginning
 pub mod Damage

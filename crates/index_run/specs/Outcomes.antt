@@ -1,8 +1,9 @@
 -- What becomes of the lines of a script that are done in its order.
-use Rattle.std.specs.Prelude.{ℕ, ◌+◌, List, [], ◌∷◌, ◌++◌, length, ◌&&◌, ◌==◌, if◌then◌else◌, Option, Some, None}
+use Rattle.std.specs.Prelude.{◌≡◌, ℕ, ◌+◌, List, [], ◌∷◌, ◌++◌, length, ◌&&◌, ◌==◌, if◌then◌else◌, Option, Some, None}
 use Rattle.ix_base.specs.declared.document.Operation.{Operation}
 use Rattle.ix_base.specs.declared.document.Operation.TheVariants.{Commit}
 use Rattle.ix_base.specs.declared.document.Row.{Row}
+use Rattle.ix_base.specs.declared.query.Query.{Query}
 use Rattle.ix_base.specs.Refusals.{refusal}
 use Rattle.ix_base.specs.declared.refusal.Refusal.{Refusal}
 use Rattle.ix_base.specs.Steps.{after}
@@ -50,3 +51,17 @@ outcome_of base rows done l = record { line = l.line; answer = answer_of base ro
 abbrev pub outcomes_from : ℕ → List Row → List Line → List Line → List Outcome
 outcomes_from base rows done [] = []
 outcomes_from base rows done (l ∷ ls) = outcome_of base rows done l ∷ outcomes_from base rows (done ++ l ∷ []) ls
+
+-- a search line asks for the commit of this number, as the lines are done
+pub record AsksFor (base : ℕ) (lines : List Line) (number : ℕ) : Type 0 where
+  pub before : List Line
+  pub line : Line
+  pub rest : List Line
+  pub query : Query
+  pub at : lines ≡ before ++ line ∷ rest
+  pub search : line.act ≡ Search query
+  pub is : number ≡ commit_after base line.caller base before
+
+-- an outcome that searches a commit has a line that asks for it
+abbrev pub IsAskedFor : ℕ → List Line → Outcome → Type 0
+IsAskedFor base lines outcome = (number : ℕ) (query : Query) → outcome.answer ≡ Searched number query → AsksFor base lines number

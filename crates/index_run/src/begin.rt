@@ -4,18 +4,18 @@ ghost use Rattle.ix_outside.specs.Disk.{told_files};
 ghost use Rattle.ix_base.specs.declared.document.Row.{Row};
 ghost use Rattle.ix_outside.specs.Causes.{Rose};
 ghost use Rattle.ix_outside.specs.Files.{Files};
-ghost use Rattle.commit_point.specs.Holds.{AreRowsOf, HasSegments, Holds};
+ghost use Rattle.commit_point.specs.Holds.{Holds, HoldsInverted};
 ghost use Rattle.ix_base.specs.declared.damaged.Damaged.{Damaged};
-ghost use Rattle.index_run.specs.Headline.{IsLast};
+ghost use Rattle.index_writer.specs.Writing.{StandsFor};
+ghost use Rattle.index_run.specs.Headline.{Begins, IsLast};
 ghost use Rattle.index_run.specs.Causes.{IsOneOf, stop_status};
 ghost use Rattle.searcher.specs.Searching.{IsDamagedIn};
-ghost use Rattle.index_run.specs.Beginning.{IsOn, IsBase, IsHighBase, IsDamagedBase, last_or_zero};
-ghost use Rattle.index_run.specs.Writer.{CanBegin};
+ghost use Rattle.index_run.specs.Beginning.{BeginsOn, IsOn, IsBase, IsHighBase, IsDamagedBase, last_or_zero};
+ghost use Rattle.index_run.specs.Doing.{CanBegin};
 
 use crate::stop::Stop;
-use crate::writer::Writer;
-use commit_point::{OpenFault, Opened, list_commits, read_commit};
-use ix_base::List;
+use commit_point::{OpenFault, list_commits, read_commit};
+use index_writer::IndexWriter;
 use ix_outside::{Store, StoreFault};
 use report_text::Fault;
 use std::alloc::Global;
@@ -46,13 +46,15 @@ fn last_of(numbers: &[u64]) -> u64
     numbers.last().copied().unwrap_or(0)
 }
 
-/// The writer on the store's last commit: its rows, its number and its next id; without a commit no
-/// row, 0 and 1.
-pub fn begin<S: Store>(alloc: Global, store: &mut S) -> Result<Writer, Stop>
+/// The writer on the store's last commit. Without a commit it has no row, the number 0, and 1 as
+/// the next id.
+pub fn begin<S: Store>(alloc: Global, store: &mut S) -> Result<IndexWriter, Stop>
     ensures ready { IfOk result CanBegin }
     ensures last { IfOk result (λ writer. IsBase (told_files (S.disk store.old)) writer.number) }
     ensures on { (files : Files) (base next : ℕ) (rows : List Row) → told_files (S.disk store.old) ≡ Some files → IsLast files base → IsOn files base next rows
-        → IfOk result (λ writer. writer ≡ record { rows = rows; number = base; next_id = next }) }
+        → IfOk result (BeginsOn files base next) }
+    ensures stands { (files : Files) (base next : ℕ) (rows : List Row) → told_files (S.disk store.old) ≡ Some files → Begins files base next rows
+        → IfOk result (λ writer. StandsFor writer rows) }
     ensures base { (base : ℕ) → result ≡ Err (Stop.Fault (Fault.Base base)) → IsHighBase (told_files (S.disk store.old)) base }
     ensures high { (files : Files) (base : ℕ) → told_files (S.disk store.old) ≡ Some files → IsLast files base → 2 ^ 61 < base
         → IsErrAnd result (λ stop. (stop ≡ Stop.Fault (Fault.Base base)) ⊎ ((stop ≡ Stop.Fault Fault.Store) ⊎ (stop ≡ Stop.NoMemory))) }
@@ -72,22 +74,20 @@ pub fn begin<S: Store>(alloc: Global, store: &mut S) -> Result<Writer, Stop>
         return Err(Stop::Fault(Fault::Base(base)));
     }
     if base == 0 {
-        return Ok(Writer {
-            rows: List::new(alloc),
-            number: 0,
-            next_id: 1,
-        });
+        return Ok(IndexWriter::none(alloc));
     }
     begin_on(alloc, store, base)
 }
 
 /// The writer on the commit of this number.
-fn begin_on<S: Store>(alloc: Global, store: &mut S, base: u64) -> Result<Writer, Stop>
+fn begin_on<S: Store>(alloc: Global, store: &mut S, base: u64) -> Result<IndexWriter, Stop>
     requires { (1 ≤ base) × (base ≤ 2 ^ 61) }
     ensures ready { IfOk result CanBegin }
     ensures number { IfOk result (λ writer. writer.number ≡ base) }
     ensures on { (files : Files) (next : ℕ) (rows : List Row) → told_files (S.disk store.old) ≡ Some files → Holds files base next rows
-        → IfOk result (λ writer. writer ≡ record { rows = rows; number = base; next_id = next }) }
+        → IfOk result (BeginsOn files base next) }
+    ensures stands { (files : Files) (next : ℕ) (rows : List Row) → told_files (S.disk store.old) ≡ Some files → HoldsInverted files base next rows
+        → IfOk result (λ writer. StandsFor writer rows) }
     ensures whole { (files : Files) (next : ℕ) (rows : List Row) → told_files (S.disk store.old) ≡ Some files → Holds files base next rows
         → IfErr result (λ stop. (stop ≡ Stop.Fault Fault.Store) ⊎ (stop ≡ Stop.NoMemory)) }
     ensures damaged { (damaged : Damaged) → result ≡ Err (Stop.Fault (Fault.Damaged damaged)) → IsDamagedIn (told_files (S.disk store.old)) base damaged }
@@ -97,26 +97,10 @@ fn begin_on<S: Store>(alloc: Global, store: &mut S, base: u64) -> Result<Writer,
     ensures others { IfErr result (λ stop. (stop ≡ Stop.Fault Fault.Store) ⊎ ((stop ≡ Stop.NoMemory) ⊎ ((damaged : Damaged) × (stop ≡ Stop.Fault (Fault.Damaged damaged))))) }
 {
     match read_commit(alloc, store, base) {
-        Ok(opened) => writer_on(alloc, opened),
+        Ok(opened) => Ok(IndexWriter::on(alloc, opened)),
         Err(OpenFault::Store) => Err(Stop::Fault(Fault::Store)),
         Err(OpenFault::Damaged(damaged)) => Err(Stop::Fault(Fault::Damaged(damaged))),
         Err(OpenFault::NoSuch { number: _ }) => Err(Stop::NoMemory),
         Err(OpenFault::NoMemory) => Err(Stop::NoMemory),
     }
-}
-
-/// The writer on a commit that was read.
-fn writer_on(alloc: Global, opened: Opened) -> Result<Writer, Stop>
-    ensures number { IfOk result (λ writer. (writer.number ≡ opened.number) × (writer.next_id ≡ opened.next_id)) }
-    ensures rows { IfOk result (λ writer. (files : Files) (s next : ℕ) → HasSegments files s next opened.segments → AreRowsOf s opened.segments writer.rows) }
-    ensures err { IfErr result (λ stop. stop ≡ Stop.NoMemory) }
-{
-    let number = opened.number;
-    let next_id = opened.next_id;
-    let rows = opened.into_rows(alloc)?;
-    Ok(Writer {
-        rows,
-        number,
-        next_id,
-    })
 }

@@ -1,5 +1,5 @@
 //! The top call.
-ghost use Rattle.std.specs.Prelude.{◌≡◌, ◌<◌, ◌≤◌, ◌+◌, ◌^◌, ℕ, List, [], ◌∷◌, take, Ok, Err, Some};
+ghost use Rattle.std.specs.Prelude.{◌≡◌, ◌<◌, ◌≤◌, ◌+◌, ◌^◌, ℕ, List, [], ◌∷◌, take, length, Ok, Err, Some};
 ghost use Rattle.ix_outside.specs.Crash.{MayHold};
 ghost use Rattle.ix_outside.specs.Disk.{told_files};
 ghost use Rattle.std.specs.Io.KnownBytes.{Appends, IsAtEnd};
@@ -7,7 +7,7 @@ ghost use Rattle.ix_base.specs.declared.document.Row.{Row};
 ghost use Rattle.ix_outside.specs.Causes.{Rose};
 ghost use Rattle.ix_outside.specs.Calls.{LeavesOnly};
 ghost use Rattle.ix_outside.specs.Files.{Files, Changes};
-ghost use Rattle.commit_point.specs.Holds.{KeepsCommits};
+ghost use Rattle.commit_point.specs.Holds.{AreKept, KeepsCommits};
 ghost use Rattle.ix_base.specs.declared.damaged.Damaged.{Damaged};
 ghost use Rattle.op_script.specs.Language.{most_bytes, script};
 ghost use Rattle.op_script.specs.declared.script.BadLine.{BadLine};
@@ -15,9 +15,10 @@ ghost use Rattle.op_script.specs.declared.script.Line.{Line};
 ghost use Rattle.index_run.specs.Beginning.{IsOn, IsHighBase};
 ghost use Rattle.index_run.specs.Causes.{IsOneOf, TakesUpTo, WritesFront, IsBadIn};
 ghost use Rattle.report_text.specs.Faults.{fault_text};
-ghost use Rattle.index_run.specs.Crashes.{AreKept, StopsRight};
+ghost use Rattle.index_run.specs.Crashes.{GivesBack, StopsRight};
 ghost use Rattle.index_run.specs.Damage.{FindsDamage};
 ghost use Rattle.index_run.specs.Headline.{Begins, IsLast, RunsRight};
+ghost use Rattle.index_run.specs.Numbering.{numbered};
 ghost use Rattle.index_run.specs.Words.{IsAccepted};
 
 use crate::tell::run_and_tell;
@@ -59,7 +60,7 @@ pub struct Ended<S> {
 /// no other commit. Once the call has ended with 0 or 6 a crash leaves all of them. This is
 /// promised where the store tells its files, its last commit is lawful, and each commit is kept
 /// when the call begins: nothing of it is still on its way to the disk.
-pub fn top<R: Threads + Wait, I: Source, O: Sink, S: Store, G: Gate>(
+pub fn top<R: Threads + Wait + Sync, I: Source, O: Sink, S: Store, G: Gate>(
     rt: &R,
     alloc: Global,
     words: &[String],
@@ -124,11 +125,15 @@ pub fn top<R: Threads + Wait, I: Source, O: Sink, S: Store, G: Gate>(
         → LeavesOnly (S.disk store) (S.disk result.store) (StopsRight base next rows lines files) }
     ensures crash_kept { (files : Files) (base next : ℕ) (rows : List Row) → told_files (S.disk store) ≡ Some files → Begins files base next rows → AreKept files (MayHold (S.disk store))
         → LeavesOnly (S.disk store) (S.disk result.store) (KeepsCommits files) }
+    // A run gives back what the next run asks for.
+    ensures again { (bytes : List ℕ) (lines : List Line) (files : Files) (base next : ℕ) (rows : List Row) → I.left input.old ≡ Some bytes → script bytes ≡ Ok lines
+        → told_files (S.disk store) ≡ Some files → Begins files base next rows → AreKept files (MayHold (S.disk store))
+        → next + length (numbered lines) ≤ 2 ^ 61 → IsOneOf result.status (0 ∷ 6 ∷ []) → GivesBack (S.disk result.store) }
     // The store is left alone until the words and the script were read and found good.
     ensures unopened { IsOneOf result.status (2 ∷ 3 ∷ 5 ∷ []) → result.store ≡ store }
     ensures untouched { IsOneOf result.status (2 ∷ 3 ∷ 5 ∷ 10 ∷ []) → told_files (S.disk result.store) ≡ told_files (S.disk store) }
 {
     let mut store = store;
-    let status = run_and_tell(alloc, words, input, out, &mut store, gate);
+    let status = run_and_tell(rt, alloc, words, input, out, &mut store, gate);
     Ended { status, store }
 }

@@ -1,12 +1,12 @@
 //! A script's lines done over a store, and their report made.
-ghost use Rattle.std.specs.Prelude.{◌≡◌, ◌⊎◌, ◌<◌, ◌≤◌, ◌+◌, ◌*◌, ◌^◌, ◌∷◌, [], ℕ, List, length, IfOk, IfErr, IsErrAnd, Err, Some, Contains};
+ghost use Rattle.std.specs.Prelude.{◌≡◌, ◌⊎◌, ◌<◌, ◌≤◌, ◌+◌, ◌*◌, ◌^◌, ◌∷◌, [], ℕ, List, length, OnOk, IfOk, IfErr, IsErrAnd, Err, Some, Contains};
 ghost use Rattle.ix_outside.specs.Crash.{MayHold};
 ghost use Rattle.ix_outside.specs.Disk.{told_files};
 ghost use Rattle.ix_base.specs.declared.document.Row.{Row};
 ghost use Rattle.ix_outside.specs.Causes.{Rose};
 ghost use Rattle.ix_outside.specs.Calls.{LeavesOnly};
 ghost use Rattle.ix_outside.specs.Files.{Files, Changes};
-ghost use Rattle.commit_point.specs.Holds.{KeepsCommits};
+ghost use Rattle.commit_point.specs.Holds.{AreKept, KeepsCommits};
 ghost use Rattle.ix_base.specs.declared.damaged.Damaged.{Damaged};
 ghost use Rattle.op_script.specs.Shape.{AreScriptLines};
 ghost use Rattle.run_report.specs.declared.outcome.Outcome.{Outcome};
@@ -14,7 +14,7 @@ ghost use Rattle.run_report.specs.Searching.{CanRead, CanSearch, SearchesDamaged
 ghost use Rattle.run_report.specs.Texts.{texts};
 ghost use Rattle.index_run.specs.Beginning.{IsOn, IsHighBase};
 ghost use Rattle.index_run.specs.Causes.{IsOneOf, stop_status};
-ghost use Rattle.index_run.specs.Crashes.{AreKept, HasFront};
+ghost use Rattle.index_run.specs.Crashes.{GivesBack, HasFront};
 ghost use Rattle.index_run.specs.Damage.{ReadsDamaged};
 ghost use Rattle.index_run.specs.Headline.{Begins, IsLast};
 ghost use Rattle.index_run.specs.Numbering.{numbered};
@@ -29,10 +29,12 @@ use op_script::Line;
 use report_text::Fault;
 use run_report::{Outcome, report};
 use std::alloc::Global;
+use std::thread::Threads;
 
 /// Does the lines over the store's last commit, and answers their report, of which nothing is
 /// written yet.
-pub fn do_script<S: Store, G: Gate>(
+pub fn do_script<R: Threads + Sync, S: Store, G: Gate>(
+    rt: &R,
     alloc: Global,
     store: &mut S,
     gate: &G,
@@ -48,6 +50,9 @@ pub fn do_script<S: Store, G: Gate>(
         → IfOk result (λ text. (c : Files) → MayHold (S.disk store.new) c → DoesScript base next rows lines text.items files c) }
     ensures crash { (files : Files) (base next : ℕ) (rows : List Row) → told_files (S.disk store.old) ≡ Some files → Begins files base next rows → AreKept files (MayHold (S.disk store.old))
         → LeavesOnly (S.disk store.old) (S.disk store.new) (HasFront base next rows (numbered lines) (next + 2 * length (numbered lines)) files) }
+    // The store is again such as a run asks for.
+    ensures again { (files : Files) (base next : ℕ) (rows : List Row) → told_files (S.disk store.old) ≡ Some files → Begins files base next rows → AreKept files (MayHold (S.disk store.old))
+        → next + length (numbered lines) ≤ 2 ^ 61 → OnOk result (GivesBack (S.disk store.new)) }
     ensures base { (base : ℕ) → result ≡ Err (Stop.Fault (Fault.Base base)) → IsHighBase (told_files (S.disk store.old)) base }
     ensures same { (base : ℕ) → result ≡ Err (Stop.Fault (Fault.Base base)) → told_files (S.disk store.new) ≡ told_files (S.disk store.old) }
     ensures high { (files : Files) (base : ℕ) → told_files (S.disk store.old) ≡ Some files → IsLast files base → 2 ^ 61 < base
@@ -63,7 +68,7 @@ pub fn do_script<S: Store, G: Gate>(
         Ok(writer) => writer,
         Err(stop) => return Err(stop),
     };
-    let outcomes = match do_lines(alloc, store, gate, writer, lines) {
+    let outcomes = match do_lines(rt, alloc, store, gate, writer, lines) {
         Ok(outcomes) => outcomes,
         Err(StoreFault::Failed) => return Err(Stop::Fault(Fault::Store)),
         Err(StoreFault::NoMemory) => return Err(Stop::NoMemory),

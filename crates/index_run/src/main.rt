@@ -21,6 +21,8 @@ mod tell;
 #[cfg(test)]
 mod tests;
 #[cfg(test)]
+mod tests_crash;
+#[cfg(test)]
 mod tests_gate;
 #[cfg(test)]
 mod tests_large;
@@ -29,7 +31,6 @@ mod tests_operations;
 #[cfg(test)]
 mod tests_stores;
 mod words;
-mod writer;
 
 pub use call::{Ended, top};
 

@@ -1,5 +1,5 @@
 //! A run: the words and the script read, the script done, and its report written.
-ghost use Rattle.std.specs.Prelude.{◌≡◌, ◌<◌, ◌≤◌, ◌+◌, ◌^◌, ℕ, List, [], ◌∷◌, take, OnOk, IfOk, IfErr, Ok, Err, Some};
+ghost use Rattle.std.specs.Prelude.{◌≡◌, ◌<◌, ◌≤◌, ◌+◌, ◌^◌, ℕ, List, [], ◌∷◌, take, length, OnOk, IfOk, IfErr, Ok, Err, Some};
 ghost use Rattle.ix_outside.specs.Crash.{MayHold};
 ghost use Rattle.ix_outside.specs.Disk.{told_files};
 ghost use Rattle.std.specs.Io.KnownBytes.{Appends, IsAtEnd};
@@ -7,7 +7,7 @@ ghost use Rattle.ix_base.specs.declared.document.Row.{Row};
 ghost use Rattle.ix_outside.specs.Causes.{Rose};
 ghost use Rattle.ix_outside.specs.Calls.{LeavesOnly};
 ghost use Rattle.ix_outside.specs.Files.{Files, Changes};
-ghost use Rattle.commit_point.specs.Holds.{KeepsCommits};
+ghost use Rattle.commit_point.specs.Holds.{AreKept, KeepsCommits};
 ghost use Rattle.ix_base.specs.declared.damaged.Damaged.{Damaged};
 ghost use Rattle.op_script.specs.Language.{most_bytes, script};
 ghost use Rattle.op_script.specs.declared.script.BadLine.{BadLine};
@@ -15,9 +15,10 @@ ghost use Rattle.op_script.specs.declared.script.Line.{Line};
 ghost use Rattle.index_run.specs.Beginning.{IsOn, IsHighBase};
 ghost use Rattle.index_run.specs.Causes.{IsOneOf, TakesUpTo, IsBadIn, stop_status, run_status};
 ghost use Rattle.report_text.specs.Faults.{status_of};
-ghost use Rattle.index_run.specs.Crashes.{AreKept, StopsRight};
+ghost use Rattle.index_run.specs.Crashes.{GivesBack, StopsRight};
 ghost use Rattle.index_run.specs.Damage.{FindsDamage};
 ghost use Rattle.index_run.specs.Headline.{Begins, IsLast, RunsRight};
+ghost use Rattle.index_run.specs.Numbering.{numbered};
 ghost use Rattle.index_run.specs.Words.{IsAccepted};
 
 use crate::doing::do_script;
@@ -27,9 +28,11 @@ use crate::stop::Stop;
 use ix_outside::{Gate, Sink, Source, Store};
 use report_text::Fault;
 use std::alloc::Global;
+use std::thread::Threads;
 
 /// Does the run up to the last byte of its report. Of a fault nothing is written here.
-pub fn run<I: Source, O: Sink, S: Store, G: Gate>(
+pub fn run<R: Threads + Sync, I: Source, O: Sink, S: Store, G: Gate>(
+    rt: &R,
     alloc: Global,
     words: &[String],
     input: &mut I,
@@ -75,6 +78,10 @@ pub fn run<I: Source, O: Sink, S: Store, G: Gate>(
         → LeavesOnly (S.disk store.old) (S.disk store.new) (StopsRight base next rows lines files) }
     ensures crash_kept { (files : Files) (base next : ℕ) (rows : List Row) → told_files (S.disk store.old) ≡ Some files → Begins files base next rows → AreKept files (MayHold (S.disk store.old))
         → LeavesOnly (S.disk store.old) (S.disk store.new) (KeepsCommits files) }
+    // The store is again such as a run asks for.
+    ensures again { (bytes : List ℕ) (lines : List Line) (files : Files) (base next : ℕ) (rows : List Row) → I.left input.old ≡ Some bytes → script bytes ≡ Ok lines
+        → told_files (S.disk store.old) ≡ Some files → Begins files base next rows → AreKept files (MayHold (S.disk store.old))
+        → next + length (numbered lines) ≤ 2 ^ 61 → IsOneOf (run_status result) (0 ∷ 6 ∷ []) → GivesBack (S.disk store.new) }
     ensures unopened { IfErr result (λ stop. IsOneOf (stop_status stop) (2 ∷ 3 ∷ 5 ∷ []) → store.new ≡ store.old) }
     ensures untouched { IfErr result (λ stop. IsOneOf (stop_status stop) (2 ∷ 3 ∷ 5 ∷ 10 ∷ []) → told_files (S.disk store.new) ≡ told_files (S.disk store.old)) }
     ensures unwritten { IfErr result (λ stop. (stop ≡ Stop.Sink → ⊥) → out.new ≡ out.old) }
@@ -86,7 +93,7 @@ pub fn run<I: Source, O: Sink, S: Store, G: Gate>(
         Ok(lines) => lines,
         Err(stop) => return Err(stop),
     };
-    let text = match do_script(alloc, store, gate, lines) {
+    let text = match do_script(rt, alloc, store, gate, lines) {
         Ok(text) => text,
         Err(stop) => return Err(stop),
     };

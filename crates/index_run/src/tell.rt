@@ -1,5 +1,5 @@
 //! A run, and the line that tells its fault.
-ghost use Rattle.std.specs.Prelude.{◌≡◌, ◌<◌, ◌≤◌, ◌+◌, ◌^◌, ℕ, List, [], ◌∷◌, take, Ok, Err, Some};
+ghost use Rattle.std.specs.Prelude.{◌≡◌, ◌<◌, ◌≤◌, ◌+◌, ◌^◌, ℕ, List, [], ◌∷◌, take, length, Ok, Err, Some};
 ghost use Rattle.ix_outside.specs.Crash.{MayHold};
 ghost use Rattle.ix_outside.specs.Disk.{told_files};
 ghost use Rattle.std.specs.Io.KnownBytes.{Appends, IsAtEnd};
@@ -7,7 +7,7 @@ ghost use Rattle.ix_base.specs.declared.document.Row.{Row};
 ghost use Rattle.ix_outside.specs.Causes.{Rose};
 ghost use Rattle.ix_outside.specs.Calls.{LeavesOnly};
 ghost use Rattle.ix_outside.specs.Files.{Files, Changes};
-ghost use Rattle.commit_point.specs.Holds.{KeepsCommits};
+ghost use Rattle.commit_point.specs.Holds.{AreKept, KeepsCommits};
 ghost use Rattle.ix_base.specs.declared.damaged.Damaged.{Damaged};
 ghost use Rattle.op_script.specs.Language.{most_bytes, script};
 ghost use Rattle.op_script.specs.declared.script.BadLine.{BadLine};
@@ -15,9 +15,10 @@ ghost use Rattle.op_script.specs.declared.script.Line.{Line};
 ghost use Rattle.index_run.specs.Beginning.{IsOn, IsHighBase};
 ghost use Rattle.index_run.specs.Causes.{IsOneOf, TakesUpTo, WritesFront, IsBadIn};
 ghost use Rattle.report_text.specs.Faults.{fault_text, status_of};
-ghost use Rattle.index_run.specs.Crashes.{AreKept, StopsRight};
+ghost use Rattle.index_run.specs.Crashes.{GivesBack, StopsRight};
 ghost use Rattle.index_run.specs.Damage.{FindsDamage};
 ghost use Rattle.index_run.specs.Headline.{Begins, IsLast, RunsRight};
+ghost use Rattle.index_run.specs.Numbering.{numbered};
 ghost use Rattle.index_run.specs.Words.{IsAccepted};
 
 use crate::output::write_all;
@@ -26,6 +27,7 @@ use crate::stop::Stop;
 use ix_outside::{Gate, Sink, Source, Store};
 use report_text::Fault;
 use std::alloc::Global;
+use std::thread::Threads;
 
 /// Writes the line that tells a fault, and answers the fault's status. A sink that fails there
 /// changes nothing of the status.
@@ -40,7 +42,8 @@ fn tell<O: Sink>(out: &mut O, fault: Fault) -> u8
 }
 
 /// Does the run, tells its fault where there is one, and answers the exit status.
-pub fn run_and_tell<I: Source, O: Sink, S: Store, G: Gate>(
+pub fn run_and_tell<R: Threads + Sync, I: Source, O: Sink, S: Store, G: Gate>(
+    rt: &R,
     alloc: Global,
     words: &[String],
     input: &mut I,
@@ -103,10 +106,14 @@ pub fn run_and_tell<I: Source, O: Sink, S: Store, G: Gate>(
         → LeavesOnly (S.disk store.old) (S.disk store.new) (StopsRight base next rows lines files) }
     ensures crash_kept { (files : Files) (base next : ℕ) (rows : List Row) → told_files (S.disk store.old) ≡ Some files → Begins files base next rows → AreKept files (MayHold (S.disk store.old))
         → LeavesOnly (S.disk store.old) (S.disk store.new) (KeepsCommits files) }
+    // The store is again such as a run asks for.
+    ensures again { (bytes : List ℕ) (lines : List Line) (files : Files) (base next : ℕ) (rows : List Row) → I.left input.old ≡ Some bytes → script bytes ≡ Ok lines
+        → told_files (S.disk store.old) ≡ Some files → Begins files base next rows → AreKept files (MayHold (S.disk store.old))
+        → next + length (numbered lines) ≤ 2 ^ 61 → IsOneOf result (0 ∷ 6 ∷ []) → GivesBack (S.disk store.new) }
     ensures unopened { IsOneOf result (2 ∷ 3 ∷ 5 ∷ []) → store.new ≡ store.old }
     ensures untouched { IsOneOf result (2 ∷ 3 ∷ 5 ∷ 10 ∷ []) → told_files (S.disk store.new) ≡ told_files (S.disk store.old) }
 {
-    match run(alloc, words, input, out, store, gate) {
+    match run(rt, alloc, words, input, out, store, gate) {
         Ok(()) => 0,
         Err(Stop::NoMemory) => 4,
         Err(Stop::Sink) => 6,

@@ -1,7 +1,7 @@
 //! Whole runs over objects in memory, against reports that were worked out by hand.
 use crate::call::top;
 use ix_base::{FileName, NoMemory};
-use ix_memory::{FuseStore, MemorySink, MemorySource, MemoryStore};
+use ix_memory::{MemorySink, MemorySource, MemoryStore};
 use ix_outside::{EmptyGate, Store};
 use std::alloc::Global;
 use std::sync::Wait;
@@ -21,9 +21,6 @@ const FIRST_REPORT: &str =
 
 const ONE_HIT: &str = "{\"commit\":2,\"hits\":[{\"key\":\"a1\",\"num\":{}}],\"line\":1}\n";
 
-const TWO_HITS: &str =
-    "{\"commit\":4,\"hits\":[{\"key\":\"a1\",\"num\":{}},{\"key\":\"a2\",\"num\":{}}],\"line\":1}\n";
-
 /// How a run ended, and what it wrote.
 #[derive(Drop)]
 pub(crate) struct Done<S> {
@@ -33,7 +30,7 @@ pub(crate) struct Done<S> {
 }
 
 /// A run of the script over the store.
-pub(crate) fn run_over<R: Threads + Wait, S: Store + Drop>(
+pub(crate) fn run_over<R: Threads + Wait + Sync, S: Store + Drop>(
     rt: &R,
     alloc: Global,
     script: &[&str],
@@ -66,7 +63,7 @@ pub(crate) fn run_over<R: Threads + Wait, S: Store + Drop>(
 }
 
 /// A run of the script over the store, in which no read and no write fails.
-pub(crate) fn run_script<R: Threads + Wait, S: Store + Drop>(
+pub(crate) fn run_script<R: Threads + Wait + Sync, S: Store + Drop>(
     rt: &R,
     alloc: Global,
     script: &[&str],
@@ -162,7 +159,7 @@ fn reports(rt: HostRuntime) -> Result<(), Fail> {
 }
 
 /// A run that adds a document of one term of 32,766 bytes and more.
-fn run_with_long_term<R: Threads + Wait>(
+fn run_with_long_term<R: Threads + Wait + Sync>(
     rt: &R,
     alloc: Global,
     more: &str,
@@ -261,31 +258,5 @@ fn failing_streams(rt: HostRuntime) -> Result<(), Fail> {
     assert_eq!(rt; second.written.as_slice(), b"".as_slice());
     let third = run_script(&rt, alloc, &[ALL], second.store)?;
     assert_eq!(rt; third.written.as_slice(), ONE_HIT.as_bytes());
-    Ok(())
-}
-
-/// The second session makes its calls in this order: list, three reads, write and sync of the rows,
-/// of the postings and of the pending file, rename, sync of the directory.
-#[test]
-fn stops_at_each_store_call(rt: HostRuntime) -> Result<(), Fail> {
-    let alloc = rt.alloc();
-    for passes in 0..13u64 {
-        let first = run_script(&rt, alloc, &[ADD_A1, COMMIT], MemoryStore::new(alloc))?;
-        let fuse = FuseStore::new(first.store, passes);
-        let second = run_script(&rt, alloc, &[ADD_A2, COMMIT], fuse)?;
-        assert_eq!(rt; second.status, if passes < 12 { 7 } else { 0 });
-        let stopped = second.store.into_inner();
-        for choice in 0..16u32 {
-            let image = stopped.crash(alloc, choice).ok().ok_or("memory")?;
-            let after = run_script(&rt, alloc, &[ALL], image)?;
-            assert_eq!(rt; after.status, 0);
-            let one = after.written.as_slice() == ONE_HIT.as_bytes();
-            let two = after.written.as_slice() == TWO_HITS.as_bytes();
-            assert!(rt;
-                (one && passes < 12) || (two && passes > 10),
-                "passes {passes} choice {choice}"
-            );
-        }
-    }
     Ok(())
 }

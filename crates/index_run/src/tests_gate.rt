@@ -55,7 +55,7 @@ impl Gate for Recorder {
 
 /// A run that the recorder watches: an add, a term that is too long, a commit, a search and an add
 /// of another caller.
-fn watched_run<R: Threads + Wait>(rt: &R, alloc: Global, gate: &Recorder) -> Result<u8, NoMemory> {
+fn watched_run<R: Threads + Wait + Sync>(rt: &R, alloc: Global, gate: &Recorder) -> Result<u8, NoMemory> {
     let letters = "a".repeat(alloc, 32767)?;
     let script = [
         "{\"c\":0,\"op\":\"add\",\"doc\":{\"key\":\"a1\"}}\n{\"c\":0,\"op\":\"add\",\"doc\":{\"key\":\"a2\",\"text\":{\"body\":\"",
@@ -100,7 +100,7 @@ fn the_gate_hears_of_each_line(rt: HostRuntime) {
     }
 }
 
-/// A run without a commit leaves no file, an empty commit one, and a commit with rows three.
+/// A run without a commit leaves no file, an empty commit one, and a commit with rows five.
 #[test]
 fn files_of_a_run(rt: HostRuntime) -> Result<(), Fail> {
     let alloc = rt.alloc();
@@ -110,7 +110,7 @@ fn files_of_a_run(rt: HostRuntime) -> Result<(), Fail> {
         (&["{\"c\":0,\"op\":\"commit\"}\n"], 1),
         (
             &["{\"c\":0,\"op\":\"add\",\"doc\":{\"key\":\"a1\"}}\n{\"c\":0,\"op\":\"commit\"}\n"],
-            3,
+            5,
         ),
         (
             &["{\"c\":0,\"op\":\"commit\"}\n{\"c\":256,\"op\":\"commit\"}"],

@@ -1,4 +1,4 @@
-//! Large runs. One has 2,000 documents and a file of two megabytes; its report is computed from the
+//! Large runs. One has 2,000 documents and two files of a megabyte; its report is computed from the
 //! numbers of its lines. One has a document of 900 names, and 300 commits.
 //!
 //! The first has two rounds of 1,004 lines. A round adds 1,000 documents, numbered on from those of the
@@ -104,7 +104,7 @@ fn many_documents(rt: HostRuntime) -> Result<(), Fail> {
         .ok()
         .ok_or("a read that fails")?;
     let rows = rows.ok_or("an absent file")?;
-    assert!(rt; rows.len() > 2_000_000, "a small file");
+    assert!(rt; rows.len() > 1_000_000, "a small file");
     Ok(())
 }
 

@@ -2,6 +2,7 @@
 use crate::tests::{Done, run_script};
 use commit_point::read_commit;
 use ix_memory::MemoryStore;
+use segment_core::LiveSegment;
 use std::alloc::Global;
 use std::sync::Wait;
 use std::test::*;
@@ -27,7 +28,7 @@ const COMMIT: &str = "{\"c\":0,\"op\":\"commit\"}\n";
 const ALL: &str = "{\"c\":0,\"op\":\"search\",\"query\":\"all\"}\n";
 
 /// A run of the lines over an empty store.
-fn run_lines<R: Threads + Wait>(
+fn run_lines<R: Threads + Wait + Sync>(
     rt: &R,
     alloc: Global,
     lines: &[&str],
@@ -35,18 +36,26 @@ fn run_lines<R: Threads + Wait>(
     run_script(rt, alloc, lines, MemoryStore::new(alloc))
 }
 
-/// The birth of the first row of a commit, or 0.
+/// The birth of the first live row of a commit, or 0.
 fn first_birth(alloc: Global, store: &mut MemoryStore, number: u64) -> u64 {
     let Ok(opened) = read_commit(alloc, store, number) else {
         return 0;
     };
-    let Ok(rows) = opened.into_rows(alloc) else {
-        return 0;
-    };
-    match rows.as_slice().first() {
-        Some(row) => row.birth,
+    match opened.segments.as_slice().first() {
+        Some(segment) => first_live(segment),
         None => 0,
     }
+}
+
+/// The birth of a segment's first live row, or 0.
+fn first_live(segment: &LiveSegment) -> u64 {
+    let rows = segment.segment().rows.as_slice();
+    for index in 0..rows.len() {
+        if segment.live().is_live(index as u32) {
+            return rows[index].birth;
+        }
+    }
+    0
 }
 
 #[test]
@@ -140,7 +149,7 @@ fn an_update_replaces(rt: HostRuntime) -> Result<(), Fail> {
 }
 
 /// A run that updates a document by one with a term of 32,766 bytes and more.
-fn run_with_long_update<R: Threads + Wait>(
+fn run_with_long_update<R: Threads + Wait + Sync>(
     rt: &R,
     alloc: Global,
     more: &str,
@@ -191,7 +200,7 @@ fn a_long_update_is_refused(rt: HostRuntime) -> Result<(), Fail> {
 }
 
 /// A run of a deletion by a phrase of 131,059 letters and more.
-fn run_with_long_query<R: Threads + Wait>(
+fn run_with_long_query<R: Threads + Wait + Sync>(
     rt: &R,
     alloc: Global,
     more: &str,

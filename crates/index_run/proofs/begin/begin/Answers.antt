@@ -1,13 +1,13 @@
-use Rattle.std.proofs.Common.{◌≡◌, ◌∙◌, ℕ, inl, inr, sym, subst, arith}
-use Rattle.std.proofs.Common.{ap}
-use Rattle.ix_outside.specs.Disk.{told_files}
+use Rattle.std.proofs.Common.{◌≡◌, ◌∙◌, ℕ, inl, inr, ap, sym, subst, arith}
 use Rattle.std.proofs.lemmas.Result.{IfOk-weaker}
-use Rattle.ix_outside.specs.Files.{Files}
-use Rattle.commit_point.specs.Holds.{Holds}
 use Rattle.std.specs.Prelude.{IfOk, Option}
+use Rattle.ix_outside.specs.Disk.{told_files}
+use Rattle.ix_outside.specs.Files.{Files}
+use Rattle.commit_point.specs.Holds.{Holds, HoldsInverted}
 use Rattle.searcher.specs.Searching.{IsDamagedIn}
-use Rattle.index_run.specs.Beginning.{IsBase}
-use Rattle.index_run.specs.declared.writer.Writer.{Writer}
+use Rattle.index_writer.specs.declared.writer.IndexWriter.{IndexWriter}
+use Rattle.index_writer.specs.Writing.{StandsFor}
+use Rattle.index_run.specs.Beginning.{BeginsOn, IsBase}
 use Rattle.index_run.proofs.begin.begin.Goals as goal
 
 pub returns-clause-on : goal.returns-clause-on
@@ -17,8 +17,17 @@ returns-clause-on g c = λ files base next rows told last on.
     elim on [
       | inl none ↦ absurd (c.if-base-eq0.false (same ∙ none.0))
       | inr held ↦
-          subst (λ (n : ℕ). IfOk c.begin_on.result (λ (writer : Writer). writer ≡ record { rows = rows; number = n; next_id = next })) same
+          subst (λ (n : ℕ). IfOk c.begin_on.result (BeginsOn files n next)) same
           (c.begin_on.ensures.on files next rows still (subst (λ (n : ℕ). Holds files n next rows) (sym same) held.1))
+    ]
+
+pub returns-clause-stands : goal.returns-clause-stands
+returns-clause-stands g c = λ files base next rows told begins.
+    let same : c.in-Ok.base ≡ base = c.in-Ok.ensures.only files base told begins.0 in
+    let still = (ap told_files c.last_commit.ensures.reads) ∙ told in
+    elim begins.1 [
+      | inl none ↦ absurd (c.if-base-eq0.false (same ∙ none.0))
+      | inr held ↦ c.begin_on.ensures.stands files next rows still (subst (λ (n : ℕ). HoldsInverted files n next rows) (sym same) held.1.holds)
     ]
 
 pub returns-clause-whole : goal.returns-clause-whole
