@@ -25,7 +25,7 @@ returns c =
     ∙ ap (λ (numbers : List ℕ). before ++ found_at s.segment.rows s.live.marks numbers) c.as_slice-2.ensures.value
     ∙ ap (λ (found : List Found). before ++ found) (found_answered c.args.query.now s c.in_ok-numbers.numbers.items
     (subst
-      (λ (g : Segment). AreRowsWhere (λ docs. (docs ≡ documents g.rows) × (length g.rows < 2 ^ 32) × IsInversion docs g.postings) (matches (tree_of c.args.query.now)) c.in_ok-numbers.numbers.items)
-      c.segment-rows.ensures c.in_ok-numbers.ensures)
+    (λ (g : Segment). AreRowsWhere (λ docs. (docs ≡ documents g.rows) × (length g.rows < 2 ^ 32) × IsInversion docs g.postings) (matches (tree_of c.args.query.now)) c.in_ok-numbers.numbers.items)
+    c.segment-rows.ensures c.in_ok-numbers.ensures)
     c.live-live.ensures.whole inverted))
     c.add_rows.ensures
