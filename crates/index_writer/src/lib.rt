@@ -5,6 +5,8 @@
 mod draft;
 mod parts;
 mod publish;
+#[cfg(test)]
+mod tests;
 mod writer;
 
 pub use writer::IndexWriter;

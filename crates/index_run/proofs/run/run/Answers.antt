@@ -1,8 +1,9 @@
-use Rattle.std.proofs.Common.{◌≡◌, ℕ, ◌+◌, ◌*◌, List, length, take, Some, subst}
+use Rattle.std.proofs.Common.{◌≡◌, ℕ, ◌+◌, ◌*◌, ◌≤◌, ◌^◌, List, length, take, Some, subst}
 use Rattle.ix_outside.specs.Crash.{MayHold}
 use Rattle.std.specs.Io.KnownBytes.{Appends}
 use Rattle.ix_outside.specs.CallLaws.{leaves_none, leaves_less}
 use Rattle.commit_point.specs.Holds.{KeepsCommits}
+use Rattle.op_script.specs.declared.script.Line.{Line}
 use Rattle.index_run.specs.Causes.{stop_status}
 use Rattle.index_run.specs.Crashes.{HasFront, StopsRight}
 use Rattle.index_run.specs.Numbering.{numbered}
@@ -99,3 +100,15 @@ returns-clause-acknowledged_front g c = λ bytes lines files base next rows told
 
 pub returns-in-Err-do_script-clause-damaged : goal.returns-in-Err-do_script-clause-damaged
 returns-in-Err-do_script-clause-damaged g c = λ damaged is. (c.in-Ok.lines, c.in-Ok.ensures.script, c.in-Err-do_script.ensures.damaged damaged cc)
+
+pub returns-in-Ok-write_all-clause-again : goal.returns-in-Ok-write_all-clause-again
+returns-in-Ok-write_all-clause-again g c = λ bytes lines files base next rows told is store begins are low status.
+    let read = c.in-Ok.ensures.lines bytes told in
+    let same : lines ≡ c.in-Ok.lines = cc in
+    c.in-Ok-do_script.ensures.again files base next rows store begins are (subst (λ (ls : List Line). next + length (numbered ls) ≤ 2 ^ 61) same low)
+
+pub returns-clause-again : goal.returns-clause-again
+returns-clause-again g c = λ bytes lines files base next rows told is store begins are low status.
+    let read = c.in-Ok.ensures.lines bytes told in
+    let same : lines ≡ c.in-Ok.lines = cc in
+    c.in-Ok-do_script.ensures.again files base next rows store begins are (subst (λ (ls : List Line). next + length (numbered ls) ≤ 2 ^ 61) same low)

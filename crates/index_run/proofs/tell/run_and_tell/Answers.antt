@@ -1,4 +1,4 @@
-use Rattle.std.proofs.Common.{◌∙◌, [], ◌∷◌, Err, ap, subst}
+use Rattle.std.proofs.Common.{◌∙◌, [], ◌∷◌, Err, ap, refl, subst, sym}
 use Rattle.report_text.specs.declared.fault.Fault.{Fault}
 use Rattle.index_run.specs.declared.stop.Stop.{Stop}
 use Rattle.index_run.specs.declared.stop.Stop.TheVariants as stop
@@ -25,3 +25,11 @@ returns-in-Err-Fault-clause-complete g c = λ bytes lines files base next rows a
     absurd (no_fault c.in-Err-Fault.fault _ _ whole
     (λ e. c.in-Err-Fault.ensures.source (ap (λ (s : Stop). Err s) (c.in-Err-Fault.field-0-is ∙ ap (λ (f : Fault). stop.Fault f) e)))
     (λ e. c.in-Err-Fault.ensures.store (ap (λ (s : Stop). Err s) (c.in-Err-Fault.field-0-is ∙ ap (λ (f : Fault). stop.Fault f) e))) source failed)
+
+pub returns-in-Ok-clause-again : goal.returns-in-Ok-clause-again
+returns-in-Ok-clause-again g c = λ bytes lines files base next rows told is store begins are low zero. c.in-Ok.ensures.again bytes lines files base next rows told is store begins are low refl
+
+pub returns-in-Err-Sink-clause-again : goal.returns-in-Err-Sink-clause-again
+returns-in-Err-Sink-clause-again g c = λ bytes lines files base next rows told is store begins are low six.
+    let status : IsOneOf (stop_status c.in-Err-Sink.field-0) (0 ∷ 6 ∷ []) = subst (λ (s : Stop). IsOneOf (stop_status s) (0 ∷ 6 ∷ [])) (sym c.in-Err-Sink.field-0-is) refl in
+    c.in-Err-Sink.ensures.again bytes lines files base next rows told is store begins are low status
