@@ -187,7 +187,7 @@ begins_again files w rows room on stands = (
     by_last : HasLast files w.last → ((w.last.number ≡ 0) × (w.last.next_id ≡ 1) × (stands.before ≡ [])) ⊎ ((1 ≤ w.last.number) × IsLawful files w.last.number w.last.next_id stands.before)
     by_last (inl none) =
         let number : w.last.number ≡ 0 = ap (λ (x : Opened). x.number) none in (
-          inl (number, ap (λ (x : Opened). x.next_id) none, none_born stands.before (subst (λ (n : ℕ). BirthsRise 1 n stands.before) number commit.rows_are.births))
+        inl (number, ap (λ (x : Opened). x.next_id) none, none_born stands.before (subst (λ (n : ℕ). BirthsRise 1 n stands.before) number commit.rows_are.births))
         )
     by_last (inr has) = inr (
       has.0,

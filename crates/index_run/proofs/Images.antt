@@ -333,9 +333,12 @@ pub crash_start : (first : IndexWriter) (rows : List Row) (lines : List Line) (s
 crash_start first rows lines start can for on =
     leaves_none start (Reaches (Front first.number first.last.next_id rows lines) (MayHold start)) (λ c image.
     let here = on c image in
-    let starts = begins_here c first can here in
-    (c, image, front_of first rows lines [] lines [] first.last.next_id c c refl refl (omega arith) starts
-    (made_none (Rowed first.number rows (numbered lines)) first.number first.last.next_id c) (keeps_itself c)))
+    let starts = begins_here c first can here in (
+      c,
+      image,
+      front_of first rows lines [] lines [] first.last.next_id c c refl refl (omega arith) starts
+          (made_none (Rowed first.number rows (numbered lines)) first.number first.last.next_id c) (keeps_itself c),
+    ))
 
 -- the commits that were there stay through one line more, also where it fails
 pub kept_err : (first w : IndexWriter) (lines done : List Line) (lasts : List ℕ) (outcomes : List Outcome) (files : Files) (start mid now : Option Files) → start ≡ Some files

@@ -77,14 +77,7 @@ fn finds<R: Threads + Wait + Sync>(
     found: Found,
 ) -> Result<bool, Fail> {
     let searches = reports(rt, alloc, store, choice, &[ALL], found.search)?;
-    let goes_on = reports(
-        rt,
-        alloc,
-        store,
-        choice,
-        &[ADD_A2, COMMIT, ALL],
-        found.more,
-    )?;
+    let goes_on = reports(rt, alloc, store, choice, &[ADD_A2, COMMIT, ALL], found.more)?;
     Ok(searches && goes_on)
 }
 

@@ -55,7 +55,11 @@ impl Gate for Recorder {
 
 /// A run that the recorder watches: an add, a term that is too long, a commit, a search and an add
 /// of another caller.
-fn watched_run<R: Threads + Wait + Sync>(rt: &R, alloc: Global, gate: &Recorder) -> Result<u8, NoMemory> {
+fn watched_run<R: Threads + Wait + Sync>(
+    rt: &R,
+    alloc: Global,
+    gate: &Recorder,
+) -> Result<u8, NoMemory> {
     let letters = "a".repeat(alloc, 32767)?;
     let script = [
         "{\"c\":0,\"op\":\"add\",\"doc\":{\"key\":\"a1\"}}\n{\"c\":0,\"op\":\"add\",\"doc\":{\"key\":\"a2\",\"text\":{\"body\":\"",

@@ -190,9 +190,22 @@ fn commits_are_read(rt: HostRuntime) -> Result<(), Fail> {
     let alloc = rt.alloc();
     let two = [(Add, "a"), (Add, "b"), (Commit, "")];
     assert_eq!(rt; run(&rt, alloc, &two)?.as_str(), "1:2@3 a1 b2; ");
-    let deleted = [(Add, "a"), (Add, "b"), (Commit, ""), (Delete, "a"), (Commit, "")];
+    let deleted = [
+        (Add, "a"),
+        (Add, "b"),
+        (Commit, ""),
+        (Delete, "a"),
+        (Commit, ""),
+    ];
     assert_eq!(rt; run(&rt, alloc, &deleted)?.as_str(), "1:2@5 b2; ");
-    let set = [(Add, "a"), (Commit, ""), (Set, "a"), (Commit, ""), (Add, "b"), (Commit, "")];
+    let set = [
+        (Add, "a"),
+        (Commit, ""),
+        (Set, "a"),
+        (Commit, ""),
+        (Add, "b"),
+        (Commit, ""),
+    ];
     assert_eq!(rt; run(&rt, alloc, &set)?.as_str(), "1:1@4 a1=4; 2:1@6 b5; ");
     let none = [(Add, "a"), (Commit, ""), (DeleteByQuery, "a"), (Commit, "")];
     assert_eq!(rt; run(&rt, alloc, &none)?.as_str(), "");
@@ -231,11 +244,17 @@ fn refusals_of_each_kind(rt: HostRuntime) -> Result<(), Fail> {
     for kind in [Act::Add, Act::Update, Act::Delete, Act::Set] {
         assert_eq!(rt; refused(alloc, kind, 32_766)?, (None, 1));
         let size = 32_767;
-        assert_eq!(rt; refused(alloc, kind, 32_767)?, (Some(Refusal::Term { size }), 0));
+        assert_eq!(rt;
+            refused(alloc, kind, 32_767)?,
+            (Some(Refusal::Term { size }), 0)
+        );
     }
     assert_eq!(rt; refused(alloc, Act::DeleteByQuery, 131_060)?, (None, 1));
     let size = 131_073;
-    assert_eq!(rt; refused(alloc, Act::DeleteByQuery, 131_061)?, (Some(Refusal::Query { size }), 0));
+    assert_eq!(rt;
+        refused(alloc, Act::DeleteByQuery, 131_061)?,
+        (Some(Refusal::Query { size }), 0)
+    );
     assert_eq!(rt; refused(alloc, Act::Commit, 0)?, (None, 1));
     Ok(())
 }
