@@ -1,7 +1,7 @@
 #!/usr/bin/env python3
 """Prints what the files of an index hold, read by docs/FORMATS.md alone: a line for each commit and, below the last one,
-a line for each of its rows, and one for each term of each of its segments, with the places where it stands: the births of
-its rows, and the positions in each.
+a line for each of its live rows, with the numbers that were set in it, and one for each term of each of its segments,
+with the places where it stands in the segment's rows, live or not: the births of the rows, and the positions in each.
 
 usage: look.py DIR
 
@@ -68,6 +68,35 @@ def read_rows(directory, segment):
     return rows
 
 
+def read_live(directory, entry):
+    """Whether each row of a segment is live."""
+    file = Reader(os.path.join(directory, f"seg_{entry['id']}_{entry['v']}.liv"))
+    file.mark(b"IXLIV001")
+    file.number(20)
+    bits = file.take((entry["n"] + 7) // 8)
+    file.end()
+    return [bits[row // 8] >> row % 8 & 1 == 1 for row in range(entry["n"])]
+
+
+def read_values(directory, entry):
+    """The numbers that were set in each row of a segment."""
+    file = Reader(os.path.join(directory, f"seg_{entry['id']}_{entry['v']}.val"))
+    file.mark(b"IXVAL001")
+    file.number(20)
+    values = [{} for _ in range(entry["n"])]
+    for _ in range(file.number(8)):
+        row, name = file.number(4), file.text()
+        values[row][name] = file.number(8, signed=True)
+    file.end()
+    return values
+
+
+def live_rows(directory, entry, rows):
+    """The live rows of a segment, with the numbers that were set in them."""
+    marks = zip(rows, read_live(directory, entry), read_values(directory, entry))
+    return [{**row, "num": {**row["num"], **values}} for row, live, values in marks if live]
+
+
 def read_postings(directory, segment, births):
     file = Reader(os.path.join(directory, f"seg_{segment}.pst"))
     file.mark(b"IXPST001")
@@ -91,11 +120,12 @@ def main():
         commit = read_commit(directory, number)
         print(json.dumps(commit, ensure_ascii=False))
     if numbers:
-        segments = [(segment["id"], read_rows(directory, segment["id"])) for segment in commit["segments"]]
-        for row in sorted((row for _, rows in segments for row in rows), key=lambda row: row["birth"]):
+        segments = [(entry, read_rows(directory, entry["id"])) for entry in commit["segments"]]
+        live = [row for entry, rows in segments for row in live_rows(directory, entry, rows)]
+        for row in sorted(live, key=lambda row: row["birth"]):
             print(json.dumps(row, ensure_ascii=False))
-        for segment, rows in segments:
-            for term in read_postings(directory, segment, [row["birth"] for row in rows]):
+        for entry, rows in segments:
+            for term in read_postings(directory, entry["id"], [row["birth"] for row in rows]):
                 print(json.dumps(term, ensure_ascii=False))
 
 
