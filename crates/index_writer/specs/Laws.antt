@@ -98,3 +98,10 @@ holds_of files last rows has of = record {
   };
   inverted = of.inverted;
 }
+
+-- A commit that was opened can be followed.
+pub follows : (files : Files) (s : ℕ) (last : Opened) → last.number ≡ s → HasSegments files s last.next_id last.entries last.segments
+    → CanFollow last
+follows files s last is has =
+    can_follow files last.number last.next_id last.entries last.segments
+    (subst (λ (k : ℕ). HasSegments files k last.next_id last.entries last.segments) (sym is) has)

@@ -69,7 +69,7 @@ fn operation_of(alloc: Global, act: Act, key: &str) -> Result<Operation, Fail> {
 }
 
 /// Does one operation.
-fn act(
+fn attempt(
     alloc: Global,
     writer: &mut IndexWriter,
     act: Act,
@@ -121,7 +121,7 @@ fn step<R: Threads + Sync>(
     ensures { IfOk result IsReady }
 {
     let mut writer = writer;
-    act(alloc, &mut writer, line.0, line.1)?;
+    attempt(alloc, &mut writer, line.0, line.1)?;
     if !matches!(line.0, Act::Commit) {
         return Ok(writer);
     }
@@ -232,7 +232,7 @@ fn numbers_decide(rt: HostRuntime) -> Result<(), Fail> {
 fn refused(alloc: Global, kind: Act, letters: usize) -> Result<(Option<Refusal>, u64), Fail> {
     let key = "a".repeat(alloc, letters)?;
     let mut writer = IndexWriter::none(alloc);
-    let told = act(alloc, &mut writer, kind, key.as_str())?;
+    let told = attempt(alloc, &mut writer, kind, key.as_str())?;
     Ok((told, writer.number))
 }
 
