@@ -1,5 +1,5 @@
 -- How far the lines of a script have come, beside the disk.
-use Rattle.std.proofs.Common.{◌≡◌, ◌≢◌, ◌⊎◌, inl, inr, ℕ, ◌+◌, ◌<◌, ◌≤◌, ◌^◌, Bool, true, false, cond, eqb, ◌&&◌, List, [], ◌∷◌, ◌++◌, length, get_or, set, replicate, Some, None, refl, sym, ap, subst, ◌∙◌, append_assoc, arith}
+use Rattle.std.proofs.Common.{◌≡◌, ◌≢◌, ◌⊎◌, inl, inr, ℕ, ◌+◌, ◌<◌, ◌≤◌, ◌^◌, Bool, true, false, cond, eqb, ◌&&◌, List, [], ◌∷◌, ◌++◌, length, get_or, set, replicate, Some, None, refl, sym, ap, subst, ◌∙◌, arith}
 use Rattle.std.specs.Prelude.{Option, is_none}
 use Rattle.std.specs.List.{AllByRecursion}
 use Rattle.std.proofs.lemmas.List.{append-nil, length-append, get_or-set_same, get_or-set_other, length-set, get_or-replicate, length-replicate}
@@ -19,7 +19,7 @@ use Rattle.op_script.specs.declared.script.Act.{Act}
 use Rattle.op_script.specs.declared.script.Act.TheVariants.{Do, Search}
 use Rattle.run_report.specs.declared.outcome.Outcome.{Outcome}
 use Rattle.run_report.specs.declared.outcome.Answer.{Answer}
-use Rattle.run_report.specs.declared.outcome.Answer.TheVariants.{Numbered, Committed, Refused, Searched}
+use Rattle.run_report.specs.declared.outcome.Answer.TheVariants.{Searched}
 use Rattle.index_run.specs.Numbering.{is_numbered, is_commit, numbered, operations, commit_numbers}
 use Rattle.index_run.specs.Outcomes.{AsksFor, IsAskedFor, number_after, rows_after, commit_after, outcome_of, answer_of, told_answer, done_answer, outcomes_from}
 use Rattle.index_run.specs.Doing.{CanBegin, IsOnNext, WriterAfter, Writes, answer_by, lasts_after}

@@ -1,6 +1,6 @@
 -- What the disk and its images have while the lines of a script are done.
-use Rattle.std.proofs.Common.{◌≡◌, ◌≢◌, ◌⊎◌, inl, inr, ℕ, ◌+◌, ◌<◌, ◌≤◌, ◌^◌, false, List, [], ◌∷◌, ◌++◌, length, take, Some, None, refl, sym, ap, subst, ◌∙◌, append_assoc, arith}
-use Rattle.std.specs.Prelude.{IsSome, Option}
+use Rattle.std.proofs.Common.{◌≡◌, ◌⊎◌, inl, inr, ℕ, ◌+◌, ◌<◌, ◌≤◌, ◌^◌, false, List, [], ◌∷◌, ◌++◌, length, take, Some, None, refl, sym, ap, subst, ◌∙◌, append_assoc, arith}
+use Rattle.std.specs.Prelude.{Option}
 use Rattle.std.proofs.lemmas.List.{length-append}
 use Rattle.std.proofs.lemmas.List.Elements.{filter-append}
 use Rattle.std.proofs.Math.Seq.{take-append_seam}
@@ -11,9 +11,8 @@ use Rattle.ix_outside.specs.Calls.{LeavesOnly}
 use Rattle.ix_outside.specs.CallLaws.{leaves_none, leaves_then}
 use Rattle.ix_outside.specs.Crash.{MayHold}
 use Rattle.ix_outside.specs.Disk.{Disk, told_files}
-use Rattle.ix_outside.specs.Files.{Files, Changes, onto, stays, then}
+use Rattle.ix_outside.specs.Files.{Files, Changes, onto, then}
 use Rattle.ix_outside.specs.Images.{Follows, Reaches}
-use Rattle.commit_point.specs.declared.heads.HeadSegment.{HeadSegment}
 use Rattle.commit_point.specs.declared.open.Opened.{Opened}
 use Rattle.commit_point.specs.Holds.{AreKept, HoldsInverted, KeepsCommits, Lists}
 use Rattle.index_writer.specs.declared.writer.IndexWriter.{IndexWriter}
@@ -29,7 +28,7 @@ use Rattle.index_run.specs.Headline.{HasCommits, Starts}
 use Rattle.index_run.specs.Numbering.{is_commit, is_numbered, numbered, commit_numbers, rows_at}
 use Rattle.index_run.specs.Outcomes.{number_after, rows_after}
 use Rattle.index_run.proofs.Far.{Far, commits_or, count_commit, last_next, last_same, numbers_more, numbers_same}
-use Rattle.index_run.proofs.Kept.{AllBelow, Rowed, has_commits, keeps_itself, kept_more, listed_below, lists_before, made_more, made_none, made_other, made_still, nat_or}
+use Rattle.index_run.proofs.Kept.{Rowed, has_commits, keeps_itself, kept_more, listed_below, lists_before, made_more, made_none, made_other, made_still, nat_or}
 use Rattle.index_run.proofs.Log.{number_after-push, rows_after-push, rows_at-front}
 
 -- the first of the script's commits, up to some number

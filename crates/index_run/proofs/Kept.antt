@@ -13,7 +13,7 @@ use Rattle.commit_point.specs.declared.heads.HeadSegment.{HeadSegment}
 use Rattle.commit_point.specs.declared.heads.Head.{Head}
 use Rattle.commit_point.specs.declared.open.Opened.{Opened}
 use Rattle.commit_point.specs.Fits.{EntryFits, IdsRise}
-use Rattle.commit_point.specs.Holds.{HasSegments, Holds, HoldsInverted, head_of, IsAboveIds, IsAmong, IsFileOf, KeepsCommits, Lists, names_of}
+use Rattle.commit_point.specs.Holds.{HasSegments, HoldsInverted, head_of, IsAmong, IsFileOf, KeepsCommits, Lists, names_of}
 use Rattle.commit_point.specs.Laws.{has_kept, one_head}
 use Rattle.index_writer.specs.Storing.{IsStored, SameBelow}
 use Rattle.index_writer.specs.Writing.{IsCommitOf}

@@ -1,5 +1,5 @@
 -- An operation that was done by the writer, as that of a line.
-use Rattle.std.proofs.Common.{◌≡◌, ◌∙◌, ℕ, ◌+◌, ◌<◌, ◌≤◌, ◌^◌, List, [], length, Some, None, inl, refl, sym, ap, subst, arith}
+use Rattle.std.proofs.Common.{◌≡◌, ◌∙◌, ℕ, ◌+◌, ◌<◌, ◌^◌, List, None, inl, refl, sym, ap, subst, arith}
 use Rattle.std.specs.Prelude.{Option}
 use Rattle.ix_base.specs.declared.document.Operation.{Operation}
 use Rattle.ix_base.specs.declared.document.Operation.TheVariants.{Add, Update, DeleteTerm, DeleteQuery, SetNumber, Commit}
@@ -13,7 +13,7 @@ use Rattle.ix_outside.specs.Files.{Files, Changes, onto}
 use Rattle.ix_outside.specs.Images.{Follows, Reaches}
 use Rattle.commit_point.specs.declared.open.Opened.{Opened}
 use Rattle.index_writer.specs.declared.writer.IndexWriter.{IndexWriter}
-use Rattle.index_writer.specs.Storing.{AreStored, Commits, IsOnCommit, MayCommit, Settles}
+use Rattle.index_writer.specs.Storing.{Commits, IsOnCommit, MayCommit, Settles}
 use Rattle.index_writer.specs.Writing.{Does, IsReady, StandsFor}
 use Rattle.op_script.specs.declared.script.Act.{Act}
 use Rattle.op_script.specs.declared.script.Act.TheVariants.{Do, Search}

@@ -1,5 +1,5 @@
 -- What a crash leaves of a run, over commits that are kept.
-use Rattle.std.proofs.Common.{◌≡◌, ◌⊎◌, inl, inr, ℕ, suc, ◌+◌, ◌*◌, ◌≤◌, List, [], ◌∷◌, length, take, Some, None, Ok, Err, Result, refl, sym, subst, ◌∙◌, arith, Vec}
+use Rattle.std.proofs.Common.{◌≡◌, inl, inr, ℕ, suc, ◌+◌, ◌*◌, ◌≤◌, List, [], ◌∷◌, length, take, Some, None, Ok, Err, Result, refl, sym, subst, ◌∙◌, arith, Vec}
 use Rattle.std.specs.Prelude.{IsSome, Option, Contains, IfOk, OnOk}
 use Rattle.std.specs.List.{AllByRecursion}
 use Rattle.std.specs.declared.alloc.Global.{Global}

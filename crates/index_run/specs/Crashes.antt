@@ -6,7 +6,7 @@ use Rattle.ix_outside.specs.Disk.{Disk, told_files}
 use Rattle.ix_outside.specs.Files.{Files}
 use Rattle.commit_point.specs.Holds.{AreKept, KeepsCommits}
 use Rattle.op_script.specs.declared.script.Line.{Line}
-use Rattle.index_run.specs.Numbering.{Interleaves, numbered, commit_numbers}
+use Rattle.index_run.specs.Numbering.{Interleaves, commit_numbers}
 use Rattle.index_run.specs.Headline.{Begins, HasCommits}
 
 -- Of the log's commits the first ones are there, each whole: those of its first `count` lines. There is no other new

@@ -1,5 +1,5 @@
 -- What doing lines does, to the writer, to the callers' last commits and to the disk.
-use Rattle.std.specs.Prelude.{◌≡◌, ◌⊎◌, ℕ, ◌+◌, ◌*◌, ◌<◌, ◌≤◌, ◌^◌, List, [], length, slice_set, Option, Some, None, IsSome}
+use Rattle.std.specs.Prelude.{◌≡◌, ◌⊎◌, ℕ, ◌+◌, ◌<◌, ◌≤◌, ◌^◌, List, [], length, slice_set, Option, IsSome}
 use Rattle.std.specs.List.{AllByRecursion}
 use Rattle.ix_base.specs.declared.document.Operation.{Operation}
 use Rattle.ix_base.specs.declared.document.Operation.TheVariants.{Commit}
@@ -37,7 +37,8 @@ pub record CanBegin (w : IndexWriter) : Type 0 where
 
 -- the files spell this last commit, or there is none
 abbrev pub HasLast : Files → Opened → Type 0
-HasLast files last = (last ≡ record { number = 0; next_id = 1; entries = []; segments = [] }) ⊎ ((1 ≤ last.number) × IsStored files last)
+HasLast files last = (last ≡ record { number = 0; next_id = 1; entries = []; segments = [] })
+    ⊎ ((1 ≤ last.number) × IsStored files last)
 
 -- The files are such as a writer goes on from: its last commit is the last one there, and no commit lists an id from
 -- its next one on.
@@ -49,7 +50,7 @@ pub record GoesOn (files : Files) (w : IndexWriter) : Type 0 where
 
 -- the writer, but with its next number
 abbrev pub next_number : IndexWriter → IndexWriter
-next_number w = record { last = w.last; number = w.number + 1; buffer = w.buffer; updates = w.updates }
+next_number w = record w { number = w.number + 1 }
 
 -- The writer's last commit is that of its next number, with the rows for which it stood. The next id rose by one at most.
 pub record IsOnNext (old new : IndexWriter) : Type 0 where
@@ -102,9 +103,10 @@ MayLeave act w rows old new = new ≡ old
 
 -- ---- many lines
 
--- The commit s was made, of which `Known` holds: its next id is in range, and above each id that a commit below it lists
--- where that could be.
-pub record IsMade (Known : Opened → ℕ → Type 0) (base next limit : ℕ) (old new : Files) (s : ℕ) : Type 0 where
+-- The commit s was made, of which `Known` holds. Its next id is in range and, where a run could begin at first, above
+-- each id that a commit below it lists.
+pub record IsMade (Known : Opened → ℕ → Type 0) (base next limit : ℕ) (old new : Files) (s : ℕ)
+    : Type 0 where
   pub last : Opened
   pub number : last.number ≡ s
   pub from_next : next ≤ last.next_id
@@ -114,7 +116,8 @@ pub record IsMade (Known : Opened → ℕ → Type 0) (base next limit : ℕ) (o
   pub known : Known last s
 
 -- These commits were made, and no other. What an older commit was it is.
-pub record AreMade (Known : Opened → ℕ → Type 0) (base next : ℕ) (numbers : List ℕ) (limit : ℕ) (old new : Files) : Type 0 where
+pub record AreMade (Known : Opened → ℕ → Type 0) (base next : ℕ) (numbers : List ℕ) (limit : ℕ) (old new : Files)
+    : Type 0 where
   pub each : AllByRecursion (IsMade Known base next limit old new) numbers
   pub only : (s : ℕ) → IsSome (new (file.Commit s)) → IsSome (old (file.Commit s)) ⊎ IsIn numbers s
   pub older : (s n : ℕ) (entries : List HeadSegment) (segments : List Lived) → s ≤ base → n ≤ next
@@ -122,7 +125,8 @@ pub record AreMade (Known : Opened → ℕ → Type 0) (base next : ℕ) (number
 
 -- the commit s has the rows by the script's lines up to it, where the writer at the beginning stood for some
 abbrev pub HasRows : IndexWriter → List Line → Opened → ℕ → Type 0
-HasRows w lines last s = (rows : List Row) → StandsFor w rows → IsCommitOf last (rows_at w.number rows (numbered lines) s)
+HasRows w lines last s = (rows : List Row) → StandsFor w rows
+    → IsCommitOf last (rows_at w.number rows (numbered lines) s)
 
 -- The lines were done in their order by a writer that began as this one.
 pub record DoesLines (w : IndexWriter) (lines : List Line) (old new : Files) : Type 0 where

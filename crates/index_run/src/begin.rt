@@ -51,10 +51,11 @@ fn last_of(numbers: &[u64]) -> u64
 pub fn begin<S: Store>(alloc: Global, store: &mut S) -> Result<IndexWriter, Stop>
     ensures ready { IfOk result CanBegin }
     ensures last { IfOk result (λ writer. IsBase (told_files (S.disk store.old)) writer.number) }
-    ensures on { (files : Files) (base next : ℕ) (rows : List Row) → told_files (S.disk store.old) ≡ Some files → IsLast files base → IsOn files base next rows
+    ensures on { (files : Files) (base next : ℕ) (rows : List Row)
+        → told_files (S.disk store.old) ≡ Some files → IsLast files base → IsOn files base next rows
         → IfOk result (BeginsOn files base next) }
-    ensures stands { (files : Files) (base next : ℕ) (rows : List Row) → told_files (S.disk store.old) ≡ Some files → Begins files base next rows
-        → IfOk result (λ writer. StandsFor writer rows) }
+    ensures stands { (files : Files) (base next : ℕ) (rows : List Row)
+        → told_files (S.disk store.old) ≡ Some files → Begins files base next rows → IfOk result (λ writer. StandsFor writer rows) }
     ensures base { (base : ℕ) → result ≡ Err (Stop.Fault (Fault.Base base)) → IsHighBase (told_files (S.disk store.old)) base }
     ensures high { (files : Files) (base : ℕ) → told_files (S.disk store.old) ≡ Some files → IsLast files base → 2 ^ 61 < base
         → IsErrAnd result (λ stop. (stop ≡ Stop.Fault (Fault.Base base)) ⊎ ((stop ≡ Stop.Fault Fault.Store) ⊎ (stop ≡ Stop.NoMemory))) }
@@ -84,12 +85,12 @@ fn begin_on<S: Store>(alloc: Global, store: &mut S, base: u64) -> Result<IndexWr
     requires { (1 ≤ base) × (base ≤ 2 ^ 61) }
     ensures ready { IfOk result CanBegin }
     ensures number { IfOk result (λ writer. writer.number ≡ base) }
-    ensures on { (files : Files) (next : ℕ) (rows : List Row) → told_files (S.disk store.old) ≡ Some files → Holds files base next rows
-        → IfOk result (BeginsOn files base next) }
-    ensures stands { (files : Files) (next : ℕ) (rows : List Row) → told_files (S.disk store.old) ≡ Some files → HoldsInverted files base next rows
-        → IfOk result (λ writer. StandsFor writer rows) }
-    ensures whole { (files : Files) (next : ℕ) (rows : List Row) → told_files (S.disk store.old) ≡ Some files → Holds files base next rows
-        → IfErr result (λ stop. (stop ≡ Stop.Fault Fault.Store) ⊎ (stop ≡ Stop.NoMemory)) }
+    ensures on { (files : Files) (next : ℕ) (rows : List Row)
+        → told_files (S.disk store.old) ≡ Some files → Holds files base next rows → IfOk result (BeginsOn files base next) }
+    ensures stands { (files : Files) (next : ℕ) (rows : List Row)
+        → told_files (S.disk store.old) ≡ Some files → HoldsInverted files base next rows → IfOk result (λ writer. StandsFor writer rows) }
+    ensures whole { (files : Files) (next : ℕ) (rows : List Row)
+        → told_files (S.disk store.old) ≡ Some files → Holds files base next rows → IfErr result (λ stop. (stop ≡ Stop.Fault Fault.Store) ⊎ (stop ≡ Stop.NoMemory)) }
     ensures damaged { (damaged : Damaged) → result ≡ Err (Stop.Fault (Fault.Damaged damaged)) → IsDamagedIn (told_files (S.disk store.old)) base damaged }
     ensures reads { S.disk store.new ≡ S.disk store.old }
     ensures later { S.fault_count store.old ≤ S.fault_count store.new }

@@ -8,18 +8,19 @@ use std::sync::Wait;
 use std::test::*;
 use std::thread::Threads;
 
-const ADD_A1: &str = "{\"c\":0,\"op\":\"add\",\"doc\":{\"key\":\"a1\"}}\n";
+pub(crate) const ADD_A1: &str = "{\"c\":0,\"op\":\"add\",\"doc\":{\"key\":\"a1\"}}\n";
 
-const ADD_A2: &str = "{\"c\":0,\"op\":\"add\",\"doc\":{\"key\":\"a2\"}}\n";
+pub(crate) const ADD_A2: &str = "{\"c\":0,\"op\":\"add\",\"doc\":{\"key\":\"a2\"}}\n";
 
-const COMMIT: &str = "{\"c\":0,\"op\":\"commit\"}\n";
+pub(crate) const COMMIT: &str = "{\"c\":0,\"op\":\"commit\"}\n";
 
-const ALL: &str = "{\"c\":0,\"op\":\"search\",\"query\":\"all\"}\n";
+pub(crate) const ALL: &str = "{\"c\":0,\"op\":\"search\",\"query\":\"all\"}\n";
 
 const FIRST_REPORT: &str =
     "{\"line\":1,\"seq\":1}\n{\"docs\":1,\"line\":2,\"seq\":2}\n{\"commit\":2,\"hits\":[{\"key\":\"a1\",\"num\":{}}],\"line\":3}\n";
 
-const ONE_HIT: &str = "{\"commit\":2,\"hits\":[{\"key\":\"a1\",\"num\":{}}],\"line\":1}\n";
+pub(crate) const ONE_HIT: &str =
+    "{\"commit\":2,\"hits\":[{\"key\":\"a1\",\"num\":{}}],\"line\":1}\n";
 
 /// How a run ended, and what it wrote.
 #[derive(Drop)]

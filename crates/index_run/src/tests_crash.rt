@@ -1,19 +1,11 @@
 //! A second session that stops after each of its store calls, and what a third one makes of each
 //! image that a crash then leaves.
-use crate::tests::run_script;
+use crate::tests::{ADD_A1, ADD_A2, ALL, COMMIT, ONE_HIT, run_script};
 use ix_memory::{FuseStore, MemoryStore};
 use std::alloc::Global;
 use std::sync::Wait;
 use std::test::*;
 use std::thread::Threads;
-
-const ADD_A1: &str = "{\"c\":0,\"op\":\"add\",\"doc\":{\"key\":\"a1\"}}\n";
-
-const ADD_A2: &str = "{\"c\":0,\"op\":\"add\",\"doc\":{\"key\":\"a2\"}}\n";
-
-const COMMIT: &str = "{\"c\":0,\"op\":\"commit\"}\n";
-
-const ALL: &str = "{\"c\":0,\"op\":\"search\",\"query\":\"all\"}\n";
 
 /// The list, and the reads of the five files of the commit that is there.
 const READING_CALLS: u64 = 6;
@@ -31,7 +23,7 @@ struct Found {
 
 /// The first session's commit alone.
 const ONE: Found = Found {
-    search: "{\"commit\":2,\"hits\":[{\"key\":\"a1\",\"num\":{}}],\"line\":1}\n",
+    search: ONE_HIT,
     more: "{\"line\":1,\"seq\":3}\n{\"docs\":2,\"line\":2,\"seq\":4}\n{\"commit\":4,\"hits\":[{\"key\":\"a1\",\"num\":{}},{\"key\":\"a2\",\"num\":{}}],\"line\":3}\n",
 };
 

@@ -1,5 +1,5 @@
 //! Whole runs of each operation over an empty store, against reports that were worked out by hand.
-use crate::tests::{Done, run_script};
+use crate::tests::{ADD_A1, ALL, COMMIT, Done, run_script};
 use commit_point::read_commit;
 use ix_memory::MemoryStore;
 use segment_core::LiveSegment;
@@ -7,8 +7,6 @@ use std::alloc::Global;
 use std::sync::Wait;
 use std::test::*;
 use std::thread::Threads;
-
-const ADD_A1: &str = "{\"c\":0,\"op\":\"add\",\"doc\":{\"key\":\"a1\"}}\n";
 
 const DELETE_A1: &str = "{\"c\":0,\"op\":\"delete\",\"field\":\"key\",\"term\":\"a1\"}\n";
 
@@ -22,10 +20,6 @@ const SET_BY_KEY: &str =
 
 const ADD_TAGGED: &str =
     "{\"c\":0,\"op\":\"add\",\"doc\":{\"key\":\"a1\",\"exact\":{\"tag\":\"x\"}}}\n";
-
-const COMMIT: &str = "{\"c\":0,\"op\":\"commit\"}\n";
-
-const ALL: &str = "{\"c\":0,\"op\":\"search\",\"query\":\"all\"}\n";
 
 /// A run of the lines over an empty store.
 fn run_lines<R: Threads + Wait + Sync>(

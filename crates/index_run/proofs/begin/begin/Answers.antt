@@ -5,8 +5,6 @@ use Rattle.ix_outside.specs.Disk.{told_files}
 use Rattle.ix_outside.specs.Files.{Files}
 use Rattle.commit_point.specs.Holds.{Holds, HoldsInverted}
 use Rattle.searcher.specs.Searching.{IsDamagedIn}
-use Rattle.index_writer.specs.declared.writer.IndexWriter.{IndexWriter}
-use Rattle.index_writer.specs.Writing.{StandsFor}
 use Rattle.index_run.specs.Beginning.{BeginsOn, IsBase}
 use Rattle.index_run.proofs.begin.begin.Goals as goal
 

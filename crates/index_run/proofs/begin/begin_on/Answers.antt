@@ -1,5 +1,4 @@
-use Rattle.std.proofs.Common.{◌≡◌, ℕ, sym, subst}
-use Rattle.commit_point.specs.declared.open.Opened.{Opened}
+use Rattle.std.proofs.Common.{ℕ, sym, subst}
 use Rattle.index_writer.specs.Laws.{can_follow}
 use Rattle.index_writer.specs.Writing.{CanFollow}
 use Rattle.index_run.proofs.begin.begin_on.Goals as goal
