@@ -87,6 +87,30 @@ fn thousand_postings(alloc: Global) -> Result<Vec<u8>, NoMemory> {
     Ok(bytes)
 }
 
+/// What the files of live bits and of set numbers go on with after their marks: the id 1, the commit
+/// 1000 and a thousand rows.
+const LIVE_FRONT: [u8; 20] = [
+    0, 0, 0, 0, 0, 0, 0, 1, 0, 0, 0, 0, 0, 0, 3, 0xe8, 0, 0, 3, 0xe8,
+];
+
+/// The live bits of a thousand documents, which are all live.
+fn thousand_bits(alloc: Global) -> Result<Vec<u8>, NoMemory> {
+    let mut bytes = Vec::new(alloc);
+    bytes.extend_from_slice(b"IXLIV001")?;
+    bytes.extend_from_slice(&LIVE_FRONT)?;
+    bytes.extend_from_slice(&[0xff; 125])?;
+    Ok(bytes)
+}
+
+/// The set numbers of a thousand documents, of which there are none.
+fn no_numbers(alloc: Global) -> Result<Vec<u8>, NoMemory> {
+    let mut bytes = Vec::new(alloc);
+    bytes.extend_from_slice(b"IXVAL001")?;
+    bytes.extend_from_slice(&LIVE_FRONT)?;
+    bytes.extend_from_slice(&[0; 8])?;
+    Ok(bytes)
+}
+
 /// The text of a search line that a thousand documents match.
 fn thousand_hits(alloc: Global) -> Result<Vec<u8>, NoMemory> {
     let mut text = Vec::new(alloc);
@@ -105,6 +129,10 @@ fn store_of_thousand(alloc: Global) -> Result<MemoryStore, StoreFault> {
     let postings = thousand_postings(alloc)?;
     store.write(FileName::Rows(1), rows.as_slice())?;
     store.write(FileName::Posts(1), postings.as_slice())?;
+    let bits = thousand_bits(alloc)?;
+    let numbers = no_numbers(alloc)?;
+    store.write(FileName::Live(1, 1000), bits.as_slice())?;
+    store.write(FileName::Values(1, 1000), numbers.as_slice())?;
     store.write(FileName::Commit(1000), &THOUSAND)?;
     Ok(store)
 }
