@@ -5,7 +5,8 @@ usage: commits.py PROGRAM
 
 1. The generator's script (10,000 lines, four callers, a commit every 64 lines) on a new directory.
 2. Commits of 64 operations each on an index of 10,000 and of 100,000 older rows: milliseconds a commit.
-3. One commit whose updates go to eight segments of 12,500 rows each, on one, two and four processors.
+3. One commit whose 200 deletes by query, of a phrase that stands in every row, go to eight segments of 12,500 rows each,
+   on one, two and four processors. The queries exclude all rows, so that each is answered anew.
 """
 import json
 import os
@@ -69,10 +70,10 @@ def changes(commits, rows):
         yield {"c": 0, "op": "commit"}
 
 
-def sets(count):
-    for number in range(count):
-        line = {"c": 0, "field": "key", "term": f"k{(number * 7) % 100_000}"}
-        yield {**line, "op": "set", "num": "n", "value": number} if number % 2 else {**line, "op": "delete"}
+def phrases(count):
+    query = {"bool": {"must": [{"phrase": ["body", "common text"]}], "not": ["all"]}}
+    for _ in range(count):
+        yield {"c": 0, "op": "delete_query", "query": query}
     yield {"c": 0, "op": "commit"}
 
 
@@ -115,13 +116,14 @@ def main():
         opened, whole = on_older_rows(program, rows)
         print(f"| {rows:,} | {opened:.2f} | {(whole - opened) * 1000 / 50:.1f} |", flush=True)
 
-    print("\n| Processors | Seconds of 50,000 updates over eight segments |\n|---|---|")
+    print("\n| Processors | Opening, seconds | Seconds of 200 deletes by query over eight segments |\n|---|---|---|")
     for processors in [1, 2, 4]:
         with tempfile.TemporaryDirectory() as index:
             for first in range(0, 100_000, 12_500):
                 run(program, index, adds(first, 12_500))
-            seconds, _ = run(program, index, sets(50_000), processors)
-        print(f"| {processors} | {seconds:.2f} |", flush=True)
+            opened, _ = run(program, index, [], processors)
+            seconds, _ = run(program, index, phrases(200), processors)
+        print(f"| {processors} | {opened:.2f} | {seconds - opened:.2f} |", flush=True)
 
 
 main()

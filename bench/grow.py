@@ -4,7 +4,7 @@ of a processor, and the most memory in MB.
 
 usage: grow.py PROGRAM [KIND:COUNT ..]
 
-KIND is one of those of make_script.py. With no KIND:COUNT it takes a list of its own, in about three minutes.
+KIND is one of those of make_script.py. With no KIND:COUNT it takes a list of its own, in about a minute.
 """
 import os
 import sys
@@ -16,9 +16,9 @@ from make_script import write_script
 RUNS = [(kind, count) for kind, counts in [
     ("add", [1_000, 10_000, 100_000]),
     ("write", [1_000, 10_000, 100_000]),
-    ("update", [500, 1_000, 2_000]),
-    ("delete", [500, 1_000, 2_000]),
-    ("set", [500, 1_000, 2_000]),
+    ("update", [1_000, 10_000, 100_000]),
+    ("delete", [1_000, 10_000, 100_000]),
+    ("set", [1_000, 10_000, 100_000]),
 ] for count in counts]
 
 
