@@ -94,7 +94,7 @@ def read_values(directory, entry):
 def live_rows(directory, entry, rows):
     """The live rows of a segment, with the numbers that were set in them."""
     marks = zip(rows, read_live(directory, entry), read_values(directory, entry))
-    return [{**row, "num": {**row["num"], **values}} for row, live, values in marks if live]
+    return [{**row, "num": dict(sorted({**row["num"], **values}.items()))} for row, live, values in marks if live]
 
 
 def read_postings(directory, segment, births):
