@@ -2,10 +2,10 @@
 use Rattle.std.proofs.Common.{◌≡◌, ℕ, Bool, List, length, Option, sym, ap, subst, ◌∙◌}
 use Rattle.ix_outside.specs.Files.{Files}
 use Rattle.live_docs.specs.Marks.{Marks}
-use Rattle.segment_files.specs.LiveFits.{ValuesFit}
-use Rattle.segment_files.specs.LiveMarkLaws.{bits_back, values_back}
-use Rattle.segment_files.specs.LiveMarks.{marks_of}
-use Rattle.segment_files.specs.LiveSpelling.{SetValue, live_bits, values_of}
+use Rattle.live_files.specs.LiveFits.{ValuesFit}
+use Rattle.live_files.specs.LiveMarkLaws.{bits_back, values_back}
+use Rattle.live_files.specs.LiveMarks.{marks_of}
+use Rattle.live_files.specs.LiveSpelling.{SetValue, live_bits, values_of}
 use Rattle.commit_point.specs.declared.heads.HeadSegment.{HeadSegment}
 use Rattle.commit_point.specs.SegmentReads.{BitsRead, ValuesRead}
 

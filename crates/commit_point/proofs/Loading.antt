@@ -7,7 +7,7 @@ use Rattle.ix_base.specs.declared.file_name.FileName.TheVariants.{Commit}
 use Rattle.ix_base.specs.declared.damaged.Damaged.{Damaged}
 use Rattle.ix_outside.specs.Files.{Files, Was}
 use Rattle.segment_core.specs.LiveRows.{Lived, stored_rows}
-use Rattle.segment_files.specs.LiveSpelling.{live_bits, live_file, values_of, values_file}
+use Rattle.live_files.specs.LiveSpelling.{live_bits, live_file, values_of, values_file}
 use Rattle.segment_files.specs.Spelling.{rows_file, posts_file}
 use Rattle.commit_point.specs.declared.heads.HeadSegment.{HeadSegment}
 use Rattle.commit_point.specs.declared.heads.Head.{Head}

@@ -10,8 +10,8 @@ use Rattle.live_docs.specs.MarkLaws.{same_marks_is}
 use Rattle.live_docs.specs.Marks.{same_marks, count_live}
 use Rattle.live_docs.specs.declared.live_docs.Mark.{Mark}
 use Rattle.segment_core.specs.LiveRows.{Lived, IsWhole, all_live, stored_rows}
-use Rattle.segment_files.specs.LiveFits.{LiveFits, ValuesFit}
-use Rattle.segment_files.specs.LiveSpelling.{live_bits, values_of, live_file, values_file}
+use Rattle.live_files.specs.LiveFits.{LiveFits, ValuesFit}
+use Rattle.live_files.specs.LiveSpelling.{live_bits, values_of, live_file, values_file}
 use Rattle.commit_point.specs.declared.heads.HeadSegment.{HeadSegment}
 use Rattle.commit_point.specs.declared.written.Written.{Written}
 use Rattle.commit_point.specs.BirthLaws.{births_append}

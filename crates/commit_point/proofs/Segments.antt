@@ -13,8 +13,8 @@ use Rattle.ix_base.specs.declared.damaged.Damaged.{Damaged}
 use Rattle.commit_point.specs.declared.heads.HeadSegment.{HeadSegment}
 use Rattle.ix_base.specs.FileReading.{of_file}
 use Rattle.segment_core.specs.LiveRows.{Lived, stored_rows}
-use Rattle.segment_files.specs.LiveReading.{live_in, values_in}
-use Rattle.segment_files.specs.LiveSpelling.{live_file}
+use Rattle.live_files.specs.LiveReading.{live_in, values_in}
+use Rattle.live_files.specs.LiveSpelling.{live_file}
 use Rattle.segment_files.specs.Reading.{rows_in, posts_in}
 use Rattle.segment_files.specs.Spelling.{rows_file, posts_file}
 use Rattle.commit_point.specs.Fits.{IdsRise, EntryFits}

@@ -4,8 +4,8 @@ use Rattle.std.specs.List.{AllByRecursion}
 use Rattle.ix_base.specs.declared.document.Row.{Row}
 use Rattle.segment_core.specs.LiveRows.{Lived, IsWhole, all_live}
 use Rattle.segment_files.specs.Fits.{DocumentFits, PostingsFit}
-use Rattle.segment_files.specs.LiveFits.{LiveFits, ValuesFit}
-use Rattle.segment_files.specs.LiveSpelling.{live_bits, values_of}
+use Rattle.live_files.specs.LiveFits.{LiveFits, ValuesFit}
+use Rattle.live_files.specs.LiveSpelling.{live_bits, values_of}
 use Rattle.commit_point.specs.declared.heads.HeadSegment.{HeadSegment}
 use Rattle.commit_point.specs.declared.written.Written.{Written}
 use Rattle.commit_point.specs.Publishing.{File}

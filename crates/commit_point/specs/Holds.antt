@@ -8,8 +8,8 @@ use Rattle.ix_outside.specs.Files.{Files}
 use Rattle.segment_core.specs.LiveRows.{Lived, IsWhole, stored_rows, all_live}
 use Rattle.segment_core.specs.Segments.{IsInverted}
 use Rattle.segment_files.specs.Fits.{RowsFit, PostingsFit, BirthsRise}
-use Rattle.segment_files.specs.LiveFits.{LiveFits, ValuesFit}
-use Rattle.segment_files.specs.LiveSpelling.{live_file, values_file, live_bits, values_of}
+use Rattle.live_files.specs.LiveFits.{LiveFits, ValuesFit}
+use Rattle.live_files.specs.LiveSpelling.{live_file, values_file, live_bits, values_of}
 use Rattle.segment_files.specs.Spelling.{rows_file, posts_file}
 use Rattle.commit_point.specs.declared.heads.HeadSegment.{HeadSegment}
 use Rattle.commit_point.specs.declared.heads.Head.{Head}

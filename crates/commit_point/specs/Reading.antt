@@ -9,8 +9,8 @@ use Rattle.ix_base.specs.declared.document.Row.{Row}
 use Rattle.ix_base.specs.declared.file_name.FileName.TheVariants.{Commit, Rows, Posts, Live, Values}
 use Rattle.ix_outside.specs.Files.{Files}
 use Rattle.segment_core.specs.LiveRows.{Lived, all_live}
-use Rattle.segment_files.specs.LiveMarks.{marks_of}
-use Rattle.segment_files.specs.LiveReading.{live_in, values_in}
+use Rattle.live_files.specs.LiveMarks.{marks_of}
+use Rattle.live_files.specs.LiveReading.{live_in, values_in}
 use Rattle.segment_files.specs.Reading.{rows_in, posts_in}
 use Rattle.commit_point.specs.declared.heads.HeadSegment.{HeadSegment}
 use Rattle.commit_point.specs.declared.heads.Head.{Head}

@@ -11,16 +11,16 @@ use Rattle.ix_base.specs.declared.postings.Postings.{Postings}
 use Rattle.ix_outside.specs.Files.{Files}
 use Rattle.live_docs.specs.declared.live_docs.Mark.{Mark}
 use Rattle.segment_core.specs.LiveRows.{Lived, all_live}
-use Rattle.segment_files.proofs.LiveRead.{live_again}
+use Rattle.live_files.proofs.LiveRead.{live_again}
 use Rattle.segment_files.proofs.PostsRead.{posts_again}
 use Rattle.segment_files.proofs.RowLaws.{rows_again}
-use Rattle.segment_files.proofs.ValuesRead.{values_again}
+use Rattle.live_files.proofs.ValuesRead.{values_again}
 use Rattle.segment_files.specs.Fits.{IsSegment, PostingsFit}
-use Rattle.segment_files.specs.LiveFits.{LiveFits, ValuesFit}
-use Rattle.segment_files.specs.LiveMarkLaws.{marks_back}
-use Rattle.segment_files.specs.LiveMarks.{marks_of}
-use Rattle.segment_files.specs.LiveReading.{live_in, values_in}
-use Rattle.segment_files.specs.LiveSpelling.{SetValue, live_file, values_file, live_bits, values_of}
+use Rattle.live_files.specs.LiveFits.{LiveFits, ValuesFit}
+use Rattle.live_files.specs.LiveMarkLaws.{marks_back}
+use Rattle.live_files.specs.LiveMarks.{marks_of}
+use Rattle.live_files.specs.LiveReading.{live_in, values_in}
+use Rattle.live_files.specs.LiveSpelling.{SetValue, live_file, values_file, live_bits, values_of}
 use Rattle.segment_files.specs.Reading.{rows_in, posts_in}
 use Rattle.segment_files.specs.Spelling.{rows_file, posts_file}
 use Rattle.commit_point.specs.declared.heads.Head.{Head}

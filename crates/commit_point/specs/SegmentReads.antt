@@ -7,9 +7,9 @@ use Rattle.ix_base.specs.declared.postings.Postings.{Postings}
 use Rattle.ix_outside.specs.Files.{Files, Reads}
 use Rattle.segment_core.specs.LiveRows.{Lived, IsWhole}
 use Rattle.segment_files.specs.Fits.{IsSegment, PostingsFit}
-use Rattle.segment_files.specs.LiveFits.{LiveFits, ValuesFit}
-use Rattle.segment_files.specs.LiveReading.{live_in, values_in}
-use Rattle.segment_files.specs.LiveSpelling.{SetValue, live_file, values_file, live_bits, values_of}
+use Rattle.live_files.specs.LiveFits.{LiveFits, ValuesFit}
+use Rattle.live_files.specs.LiveReading.{live_in, values_in}
+use Rattle.live_files.specs.LiveSpelling.{SetValue, live_file, values_file, live_bits, values_of}
 use Rattle.segment_files.specs.Reading.{rows_in, posts_in}
 use Rattle.segment_files.specs.Spelling.{rows_file, posts_file}
 use Rattle.commit_point.specs.declared.heads.HeadSegment.{HeadSegment}

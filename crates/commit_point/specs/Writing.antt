@@ -9,7 +9,7 @@ use Rattle.ix_outside.specs.declared.step.Step.{Step}
 use Rattle.live_docs.specs.Marks.{same_marks, count_live}
 use Rattle.segment_core.specs.LiveRows.{Lived}
 use Rattle.segment_files.specs.Fits.{BirthsRise, RowsBelow}
-use Rattle.segment_files.specs.LiveSpelling.{live_file, values_file, live_bits, values_of}
+use Rattle.live_files.specs.LiveSpelling.{live_file, values_file, live_bits, values_of}
 use Rattle.segment_files.specs.Spelling.{rows_file, posts_file}
 use Rattle.commit_point.specs.declared.heads.HeadSegment.{HeadSegment}
 use Rattle.commit_point.specs.declared.heads.Head.{Head}

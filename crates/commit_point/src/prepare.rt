@@ -4,8 +4,8 @@ ghost use Rattle.std.specs.List.{AllByRecursion};
 ghost use Rattle.ix_base.specs.Inversion.{IsPostings};
 ghost use Rattle.segment_core.specs.LiveRows.{IsWhole, all_live};
 ghost use Rattle.segment_files.specs.Fits.{DocumentFits, PostingsFit, RowsBelow};
-ghost use Rattle.segment_files.specs.LiveFits.{LiveFits, ValuesFit};
-ghost use Rattle.segment_files.specs.LiveSpelling.{live_bits, values_of};
+ghost use Rattle.live_files.specs.LiveFits.{LiveFits, ValuesFit};
+ghost use Rattle.live_files.specs.LiveSpelling.{live_bits, values_of};
 ghost use Rattle.commit_point.specs.Encoding.{own_entries, own_files, AreWhole, IsEncoded, IsEncodedAlive, AreEncoded, HaveSpelling};
 ghost use Rattle.commit_point.specs.Spelling.{commit_file};
 ghost use Rattle.commit_point.specs.Writing.{is_same, is_alive, version, row_files, live_files, files_of, entry_of, entries_of, commit_files, listed, new_head, CanWrite};
@@ -14,8 +14,9 @@ use crate::encode::encode_commit;
 use crate::heads::{Head, HeadSegment};
 use crate::written::Written;
 use ix_base::{FileName, List, NoMemory};
+use live_files::{encode_liv, encode_val};
 use segment_core::LiveSegment;
-use segment_files::{encode_liv, encode_pst, encode_row, encode_val};
+use segment_files::{encode_pst, encode_row};
 use std::alloc::Global;
 
 /// A commit before it is written: what its commit file says and the bytes of that, and the files

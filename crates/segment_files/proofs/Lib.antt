@@ -6,9 +6,3 @@ pub mod PlacesRead
 pub mod PostsRead
 pub mod Runs
 pub mod Counts
-pub mod Bits
-pub mod LiveRead
-pub mod ValuesRead
-pub mod LiveWrite
-pub mod ValuesWrite
-pub mod JoinLive

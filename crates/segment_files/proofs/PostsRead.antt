@@ -25,7 +25,8 @@ use Rattle.ix_base.specs.Spelling.{be32, be64, text_bytes, AreBytes, IsText, IsN
 use Rattle.segment_files.specs.Spelling.{posts_mark, posting, term_postings, posts_file}
 use Rattle.segment_files.specs.Fits.{PostingFits, TermFits, PostingsFit}
 use Rattle.segment_files.specs.Reading.{position_at, posting_at, field_comes, term_comes, term_name_at, term_at, posts_in}
-use Rattle.segment_files.proofs.Chains.{rises, chain, AllRowsBelow, RowFrom, RowsRise, after_row, rows_rise, rows_chain, Comes, less_of_comes, comes_of_less}
+use Rattle.segment_files.specs.Rising.{rises, chain}
+use Rattle.segment_files.proofs.Chains.{AllRowsBelow, RowFrom, RowsRise, after_row, rows_rise, rows_chain, Comes, less_of_comes, comes_of_less}
 
 -- ---- positions
 

@@ -4,10 +4,5 @@ pub mod Fields
 pub mod Reading
 pub mod ReadLists
 pub mod Placing
+pub mod Rising
 pub mod PostLaws
-pub mod LiveSpelling
-pub mod LiveFits
-pub mod LiveReading
-pub mod ValueOrder
-pub mod LiveMarks
-pub mod LiveMarkLaws

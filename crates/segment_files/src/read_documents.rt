@@ -19,8 +19,9 @@ pub(crate) fn text_of(alloc: Global, bytes: &[u8]) -> Result<(Text, &[u8]), Brok
     Ok((Text::copy_of(alloc, text)?, rest))
 }
 
-/// A copy of the name at the start of the bytes.
-pub(crate) fn name_of(alloc: Global, bytes: &[u8]) -> Result<(Name, &[u8]), Broken>
+/// A copy of the name at the start of the bytes, and the bytes after it. Bytes that begin with no
+/// name are broken at its place.
+pub fn name_of(alloc: Global, bytes: &[u8]) -> Result<(Name, &[u8]), Broken>
     ensures { Gives (λ x. (x.0, x.1.now)) result (name_at bytes.now) }
 {
     let (name, rest) = name_at(bytes)?;

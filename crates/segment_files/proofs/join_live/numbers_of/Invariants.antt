@@ -1,6 +1,0 @@
-use Rattle.std.proofs.Common.{◌≡◌, take}
-use Rattle.segment_files.specs.LiveMarks.{unrowed}
-use Rattle.segment_files.proofs.join_live.numbers_of.Given as goal
-
-abbrev pub invariant-loop-value : goal.invariant-loop-value
-invariant-loop-value l = l.pairs.items ≡ unrowed (take l.value-index l.values)

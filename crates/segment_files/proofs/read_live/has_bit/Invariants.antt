@@ -1,6 +1,0 @@
-use Rattle.std.proofs.Common.{◌≡◌, false, take}
-use Rattle.segment_files.specs.LiveFits.{has_bit}
-use Rattle.segment_files.proofs.read_live.has_bit.Given as goal
-
-abbrev pub invariant-loop-bit : goal.invariant-loop-bit
-invariant-loop-bit l = has_bit (take l.bit-index l.bits) ≡ false
