@@ -1,5 +1,6 @@
 pub mod SameMarks
-pub mod Counting
+pub mod FlaggedMarks
+pub mod SetRows
+mod SameFlagged
 mod NumbersRise
-mod RowsRise
 mod SetValues

@@ -1,3 +1,4 @@
 pub mod Marks
 pub mod MarkLaws
+pub mod Flags
 pub mod NumbersLeft

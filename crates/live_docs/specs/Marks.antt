@@ -40,11 +40,6 @@ count_live marks = length (filter (λ (m : Mark). m.live) marks)
 abbrev pub RowsNamesRise : List Mark → Type 0
 RowsNamesRise marks = AllByRecursion (λ (m : Mark). names_rise (map (λ number. number.0) m.values) ≡ true) marks
 
--- So many of the rows are live, and the names of each row's numbers rise.
-pub record IsCounted (live : ℕ) (marks : List Mark) : Type 0 where
-  pub count : live ≡ count_live marks
-  pub rise : RowsNamesRise marks
-
 -- the number by this name, if there is one
 abbrev pub value_of : List ℕ → List Named → Option ℤ
 value_of name [] = None

@@ -5,6 +5,7 @@ mod comparing;
 mod laws;
 mod live_docs;
 mod numbers;
+mod set_numbers;
 #[cfg(test)]
 mod tests;
 

@@ -1,10 +1,9 @@
 //! Live bits and set values of the rows of a segment.
-ghost use Rattle.std.specs.Prelude.{◌≡◌, ◌<◌, ◌^◌, true, length, map, replicate, IfOk, OnOk, OnErr, slice_index_or};
+ghost use Rattle.std.specs.Prelude.{◌≡◌, ◌+◌, ◌<◌, ◌^◌, ◌++◌, [], ◌∷◌, true, length, map, replicate, IfOk, OnOk, OnErr, slice_index_or};
 ghost use Rattle.ix_base.specs.Limits.{names_rise};
 ghost use Rattle.live_docs.specs.Marks.{fresh, killed, valued, changed_at, count_live, value_of, RowsNamesRise, same_marks};
 
-use crate::comparing::same_marks;
-use crate::numbers::with_number;
+use crate::set_numbers::{SetNumbers, is_none};
 use ix_base::{Name, NoMemory, Numbers};
 use std::alloc::Global;
 use std::marker::Model;
@@ -19,34 +18,24 @@ pub struct Mark {
 
 /// Of each row of a segment, whether it is live, and the numbers that were set in it. Rows are
 /// named by their places in the segment, from 0. `applied` is the number up to which operations are
-/// in it: a later operation isn't.
+/// in it: a later operation isn't. A row in which no number was set takes a byte.
 #[derive(Drop)]
 pub struct LiveDocs {
     applied: u64,
     live: u32,
-    marks: Vec<Mark>,
+    flags: Vec<bool>,
+    numbers: SetNumbers,
 }
 
 impl Model for LiveDocs {
-    ghost use Rattle.live_docs.specs.Marks.{Marks, IsCounted};
+    ghost use Rattle.live_docs.specs.Marks.{Marks};
+    ghost use Rattle.live_docs.specs.Flags.{values_at, marks_from, IsFlagged};
 
     ghost Value = { Marks };
 
-    ghost view = { λ docs. record { applied = docs.applied; marks = docs.marks.items } };
+    ghost view = { λ docs. record { applied = docs.applied; marks = marks_from (values_at docs.numbers) 0 docs.flags.items } };
 
-    ghost invariant = { λ docs. IsCounted docs.live docs.marks.items };
-}
-
-impl Mark {
-    /// A copy of this mark.
-    fn clone_in(&self, alloc: Global) -> Result<Mark, NoMemory>
-        ensures { IfOk result (λ mark. mark ≡ self.now) }
-    {
-        Ok(Mark {
-            live: self.live,
-            values: self.values.clone_in(alloc)?,
-        })
-    }
+    ghost invariant = { λ docs. IsFlagged docs.live docs.flags.items docs.numbers };
 }
 
 impl LiveDocs {
@@ -54,45 +43,53 @@ impl LiveDocs {
     pub fn new(alloc: Global, rows: u32, applied: u64) -> Result<LiveDocs, NoMemory>
         ensures { IfOk result (λ docs. docs ≡ record { applied = applied; marks = replicate rows fresh }) }
     {
-        let mut marks = Vec::new(alloc);
-        for _row in 0..rows {
-            marks.push(Mark {
-                live: true,
-                values: Numbers::none(alloc),
-            })?;
-        }
+        let mut flags = Vec::new(alloc);
+        flags.resize(rows as usize, true)?;
         Ok(LiveDocs {
             applied,
             live: rows,
-            marks,
+            flags,
+            numbers: SetNumbers::none(alloc),
         })
     }
 
-    /// Rows with these marks. It takes no memory.
-    pub fn from_marks(applied: u64, marks: Vec<Mark>) -> LiveDocs
+    /// Rows with these marks.
+    pub fn from_marks(alloc: Global, applied: u64, marks: Vec<Mark>) -> Result<LiveDocs, NoMemory>
         requires few { length marks.items < 2 ^ 32 }
         requires rise { RowsNamesRise marks.items }
-        ensures { result ≡ record { applied = applied; marks = marks.items } }
+        ensures { IfOk result (λ docs. docs ≡ record { applied = applied; marks = marks.items }) }
     {
-        LiveDocs {
-            applied,
-            live: count_live(&marks),
-            marks,
+        let mut docs = LiveDocs::new(alloc, 0, applied)?;
+        for mark in marks {
+            docs.push(mark)?;
         }
+        Ok(docs)
+    }
+
+    /// Adds a row with this mark behind all others.
+    fn push(&mut self, mark: Mark) -> Result<(), NoMemory>
+        requires { length self.old.marks + 1 < 2 ^ 32 }
+        ensures { OnOk result (self.new ≡ record self.old { marks = self.old.marks ++ mark ∷ [] }) }
+    {
+        let Mark { live, values } = mark;
+        let row = self.flags.len() as u32;
+        self.flags.push(live)?;
+        self.live += u32::from(live);
+        if is_none(&values) {
+            return Ok(());
+        }
+        self.numbers.put(row, values)
     }
 
     /// A copy of these.
     pub fn clone_in(&self, alloc: Global) -> Result<LiveDocs, NoMemory>
         ensures { IfOk result (λ docs. docs ≡ self.now) }
     {
-        let mut marks = Vec::new(alloc);
-        for mark in &self.marks {
-            marks.push(mark.clone_in(alloc)?)?;
-        }
         Ok(LiveDocs {
             applied: self.applied,
             live: self.live,
-            marks,
+            flags: Vec::from_slice(alloc, &self.flags)?,
+            numbers: self.numbers.clone_in(alloc)?,
         })
     }
 
@@ -115,7 +112,7 @@ impl LiveDocs {
         requires { row < length self.now.marks }
         ensures { result ≡ (slice_index_or self.now.marks row fresh).live }
     {
-        self.marks[row as usize].live
+        self.flags[row as usize]
     }
 
     /// How many rows are live.
@@ -132,7 +129,7 @@ impl LiveDocs {
         ensures values { result.now ≡ (slice_index_or self.now.marks row fresh).values }
         ensures rise { names_rise (map (λ number. number.0) result.now) ≡ true }
     {
-        self.marks[row as usize].values.as_slice()
+        self.numbers.at(row)
     }
 
     /// The number by this name that was set in the row last: `None` exactly where none was.
@@ -148,7 +145,7 @@ impl LiveDocs {
     pub fn same_marks(&self, other: &LiveDocs) -> bool
         ensures { result ≡ same_marks self.now.marks other.now.marks }
     {
-        same_marks(&self.marks, &other.marks)
+        self.flags == other.flags && self.numbers.is_same(&other.numbers)
     }
 
     /// The row is no longer live. Its values, and all other rows, stay.
@@ -157,8 +154,7 @@ impl LiveDocs {
         ensures killed { self.new ≡ record self.old { marks = changed_at killed row self.old.marks } }
         ensures rows { length self.new.marks ≡ length self.old.marks }
     {
-        let mark = &mut self.marks[row as usize];
-        let was_live = mem::replace(&mut mark.live, false);
+        let was_live = mem::replace(&mut self.flags[row as usize], false);
         self.live -= u32::from(was_live);
     }
 
@@ -177,22 +173,8 @@ impl LiveDocs {
         ensures rows { OnOk result (length self.new.marks ≡ length self.old.marks) }
         ensures err { OnErr result (self.new ≡ self.old) }
     {
-        let mark = &mut self.marks[row as usize];
-        mark.values = with_number(alloc, &mark.values, name, value)?;
-        Ok(())
+        self.numbers.set(alloc, row, name, value)
     }
-}
-
-/// How many of these rows are live.
-fn count_live(marks: &[Mark]) -> u32
-    requires { length marks.now < 2 ^ 32 }
-    ensures { result ≡ count_live marks.now }
-{
-    let mut live = 0;
-    for mark in marks {
-        live += u32::from(mark.live);
-    }
-    live
 }
 
 /// The number by this name among these.

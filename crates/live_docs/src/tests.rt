@@ -70,7 +70,7 @@ fn two_rows(
         live: second_lives,
         values: none,
     })?;
-    Ok(LiveDocs::from_marks(9, marks))
+    LiveDocs::from_marks(alloc, 9, marks)
 }
 
 #[test]
@@ -93,4 +93,93 @@ fn compared(rt: HostRuntime) {
         };
         assert_eq!(rt; docs.same_marks(&other), same, "{bytes} {value}");
     }
+}
+
+/// What is to stand in a row of many: whether it is live, and its number by the name `a`.
+fn plain(row: u32) -> (bool, Option<i64>) {
+    let value = if row % 97 == 5 {
+        Some(i64::from(row) - 1000)
+    } else {
+        None
+    };
+    (row % 3 != 0, value)
+}
+
+fn make_plain(alloc: Global, docs: &mut LiveDocs, row: u32, name: &Name) -> Result<(), NoMemory>
+    requires { row < length docs.old.marks }
+    ensures { OnOk result (length docs.new.marks ≡ length docs.old.marks) }
+{
+    let (live, value) = plain(row);
+    if !live {
+        docs.kill(row);
+    }
+    let Some(value) = value else {
+        return Ok(());
+    };
+    docs.set_value(alloc, row, name, 7)?;
+    docs.set_value(alloc, row, name, value)
+}
+
+/// Many rows, which are changed in an order that isn't theirs.
+fn many_rows(alloc: Global, name: &Name) -> Result<LiveDocs, NoMemory>
+    ensures { IfOk result (λ docs. length docs.marks ≡ 3000) }
+{
+    let mut docs = LiveDocs::new(alloc, 3000, 1)?;
+    for step in 0..3000 {
+        make_plain(alloc, &mut docs, step * 7 % 3000, name)?;
+    }
+    docs.clone_in(alloc)
+}
+
+#[test]
+fn many_rows_beside_a_plain_list(rt: HostRuntime) {
+    let alloc = rt.alloc();
+    let Ok(name) = name(alloc, "a") else {
+        panic!(rt; "memory");
+    };
+    let Ok(docs) = many_rows(alloc, &name) else {
+        panic!(rt; "memory");
+    };
+    for row in 0..3000 {
+        let (live, value) = plain(row);
+        assert_eq!(rt; docs.is_live(row), live, "row {row}");
+        assert_eq!(rt; docs.value(row, &name), value, "row {row}");
+        assert_eq!(rt;
+            docs.values(row).len(),
+            usize::from(value.is_some()),
+            "row {row}"
+        );
+    }
+    assert_eq!(rt; docs.live_count(), 2000);
+}
+
+#[test]
+fn many_rows_compared(rt: HostRuntime) {
+    let alloc = rt.alloc();
+    let Ok(name) = name(alloc, "a") else {
+        panic!(rt; "memory");
+    };
+    let Ok(docs) = many_rows(alloc, &name) else {
+        panic!(rt; "memory");
+    };
+    for (row, value, same) in [
+        (5, -995, true),
+        (5, -994, false),
+        (6, -995, false),
+        (2915, 1915, true),
+    ] {
+        let Ok(mut other) = many_rows(alloc, &name) else {
+            panic!(rt; "memory");
+        };
+        assert!(rt; docs.same_marks(&other));
+        if other.set_value(alloc, row, &name, value).is_err() {
+            panic!(rt; "memory");
+        }
+        assert_eq!(rt; docs.same_marks(&other), same, "row {row}");
+    }
+    let Ok(mut other) = many_rows(alloc, &name) else {
+        panic!(rt; "memory");
+    };
+    other.kill(2999);
+    assert!(rt; !docs.same_marks(&other));
 }

@@ -64,5 +64,5 @@ pub fn live_docs_of(
         })?;
         rest = others;
     }
-    Ok(LiveDocs::from_marks(applied, marks))
+    LiveDocs::from_marks(alloc, applied, marks)
 }

@@ -1,4 +1,5 @@
 use Rattle.std.proofs.Common.{◌≡◌, ◌∙◌, List, false, length, get_or, refl, ap, sym, subst, arith}
+use Rattle.std.proofs.lemmas.Result.{IfOk-weaker}
 use Rattle.live_docs.specs.declared.live_docs.Mark.{Mark}
 use Rattle.live_docs.specs.Marks.{RowsNamesRise}
 use Rattle.live_files.specs.LiveMarks.{unrowed, own_values, marks_of}
@@ -32,4 +33,4 @@ from_marks-requires-clause-rise c =
 pub returns : goal.returns
 returns c =
     let all = join_ends c.args.bits.now c.loop-row.row c.loop-row.rest.now c.loop-row.marks.items (marks_of c.args.bits.now c.args.values.now) c.loop-row-test.false c.loop-row.invariant in
-    c.from_marks.ensures ∙ ap (λ (ms : List Mark). record { applied = c.args.applied; marks = ms }) all
+    IfOk-weaker c.from_marks.result _ _ (λ docs is. is ∙ ap (λ (ms : List Mark). record { applied = c.args.applied; marks = ms }) all) c.from_marks.ensures
