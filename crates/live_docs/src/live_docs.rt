@@ -33,7 +33,10 @@ impl Model for LiveDocs {
 
     ghost Value = { Marks };
 
-    ghost view = { λ docs. record { applied = docs.applied; marks = marks_from (values_at docs.numbers) 0 docs.flags.items } };
+    ghost view = { λ docs. record {
+      applied = docs.applied;
+      marks = marks_from (values_at docs.numbers) 0 docs.flags.items;
+    } };
 
     ghost invariant = { λ docs. IsFlagged docs.live docs.flags.items docs.numbers };
 }
