@@ -7,3 +7,6 @@ pub mod AllTerms
 pub mod FieldsInOrder
 pub mod KeptDocuments
 pub mod AsciiWords
+mod EqualTerms
+mod PostedTerms
+mod SortedTerms

@@ -5,7 +5,7 @@ ghost use Rattle.ix_base.specs.Inversion.{IsInversion};
 ghost use Rattle.analysis.specs.Kept.{AreKept, AreAllTerms};
 
 use crate::field_lists::{FieldLists, add_document, all_terms};
-use crate::sizes::long_term;
+use crate::sizes::long_term_of;
 use ix_base::{Analysed, Document, List, NoMemory, Postings, Refusal, Refused, Row};
 use std::alloc::Global;
 use std::collections::BTreeMap;
@@ -60,9 +60,9 @@ pub fn analyse(alloc: Global, doc: Document) -> Result<Analysed, Refused>
     ensures fits { IfOk result (λ _. document_refusal doc ≡ None) }
     ensures refusal { (refusal : _) → result ≡ Err (Refused.For refusal) → document_refusal doc ≡ Some refusal }
 {
-    if let Some(size) = long_term(alloc, &doc)? {
+    let postings = invert_one(alloc, &doc)?;
+    if let Some(size) = long_term_of(alloc, &doc, &postings)? {
         return Err(Refused::For(Refusal::Term { size }));
     }
-    let postings = invert_one(alloc, &doc)?;
     Ok(Analysed { doc, postings })
 }

@@ -1,10 +1,11 @@
 //! The sizes of terms.
-ghost use Rattle.std.specs.Prelude.{◌≡◌, [], map, length, nat_lt, Some, None, if◌then◌else◌, IfOk};
-ghost use Rattle.std.specs.List.{flat_map};
+ghost use Rattle.std.specs.Prelude.{◌≡◌, [], ◌∷◌, map, length, nat_lt, Some, None, if◌then◌else◌, IfOk};
+ghost use Rattle.std.specs.List.{flat_map, list_any};
+ghost use Rattle.ix_base.specs.Inversion.{IsInversion};
 ghost use Rattle.ix_base.specs.Terms.{terms, long_term, folded_words, placed_from, whole, text_places};
 
 use crate::words::fold_into;
-use ix_base::{Document, Name, NoMemory, Text};
+use ix_base::{Document, Name, NoMemory, Postings, TermPostings, Text};
 use std::alloc::Global;
 use unicode_segmentation::UnicodeSegmentation;
 
@@ -71,4 +72,32 @@ pub fn long_term(alloc: Global, doc: &Document) -> Result<Option<u64>, NoMemory>
         return Ok(Some(size));
     }
     long_text(alloc, doc.text.as_slice())
+}
+
+/// Whether a term of postings is too long.
+fn has_long_term(entries: &[TermPostings]) -> bool
+    ensures { result ≡ list_any (λ entry. nat_lt 32766 (length entry.term.bytes)) entries.now }
+{
+    for entry in entries {
+        if entry.term.bytes.as_str().len() > MOST_TERM_BYTES {
+            return true;
+        }
+    }
+    false
+}
+
+/// What `long_term` returns, for a document and its postings. The document's text is cut again only
+/// where one of its terms is too long.
+pub fn long_term_of(
+    alloc: Global,
+    doc: &Document,
+    postings: &Postings,
+) -> Result<Option<u64>, NoMemory>
+    requires { IsInversion (doc.now ∷ []) postings.now }
+    ensures { IfOk result (λ size. size ≡ long_term (terms doc.now)) }
+{
+    if !has_long_term(postings.terms.as_slice()) {
+        return Ok(None);
+    }
+    long_term(alloc, doc)
 }

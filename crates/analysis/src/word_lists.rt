@@ -1,5 +1,9 @@
 //! The words of one field, each with its places.
-ghost use Rattle.std.specs.Prelude.{◌≡◌, ◌<◌, ◌++◌, ◌∷◌, [], map, length, string_bytes, IfOk, OnOk};
+ghost use Rattle.std.specs.Prelude.{◌≡◌, ◌<◌, ◌++◌, ◌∷◌, [], map, length, string_bytes, bytes_eq, IfOk, OnOk, IsPermutation, IsSortedByKey};
+ghost use Rattle.std.specs.Cmp.Lexicographic.{slice_cmp};
+ghost use Rattle.std.specs.HashMap.{keys};
+ghost use Rattle.std.specs.List.{IsDistinct};
+ghost use Rattle.std.specs.Ordering.{nat_cmp};
 ghost use Rattle.ix_base.specs.Terms.{folded_words};
 ghost use Rattle.analysis.specs.Kept.{IsWordBefore, AreWordsBelow, AddsWord, AddsWords, AreTermsOf, cut_words, term_of};
 
@@ -7,8 +11,12 @@ use crate::words::fold_into;
 use indexmap::IndexMap;
 use ix_base::{Name, NoMemory, Spots, Term, TermPostings, Text};
 use std::alloc::Global;
+use std::cmp::Ordering;
 use std::marker::Model;
 use unicode_segmentation::UnicodeSegmentation;
+
+/// The most words for which room is made at once.
+const MOST_ROOM: usize = 256;
 
 /// How a text is cut into terms.
 #[derive(Clone, Copy, Drop)]
@@ -38,14 +46,15 @@ impl Model for WordLists {
     ghost invariant = { λ words. All IsWordList (values words.lists) };
 }
 
-/// The words as terms of a field, in their order. A word of 2^32 bytes or more is refused as want
-/// of memory.
+/// The words as terms of a field, in the order in which they came. A word of 2^32 bytes or more is
+/// refused as want of memory.
 fn terms_of(
     alloc: Global,
     field: &Name,
     lists: IndexMap<String, Spots>,
 ) -> Result<Vec<TermPostings>, NoMemory>
-    ensures { IfOk result (λ terms. terms.items ≡ map (λ e. term_of field.now (string_bytes e.0, e.1)) lists.entries) }
+    ensures apart { IsDistinct (λ a b. bytes_eq (string_bytes a) (string_bytes b)) (keys lists) }
+    ensures terms { IfOk result (λ terms. terms.items ≡ map (λ e. term_of field.now (string_bytes e.0, e.1)) lists.entries) }
 {
     let mut terms = Vec::with_capacity(alloc, lists.len())?;
     for (word, rows) in lists {
@@ -60,6 +69,18 @@ fn terms_of(
         })?;
     }
     Ok(terms)
+}
+
+/// Sorts terms of one field by their bytes.
+fn sort_by_bytes(terms: &mut Vec<TermPostings>)
+    ensures same { IsPermutation terms.old.items terms.new.items }
+    ensures sorted { IsSortedByKey (λ entry. entry.term.bytes) (slice_cmp nat_cmp) terms.new.items }
+{
+    terms.sort_unstable_by(
+        |left: &TermPostings, right: &TermPostings| -> Ordering
+            ensures { result ≡ slice_cmp nat_cmp left.now.term.bytes right.now.term.bytes }
+        { left.term.bytes.as_str().cmp(right.term.bytes.as_str()) },
+    );
 }
 
 impl WordLists {
@@ -87,6 +108,17 @@ impl WordLists {
         Ok(())
     }
 
+    /// Makes room for the first text's words, of which each eight bytes may bring a new one.
+    fn make_room(&mut self, text: &Text) -> Result<(), NoMemory>
+        ensures { self.new ≡ self.old }
+    {
+        if self.lists.is_empty() {
+            let words = text.as_str().len() / 8;
+            self.lists.reserve(words.min(MOST_ROOM))?;
+        }
+        Ok(())
+    }
+
     /// Adds the places of a text's folded words in a row that is after those that are there.
     fn add_words(
         &mut self,
@@ -98,6 +130,7 @@ impl WordLists {
         requires { AreWordsBelow row self.old }
         ensures { OnOk result (AddsWords row (folded_words text.now) self.old self.new) }
     {
+        self.make_room(text)?;
         let mut position = 0;
         for word in text.as_str().unicode_words() {
             fold_into(scratch, word)?;
@@ -129,8 +162,9 @@ impl WordLists {
     pub fn into_terms(self, alloc: Global, field: &Name) -> Result<Vec<TermPostings>, NoMemory>
         ensures { IfOk result (λ terms. AreTermsOf field.now self terms.items) }
     {
-        let WordLists { mut lists } = self;
-        lists.sort_keys()?;
-        terms_of(alloc, field, lists)
+        let WordLists { lists } = self;
+        let mut terms = terms_of(alloc, field, lists)?;
+        sort_by_bytes(&mut terms);
+        Ok(terms)
     }
 }

@@ -4,8 +4,7 @@ use Rattle.std.specs.List.{AllPairs}
 use Rattle.std.specs.Option.{option_map_or}
 use Rattle.std.specs.Cmp.{eq_by_cmp_equiv}
 use Rattle.std.specs.Map.{lookup}
-use Rattle.std.specs.BTreeMap.{is_at}
-use Rattle.std.specs.Ordering.{is_eq}
+use Rattle.std.specs.Ordering.{is_eq, eq_by_cmp}
 use Rattle.std.specs.Str.{bytes_eq}
 use Rattle.std.specs.declared.cmp.Ordering.{Ordering}
 use Rattle.std.specs.declared.cmp.Ordering.TheVariants.{Less, Equal, Greater}
@@ -34,14 +33,14 @@ term_itself a = (eq_by_cmp_equiv term_total).refl a
 
 -- the places of the key's list become these
 abbrev pub Puts : List (Term × List Posting) → List (Term × List Posting) → Term → List Posting → Type 0
-Puts old new key rows = (t : Term) → lookup (is_at (term_cmp t)) new ≡ cond (is_eq (term_cmp key t)) (Some rows) (lookup (is_at (term_cmp t)) old)
+Puts old new key rows = (t : Term) → lookup (eq_by_cmp term_cmp t) new ≡ cond (is_eq (term_cmp key t)) (Some rows) (lookup (eq_by_cmp term_cmp t) old)
 
 -- what a list has that holds these places, or the places of a term that has none
 pub kept_put : (old new : List (Term × List Posting)) (key : Term) (rows : List Posting) → Puts old new key rows
     → (t : Term) (r x : ℕ) → kept new t r x ≡ cond (is_eq (term_cmp key t)) (posted_at rows r x) (kept old t r x)
 kept_put old new key rows put t r x = ap (λ (o : Option (List Posting)). option_map_or (λ rows. posted_at rows r x) o false) (put t) ∙ go (is_eq (term_cmp key t))
   where
-    go : (b : Bool) → option_map_or (λ rows. posted_at rows r x) (cond b (Some rows) (lookup (is_at (term_cmp t)) old)) false ≡ cond b (posted_at rows r x) (kept old t r x)
+    go : (b : Bool) → option_map_or (λ rows. posted_at rows r x) (cond b (Some rows) (lookup (eq_by_cmp term_cmp t) old)) false ≡ cond b (posted_at rows r x) (kept old t r x)
     go true = refl
     go false = refl
 

@@ -6,3 +6,4 @@ mod WholeBuffer
 mod MarksPlaced
 mod FrozenTerms
 mod FrozenRows
+mod LowBirths

@@ -3,7 +3,7 @@ use Rattle.std.specs.Prelude.{◌≡◌, ℕ, ◌<◌, ◌≤◌, ◌↔◌, Lis
 use Rattle.std.specs.List.{slice_get, slice_index_or}
 use Rattle.std.specs.Option.{option_map_or}
 use Rattle.std.specs.Map.{lookup}
-use Rattle.std.specs.BTreeMap.{is_at}
+use Rattle.std.specs.Ordering.{eq_by_cmp}
 use Rattle.ix_base.specs.Inversion.{term_cmp, posted, posted_at}
 use Rattle.ix_base.specs.Matches.{stands_at}
 use Rattle.ix_base.specs.Terms.{terms}
@@ -17,7 +17,7 @@ use Rattle.ram_postings.specs.declared.entry.Entry.{Entry}
 
 -- the lists have the term under the mark at the position
 abbrev pub kept : List (Term × List Posting) → Term → ℕ → ℕ → Bool
-kept lists t mark x = option_map_or (λ rows. posted_at rows mark x) (lookup (is_at (term_cmp t)) lists) false
+kept lists t mark x = option_map_or (λ rows. posted_at rows mark x) (lookup (eq_by_cmp term_cmp t) lists) false
 
 -- all marks in the lists are below this one
 abbrev pub IsKeptBelow : ℕ → List (Term × List Posting) → Type 0

@@ -7,9 +7,9 @@ use crate::entry::Entry;
 use crate::freezing::{Frozen, freeze_entries};
 use crate::placing::place_terms;
 use analysis::TermKey;
+use indexmap::IndexMap;
 use ix_base::{Analysed, NoMemory, Spots};
 use std::alloc::Global;
-use std::collections::BTreeMap;
 use std::marker::Model;
 
 /// The place of a document in its buffer, from 0.
@@ -26,7 +26,7 @@ pub struct RamPostings {
     alloc: Global,
     staged: Vec<Entry>,
     next_mark: u32,
-    lists: BTreeMap<TermKey, Spots>,
+    lists: IndexMap<TermKey, Spots>,
 }
 
 impl Model for RamPostings {
@@ -50,7 +50,7 @@ impl RamPostings {
             alloc,
             staged: Vec::new(alloc),
             next_mark: 0,
-            lists: BTreeMap::new(alloc),
+            lists: IndexMap::new(alloc),
         }
     }
 

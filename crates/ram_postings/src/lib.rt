@@ -13,6 +13,8 @@ mod placing;
 mod renumbering;
 #[cfg(test)]
 mod tests;
+#[cfg(test)]
+mod tests_large;
 
 pub use buffer::{RamPostings, RowId};
 pub use freezing::Frozen;

@@ -7,14 +7,14 @@ ghost use Rattle.ram_postings.specs.Kept.{kept, IsKeptBelow, SameButFor, HasUnde
 
 use crate::renumbering::put_renumbered;
 use analysis::TermKey;
+use indexmap::IndexMap;
 use ix_base::{NoMemory, Postings, Spots, TermPostings};
 use std::alloc::Global;
-use std::collections::BTreeMap;
 
 /// Puts the places of one term in row 0 into the term's list, under the mark.
 fn place_term(
     alloc: Global,
-    lists: &mut BTreeMap<TermKey, Spots>,
+    lists: &mut IndexMap<TermKey, Spots>,
     mark: u32,
     entry: TermPostings,
 ) -> Result<(), NoMemory>
@@ -39,7 +39,7 @@ fn place_term(
 /// that are there. After an error some of them may be there, under this mark alone.
 pub fn place_terms(
     alloc: Global,
-    lists: &mut BTreeMap<TermKey, Spots>,
+    lists: &mut IndexMap<TermKey, Spots>,
     mark: u32,
     postings: Postings,
 ) -> Result<(), NoMemory>

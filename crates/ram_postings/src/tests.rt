@@ -17,7 +17,7 @@ fn fields_of(alloc: Global, name: &str, text: &str) -> Result<Fields, Fail> {
     Ok(Fields::from_vec(vec![in alloc; (name, text_of(alloc, text)?)]?))
 }
 
-fn document_of(alloc: Global, key: &str, body: &str, tag: &str) -> Result<Document, Fail> {
+pub fn document_of(alloc: Global, key: &str, body: &str, tag: &str) -> Result<Document, Fail> {
     let text = fields_of(alloc, "body", body)?;
     let exact = fields_of(alloc, "tag", tag)?;
     let doc = Document::new(text_of(alloc, key)?, text, exact, Numbers::none(alloc));
@@ -49,7 +49,7 @@ fn show_entry(alloc: Global, out: &mut String, entry: &TermPostings) -> Result<(
     Ok(())
 }
 
-fn shown(alloc: Global, postings: &Postings) -> Result<String, Fail> {
+pub fn shown(alloc: Global, postings: &Postings) -> Result<String, Fail> {
     let mut joined = String::new(alloc);
     for entry in postings.terms.as_slice() {
         show_entry(alloc, &mut joined, entry)?;
@@ -57,7 +57,7 @@ fn shown(alloc: Global, postings: &Postings) -> Result<String, Fail> {
     Ok(joined)
 }
 
-fn inverted(alloc: Global, rows: &[Row]) -> Result<String, Fail>
+pub fn inverted(alloc: Global, rows: &[Row]) -> Result<String, Fail>
     requires { length rows.now < 2 ^ 32 }
 {
     shown(alloc, &invert(alloc, rows)?)

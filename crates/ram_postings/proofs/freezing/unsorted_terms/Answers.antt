@@ -3,8 +3,8 @@ use Rattle.std.specs.Map.Iter.{deref_pair}
 use Rattle.std.proofs.lemmas.List.{map-append}
 use Rattle.ix_base.specs.declared.document.Term.{Term}
 use Rattle.ix_base.specs.declared.postings.Posting.{Posting}
-use Rattle.ram_postings.proofs.FrozenTerms.{AreTaken, taken_term, taken_nothing, taken_ordered, taken_exact}
-use Rattle.ram_postings.proofs.freezing.terms_of.Goals as goal
+use Rattle.ram_postings.proofs.FrozenTerms.{AreTaken, taken_term, taken_nothing, taken_apart, taken_each, taken_exact}
+use Rattle.ram_postings.proofs.freezing.unsorted_terms.Goals as goal
 
 pub loop-key-preserved-in_ok-push : goal.loop-key-preserved-in_ok-push
 loop-key-preserved-in_ok-push c =
@@ -30,11 +30,18 @@ loop-key-preserved c =
     subst (λ (l : List (Term × List Posting)). AreTaken all numbers l rest c.loop-key.terms.items) (sym (map-append deref_pair c.loop-key.yielded ((c.in-Some.key, c.in-Some.list) ∷ [])))
     (taken_nothing all numbers seen rest c.loop-key.terms.items c.in-Some.key.now c.in-Some.list.now c.in_ok-rows.rows before (c.if-not-has_no_place.ensures.0 refl) c.in_ok-rows.ensures.ok)
 
-pub returns-clause-ordered : goal.returns-clause-ordered
-returns-clause-ordered c =
+pub returns-clause-apart : goal.returns-clause-apart
+returns-clause-apart c =
     let all : List (Term × List Posting) = c.args.lists.now.entries in
     let seen : List (Term × List Posting) = map deref_pair c.loop-key.yielded in
-    taken_ordered all c.args.numbers.now seen c.loop-key.terms.items
+    taken_apart all c.args.numbers.now seen c.loop-key.terms.items
+    (subst (λ (l : List (Term × List Posting)). AreTaken all c.args.numbers.now seen l c.loop-key.terms.items) c.in-None.ensures.steps.0 c.loop-key.invariant)
+
+pub returns-clause-each : goal.returns-clause-each
+returns-clause-each c =
+    let all : List (Term × List Posting) = c.args.lists.now.entries in
+    let seen : List (Term × List Posting) = map deref_pair c.loop-key.yielded in
+    taken_each all c.args.numbers.now seen c.loop-key.terms.items
     (subst (λ (l : List (Term × List Posting)). AreTaken all c.args.numbers.now seen l c.loop-key.terms.items) c.in-None.ensures.steps.0 c.loop-key.invariant)
 
 pub returns-clause-ok : goal.returns-clause-ok
