@@ -59,9 +59,10 @@ pub record HasRoom (used : ℕ) (words : List ℕ) : Type 0 where
   pub fits : used + length words + 1 ≤ 16642
   pub kept_back : (used + length words + 1 ≤ 16640) ⊎ (6 ≤ head_kind (slice_index words 0))
 
--- the entry is the seat's last own one, and the last one seen
+-- the entry is the seat's last own one, and the last one seen, which the seat had not seen
 pub record Puts (s t : Seat) (words : List ℕ) : Type 0 where
   pub own : own_of t ≡ own_of s ++ own (seen_of t) words ∷ []
+  pub later : seen_of s < seen_of t
   pub head : t.progress.head ≡ slice_index words 0
 
 -- the progress of a seat that goes on to what another has seen

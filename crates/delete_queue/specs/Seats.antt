@@ -154,6 +154,8 @@ pub record Links (s t : Seat) (words : List ℕ) (n : ℕ) : Type 0 where
   pub own : own_of t ≡ own_of s ++ own (seen_of t) words ∷ []
   pub number : n ≡ number_at t.base (seen_of t) (slice_index words 0)
   pub last : last_of t ≡ n
+  -- the entry is one that the seat had not seen
+  pub later : seen_of s < seen_of t
 
 -- the seat has seen that an entry closes the queue, and has linked nothing
 pub record FindsClosed (s t : Seat) : Type 0 where

@@ -1,7 +1,7 @@
 // Looking for entries, and reading their words.
 ghost use Rattle.std.specs.Prelude.{◌≡◌, ℕ, ◌+◌, ◌-◌, ◌*◌, ◌/◌, ◌%◌, ◌^◌, ◌<◌, ◌≤◌, ◌==◌, ◌⊎◌, ◌∷◌, [], ◌++◌, length, slice_index, if◌then◌else◌};
 ghost use Rattle.ix_base.specs.Words.{head_kind, word_count};
-ghost use Rattle.delete_queue.specs.Seats.{IsSeat, IsSeatOf, the_view, seen_of, number_at, last_of, HasSeen, HasSize, Knows, Learns, Loads, IsFound};
+ghost use Rattle.delete_queue.specs.Seats.{IsSeat, IsSeatOf, the_view, number_of, seen_of, number_at, last_of, HasSeen, HasSize, Knows, Learns, Loads, IsFound};
 ghost use Rattle.delete_queue.specs.Answers.{FindsNext, FindsEnd, IfEntry, IfEnd};
 
 use crate::link::number_of_entry;
@@ -35,6 +35,14 @@ impl Seat {
             at: self.progress.count,
             word: self.progress.last,
         }
+    }
+
+    /// The seat number, from 0: the queue's seats have the numbers below their count.
+    pub fn number(&self) -> u64
+        requires { IsSeat self.now }
+        ensures { result ≡ number_of self.now }
+    {
+        self.progress.number
     }
 
     /// How many entries the seat has seen.
