@@ -1,0 +1,16 @@
+mod Adding
+mod Applying
+mod Permuted
+mod Births
+mod Segments
+mod Lives
+mod Rounds
+mod Examples
+mod LogLists
+mod LogOrders
+mod LogEntries
+mod LogPieces
+mod LogRows
+mod LogEnds
+mod LogRounds
+mod LogExamples

@@ -1,0 +1,5 @@
+pub mod Made
+pub mod Published
+pub mod Rounds
+pub mod Logs
+pub mod LogLaws

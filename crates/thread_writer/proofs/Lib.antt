@@ -1,0 +1,6 @@
+pub mod Knowing
+pub mod Pieces
+pub mod Doing
+pub mod Buffers
+pub mod Lines
+pub mod Giving
