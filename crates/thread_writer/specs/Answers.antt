@@ -5,7 +5,8 @@ use Rattle.ix_base.specs.declared.refusal.Refusal.TheVariants.{Term, Query}
 use Rattle.ix_base.specs.declared.refusal.Refused.{Refused}
 use Rattle.ix_base.specs.declared.refusal.Refused.TheVariants as r
 use Rattle.thread_writer.specs.declared.told.Told.{Told}
-use Rattle.thread_writer.specs.declared.told.Told.TheVariants.{Numbered, RefusedTerm, RefusedQuery, Closed, Full, NoMemory}
+use Rattle.thread_writer.specs.declared.told.Told.TheVariants.{Numbered, RefusedTerm, RefusedQuery}
+use Rattle.thread_writer.specs.declared.told.Told.TheVariants.{Closed, Full, NoMemory}
 use Rattle.delete_queue.specs.Seats.{own_of, left_of}
 use Rattle.thread_writer.specs.declared.writer.ThreadWriter.{ThreadWriter}
 
@@ -62,3 +63,6 @@ pub record FindsFull (words : List ℕ) (old new : ThreadWriter) (need left : �
   pub left_is : left ≡ left_of old.seat
   pub short : left < need
   pub some : 0 < length (own_of new.seat)
+
+abbrev pub FullFor : List ℕ → Told → ThreadWriter → ThreadWriter → Type 0
+FullFor words told old new = IfFull told (λ need left. FindsFull words old new need left)

@@ -1,12 +1,14 @@
 -- What a thread's writer has done, and what its pieces are.
-use Rattle.std.specs.Prelude.{◌≡◌, ℕ, ◌+◌, ◌<◌, ◌≤◌, ◌==◌, Bool, true, false, not, if◌then◌else◌, List, [], ◌∷◌, ◌++◌, length, map, slice_index}
+use Rattle.std.specs.Prelude.{◌≡◌, ℕ, ◌+◌, ◌<◌, ◌≤◌, ◌==◌, Bool, true, false, not, if◌then◌else◌}
+use Rattle.std.specs.Prelude.{List, [], ◌∷◌, ◌++◌, length, map, slice_index}
 use Rattle.std.specs.List.{filter, flat_map, AllByRecursion}
 use Rattle.ix_base.specs.Entry.{entry_of}
 use Rattle.ix_base.specs.Inversion.{IsInversion}
 use Rattle.ix_base.specs.Words.{head_kind, Spells}
 use Rattle.ix_base.specs.declared.document.Row.{Row}
 use Rattle.ix_base.specs.declared.document.Operation.{Operation}
-use Rattle.ix_base.specs.declared.document.Operation.TheVariants.{Add, Update, DeleteTerm, DeleteQuery, SetNumber, Commit}
+use Rattle.ix_base.specs.declared.document.Operation.TheVariants.{Add, Update, DeleteTerm}
+use Rattle.ix_base.specs.declared.document.Operation.TheVariants.{DeleteQuery, SetNumber, Commit}
 use Rattle.queue_rule.specs.declared.view.Own.{Own}
 use Rattle.delete_queue.specs.declared.queue.DeleteQueue.{DeleteQueue}
 use Rattle.delete_queue.specs.declared.seat.Seat.{Seat}
@@ -108,7 +110,8 @@ documents_of op = if adds op then 1 else 0
 
 -- The writer was told the number n for an operation.
 pub record Numbers (q : DeleteQueue) (op : Operation) (n : ℕ) (old new : ThreadWriter) : Type 0 where
-  pub history : (told : List Numbered) (gave : List Piece) → Did q (parts_of old) told gave → Did q (parts_of new) (told ++ (n, op) ∷ []) gave
+  pub history : (told : List Numbered) (gave : List Piece) → Did q (parts_of old) told gave
+      → Did q (parts_of new) (told ++ (n, op) ∷ []) gave
   pub last : last_of new.seat ≡ n
   pub above : base_of q < n
   pub some : 0 < length (own_of new.seat)
@@ -119,16 +122,19 @@ pub record Numbers (q : DeleteQueue) (op : Operation) (n : ℕ) (old new : Threa
 pub record Stays (q : DeleteQueue) (old new : ThreadWriter) : Type 0 where
   pub own : own_of new.seat ≡ own_of old.seat
   pub rows : born_rows new.rows ≡ born_rows old.rows
-  pub history : (told : List Numbered) (gave : List Piece) → Did q (parts_of old) told gave → Did q (parts_of new) told gave
+  pub history : (told : List Numbered) (gave : List Piece) → Did q (parts_of old) told gave
+      → Did q (parts_of new) told gave
 
 -- What was told and given off is as before: a turn that was linked has no number.
 abbrev pub Turns : DeleteQueue → ThreadWriter → ThreadWriter → Type 0
-Turns q old new = (told : List Numbered) (gave : List Piece) → Did q (parts_of old) told gave → Did q (parts_of new) told gave
+Turns q old new = (told : List Numbered) (gave : List Piece) → Did q (parts_of old) told gave
+    → Did q (parts_of new) told gave
 
 -- The writer gave a piece off: it has the rows of the buffer, which is empty now, and the updates up
 -- to the last entry that the seat has seen; the writer's slice begins behind it.
 pub record Gives (q : DeleteQueue) (p : Piece) (old new : ThreadWriter) : Type 0 where
-  pub history : (told : List Numbered) (gave : List Piece) → Did q (parts_of old) told gave → Did q (parts_of new) told (gave ++ p ∷ [])
+  pub history : (told : List Numbered) (gave : List Piece) → Did q (parts_of old) told gave
+      → Did q (parts_of new) told (gave ++ p ∷ [])
   pub piece : IsPiece q new.seat p
   pub rows : p.frozen.rows.items ≡ born_rows old.rows
   pub cut : p.cut ≡ last_of new.seat

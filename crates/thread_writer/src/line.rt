@@ -9,8 +9,9 @@ ghost use Rattle.delete_queue.specs.Answers.{IsOperation};
 ghost use Rattle.delete_queue.specs.Seats.{Grows, SawClosed, the_view};
 ghost use Rattle.row_fates.specs.Fate.{added};
 ghost use Rattle.thread_writer.specs.Writing.{IsWriter, Numbers, Stays, adds, documents_of};
-ghost use Rattle.thread_writer.specs.Answers.{IfNumbered, IfNotNumbered, IfClosed, IfFull, RefusedExactly, FindsFull, told_for};
-ghost use Rattle.thread_writer.specs.Lines.{Does};
+ghost use Rattle.thread_writer.specs.Answers.{IfNumbered, IfNotNumbered, IfClosed, IfFull};
+ghost use Rattle.thread_writer.specs.Answers.{FullFor, RefusedExactly, told_for};
+ghost use Rattle.thread_writer.specs.Lines.{Does, DoesLine, row_born};
 
 use crate::told::Told;
 use crate::writer::ThreadWriter;
@@ -50,7 +51,7 @@ impl ThreadWriter {
         ensures does { Does queue.now words.now (λ n. []) 0 result self.old self.new }
         ensures refusal { RefusedExactly result None }
         ensures closed { IfClosed result (SawClosed (the_view self.new.seat)) }
-        ensures full { IfFull result (λ need left. FindsFull words.now self.old self.new need left) }
+        ensures full { FullFor words.now result self.old self.new }
     {
         match queue.link(&mut self.seat, words) {
             Linked::At(number) => Told::Numbered(number),
@@ -81,10 +82,10 @@ impl ThreadWriter {
         requires room { length self.old.rows < self.old.size }
         requires inversion { IsInversion (analysed.doc ∷ []) analysed.postings }
         requires words { IsOperation words.now }
-        ensures does { Does queue.now words.now (λ n. record { birth = n; doc = analysed.doc } ∷ []) 1 result self.old self.new }
+        ensures does { Does queue.now words.now (row_born analysed.doc) 1 result self.old self.new }
         ensures refusal { RefusedExactly result None }
         ensures closed { IfClosed result (SawClosed (the_view self.new.seat)) }
-        ensures full { IfFull result (λ need left. FindsFull words.now self.old self.new need left) }
+        ensures full { FullFor words.now result self.old self.new }
     {
         let Ok(row) = self.rows.stage(analysed) else {
             return Told::NoMemory;
@@ -104,10 +105,10 @@ impl ThreadWriter {
         requires writer { IsWriter queue.now self.old }
         requires room { length self.old.rows < self.old.size }
         requires words { IsOperation words.now }
-        ensures does { Does queue.now words.now (λ n. record { birth = n; doc = doc.now } ∷ []) 1 result self.old self.new }
+        ensures does { Does queue.now words.now (row_born doc.now) 1 result self.old self.new }
         ensures refusal { RefusedExactly result (document_refusal doc.now) }
         ensures closed { IfClosed result (SawClosed (the_view self.new.seat)) }
-        ensures full { IfFull result (λ need left. FindsFull words.now self.old self.new need left) }
+        ensures full { FullFor words.now result self.old self.new }
     {
         match analysed(self.alloc, doc) {
             Ok(analysed) => self.add(queue, analysed, words),
@@ -121,10 +122,11 @@ impl ThreadWriter {
         requires room { IsTrue (adds operation.now) → length self.old.rows < self.old.size }
         requires own { own_refusal operation.now ≡ None }
         requires words { IsOperation words.now }
-        ensures does { Does queue.now words.now (λ n. added n operation.now) (documents_of operation.now) result self.old self.new }
+        ensures does { Does queue.now words.now (λ n. added n operation.now)
+            (documents_of operation.now) result self.old self.new }
         ensures refusal { RefusedExactly result (refusal operation.now) }
         ensures closed { IfClosed result (SawClosed (the_view self.new.seat)) }
-        ensures full { IfFull result (λ need left. FindsFull words.now self.old self.new need left) }
+        ensures full { FullFor words.now result self.old self.new }
     {
         match operation {
             Operation::Add(doc) => self.add_document(queue, doc, words),
@@ -137,12 +139,12 @@ impl ThreadWriter {
     fn link_operation(&mut self, queue: &DeleteQueue, operation: &Operation) -> Told
         requires writer { IsWriter queue.now self.old }
         requires room { IsTrue (adds operation.now) → length self.old.rows < self.old.size }
-        ensures does { Does queue.now (entry_words (entry_of operation.now)) (λ n. added n operation.now)
-            (documents_of operation.now) result self.old self.new }
-        ensures spelled { IfNumbered result (λ n. Spells (entry_words (entry_of operation.now)) (entry_of operation.now)) }
+        ensures does { DoesLine queue.now operation.now result self.old self.new }
+        ensures spelled { IfNumbered result (λ n. Spells
+            (entry_words (entry_of operation.now)) (entry_of operation.now)) }
         ensures refusal { RefusedExactly result (refusal operation.now) }
         ensures closed { IfClosed result (SawClosed (the_view self.new.seat)) }
-        ensures full { IfFull result (λ need left. FindsFull (entry_words (entry_of operation.now)) self.old self.new need left) }
+        ensures full { FullFor (entry_words (entry_of operation.now)) result self.old self.new }
     {
         if let Operation::Commit = operation {
             return self.link_commit(queue);
@@ -173,7 +175,7 @@ impl ThreadWriter {
         ensures stays { IfNotNumbered result (Stays queue.now self.old self.new) }
         ensures refusal { RefusedExactly result (refusal operation.now) }
         ensures closed { IfClosed result (SawClosed (the_view self.new.seat)) }
-        ensures full { IfFull result (λ need left. FindsFull (entry_words (entry_of operation.now)) self.old self.new need left) }
+        ensures full { FullFor (entry_words (entry_of operation.now)) result self.old self.new }
     {
         slices_stay();
         self.link_operation(queue, operation)
