@@ -5,22 +5,22 @@ use Rattle.std.proofs.lemmas.Bool.{cases_lt, eq-eqb}
 use Rattle.std.proofs.lemmas.Bool.Decides.{eqb_tells}
 use Rattle.ix_base.specs.declared.file_name.FileName.TheVariants.{Commit}
 use Rattle.ix_base.specs.declared.document.Row.{Row}
+use Rattle.ix_outside.specs.Crash.{MayHold}
+use Rattle.ix_outside.specs.Disk.{Disk, told_files}
 use Rattle.ix_outside.specs.Files.{Files, Was}
 use Rattle.segment_files.specs.Fits.{BirthsRise}
 use Rattle.commit_point.specs.declared.heads.HeadSegment.{HeadSegment}
 use Rattle.commit_point.specs.declared.open.Opened.{Opened}
-use Rattle.commit_point.specs.Holds.{IsLawful, Lists}
+use Rattle.commit_point.specs.Holds.{AreKept, IsLawful, Lists}
 use Rattle.index_writer.specs.declared.writer.IndexWriter.{IndexWriter}
 use Rattle.index_writer.specs.Writing.{IsCommitOf, StandsFor}
-use Rattle.index_run.specs.Headline.{IsLast, Begins, Starts}
-use Rattle.index_run.specs.Beginning.{BeginsOn, IsOn, last_or_zero}
-use Rattle.index_run.specs.Doing.{CanBegin, GoesOn, HasLast}
+use Rattle.index_run.specs.Beginning.{BeginsOn, last_or_zero}
+use Rattle.index_run.specs.Doing.{CanBegin, GoesOn, HasLast, IsOnGiven, Starts}
+use Rattle.index_run.specs.Given.{Given, CanRun, HasNoCommit, IsLast, IsOn}
+use Rattle.index_run.specs.Headline.{GivesBack}
+use Rattle.index_run.proofs.Held.{none_of}
 use Rattle.index_run.proofs.Kept.{listed_below, nat_or}
-use Rattle.index_run.proofs.Searchable.{IsOnInverted}
-
-pub none_of : {A : Type 0} (o : Option A) → (IsSome o → ⊥) → o ≡ None
-none_of None h = refl
-none_of (Some x) h = absurd (h refl)
+use Rattle.index_run.proofs.Searchable.{IsOnInverted, on_rows}
 
 get_last : (n : ℕ) (ns : List ℕ) → last_or_zero (n ∷ ns) ≡ get_or (n ∷ ns) (length ns) 0
 get_last n ns =
@@ -102,65 +102,56 @@ last_one files a b p q = elim (nat_or a b) [
         cc
 
 -- a run that begins on a lawful commit, or on nothing, finds no commit above it and no id from its next id on
-pub begins_starts : (files : Files) (base next : ℕ) (rows : List Row) → Begins files base next rows → Starts files base next
-begins_starts files base next rows begins = record {
+begins_starts : (g : Given) → CanRun g → Starts g.files g.base g.next
+begins_starts g begins = record {
   none_above = begins.0.none_above;
   ids_below = λ s e lists. below s e lists begins.1;
 }
   where
-    not_above : (s : ℕ) (e : HeadSegment) → Lists files s e → base < s → ⊥
+    not_above : (s : ℕ) (e : HeadSegment) → Lists g.files s e → g.base < s → ⊥
     not_above s e lists above = let gone = begins.0.none_above s above in let here = lists.has_head.file in cc
 
-    below : (s : ℕ) (e : HeadSegment) → Lists files s e → ((base ≡ 0) × (next ≡ 1) × (rows ≡ [])) ⊎ ((1 ≤ base) × IsLawful files base next rows) → e.id < next
+    below : (s : ℕ) (e : HeadSegment) → Lists g.files s e → HasNoCommit g ⊎ ((1 ≤ g.base) × IsLawful g.files g.base g.next g.rows) → e.id < g.next
     below s e lists (inl none) =
         let some = lists.has_head.fits.some in
         let number = lists.has_head.number in
         absurd (not_above s e lists (omega (arith, none.0, some, number)))
     below s e lists (inr on) =
         let holds = on.1.holds.holds in
-        elim (nat_or s base) [
-          | inl is ↦ listed_below files base next holds.entries holds.segments e holds.spelled (subst (λ (n : ℕ). Lists files n e) is lists)
-          | inr ne ↦ elim (cases_lt s base) [ inl lt ↦ on.1.above s e lt lists | inr ge ↦ absurd (not_above s e lists (omega (arith, ne, ge))) ]
+        elim (nat_or s g.base) [
+          | inl is ↦ listed_below g.files g.base g.next holds.entries holds.segments e holds.spelled (subst (λ (n : ℕ). Lists g.files n e) is lists)
+          | inr ne ↦ elim (cases_lt s g.base) [ inl lt ↦ on.1.above s e lt lists | inr ge ↦ absurd (not_above s e lists (omega (arith, ne, ge))) ]
         ]
 
-pub begins_on : (files : Files) (base next : ℕ) (rows : List Row) → Begins files base next rows → IsOn files base next rows
-begins_on files base next rows begins = by_case begins.1
+pub begins_inverted : (g : Given) → CanRun g → IsOnInverted g
+begins_inverted g begins = by_case begins.1
   where
-    by_case : ((base ≡ 0) × (next ≡ 1) × (rows ≡ [])) ⊎ ((1 ≤ base) × IsLawful files base next rows) → IsOn files base next rows
-    by_case (inl none) = inl none
-    by_case (inr on) = inr (on.0, on.1.holds.holds)
-
-pub begins_inverted : (files : Files) (base next : ℕ) (rows : List Row) → Begins files base next rows → IsOnInverted files base next rows
-begins_inverted files base next rows begins = by_case begins.1
-  where
-    by_case : ((base ≡ 0) × (next ≡ 1) × (rows ≡ [])) ⊎ ((1 ≤ base) × IsLawful files base next rows) → IsOnInverted files base next rows
+    by_case : HasNoCommit g ⊎ ((1 ≤ g.base) × IsLawful g.files g.base g.next g.rows) → IsOnInverted g
     by_case (inl none) = inl none
     by_case (inr on) = inr (on.0, on.1.holds)
 
-pub begins_room : (files : Files) (base next : ℕ) (rows : List Row) → Begins files base next rows → next ≤ 2 ^ 61
-begins_room files base next rows begins = by_case begins.1
+pub begins_on : (g : Given) → CanRun g → IsOn g
+begins_on g begins = on_rows g (begins_inverted g begins)
+
+begins_room : (g : Given) → CanRun g → g.next ≤ 2 ^ 61
+begins_room g begins = by_case begins.1
   where
-    by_case : ((base ≡ 0) × (next ≡ 1) × (rows ≡ [])) ⊎ ((1 ≤ base) × IsLawful files base next rows) → next ≤ 2 ^ 61
+    by_case : HasNoCommit g ⊎ ((1 ≤ g.base) × IsLawful g.files g.base g.next g.rows) → g.next ≤ 2 ^ 61
     by_case (inl none) = omega (arith, none.1)
     by_case (inr on) = on.1.room
 
--- the writer that began there goes on from there
-pub begins_goes_on : (files : Files) (base next : ℕ) (rows : List Row) (w : IndexWriter) → Begins files base next rows → BeginsOn files base next w → CanBegin w → GoesOn files w
-begins_goes_on files base next rows w begins on can =
-    let starts = begins_starts files base next rows begins in
-    let here : Starts files w.last.number next = subst (λ (n : ℕ). Starts files n next) (sym (can.last ∙ on.number)) starts in
-    record { starts = subst (λ (n : ℕ). Starts files w.last.number n) (sym on.next_id) here; last = on.last }
-
--- what is said of the beginning, said of the writer
-pub at_writer : (P : ℕ → ℕ → Type 0) (files : Files) (base next : ℕ) (w : IndexWriter) → BeginsOn files base next w → P base next → P w.number w.last.next_id
-at_writer P files base next w on h =
-    let here : P w.number next = subst (λ (n : ℕ). P n next) (sym on.number) h in
-    subst (λ (n : ℕ). P w.number n) (sym on.next_id) here
-
-pub from_writer : (P : ℕ → ℕ → Type 0) (files : Files) (base next : ℕ) (w : IndexWriter) → BeginsOn files base next w → P w.number w.last.next_id → P base next
-from_writer P files base next w on h =
-    let here : P base w.last.next_id = subst (λ (n : ℕ). P n w.last.next_id) on.number h in
-    subst (λ (n : ℕ). P base n) on.next_id here
+-- the writer that began there is on what is given
+pub on_given : (g : Given) (w : IndexWriter) → CanRun g → BeginsOn g.files g.base g.next w → CanBegin w → StandsFor w g.rows → IsOnGiven g w
+on_given g w begins on can for =
+    let starts = begins_starts g begins in
+    let here : Starts g.files w.last.number g.next = subst (λ (n : ℕ). Starts g.files n g.next) (sym (can.last ∙ on.number)) starts in
+    record {
+      number = on.number;
+      next_id = on.next_id;
+      stands = for;
+      goes_on = record { starts = subst (λ (n : ℕ). Starts g.files w.last.number n) (sym on.next_id) here; last = on.last };
+      room = begins_room g begins;
+    }
 
 -- ---- a run gives back what the next one asks for
 
@@ -168,11 +159,13 @@ none_born : (rows : List Row) → BirthsRise 1 0 rows → rows ≡ []
 none_born [] rise = refl
 none_born (r ∷ rs) rise = absurd (omega (arith, rise.0, rise.1))
 
-pub begins_again : (files : Files) (w : IndexWriter) (rows : List Row) → w.last.next_id ≤ 2 ^ 61 → GoesOn files w → StandsFor w rows
-    → (before : List Row) × Begins files w.last.number w.last.next_id before
-begins_again files w rows room on stands = (
-  stands.before,
+pub gives_back : (disk : Option Disk) (files : Files) (w : IndexWriter) (rows : List Row) → w.last.next_id ≤ 2 ^ 61 → GoesOn files w → StandsFor w rows
+    → told_files disk ≡ Some files → AreKept files (MayHold disk) → GivesBack disk
+gives_back disk files w rows room on stands told kept = (
+  record { lines = []; files = files; base = w.last.number; next = w.last.next_id; rows = stands.before },
+  told,
   (record { there = there on.last; none_above = on.starts.none_above }, by_last on.last),
+  kept,
 )
   where
     there : HasLast files w.last → w.last.number ≢ 0 → IsSome (files (Commit w.last.number))

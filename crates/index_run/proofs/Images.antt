@@ -1,39 +1,32 @@
 -- What the disk and its images have while the lines of a script are done.
-use Rattle.std.proofs.Common.{◌≡◌, ◌⊎◌, inl, inr, ℕ, ◌+◌, ◌<◌, ◌≤◌, ◌^◌, false, List, [], ◌∷◌, ◌++◌, length, take, Some, None, refl, sym, ap, subst, ◌∙◌, append_assoc, arith}
-use Rattle.std.specs.Prelude.{Option}
-use Rattle.std.proofs.lemmas.List.{length-append}
-use Rattle.std.proofs.lemmas.List.Elements.{filter-append}
-use Rattle.std.proofs.Math.Seq.{take-append_seam}
+use Rattle.std.proofs.Common.{◌≡◌, inl, inr, ℕ, ◌+◌, ◌<◌, ◌≤◌, ◌^◌, false, List, [], ◌∷◌, ◌++◌, length, take, Some, None, refl, sym, ap, subst, ◌∙◌, append_assoc, arith}
+use Rattle.std.specs.Prelude.{Option, IsSomeAnd}
+use Rattle.std.proofs.Math.Seq.{take-length}
 use Rattle.ix_base.specs.declared.document.Operation.TheVariants.{Add, Update, DeleteTerm, DeleteQuery, SetNumber, Commit as CommitOperation}
 use Rattle.ix_base.specs.declared.document.Row.{Row}
 use Rattle.ix_base.specs.declared.file_name.FileName.TheVariants.{Commit}
-use Rattle.ix_outside.specs.Calls.{LeavesOnly}
-use Rattle.ix_outside.specs.CallLaws.{leaves_none, leaves_then}
 use Rattle.ix_outside.specs.Crash.{MayHold}
 use Rattle.ix_outside.specs.Disk.{Disk, told_files}
 use Rattle.ix_outside.specs.Files.{Files, Changes, onto, then}
-use Rattle.ix_outside.specs.Images.{Follows, Reaches}
+use Rattle.ix_outside.specs.Images.{Follows}
 use Rattle.commit_point.specs.declared.open.Opened.{Opened}
-use Rattle.commit_point.specs.Holds.{AreKept, HoldsInverted, KeepsCommits, Lists}
+use Rattle.commit_point.specs.Holds.{AreKept, KeepsCommits, Lists}
 use Rattle.index_writer.specs.declared.writer.IndexWriter.{IndexWriter}
-use Rattle.index_writer.specs.Storing.{AreStored, Commits, IsStored, MayCommit, SameBelow}
+use Rattle.index_writer.specs.Storing.{AreStored, Commits, IsStored, SameBelow}
 use Rattle.index_writer.specs.Writing.{IsCommitOf, IsReady, StandsFor}
 use Rattle.op_script.specs.declared.script.Line.{Line}
 use Rattle.op_script.specs.declared.script.Act.{Act}
 use Rattle.op_script.specs.declared.script.Act.TheVariants.{Do, Search}
 use Rattle.run_report.specs.declared.outcome.Outcome.{Outcome}
-use Rattle.index_run.specs.Crashes.{HasFront}
-use Rattle.index_run.specs.Doing.{AreMade, CanBegin, DiskAfter, DoesLines, GoesOn, HasLast, HasRows, IsMade, IsOnNext, MakesCommit, MayLeave, WriterAfter, next_number}
-use Rattle.index_run.specs.Headline.{HasCommits, Starts}
-use Rattle.index_run.specs.Numbering.{is_commit, is_numbered, numbered, commit_numbers, rows_at}
+use Rattle.index_run.specs.Doing.{AreMade, CanBegin, DiskAfter, DoesLines, GoesOn, HasLast, HasRows, IsMade, IsOnGiven, IsOnNext, MakesCommit, MayLeave, Starts, WriterAfter, next_number}
+use Rattle.index_run.specs.Given.{Given, IsKept}
+use Rattle.index_run.specs.Headline.{HasAll}
+use Rattle.index_run.specs.Numbering.{is_commit, numbered, commit_numbers, rows_at}
 use Rattle.index_run.specs.Outcomes.{number_after, rows_after}
-use Rattle.index_run.proofs.Far.{Far, commits_or, count_commit, last_next, last_same, numbers_more, numbers_same}
-use Rattle.index_run.proofs.Kept.{Rowed, has_commits, keeps_itself, kept_more, listed_below, lists_before, made_more, made_none, made_other, made_still, nat_or}
+use Rattle.index_run.proofs.Far.{Far, commits_or, last_next, last_same, numbers_more, numbers_same}
+use Rattle.index_run.proofs.Held.{HasOnly, at_given, goes_on_there, has_first, only_image, only_itself, starts_there}
+use Rattle.index_run.proofs.Kept.{Rowed, keeps_itself, kept_more, listed_below, lists_before, made_more, made_none, made_other, nat_or}
 use Rattle.index_run.proofs.Log.{number_after-push, rows_after-push, rows_at-front}
-
--- the first of the script's commits, up to some number
-abbrev pub Front : ℕ → ℕ → List Row → List Line → Files → Files → Type 0
-Front base next rows lines = HasFront base next rows (numbered lines) (next + length (numbered lines))
 
 -- what stands in the files, or in an image, after the lines that are done, where the last commit is this one
 pub record Stands (first : IndexWriter) (lines done : List Line) (last : Opened) (old new : Files) : Type 0 where
@@ -48,17 +41,13 @@ pub stored_last : (files : Files) (last : Opened) → HasLast files last → Are
 stored_last files last (inl none) = subst (λ (x : Opened). AreStored files x) (sym none) tt
 stored_last files last (inr on) = on.1.each
 
--- a run that begins here goes on from here
-pub begins_here : (files : Files) (w : IndexWriter) → CanBegin w → GoesOn files w → Starts files w.number w.last.next_id
-begins_here files w can on = subst (λ (n : ℕ). Starts files n w.last.next_id) can.last on.starts
-
 pub goes_on : (first w : IndexWriter) (lines done : List Line) (old new : Files) → Starts old first.number first.last.next_id → Stands first lines done w.last old new → GoesOn new w
 goes_on first w lines done old new starts stands = record { starts = stands.starts starts; last = stands.last_is }
 
 -- ---- one line more
 
 -- the rows of a commit line's commit are those of the lines up to it
-rows_here : (base : ℕ) (rows : List Row) (lines done rest : List Line) (l : Line) (s : ℕ) → lines ≡ done ++ l ∷ rest → l.act ≡ Do CommitOperation
+pub rows_here : (base : ℕ) (rows : List Row) (lines done rest : List Line) (l : Line) (s : ℕ) → lines ≡ done ++ l ∷ rest → l.act ≡ Do CommitOperation
     → s ≡ number_after base done + 1 → rows_after base rows done ≡ rows_at base rows (numbered lines) s
 rows_here base rows lines done rest l s is e at =
     let whole : lines ≡ (done ++ l ∷ []) ++ rest = is ∙ sym (append_assoc done (l ∷ []) rest) in
@@ -130,7 +119,7 @@ disk_same (Do (DeleteQuery q)) w v old new other same = same
 disk_same (Do (SetNumber t n x)) w v old new other same = same
 disk_same (Do CommitOperation) w v old new other h = absurd cc
 
-leaves_same : (a : Act) (w : IndexWriter) (rows : List Row) (old new : Files) → is_commit a ≡ false → MayLeave a w rows old new → new ≡ old
+pub leaves_same : (a : Act) (w : IndexWriter) (rows : List Row) (old new : Files) → is_commit a ≡ false → MayLeave a w rows old new → new ≡ old
 leaves_same (Search q) w rows old new other same = same
 leaves_same (Do (Add doc)) w rows old new other same = same
 leaves_same (Do (Update t doc)) w rows old new other same = same
@@ -200,114 +189,6 @@ settled_more first lines done l w v files start mid now room ready starts image_
         (λ d image. let b = images d image in stored_last d w.last b.2.last_is)
         (settled m is)
 
--- ---- a crash
-
--- the lines that are done are a prefix of the log
-front_of : (first : IndexWriter) (rows : List Row) (lines done rest : List Line) (numbers : List ℕ) (limit : ℕ) (old new : Files) → lines ≡ done ++ rest
-    → numbers ≡ commit_numbers first.number (numbered done) → limit ≤ first.last.next_id + length (numbered lines) → Starts old first.number first.last.next_id
-    → AreMade (Rowed first.number rows (numbered lines)) first.number first.last.next_id numbers limit old new → KeepsCommits old new
-    → Front first.number first.last.next_id rows lines old new
-front_of first rows lines done rest numbers limit old new is numbers_are le starts made kept =
-    let base = first.number in
-    let next = first.last.next_id in
-    let front : take (length (numbered done)) (numbered lines) ≡ numbered done =
-    ap (λ (ls : List Line). take (length (numbered done)) (numbered ls)) is ∙ ap (λ (ls : List Line). take (length (numbered done)) ls) (filter-append (λ (x : Line). is_numbered x.act) done rest)
-    ∙ take-append_seam (numbered done) (numbered rest) in
-    let wide = made_other (Rowed base rows (numbered lines)) (Rowed base rows (numbered lines)) base next limit (next + length (numbered lines)) numbers old new le (λ last s known. known) made in
-    let commits : HasCommits base next rows (numbered lines) numbers (next + length (numbered lines)) old new = has_commits base next (next + length (numbered lines)) rows (numbered lines) numbers old new starts wide in
-    record {
-      count = length (numbered done);
-      commits = subst (λ (ns : List ℕ). HasCommits base next rows (numbered lines) ns (next + length (numbered lines)) old new)
-          (numbers_are ∙ ap (λ (ls : List Line). commit_numbers base ls) (sym front)) commits;
-      kept = kept;
-    }
-
--- the ids taken so far are as many as the numbered lines at most
-ids_left : (lines done rest : List Line) → lines ≡ done ++ rest → length (numbered lines) ≡ length (numbered done) + length (numbered rest)
-ids_left lines done rest is =
-    ap (λ (ls : List Line). length (numbered ls)) is ∙ ap (λ (ls : List Line). length ls) (filter-append (λ (x : Line). is_numbered x.act) done rest) ∙ length-append (numbered done) (numbered rest)
-
-rowed : (first : IndexWriter) (rows : List Row) (lines : List Line) (numbers : List ℕ) (limit : ℕ) (old new : Files) → StandsFor first rows
-    → AreMade (HasRows first lines) first.number first.last.next_id numbers limit old new → AreMade (Rowed first.number rows (numbered lines)) first.number first.last.next_id numbers limit old new
-rowed first rows lines numbers limit old new for made =
-    made_other (HasRows first lines) (Rowed first.number rows (numbered lines)) first.number first.last.next_id limit limit numbers old new (omega arith) (λ last s known. known rows for) made
-
-front_stands : (first : IndexWriter) (rows : List Row) (lines done rest : List Line) (w : IndexWriter) (lasts : List ℕ) (outcomes : List Outcome) (old new : Files) → lines ≡ done ++ rest
-    → StandsFor first rows → Starts old first.number first.last.next_id → Far first lines done w lasts outcomes → Stands first lines done w.last old new
-    → Front first.number first.last.next_id rows lines old new
-front_stands first rows lines done rest w lasts outcomes old new is for starts far stands =
-    front_of first rows lines done rest (commit_numbers first.number (numbered done)) w.last.next_id old new is refl (omega (arith, far.high, ids_left lines done rest is)) starts
-    (rowed first rows lines (commit_numbers first.number (numbered done)) w.last.next_id old new for stands.commits) (stands.kept starts)
-
--- a crash while a commit is made
-front_commit : (first : IndexWriter) (rows : List Row) (lines done rest : List Line) (l : Line) (w : IndexWriter) (lasts : List ℕ) (outcomes : List Outcome) (old mid new : Files)
-    → lines ≡ done ++ l ∷ rest → l.act ≡ Do CommitOperation → StandsFor first rows → Starts old first.number first.last.next_id → Far first lines done w lasts outcomes
-    → Stands first lines done w.last old mid → MayCommit (next_number w) (rows_after first.number rows done) mid new → Front first.number first.last.next_id rows lines old new
-front_commit first rows lines done rest l w lasts outcomes old mid new is e for starts far stands may = by_case (may.whole (stored_last mid w.last stands.last_is))
-  where
-    at : w.number + 1 ≡ number_after first.number done + 1
-    at = ap (λ (n : ℕ). n + 1) far.number
-
-    by_case : (new (Commit (w.number + 1)) ≡ mid (Commit (w.number + 1)))
-        ⊎ ((id : ℕ) × (w.last.next_id ≤ id) × (id ≤ w.last.next_id + 1) × HoldsInverted new (w.number + 1) id (rows_after first.number rows done))
-        → Front first.number first.last.next_id rows lines old new
-    by_case (inl same) =
-        let numbers = commit_numbers first.number (numbered done) in
-        let known = rowed first rows lines numbers w.last.next_id old mid for stands.commits in
-        front_of first rows lines done (l ∷ rest) numbers w.last.next_id old new is refl (omega (arith, far.high, ids_left lines done (l ∷ rest) is)) starts
-        (made_still (Rowed first.number rows (numbered lines)) first.number first.last.next_id (w.number + 1) w.last.next_id numbers old mid new (omega (arith, at)) far.low far.below may.elsewhere same known)
-        (kept_more first.number first.last.next_id (w.number + 1) w.last.next_id old mid new starts (omega (arith, at)) far.low may.elsewhere (stands.kept starts))
-    by_case (inr whole) =
-        let numbers = commit_numbers first.number (numbered done) in
-        let id = whole.0 in
-        let holds = whole.3 in
-        let known = rowed first rows lines numbers w.last.next_id old mid for stands.commits in
-        let rows_are = rows_here first.number rows lines done rest l (w.number + 1) is e at in
-        let this : IsMade (Rowed first.number rows (numbered lines)) first.number first.last.next_id id old new (w.number + 1) = record {
-          last = record { number = w.number + 1; next_id = id; entries = holds.holds.entries; segments = holds.holds.segments };
-          number = refl;
-          from_next = omega (arith, far.low, whole.1);
-          to_limit = omega arith;
-          stored = holds.holds.spelled;
-          above = λ given t x below lists.
-              let before = lists_before (w.number + 1) w.last.next_id t mid new x may.elsewhere (λ h. absurd (omega (arith, h, below))) lists in
-              omega (arith, (stands.starts given).ids_below t x before, whole.1);
-          known = subst (λ (rs : List Row). IsCommitOf (record { number = w.number + 1; next_id = id; entries = holds.holds.entries; segments = holds.holds.segments }) rs) rows_are
-              (record { rows_are = holds.holds.rows_are; inverted = holds.inverted });
-        } in
-        let more = made_more (Rowed first.number rows (numbered lines)) first.number first.last.next_id (w.number + 1) w.last.next_id id numbers old mid new
-        (omega (arith, at)) far.low whole.1 far.below may.elsewhere known this in
-        let left = ids_left lines (done ++ l ∷ []) rest (is ∙ sym (append_assoc done (l ∷ []) rest)) in
-        front_of first rows lines (done ++ l ∷ []) rest (numbers ++ (w.number + 1) ∷ []) id old new (is ∙ sym (append_assoc done (l ∷ []) rest)) (sym (numbers_more first.number done l (w.number + 1) e at))
-        (omega (arith, far.high, left, count_commit done l e, whole.2)) starts more
-        (kept_more first.number first.last.next_id (w.number + 1) w.last.next_id old mid new starts (omega (arith, at)) far.low may.elsewhere (stands.kept starts))
-
--- a crash while a line is done
-front_line : (first : IndexWriter) (rows : List Row) (lines done rest : List Line) (l : Line) (w : IndexWriter) (lasts : List ℕ) (outcomes : List Outcome) (old mid new : Files)
-    → lines ≡ done ++ l ∷ rest → StandsFor first rows → Starts old first.number first.last.next_id → Far first lines done w lasts outcomes
-    → Stands first lines done w.last old mid → MayLeave l.act w (rows_after first.number rows done) mid new → Front first.number first.last.next_id rows lines old new
-front_line first rows lines done rest l w lasts outcomes old mid new is for starts far stands left = elim (commits_or l.act) [
-  | inl e ↦
-      front_commit first rows lines done rest l w lasts outcomes old mid new is e for starts far stands
-      (subst (λ (x : Act). MayLeave x w (rows_after first.number rows done) mid new) e left)
-  | inr other ↦
-      let same = leaves_same l.act w (rows_after first.number rows done) mid new other left in
-      subst (λ (f : Files). Front first.number first.last.next_id rows lines old f) (sym same) (front_stands first rows lines done (l ∷ rest) w lasts outcomes old mid is for starts far stands)
-]
-
-pub crash_more : (first : IndexWriter) (rows : List Row) (lines done rest : List Line) (l : Line) (w : IndexWriter) (lasts : List ℕ) (outcomes : List Outcome) (start mid now : Option Disk)
-    → lines ≡ done ++ l ∷ rest → StandsFor first rows → ((d : Files) → MayHold start d → Starts d first.number first.last.next_id) → Far first lines done w lasts outcomes
-    → Follows (Stands first lines done w.last) (MayHold start) (MayHold mid)
-    → LeavesOnly start mid (Reaches (Front first.number first.last.next_id rows lines) (MayHold start))
-    → LeavesOnly mid now (Reaches (MayLeave l.act w (rows_after first.number rows done)) (MayHold mid))
-    → LeavesOnly start now (Reaches (Front first.number first.last.next_id rows lines) (MayHold start))
-crash_more first rows lines done rest l w lasts outcomes start mid now is for starts far stands before during =
-    leaves_then start mid now (Reaches (Front first.number first.last.next_id rows lines) (MayHold start)) (Reaches (MayLeave l.act w (rows_after first.number rows done)) (MayHold mid))
-    (Reaches (Front first.number first.last.next_id rows lines) (MayHold start)) before during (λ c front. front)
-    (λ c left.
-    let d = stands left.0 left.1 in
-    (d.0, d.1, front_line first rows lines done rest l w lasts outcomes d.0 left.0 c is for (starts d.0 d.1) far d.2 left.2))
-
 -- ---- at the beginning, and at the end
 
 pub stands_none : (first : IndexWriter) (lines : List Line) (files : Files) → CanBegin first → HasLast files first.last → Stands first lines [] first.last files files
@@ -327,37 +208,47 @@ pub images_start : (first : IndexWriter) (lines : List Line) (start : Files → 
     → Follows (Stands first lines [] first.last) start start
 images_start first lines start can last c image = (c, image, stands_none first lines c can (last c image))
 
-pub crash_start : (first : IndexWriter) (rows : List Row) (lines : List Line) (start : Option Disk) → CanBegin first → StandsFor first rows
-    → ((d : Files) → MayHold start d → GoesOn d first) → LeavesOnly start start (Reaches (Front first.number first.last.next_id rows lines) (MayHold start))
-crash_start first rows lines start can for on =
-    leaves_none start (Reaches (Front first.number first.last.next_id rows lines) (MayHold start)) (λ c image.
-    let here = on c image in
-    let starts = begins_here c first can here in (
-      c,
-      image,
-      front_of first rows lines [] lines [] first.last.next_id c c refl refl (omega arith) starts
-          (made_none (Rowed first.number rows (numbered lines)) first.number first.last.next_id c) (keeps_itself c),
-    ))
+pub images_of : (g : Given) (first : IndexWriter) (start : Option Disk) → IsOnGiven g first → IsKept g start → (d : Files) → MayHold start d → HasLast d first.last
+images_of g first start on are d image = (goes_on_there g first d on.goes_on (only_image g start are d image)).last
+
+pub room_of : (g : Given) (first : IndexWriter) → IsOnGiven g first → first.last.next_id ≤ 2 ^ 61
+room_of g first on = omega (arith, on.room, on.next_id)
+
+-- a change from files that were told
+pub changed : (P : Files → Files → Type 0) (a b : Option Files) (x : Files) → a ≡ Some x → Changes P a b → IsSomeAnd b (P x)
+changed P None b x told h = absurd cc
+changed P (Some y) None x told h = absurd h
+changed P (Some y) (Some z) x told h = let same : y ≡ x = cc in subst (λ (f : Files). P f z) same h
+
+pub from_told : (P : Files → Files → Type 0) (a b : Option Files) (x : Files) → a ≡ Some x → Changes P a b → Changes P (Some x) b
+from_told P a b x told h = subst (λ (o : Option Files). Changes P o b) told h
+
+pub some_onto : (o : Option Files) (P Q : Files → Type 0) → ((f : Files) → P f → Q f) → IsSomeAnd o P → IsSomeAnd o Q
+some_onto None P Q implies h = absurd h
+some_onto (Some f) P Q implies h = implies f h
+
+-- the files of which something is said
+pub the_files : (o : Option Files) (P : Files → Type 0) → IsSomeAnd o P → (f : Files) × (o ≡ Some f) × P f
+the_files None P h = absurd h
+the_files (Some f) P h = (f, refl, h)
 
 -- the commits that were there stay through one line more, also where it fails
-pub kept_err : (first w : IndexWriter) (lines done : List Line) (lasts : List ℕ) (outcomes : List Outcome) (files : Files) (start mid now : Option Files) → start ≡ Some files
-    → Starts files first.number first.last.next_id → Far first lines done w lasts outcomes
-    → Changes (Stands first lines done w.last) start mid → Changes (SameBelow (w.number + 1) w.last.next_id) mid now → Changes KeepsCommits start now
-kept_err first w lines done lasts outcomes files start mid now told starts far stands same =
-    let both = then (Stands first lines done w.last) (SameBelow (w.number + 1) w.last.next_id) (λ x z. Starts x first.number first.last.next_id → KeepsCommits x z) (Some files) mid now
+pub kept_err : (g : Given) (first w : IndexWriter) (lines done : List Line) (lasts : List ℕ) (outcomes : List Outcome) (start mid now : Option Files) → start ≡ Some g.files
+    → IsOnGiven g first → CanBegin first → Far first lines done w lasts outcomes
+    → Changes (Stands first lines done w.last) start mid → Changes (SameBelow (w.number + 1) w.last.next_id) mid now → IsSomeAnd now (KeepsCommits g.files)
+kept_err g first w lines done lasts outcomes start mid now told on can far stands same =
+    let starts = starts_there g first g.files can on (only_itself g) in
+    let both = then (Stands first lines done w.last) (SameBelow (w.number + 1) w.last.next_id) (λ x z. Starts x first.number first.last.next_id → KeepsCommits x z) start mid now
     (λ x y z h e begins. kept_more first.number first.last.next_id (w.number + 1) w.last.next_id x y z begins (omega (arith, far.number)) far.low e (h.kept begins))
-    (subst (λ (o : Option Files). Changes (Stands first lines done w.last) o mid) told stands) same in
-    subst (λ (o : Option Files). Changes KeepsCommits o now) (sym told) (at now both)
-  where
-    at : (now : Option Files) → Changes (λ x z. Starts x first.number first.last.next_id → KeepsCommits x z) (Some files) now → Changes KeepsCommits (Some files) now
-    at None h = h
-    at (Some z) h = h starts
+    stands same in
+    some_onto now (λ z. Starts g.files first.number first.last.next_id → KeepsCommits g.files z) (KeepsCommits g.files) (λ f h. h starts)
+    (changed (λ x z. Starts x first.number first.last.next_id → KeepsCommits x z) start now g.files told both)
 
-pub kept_stands : (first w : IndexWriter) (lines done : List Line) (files : Files) (start now : Option Files) → start ≡ Some files
-    → Starts files first.number first.last.next_id → Changes (Stands first lines done w.last) start now → Changes KeepsCommits start now
-kept_stands first w lines done files None now told starts stands = tt
-kept_stands first w lines done files (Some x) None told starts stands = absurd stands
-kept_stands first w lines done files (Some x) (Some y) told starts stands = let is : files ≡ x = cc in stands.kept (subst (λ (f : Files). Starts f first.number first.last.next_id) is starts)
+pub kept_stands : (g : Given) (first w : IndexWriter) (lines done : List Line) (start now : Option Files) → start ≡ Some g.files
+    → IsOnGiven g first → CanBegin first → Changes (Stands first lines done w.last) start now → IsSomeAnd now (KeepsCommits g.files)
+kept_stands g first w lines done start now told on can stands =
+    some_onto now (Stands first lines done w.last g.files) (KeepsCommits g.files) (λ f h. h.kept (starts_there g first g.files can on (only_itself g)))
+    (changed (Stands first lines done w.last) start now g.files told stands)
 
 -- all lines are done
 does_lines : (first w : IndexWriter) (lines done : List Line) (lasts : List ℕ) (outcomes : List Outcome) (old new : Files) → done ≡ lines
@@ -381,8 +272,31 @@ pub images_done : (first w : IndexWriter) (lines done : List Line) (lasts : List
 images_done first w lines done lasts outcomes start now is far stands c image =
     let d = stands c image in (d.0, d.1, does_lines first w lines done lasts outcomes d.0 c is far d.2)
 
-pub changes_at : (P : Files → Files → Type 0) (a b : Option Files) (x y : Files) → a ≡ Some x → b ≡ Some y → Changes P a b → P x y
-changes_at P a b x y is at h =
-    let here : Changes P (Some x) b = subst (λ (o : Option Files). Changes P o b) is h in
-    let both : Changes P (Some x) (Some y) = subst (λ (o : Option Files). Changes P (Some x) o) at here in
-    both
+pub rowed : (first : IndexWriter) (rows : List Row) (lines : List Line) (numbers : List ℕ) (limit : ℕ) (old new : Files) → StandsFor first rows
+    → AreMade (HasRows first lines) first.number first.last.next_id numbers limit old new → AreMade (Rowed first.number rows (numbered lines)) first.number first.last.next_id numbers limit old new
+rowed first rows lines numbers limit old new for made =
+    made_other (HasRows first lines) (Rowed first.number rows (numbered lines)) first.number first.last.next_id limit limit numbers old new (omega arith) (λ last s known. known rows for) made
+
+-- lines that were done over files with the given commits leave all of the log's
+pub all_done_there : (g : Given) (first : IndexWriter) (lines : List Line) (old new : Files) → IsOnGiven g first → CanBegin first → HasOnly g old → DoesLines first lines old new
+    → HasAll g (numbered lines) new
+all_done_there g first lines old new on can has does =
+    let log = numbered lines in
+    let starts = starts_there g first old can on has in
+    let made = rowed first g.rows lines (commit_numbers first.number log) (first.last.next_id + length log) old new on.stands does.commits in
+    let numbers : commit_numbers first.number log ≡ commit_numbers g.base (take (length log) log) =
+    ap (λ (n : ℕ). commit_numbers n log) on.number ∙ ap (λ (ls : List Line). commit_numbers g.base ls) (sym (take-length log)) in
+    has_first g log (length log) (first.last.next_id + length log) (commit_numbers first.number log) old new numbers (omega (arith, on.next_id)) has
+    (at_given (λ b n. Starts old b n) g first on starts)
+    (at_given (λ b n. AreMade (Rowed b g.rows log) b n (commit_numbers first.number log) (first.last.next_id + length log) old new) g first on made) (does.kept starts)
+
+pub files_all : (g : Given) (first : IndexWriter) (lines : List Line) (start now : Option Files) → start ≡ Some g.files → IsOnGiven g first → CanBegin first
+    → Changes (DoesLines first lines) start now → IsSomeAnd now (HasAll g (numbered lines))
+files_all g first lines start now told on can does =
+    some_onto now (DoesLines first lines g.files) (HasAll g (numbered lines)) (λ f h. all_done_there g first lines g.files f on can (only_itself g) h)
+    (changed (DoesLines first lines) start now g.files told does)
+
+pub images_all : (g : Given) (first : IndexWriter) (lines : List Line) (start : Option Disk) (now : Files → Type 0) → IsOnGiven g first → CanBegin first → IsKept g start
+    → Follows (DoesLines first lines) (MayHold start) now → (c : Files) → now c → HasAll g (numbered lines) c
+images_all g first lines start now on can are does c image =
+    let d = does c image in all_done_there g first lines d.0 c on can (only_image g start are d.0 d.1) d.2

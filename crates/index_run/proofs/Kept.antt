@@ -18,9 +18,9 @@ use Rattle.commit_point.specs.Laws.{has_kept, one_head}
 use Rattle.index_writer.specs.Storing.{IsStored, SameBelow}
 use Rattle.index_writer.specs.Writing.{IsCommitOf}
 use Rattle.op_script.specs.declared.script.Line.{Line}
-use Rattle.index_run.specs.Doing.{AreMade, IsMade}
+use Rattle.index_run.specs.Doing.{AreMade, IsMade, Starts}
 use Rattle.index_run.specs.Numbering.{rows_at}
-use Rattle.index_run.specs.Headline.{HasCommits, IsIn, IsNewCommit, Starts}
+use Rattle.index_run.specs.Headline.{IsIn}
 
 pub nat_or : (s t : ℕ) → (s ≡ t) ⊎ (s ≢ t)
 nat_or s t = elim (cases_lt s t) [
@@ -223,39 +223,3 @@ holds_of files last s rows is stored commit =
       holds = record { entries = last.entries; segments = last.segments; spelled = stored; rows_are = commit.rows_are };
       inverted = commit.inverted;
     })
-
-each_new : (base next limit : ℕ) (rows : List Row) (log : List Line) (old new : Files) (ns : List ℕ) → Starts old base next
-    → AllByRecursion (IsMade (Rowed base rows log) base next limit old new) ns → AllByRecursion (IsNewCommit base next rows log limit new) ns
-each_new base next limit rows log old new [] starts each = tt
-each_new base next limit rows log old new (n ∷ ns) starts each = (
-  record {
-    id = each.0.last.next_id;
-    from_next = each.0.from_next;
-    to_limit = each.0.to_limit;
-    holds = holds_of new each.0.last n (rows_at base rows log n) each.0.number each.0.stored each.0.known;
-    above = each.0.above starts;
-  },
-  each_new base next limit rows log old new ns starts each.1,
-)
-
-pub has_commits : (base next limit : ℕ) (rows : List Row) (log : List Line) (numbers : List ℕ) (old new : Files) → Starts old base next
-    → AreMade (Rowed base rows log) base next numbers limit old new → HasCommits base next rows log numbers limit old new
-has_commits base next limit rows log numbers old new starts has = record {
-  each = each_new base next limit rows log old new numbers starts has.each;
-  only = has.only;
-  older = λ s n held early small was. record {
-    holds = record {
-      entries = was.holds.entries;
-      segments = was.holds.segments;
-      spelled = has.older s n was.holds.entries was.holds.segments early small was.holds.spelled;
-      rows_are = was.holds.rows_are;
-    };
-    inverted = was.inverted;
-  };
-  older_rows = λ s n held early small was. record {
-    entries = was.entries;
-    segments = was.segments;
-    spelled = has.older s n was.entries was.segments early small was.spelled;
-    rows_are = was.rows_are;
-  };
-}

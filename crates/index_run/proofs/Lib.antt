@@ -2,8 +2,10 @@ pub mod Pieces
 pub mod OneWord
 pub mod Log
 pub mod Kept
+pub mod Held
 pub mod Far
 pub mod Images
+pub mod Crashed
 pub mod Operating
 pub mod Told
 pub mod Beginnings
@@ -11,5 +13,4 @@ pub mod Inputs
 pub mod SomeRows
 pub mod Searchable
 pub mod Finish
-pub mod Stopped
 pub mod Asked

@@ -1,6 +1,7 @@
 -- After the lines are done, each search line's commit can be read back.
-use Rattle.std.proofs.Common.{◌≡◌, ◌⊎◌, inl, inr, ◌∙◌, ℕ, ◌+◌, ◌-◌, ◌<◌, ◌≤◌, Bool, true, false, cond, eqb, ◌&&◌, List, [], ◌∷◌, ◌++◌, take, refl, sym, ap, subst, arith}
+use Rattle.std.proofs.Common.{◌≡◌, ◌⊎◌, inl, inr, ◌∙◌, ℕ, ◌+◌, ◌-◌, ◌<◌, ◌≤◌, Bool, true, false, cond, eqb, ◌&&◌, List, [], ◌∷◌, ◌++◌, length, take, refl, sym, ap, subst, arith}
 use Rattle.std.specs.List.{AllByRecursion}
+use Rattle.std.proofs.Math.Seq.{take-length}
 use Rattle.std.proofs.lemmas.List.Elements.{filter-append, All-from_recursion}
 use Rattle.ix_base.specs.declared.document.Row.{Row}
 use Rattle.ix_base.specs.Steps.{after}
@@ -13,11 +14,12 @@ use Rattle.run_report.specs.declared.outcome.Answer.{Answer}
 use Rattle.run_report.specs.declared.outcome.Answer.TheVariants.{Numbered, Committed, Refused, Searched}
 use Rattle.run_report.specs.declared.outcome.Outcome.{Outcome}
 use Rattle.run_report.specs.Searching.{AnswerHolds, AnswerReads, CanRead, CanSearch, HoldsCommit, ReadsCommit}
-use Rattle.index_run.specs.Beginning.{IsOn}
 use Rattle.index_run.specs.Doing.{AreMade, IsMade}
-use Rattle.index_run.specs.Headline.{HasCommits, IsIn, IsNewCommit}
+use Rattle.index_run.specs.Given.{Given, HasNoCommit, IsOn}
+use Rattle.index_run.specs.Headline.{HasAll, IsIn, IsNewCommit}
 use Rattle.index_run.specs.Numbering.{is_numbered, is_commit, numbered, operations, commit_numbers}
 use Rattle.index_run.specs.Outcomes.{AsksFor, IsAskedFor, commit_after}
+use Rattle.index_run.proofs.Held.{inverted_there}
 use Rattle.index_run.proofs.SomeRows.{some_rows}
 use Rattle.index_run.proofs.Told.{rows_of, rows_of-is}
 
@@ -68,17 +70,17 @@ each_at P [] s each h = absurd h
 each_at P (n ∷ ns) s each (inl e) = subst P (sym e) each.0
 each_at P (n ∷ ns) s each (inr i) = each_at P ns s each.1 i
 
-pub no_rows : (files : Files) (base next : ℕ) (rows : List Row) → IsOn files base next rows → base ≡ 0 → rows ≡ []
-no_rows files base next rows (inl none) e = none.2
-no_rows files base next rows (inr on) e = absurd (omega (arith, on.0, e))
+pub no_rows : (g : Given) → IsOn g → g.base ≡ 0 → g.rows ≡ []
+no_rows g (inl none) e = none.2
+no_rows g (inr on) e = absurd (omega (arith, on.0, e))
 
 -- the same as that a run is on it, and each segment's postings are the inversion of its rows
-abbrev pub IsOnInverted : Files → ℕ → ℕ → List Row → Type 0
-IsOnInverted files base next rows = ((base ≡ 0) × (next ≡ 1) × (rows ≡ [])) ⊎ ((1 ≤ base) × HoldsInverted files base next rows)
+abbrev pub IsOnInverted : Given → Type 0
+IsOnInverted g = HasNoCommit g ⊎ ((1 ≤ g.base) × HoldsInverted g.files g.base g.next g.rows)
 
-pub on_rows : (files : Files) (base next : ℕ) (rows : List Row) → IsOnInverted files base next rows → IsOn files base next rows
-on_rows files base next rows (inl none) = inl none
-on_rows files base next rows (inr on) = inr (on.0, on.1.holds)
+pub on_rows : (g : Given) → IsOnInverted g → IsOn g
+on_rows g (inl none) = inl none
+on_rows g (inr on) = inr (on.0, on.1.holds)
 
 -- a commit that a line asks for is the one at the beginning, or one of the log
 asked_in : (base : ℕ) (lines : List Line) (s : ℕ) → AsksFor base lines s → (s ≡ base) ⊎ IsIn (commit_numbers base (numbered lines)) s
@@ -93,28 +95,30 @@ asked_in base lines s asks = by_case (in_after base asks.line.caller base asks.b
         let here : IsIn (commit_numbers base (numbered asks.before)) s = subst (λ (n : ℕ). IsIn (commit_numbers base (numbered asks.before)) n) (sym asks.is) among in
         inr (subst (λ (ls : List Line). IsIn (commit_numbers base ls) s) (sym log) (in_front base (numbered asks.before) (numbered (asks.line ∷ asks.rest)) s here))
 
-searched : (base next : ℕ) (rows : List Row) (lines : List Line) (limit : ℕ) (old new : Files) → IsOnInverted old base next rows
-    → HasCommits base next rows (numbered lines) (commit_numbers base (numbered lines)) limit old new → (s : ℕ) → (s ≡ base) ⊎ IsIn (commit_numbers base (numbered lines)) s
-    → (s ≡ 0) ⊎ ((1 ≤ s) × HoldsCommit new s (rows_of base rows (numbered lines) s))
-searched base next rows lines limit old new on has s (inl at_base) =
+searched : (g : Given) (lines : List Line) (new : Files) → IsOnInverted g → HasAll g (numbered lines) new
+    → (s : ℕ) → (s ≡ g.base) ⊎ IsIn (commit_numbers g.base (numbered lines)) s
+    → (s ≡ 0) ⊎ ((1 ≤ s) × HoldsCommit new s (rows_of g.base g.rows (numbered lines) s))
+searched g lines new on has s (inl at_base) =
     by_on on
   where
-    rows_are : (1 ≤ base) → rows_of base rows (numbered lines) s ≡ rows
+    rows_are : (1 ≤ g.base) → rows_of g.base g.rows (numbered lines) s ≡ g.rows
     rows_are some =
-        let nothing : s - base ≡ 0 = omega (arith, at_base) in
-        rows_of-is base rows (numbered lines) s (omega (arith, at_base)) (λ e. absurd (omega (arith, e, some)))
-        ∙ ap (λ (n : ℕ). after rows base (operations (take n (numbered lines)))) nothing
+        let nothing : s - g.base ≡ 0 = omega (arith, at_base) in
+        rows_of-is g.base g.rows (numbered lines) s (omega (arith, at_base)) (λ e. absurd (omega (arith, e, some)))
+        ∙ ap (λ (n : ℕ). after g.rows g.base (operations (take n (numbered lines)))) nothing
 
-    by_on : IsOnInverted old base next rows → (s ≡ 0) ⊎ ((1 ≤ s) × HoldsCommit new s (rows_of base rows (numbered lines) s))
+    by_on : IsOnInverted g → (s ≡ 0) ⊎ ((1 ≤ s) × HoldsCommit new s (rows_of g.base g.rows (numbered lines) s))
     by_on (inl none) = inl (at_base ∙ none.0)
     by_on (inr held) =
-        let kept = has.older base next rows (omega arith) (omega arith) held.1 in
-        let here : HoldsInverted new s next rows = subst (λ (n : ℕ). HoldsInverted new n next rows) (sym at_base) kept in
-        inr (omega (arith, held.0, at_base), (next, subst (λ (rs : List Row). HoldsInverted new s next rs) (sym (rows_are held.0)) here))
-searched base next rows lines limit old new on has s (inr among) =
-    let above = above_base base (numbered lines) s among in
-    let made = each_at (IsNewCommit base next rows (numbered lines) limit new) (commit_numbers base (numbered lines)) s has.each among in
-    let rows_are = rows_of-is base rows (numbered lines) s (omega (arith, above)) (no_rows old base next rows (on_rows old base next rows on)) in
+        let kept = inverted_there g.files new g.base g.next g.rows has.kept held.1 in
+        let here : HoldsInverted new s g.next g.rows = subst (λ (n : ℕ). HoldsInverted new n g.next g.rows) (sym at_base) kept in
+        inr (omega (arith, held.0, at_base), (g.next, subst (λ (rs : List Row). HoldsInverted new s g.next rs) (sym (rows_are held.0)) here))
+searched g lines new on has s (inr among) =
+    let log = numbered lines in
+    let above = above_base g.base log s among in
+    let here : IsIn (commit_numbers g.base (take (length log) log)) s = subst (λ (ls : List Line). IsIn (commit_numbers g.base ls) s) (sym (take-length log)) among in
+    let made = each_at (IsNewCommit g log new) (commit_numbers g.base (take (length log) log)) s has.each here in
+    let rows_are = rows_of-is g.base g.rows log s (omega (arith, above)) (no_rows g (on_rows g on)) in
     inr (omega (arith, above), (made.id, subst (λ (rs : List Row). HoldsInverted new s made.id rs) (sym rows_are) made.holds))
 
 reads_of : (files : Files) (s : ℕ) (last : Opened) → last.number ≡ s → HasSegments files last.number last.next_id last.entries last.segments → ReadsCommit files s
@@ -126,22 +130,22 @@ reads_of files s last is has =
     )
 
 -- what is searched can be read, also where the commit that the run began on only holds its rows
-read : (Known : Opened → ℕ → Type 0) (base next : ℕ) (rows : List Row) (lines : List Line) (limit : ℕ) (old new : Files) → IsOn old base next rows
-    → AreMade Known base next (commit_numbers base (numbered lines)) limit old new → (s : ℕ) → (s ≡ base) ⊎ IsIn (commit_numbers base (numbered lines)) s
+read : (Known : Opened → ℕ → Type 0) (g : Given) (lines : List Line) (limit : ℕ) (new : Files) → IsOn g
+    → AreMade Known g.base g.next (commit_numbers g.base (numbered lines)) limit g.files new → (s : ℕ) → (s ≡ g.base) ⊎ IsIn (commit_numbers g.base (numbered lines)) s
     → (s ≡ 0) ⊎ ((1 ≤ s) × ReadsCommit new s)
-read Known base next rows lines limit old new (inl none) has s (inl at_base) = inl (at_base ∙ none.0)
-read Known base next rows lines limit old new (inr held) has s (inl at_base) =
+read Known g lines limit new (inl none) has s (inl at_base) = inl (at_base ∙ none.0)
+read Known g lines limit new (inr held) has s (inl at_base) =
     let was = held.1 in
-    let kept : Holds new base next rows = record {
+    let kept : Holds new g.base g.next g.rows = record {
       entries = was.entries;
       segments = was.segments;
-      spelled = has.older base next was.entries was.segments (omega arith) (omega arith) was.spelled;
+      spelled = has.older g.base g.next was.entries was.segments (omega arith) (omega arith) was.spelled;
       rows_are = was.rows_are;
     } in
-    inr (omega (arith, held.0, at_base), (next, rows, subst (λ (n : ℕ). Holds new n next rows) (sym at_base) kept))
-read Known base next rows lines limit old new on has s (inr among) =
-    let above = above_base base (numbered lines) s among in
-    let made = each_at (IsMade Known base next limit old new) (commit_numbers base (numbered lines)) s has.each among in
+    inr (omega (arith, held.0, at_base), (g.next, g.rows, subst (λ (n : ℕ). Holds new n g.next g.rows) (sym at_base) kept))
+read Known g lines limit new on has s (inr among) =
+    let above = above_base g.base (numbered lines) s among in
+    let made = each_at (IsMade Known g.base g.next limit g.files new) (commit_numbers g.base (numbered lines)) s has.each among in
     inr (omega (arith, above), reads_of new s made.last made.number made.stored)
 
 each_answer : (P : Answer → Type 0) (base : ℕ) (lines : List Line) (outcomes : List Outcome)
@@ -168,18 +172,17 @@ reads_other files (Numbered s) none = tt
 reads_other files (Committed s docs) none = tt
 reads_other files (Refused refusal) none = tt
 
-pub can_search : (base next : ℕ) (rows : List Row) (lines : List Line) (limit : ℕ) (old new : Files) (outcomes : List Outcome) → IsOnInverted old base next rows
-    → HasCommits base next rows (numbered lines) (commit_numbers base (numbered lines)) limit old new → AllByRecursion (IsAskedFor base lines) outcomes
-    → CanSearch new (rows_of base rows (numbered lines)) outcomes
-can_search base next rows lines limit old new outcomes on has asked = record {
+pub can_search : (g : Given) (lines : List Line) (new : Files) (outcomes : List Outcome) → IsOnInverted g
+    → HasAll g (numbered lines) new → AllByRecursion (IsAskedFor g.base lines) outcomes → CanSearch new (rows_of g.base g.rows (numbered lines)) outcomes
+can_search g lines new outcomes on has asked = record {
   none = refl;
-  each = All-from_recursion (λ (o : Outcome). AnswerHolds new (rows_of base rows (numbered lines)) o.answer) outcomes
-      (each_answer (AnswerHolds new (rows_of base rows (numbered lines))) base lines outcomes
-      (λ s q asks. searched base next rows lines limit old new on has s (asked_in base lines s asks)) (holds_other new (rows_of base rows (numbered lines))) asked);
+  each = All-from_recursion (λ (o : Outcome). AnswerHolds new (rows_of g.base g.rows (numbered lines)) o.answer) outcomes
+      (each_answer (AnswerHolds new (rows_of g.base g.rows (numbered lines))) g.base lines outcomes
+      (λ s q asks. searched g lines new on has s (asked_in g.base lines s asks)) (holds_other new (rows_of g.base g.rows (numbered lines))) asked);
 }
 
-pub can_read : (Known : Opened → ℕ → Type 0) (base next : ℕ) (rows : List Row) (lines : List Line) (limit : ℕ) (old new : Files) (outcomes : List Outcome) → IsOn old base next rows
-    → AreMade Known base next (commit_numbers base (numbered lines)) limit old new → AllByRecursion (IsAskedFor base lines) outcomes → CanRead new outcomes
-can_read Known base next rows lines limit old new outcomes on has asked =
+pub can_read : (Known : Opened → ℕ → Type 0) (g : Given) (lines : List Line) (limit : ℕ) (new : Files) (outcomes : List Outcome) → IsOn g
+    → AreMade Known g.base g.next (commit_numbers g.base (numbered lines)) limit g.files new → AllByRecursion (IsAskedFor g.base lines) outcomes → CanRead new outcomes
+can_read Known g lines limit new outcomes on has asked =
     All-from_recursion (λ (o : Outcome). AnswerReads new o.answer) outcomes
-    (each_answer (AnswerReads new) base lines outcomes (λ s q asks. read Known base next rows lines limit old new on has s (asked_in base lines s asks)) (reads_other new) asked)
+    (each_answer (AnswerReads new) g.base lines outcomes (λ s q asks. read Known g lines limit new on has s (asked_in g.base lines s asks)) (reads_other new) asked)

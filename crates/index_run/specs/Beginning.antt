@@ -1,17 +1,11 @@
 -- What a run begins on.
-use Rattle.std.specs.Prelude.{◌≡◌, ◌⊎◌, ℕ, ◌-◌, ◌<◌, ◌≤◌, ◌^◌, List, [], length, Option, slice_get, unwrap_or}
-use Rattle.ix_base.specs.declared.document.Row.{Row}
+use Rattle.std.specs.Prelude.{◌≡◌, ℕ, ◌-◌, ◌<◌, ◌≤◌, ◌^◌, List, length, Option, slice_get, unwrap_or}
 use Rattle.ix_base.specs.declared.damaged.Damaged.{Damaged}
 use Rattle.ix_outside.specs.Files.{Files, Was}
-use Rattle.commit_point.specs.Holds.{Holds}
 use Rattle.searcher.specs.Searching.{IsDamagedIn}
 use Rattle.index_writer.specs.declared.writer.IndexWriter.{IndexWriter}
 use Rattle.index_run.specs.Doing.{HasLast}
-use Rattle.index_run.specs.Headline.{IsLast}
-
--- the rows and the next id of the commit `base`, or those of no commit
-abbrev pub IsOn : Files → ℕ → ℕ → List Row → Type 0
-IsOn files base next rows = ((base ≡ 0) × (next ≡ 1) × (rows ≡ [])) ⊎ ((1 ≤ base) × Holds files base next rows)
+use Rattle.index_run.specs.Given.{IsLast}
 
 -- the writer is on the commit `base`, or on none
 pub record BeginsOn (files : Files) (base next : ℕ) (w : IndexWriter) : Type 0 where

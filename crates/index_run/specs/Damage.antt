@@ -11,8 +11,8 @@ use Rattle.index_run.specs.Causes.{IsScript}
 use Rattle.index_run.specs.Numbering.{Interleaves}
 use Rattle.index_run.specs.Report.{last_commit}
 
--- A search line asks for the commit of this number, for one order of the numbered lines: for that of its caller's last
--- commit line before it, or else for the one that the run began on.
+-- A search line asks for the commit of this number, for one order of the numbered lines: for that
+-- of its caller's last commit line before it, or else for the one that the run began on.
 pub record IsAsked (base : ℕ) (lines : List Line) (number : ℕ) : Type 0 where
   pub log : List Line
   pub numbering : Interleaves lines log
@@ -24,9 +24,11 @@ pub record IsAsked (base : ℕ) (lines : List Line) (number : ℕ) : Type 0 wher
   pub search : line.act ≡ Search query
   pub is : number ≡ last_commit base log line.caller base before
 
--- A commit that a run over these lines reads is first broken at this place: the last one, on which the run begins,
--- while the files are as they were, or one that a search line asks for. The number 0 stands for no commit.
-pub record ReadsDamaged (lines : List Line) (old new : Option Files) (damaged : Damaged) : Type 0 where
+-- A commit that a run over these lines reads is first broken at this place: the last one, on which
+-- the run begins, while the files are as they were, or one that a search line asks for. The number
+-- 0 stands for no commit.
+pub record ReadsDamaged (lines : List Line) (old new : Option Files) (damaged : Damaged)
+    : Type 0 where
   pub base : ℕ
   pub last : IsBase old base
   pub number : ℕ
@@ -36,4 +38,5 @@ pub record ReadsDamaged (lines : List Line) (old new : Option Files) (damaged : 
 
 -- the same of a run over the script that the input is
 abbrev pub FindsDamage : Option (List ℕ) → Option Files → Option Files → Damaged → Type 0
-FindsDamage input old new damaged = (lines : List Line) × IsScript input lines × ReadsDamaged lines old new damaged
+FindsDamage input old new damaged =
+    (lines : List Line) × IsScript input lines × ReadsDamaged lines old new damaged

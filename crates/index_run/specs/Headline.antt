@@ -1,12 +1,14 @@
 -- What a run promises.
-use Rattle.std.specs.Prelude.{◌≡◌, ◌≢◌, ◌⊎◌, ℕ, ◌+◌, ◌*◌, ◌<◌, ◌≤◌, List, [], ◌∷◌, length, None, IsSome}
+use Rattle.std.specs.Prelude.{◌≡◌, ◌⊎◌, ℕ, ◌+◌, ◌*◌, ◌≤◌, ◌^◌, List, [], ◌∷◌, length, take, Option, Some, IsSome, IsSomeAnd}
 use Rattle.std.specs.List.{AllByRecursion}
 use Rattle.ix_base.specs.declared.file_name.FileName.TheVariants.{Commit}
-use Rattle.ix_base.specs.declared.document.Row.{Row}
+use Rattle.ix_outside.specs.Calls.{LeavesOnly}
+use Rattle.ix_outside.specs.Crash.{MayHold}
+use Rattle.ix_outside.specs.Disk.{Disk, told_files}
 use Rattle.ix_outside.specs.Files.{Files}
-use Rattle.commit_point.specs.declared.heads.HeadSegment.{HeadSegment}
-use Rattle.commit_point.specs.Holds.{Holds, HoldsInverted, IsAboveIds, IsLawful, KeepsCommits, Lists}
+use Rattle.commit_point.specs.Holds.{HoldsInverted, IsAboveIds, KeepsCommits}
 use Rattle.op_script.specs.declared.script.Line.{Line}
+use Rattle.index_run.specs.Given.{Given, CanRun, IsKept}
 use Rattle.index_run.specs.Numbering.{Interleaves, rows_at, commit_numbers}
 use Rattle.index_run.specs.Report.{report}
 
@@ -15,41 +17,59 @@ abbrev pub IsIn : List ℕ → ℕ → Type 0
 IsIn [] s = ⊥
 IsIn (n ∷ ns) s = (s ≡ n) ⊎ IsIn ns s
 
--- the number of the last commit, or 0 where there is none
-pub record IsLast (files : Files) (base : ℕ) : Type 0 where
-  pub there : base ≢ 0 → IsSome (files (Commit base))
-  pub none_above : (s : ℕ) → base < s → files (Commit s) ≡ None
-
--- A run begins on the last commit, which is lawful: its number, its next id and its rows; or on nothing, with 0, 1 and no row.
-abbrev pub Begins : Files → ℕ → ℕ → List Row → Type 0
-Begins files base next rows = IsLast files base × (((base ≡ 0) × (next ≡ 1) × (rows ≡ [])) ⊎ ((1 ≤ base) × IsLawful files base next rows))
-
--- The store has no commit above the base, and no commit lists a segment id from `next` on.
-pub record Starts (files : Files) (base next : ℕ) : Type 0 where
-  pub none_above : (s : ℕ) → base < s → files (Commit s) ≡ None
-  pub ids_below : (s : ℕ) (e : HeadSegment) → Lists files s e → e.id < next
-
--- A commit of the log: it has the rows by the operations numbered up to it, and the postings of each segment are the
--- inversion of its rows. Its next id is in range, and above each id that a commit below it lists.
-pub record IsNewCommit (base next : ℕ) (rows : List Row) (log : List Line) (limit : ℕ) (files : Files) (s : ℕ) : Type 0 where
+-- A commit of the log: it has the rows by the operations numbered up to it, and the postings of
+-- each segment are the inversion of its rows. Its next id is in range, and above each id that a
+-- commit below it lists.
+pub record IsNewCommit (g : Given) (log : List Line) (files : Files) (s : ℕ) : Type 0 where
   pub id : ℕ
-  pub from_next : next ≤ id
-  pub to_limit : id ≤ limit
-  pub holds : HoldsInverted files s id (rows_at base rows log s)
+  pub from_next : g.next ≤ id
+  pub to_limit : id ≤ g.next + 2 * length log
+  pub holds : HoldsInverted files s id (rows_at g.base g.rows log s)
   pub above : IsAboveIds files s id
 
--- The commits above the base are those of the log. What an older commit held it holds.
-pub record HasCommits (base next : ℕ) (rows : List Row) (log : List Line) (numbers : List ℕ) (limit : ℕ) (old new : Files) : Type 0 where
-  pub each : AllByRecursion (IsNewCommit base next rows log limit new) numbers
-  pub only : (s : ℕ) → IsSome (new (Commit s)) → IsSome (old (Commit s)) ⊎ IsIn numbers s
-  pub older : (s id : ℕ) (held : List Row) → s ≤ base → id ≤ next → HoldsInverted old s id held → HoldsInverted new s id held
-  pub older_rows : (s id : ℕ) (held : List Row) → s ≤ base → id ≤ next → Holds old s id held → Holds new s id held
+-- Of the log's commits those of its first `count` lines are there, each whole, and no other new
+-- one. The commits that were there have their files and bytes.
+pub record HasFirst (g : Given) (log : List Line) (count : ℕ) (files : Files) : Type 0 where
+  pub each : AllByRecursion (IsNewCommit g log files) (commit_numbers g.base (take count log))
+  pub only : (s : ℕ) → IsSome (files (Commit s))
+      → IsSome (g.files (Commit s)) ⊎ IsIn (commit_numbers g.base (take count log)) s
+  pub kept : KeepsCommits g.files files
 
--- A run that was done: for one order of the numbered lines, the commits of that order are in the store, and of the
--- report of that order so much was written as `wrote` says. The commits that were there have their files and bytes.
-pub record RunsRight (base next : ℕ) (rows : List Row) (lines : List Line) (wrote : List ℕ → Type 0) (old new : Files) : Type 0 where
+-- all of the log's commits are there
+abbrev pub HasAll : Given → List Line → Files → Type 0
+HasAll g log = HasFirst g log (length log)
+
+-- the first of the log's commits are there, up to some line
+abbrev pub HasSome : Given → List Line → Files → Type 0
+HasSome g log files = (count : ℕ) × HasFirst g log count files
+
+-- The store is again such as a run asks for: it tells its files, their last commit is lawful or
+-- there is none, and each commit is kept.
+abbrev pub GivesBack : Option Disk → Type 0
+GivesBack store = (g : Given) × (told_files store ≡ Some g.files) × CanRun g × IsKept g store
+
+-- A run that was done, for one order of its numbered lines, its log. What was written of the
+-- report of that order is said by `wrote`. All of the log's commits are in the files that the
+-- store tells, and in every image once the call has ended. A crash at any moment of the call
+-- leaves the first ones. And the store is again such as a run asks for.
+pub record Runs (g : Given) (wrote : List ℕ → Type 0) (old new : Option Disk) : Type 0 where
   pub log : List Line
-  pub numbering : Interleaves lines log
-  pub commits : HasCommits base next rows log (commit_numbers base log) (next + 2 * length log) old new
-  pub kept : KeepsCommits old new
-  pub written : wrote (report base rows lines log)
+  pub numbering : Interleaves g.lines log
+  pub written : wrote (report g.base g.rows g.lines log)
+  pub files : IsSomeAnd (told_files new) (HasAll g log)
+  pub images : IsKept g old → (c : Files) → MayHold new c → HasAll g log c
+  pub crash : IsKept g old → LeavesOnly old new (HasSome g log)
+  pub again : IsKept g old → g.next + length log ≤ 2 ^ 61 → GivesBack new
+
+-- A run that stopped, or was done: for one order of its numbered lines, a crash at any moment of
+-- the call leaves the first ones of its commits.
+pub record Stops (g : Given) (old new : Option Disk) : Type 0 where
+  pub log : List Line
+  pub numbering : Interleaves g.lines log
+  pub crash : IsKept g old → LeavesOnly old new (HasSome g log)
+
+-- The commits that were there have their files and bytes: in the files that the store tells, and
+-- after a crash at any moment of the call.
+pub record Keeps (g : Given) (old new : Option Disk) : Type 0 where
+  pub kept : IsSomeAnd (told_files new) (KeepsCommits g.files)
+  pub crash : IsKept g old → LeavesOnly old new (KeepsCommits g.files)

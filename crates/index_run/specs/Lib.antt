@@ -1,11 +1,11 @@
 pub mod Words
 pub mod Numbering
 pub mod Report
-pub mod Outcomes
+pub mod Given
 pub mod Headline
-pub mod Crashes
 pub mod Causes
+pub mod Outcomes
 pub mod Doing
 pub mod Beginning
 pub mod Damage
-pub mod Script
+pub mod Endings

@@ -23,11 +23,14 @@ number_after base done = base + length (numbered done)
 abbrev pub rows_after : ℕ → List Row → List Line → List Row
 rows_after base rows done = after rows base (operations (numbered done))
 
--- the number of the caller's last commit line after these lines, of which the first has the number after `last`
+-- the number of the caller's last commit line after these lines, of which the first has the number
+-- after `last`
 abbrev pub commit_after : ℕ → ℕ → ℕ → List Line → ℕ
 commit_after last caller found [] = found
 commit_after last caller found (l ∷ ls) =
-    if is_numbered l.act then commit_after (last + 1) caller (if (l.caller == caller) && is_commit l.act then last + 1 else found) ls
+    if is_numbered l.act then
+    commit_after (last + 1) caller
+    (if (l.caller == caller) && is_commit l.act then last + 1 else found) ls
     else commit_after last caller found ls
 
 -- what becomes of a line that gets its number
@@ -43,14 +46,16 @@ told_answer None answer = answer
 -- what becomes of a line after those that were done
 abbrev pub answer_of : ℕ → List Row → List Line → Line → Act → Answer
 answer_of base rows done l (Search query) = Searched (commit_after base l.caller base done) query
-answer_of base rows done l (Do op) = told_answer (refusal op) (done_answer (number_after base done + 1) (length (rows_after base rows done)) op)
+answer_of base rows done l (Do op) = told_answer (refusal op)
+    (done_answer (number_after base done + 1) (length (rows_after base rows done)) op)
 
 abbrev pub outcome_of : ℕ → List Row → List Line → Line → Outcome
 outcome_of base rows done l = record { line = l.line; answer = answer_of base rows done l l.act }
 
 abbrev pub outcomes_from : ℕ → List Row → List Line → List Line → List Outcome
 outcomes_from base rows done [] = []
-outcomes_from base rows done (l ∷ ls) = outcome_of base rows done l ∷ outcomes_from base rows (done ++ l ∷ []) ls
+outcomes_from base rows done (l ∷ ls) =
+    outcome_of base rows done l ∷ outcomes_from base rows (done ++ l ∷ []) ls
 
 -- a search line asks for the commit of this number, as the lines are done
 pub record AsksFor (base : ℕ) (lines : List Line) (number : ℕ) : Type 0 where
@@ -64,4 +69,5 @@ pub record AsksFor (base : ℕ) (lines : List Line) (number : ℕ) : Type 0 wher
 
 -- an outcome that searches a commit has a line that asks for it
 abbrev pub IsAskedFor : ℕ → List Line → Outcome → Type 0
-IsAskedFor base lines outcome = (number : ℕ) (query : Query) → outcome.answer ≡ Searched number query → AsksFor base lines number
+IsAskedFor base lines outcome = (number : ℕ) (query : Query)
+    → outcome.answer ≡ Searched number query → AsksFor base lines number

@@ -1,5 +1,5 @@
 //! The lines of a script, done in its order.
-ghost use Rattle.std.specs.Prelude.{◌≡◌, ◌<◌, ◌≤◌, ◌+◌, ◌^◌, ℕ, List, [], length, Err, Some, OnOk, OnErr, IfOk};
+ghost use Rattle.std.specs.Prelude.{◌≡◌, ◌<◌, ◌≤◌, ◌+◌, ◌^◌, ℕ, List, [], length, Err, Some, IsSomeAnd, OnOk, OnErr, IfOk};
 ghost use Rattle.std.specs.Prelude.{slice_index, replicate};
 ghost use Rattle.std.specs.List.{AllByRecursion};
 ghost use Rattle.ix_base.specs.declared.document.Row.{Row};
@@ -8,14 +8,15 @@ ghost use Rattle.ix_outside.specs.Causes.{Rose};
 ghost use Rattle.ix_outside.specs.Crash.{MayHold};
 ghost use Rattle.ix_outside.specs.Disk.{told_files};
 ghost use Rattle.ix_outside.specs.Files.{Files, Changes};
-ghost use Rattle.ix_outside.specs.Images.{Follows, Reaches};
-ghost use Rattle.commit_point.specs.Holds.{AreKept, KeepsCommits};
+ghost use Rattle.ix_outside.specs.Images.{Reaches};
+ghost use Rattle.commit_point.specs.Holds.{KeepsCommits};
 ghost use Rattle.index_writer.specs.Storing.{SameBelow};
 ghost use Rattle.index_writer.specs.Writing.{IsReady, StandsFor};
 ghost use Rattle.op_script.specs.Shape.{AreScriptLines};
-ghost use Rattle.index_run.specs.Crashes.{GivesBack, HasFront};
-ghost use Rattle.index_run.specs.Doing.{CanBegin, DiskAfter, DoesLines, GoesOn, HasLast, MayLeave, WriterAfter};
+ghost use Rattle.index_run.specs.Doing.{CanBegin, DiskAfter, DoesLines, HasLast, IsOnGiven, MayLeave, WriterAfter};
 ghost use Rattle.index_run.specs.Doing.{answer_by, lasts_after};
+ghost use Rattle.index_run.specs.Given.{Given, IsKept};
+ghost use Rattle.index_run.specs.Headline.{GivesBack, HasAll, HasSome};
 ghost use Rattle.index_run.specs.Numbering.{numbered};
 ghost use Rattle.index_run.specs.Outcomes.{IsAskedFor, outcomes_from};
 
@@ -43,7 +44,8 @@ fn do_operation<R: Threads + Sync, S: Store, G: Gate>(
     ensures answer { IfOk result (λ done. (docs : ℕ)
         × (done.1 ≡ answer_by writer.number docs 0 (Act.Do operation))) }
     ensures docs { (rows : List Row) → StandsFor writer rows
-        → IfOk result (λ done. done.1 ≡ answer_by writer.number (length rows) 0 (Act.Do operation)) }
+        → IfOk result (λ done.
+        done.1 ≡ answer_by writer.number (length rows) 0 (Act.Do operation)) }
     ensures disk { IfOk result (λ done. DiskAfter (Act.Do operation) writer done.0
         (S.disk store.old) (S.disk store.new)) }
     ensures err { OnErr result (Changes (SameBelow (writer.number + 1) writer.last.next_id)
@@ -52,7 +54,8 @@ fn do_operation<R: Threads + Sync, S: Store, G: Gate>(
         → LeavesOnly (S.disk store.old) (S.disk store.new)
         (Reaches (MayLeave (Act.Do operation) writer rows) (MayHold (S.disk store.old))) }
     ensures later { S.fault_count store.old ≤ S.fault_count store.new }
-    ensures failed { result ≡ Err StoreFault.Failed → Rose (S.fault_count store.old) (S.fault_count store.new) }
+    ensures failed { result ≡ Err StoreFault.Failed
+        → Rose (S.fault_count store.old) (S.fault_count store.new) }
 {
     gate.before(line);
     let commits = matches!(&operation, Operation::Commit);
@@ -84,7 +87,8 @@ fn do_line<R: Threads + Sync, S: Store, G: Gate>(
     requires number { writer.number < 2 ^ 62 }
     requires callers { length lasts.old ≡ 256 }
     ensures writer { IfOk result (λ done. WriterAfter line.act writer done.0) }
-    ensures lasts { OnOk result (lasts.new ≡ lasts_after writer.number line.caller line.act lasts.old) }
+    ensures lasts { OnOk result
+        (lasts.new ≡ lasts_after writer.number line.caller line.act lasts.old) }
     ensures outcome { IfOk result (λ done. (docs : ℕ) × (done.1 ≡ record {
       line = line.line;
       answer = answer_by writer.number docs (slice_index lasts.old line.caller) line.act;
@@ -92,16 +96,19 @@ fn do_line<R: Threads + Sync, S: Store, G: Gate>(
     ensures docs { (rows : List Row) → StandsFor writer rows
         → IfOk result (λ done. done.1 ≡ record {
           line = line.line;
-          answer = answer_by writer.number (length rows) (slice_index lasts.old line.caller) line.act;
+          answer =
+              answer_by writer.number (length rows) (slice_index lasts.old line.caller) line.act;
         }) }
-    ensures disk { IfOk result (λ done. DiskAfter line.act writer done.0 (S.disk store.old) (S.disk store.new)) }
+    ensures disk { IfOk result (λ done.
+        DiskAfter line.act writer done.0 (S.disk store.old) (S.disk store.new)) }
     ensures err { OnErr result (Changes (SameBelow (writer.number + 1) writer.last.next_id)
         (told_files (S.disk store.old)) (told_files (S.disk store.new))) }
     ensures crash { (rows : List Row) → StandsFor writer rows → writer.last.next_id < 2 ^ 62
         → LeavesOnly (S.disk store.old) (S.disk store.new)
         (Reaches (MayLeave line.act writer rows) (MayHold (S.disk store.old))) }
     ensures later { S.fault_count store.old ≤ S.fault_count store.new }
-    ensures failed { result ≡ Err StoreFault.Failed → Rose (S.fault_count store.old) (S.fault_count store.new) }
+    ensures failed { result ≡ Err StoreFault.Failed
+        → Rose (S.fault_count store.old) (S.fault_count store.new) }
 {
     let Line { line, caller, act } = line;
     match act {
@@ -132,28 +139,30 @@ pub fn do_lines<R: Threads + Sync, S: Store, G: Gate>(
     requires script { AreScriptLines lines }
     ensures outcomes { (rows : List Row) → StandsFor writer rows
         → IfOk result (λ outcomes. outcomes.items ≡ outcomes_from writer.number rows [] lines) }
-    ensures asked { IfOk result (λ outcomes. AllByRecursion (IsAskedFor writer.number lines) outcomes.items) }
-    ensures made { (files : Files) → told_files (S.disk store.old) ≡ Some files → HasLast files writer.last
-        → writer.last.next_id ≤ 2 ^ 61 → OnOk result (Changes (DoesLines writer lines)
+    ensures asked { IfOk result (λ outcomes.
+        AllByRecursion (IsAskedFor writer.number lines) outcomes.items) }
+    ensures made { (files : Files) → told_files (S.disk store.old) ≡ Some files
+        → HasLast files writer.last → writer.last.next_id ≤ 2 ^ 61
+        → OnOk result (Changes (DoesLines writer lines)
         (told_files (S.disk store.old)) (told_files (S.disk store.new))) }
-    ensures kept { (files : Files) → told_files (S.disk store.old) ≡ Some files → GoesOn files writer
-        → writer.last.next_id ≤ 2 ^ 61 → Changes KeepsCommits (told_files (S.disk store.old)) (told_files (S.disk store.new)) }
-    // Once the lines are done every image has their commits; a crash meanwhile leaves the first of them, each whole.
-    ensures acknowledged { ((d : Files) → MayHold (S.disk store.old) d → GoesOn d writer)
-        → writer.last.next_id ≤ 2 ^ 61 → OnOk result (Follows (DoesLines writer lines)
-        (MayHold (S.disk store.old)) (MayHold (S.disk store.new))) }
-    ensures crash { (rows : List Row) → StandsFor writer rows
-        → ((d : Files) → MayHold (S.disk store.old) d → GoesOn d writer) → writer.last.next_id ≤ 2 ^ 61
-        → LeavesOnly (S.disk store.old) (S.disk store.new)
-        (Reaches (HasFront writer.number writer.last.next_id rows (numbered lines)
-        (writer.last.next_id + length (numbered lines))) (MayHold (S.disk store.old))) }
+    // The same of what a run is given: all of the commits are in the files and, once the lines
+    // are done, in every image.
+    ensures done { (g : Given) → told_files (S.disk store.old) ≡ Some g.files → IsOnGiven g writer
+        → OnOk result (IsSomeAnd (told_files (S.disk store.new)) (HasAll g (numbered lines))) }
+    ensures images { (g : Given) → IsOnGiven g writer → IsKept g (S.disk store.old)
+        → OnOk result ((c : Files) → MayHold (S.disk store.new) c → HasAll g (numbered lines) c) }
+    // A crash at any moment leaves the first of them, each whole.
+    ensures crash { (g : Given) → IsOnGiven g writer → IsKept g (S.disk store.old)
+        → LeavesOnly (S.disk store.old) (S.disk store.new) (HasSome g (numbered lines)) }
+    ensures kept { (g : Given) → told_files (S.disk store.old) ≡ Some g.files → IsOnGiven g writer
+        → IsSomeAnd (told_files (S.disk store.new)) (KeepsCommits g.files) }
     // The store is again such as a run asks for.
-    ensures again { (files : Files) (rows : List Row) → told_files (S.disk store.old) ≡ Some files
-        → StandsFor writer rows → GoesOn files writer
-        → ((d : Files) → MayHold (S.disk store.old) d → GoesOn d writer) → AreKept files (MayHold (S.disk store.old))
-        → writer.last.next_id + length (numbered lines) ≤ 2 ^ 61 → OnOk result (GivesBack (S.disk store.new)) }
+    ensures again { (g : Given) → told_files (S.disk store.old) ≡ Some g.files → IsOnGiven g writer
+        → IsKept g (S.disk store.old) → g.next + length (numbered lines) ≤ 2 ^ 61
+        → OnOk result (GivesBack (S.disk store.new)) }
     ensures later { S.fault_count store.old ≤ S.fault_count store.new }
-    ensures failed { result ≡ Err StoreFault.Failed → Rose (S.fault_count store.old) (S.fault_count store.new) }
+    ensures failed { result ≡ Err StoreFault.Failed
+        → Rose (S.fault_count store.old) (S.fault_count store.new) }
 {
     let mut writer = writer;
     let mut lasts = [writer.number; 256];

@@ -17,7 +17,6 @@ mod output;
 mod reading;
 mod run;
 mod stop;
-mod tell;
 #[cfg(test)]
 mod tests;
 #[cfg(test)]

@@ -15,8 +15,6 @@ pub enum Stop {
     Fault(Fault),
     /// Memory ran out, of which nothing is told.
     NoMemory,
-    /// The sink failed.
-    Sink,
 }
 
 impl From<OpenFault> for Stop {

@@ -9,32 +9,33 @@ use Rattle.index_run.specs.Beginning.{BeginsOn, IsBase}
 use Rattle.index_run.proofs.begin.begin.Goals as goal
 
 pub returns-clause-on : goal.returns-clause-on
-returns-clause-on g c = λ files base next rows told last on.
-    let same : c.in-Ok.base ≡ base = c.in-Ok.ensures.only files base told last in
+returns-clause-on g c = λ given told last on.
+    let same : c.in-Ok.base ≡ given.base = c.in-Ok.ensures.only given.files given.base told last in
     let still = (ap told_files c.last_commit.ensures.reads) ∙ told in
     elim on [
       | inl none ↦ absurd (c.if-base-eq0.false (same ∙ none.0))
       | inr held ↦
-          subst (λ (n : ℕ). IfOk c.begin_on.result (BeginsOn files n next)) same
-          (c.begin_on.ensures.on files next rows still (subst (λ (n : ℕ). Holds files n next rows) (sym same) held.1))
+          subst (λ (n : ℕ). IfOk c.begin_on.result (BeginsOn given.files n given.next)) same
+          (c.begin_on.ensures.on given.files given.next given.rows still (subst (λ (n : ℕ). Holds given.files n given.next given.rows) (sym same) held.1))
     ]
 
 pub returns-clause-stands : goal.returns-clause-stands
-returns-clause-stands g c = λ files base next rows told begins.
-    let same : c.in-Ok.base ≡ base = c.in-Ok.ensures.only files base told begins.0 in
+returns-clause-stands g c = λ given told begins.
+    let same : c.in-Ok.base ≡ given.base = c.in-Ok.ensures.only given.files given.base told begins.0 in
     let still = (ap told_files c.last_commit.ensures.reads) ∙ told in
     elim begins.1 [
       | inl none ↦ absurd (c.if-base-eq0.false (same ∙ none.0))
-      | inr held ↦ c.begin_on.ensures.stands files next rows still (subst (λ (n : ℕ). HoldsInverted files n next rows) (sym same) held.1.holds)
+      | inr held ↦
+          c.begin_on.ensures.stands given.files given.next given.rows still (subst (λ (n : ℕ). HoldsInverted given.files n given.next given.rows) (sym same) held.1.holds)
     ]
 
 pub returns-clause-whole : goal.returns-clause-whole
-returns-clause-whole g c = λ files base next rows told last on low.
-    let same : c.in-Ok.base ≡ base = c.in-Ok.ensures.only files base told last in
+returns-clause-whole g c = λ given told last on low.
+    let same : c.in-Ok.base ≡ given.base = c.in-Ok.ensures.only given.files given.base told last in
     let still = (ap told_files c.last_commit.ensures.reads) ∙ told in
     elim on [
       | inl none ↦ absurd (c.if-base-eq0.false (same ∙ none.0))
-      | inr held ↦ c.begin_on.ensures.whole files next rows still (subst (λ (n : ℕ). Holds files n next rows) (sym same) held.1)
+      | inr held ↦ c.begin_on.ensures.whole given.files given.next given.rows still (subst (λ (n : ℕ). Holds given.files n given.next given.rows) (sym same) held.1)
     ]
 
 pub returns-clause-last : goal.returns-clause-last
