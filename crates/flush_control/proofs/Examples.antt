@@ -1,12 +1,12 @@
 -- A round that there is: one document is added, and its piece has one row.
-use Rattle.std.proofs.Common.{◌≡◌, ◌∙◌, ℕ, ◌≤◌, nat_lt, cond, Bool, true, false, List, [], ◌∷◌, ◌++◌, Option, Some, refl, sym, ap, subst, arith, IsPermutation}
+use Rattle.std.proofs.Common.{◌≡◌, ◌∙◌, ℕ, nat_lt, cond, Bool, true, false, List, [], ◌∷◌, ◌++◌, Some, refl, sym, ap, subst, arith, IsPermutation}
 use Rattle.std.specs.Option.{option_and_then}
 use Rattle.std.proofs.lemmas.List.Sorted.{IsPermutation-refl}
 use Rattle.ix_base.specs.Documents.{Document}
 use Rattle.ix_base.specs.declared.document.Operation.TheVariants.{Add}
 use Rattle.ix_base.specs.declared.document.Row.{Row}
 use Rattle.row_fates.specs.Fate.{Numbered, BirthsRise, BornBy, fate}
-use Rattle.frozen_packet.specs.Updates.{as_operations, NumberedUpTo, Stands}
+use Rattle.frozen_packet.specs.Updates.{as_operations, Stands}
 use Rattle.frozen_packet.specs.declared.packet.Packet.{Packet}
 use Rattle.frozen_packet.specs.declared.updates.Updates.{Updates}
 use Rattle.packet_apply.specs.Stages.{within}

@@ -1,5 +1,5 @@
 -- The laws of rounds.
-use Rattle.std.proofs.Common.{◌≡◌, ◌∙◌, ℕ, ◌+◌, ◌≤◌, List, ◌++◌, length, sym, ap, subst, arith, IsPermutation}
+use Rattle.std.proofs.Common.{◌≡◌, ℕ, ◌≤◌, List, ◌++◌, sym, subst, arith, IsPermutation}
 use Rattle.std.specs.List.{All, AllByRecursion}
 use Rattle.std.proofs.lemmas.List.Elements.{All-from_recursion}
 use Rattle.std.proofs.lemmas.List.Sorted.{IsPermutation-append_left, IsPermutation-append_right, IsPermutation-trans, length_permutation}
@@ -17,7 +17,7 @@ use Rattle.commit_point.specs.Writing.{CanWrite, SegmentIdsRise}
 use Rattle.thread_writer.specs.declared.piece.Piece.{Piece}
 use Rattle.flush_control.specs.Published.{IsPublished, StandsFor, TakesPieces, AreApplied, AppliesUp}
 use Rattle.thread_writer.specs.Writing.{piece_rows}
-use Rattle.flush_control.specs.Rounds.{IsRound, EndsRound, RoundsStand, RoundsMeet}
+use Rattle.flush_control.specs.Rounds.{IsRound, RoundsStand, RoundsMeet}
 use Rattle.flush_control.specs.declared.published.Published.{Published}
 use Rattle.flush_control.proofs.Births.{added_rise, births_permuted, born_by, left_rise}
 use Rattle.flush_control.proofs.Lives.{lives_joined, lives_made}

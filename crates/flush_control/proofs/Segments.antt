@@ -1,5 +1,5 @@
 -- The segments after a round can be listed by a commit.
-use Rattle.std.proofs.Common.{◌≡◌, ◌∙◌, ◌⊎◌, inl, inr, ℕ, ◌+◌, ◌<◌, ◌≤◌, List, [], ◌∷◌, ◌++◌, None, length, refl, sym, ap, subst, arith, length-append}
+use Rattle.std.proofs.Common.{◌≡◌, ◌∙◌, ◌⊎◌, inl, inr, ℕ, ◌+◌, ◌<◌, ◌≤◌, List, [], ◌∷◌, ◌++◌, length, refl, sym, ap, subst, arith, length-append}
 use Rattle.std.specs.List.{AllByRecursion}
 use Rattle.std.proofs.lemmas.Grind.{flat_map-append}
 use Rattle.std.proofs.lemmas.List.{length-map}
@@ -7,8 +7,8 @@ use Rattle.ix_base.specs.Inversion.{IsPostings}
 use Rattle.ix_base.specs.declared.document.Row.{Row}
 use Rattle.row_fates.specs.Fate.{Numbered}
 use Rattle.frozen_packet.specs.declared.packet.Packet.{Packet}
-use Rattle.packet_apply.specs.Packets.{Applied, Meets}
-use Rattle.segment_core.specs.LiveRows.{Lived, Built, IsBuilt, live, live_rows, stored_rows}
+use Rattle.packet_apply.specs.Packets.{Meets}
+use Rattle.segment_core.specs.LiveRows.{Lived, IsBuilt, live, live_rows, stored_rows}
 use Rattle.segment_core.specs.Segments.{documents, IsInverted}
 use Rattle.segment_core.specs.declared.segment.Segment.{Segment}
 use Rattle.segment_files.specs.Fits.{BirthsRise, RowsBelow}

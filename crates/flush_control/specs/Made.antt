@@ -1,5 +1,5 @@
 -- One more segment, and live docs in place of others: what the steps of a round do.
-use Rattle.std.specs.Prelude.{◌≡◌, ℕ, ◌+◌, List, [], ◌∷◌, ◌++◌, Option, Some, None, length}
+use Rattle.std.specs.Prelude.{◌≡◌, ◌+◌, List, [], ◌∷◌, ◌++◌, Option, Some, None, length}
 use Rattle.live_docs.specs.Marks.{Marks}
 use Rattle.segment_core.specs.LiveRows.{Lived, Built}
 use Rattle.thread_writer.specs.declared.piece.Piece.{Piece}

@@ -35,7 +35,8 @@ abbrev pub AreBuilt : List Piece → ℕ → List Lived → ℕ → Type 0
 AreBuilt [] id made next = (made ≡ []) × (next ≡ id)
 AreBuilt (p ∷ ps) id made next =
     (Built p.frozen.rows.items p.updates id p.cut None × AreBuilt ps id made next)
-    ⊎ ((s : Lived) × (rest : List Lived) × (made ≡ s ∷ rest) × IsBuilt p.frozen.rows.items p.updates id p.cut s × AreBuilt ps (id + 1) rest next)
+    ⊎ ((s : Lived) × (rest : List Lived) × (made ≡ s ∷ rest) × IsBuilt p.frozen.rows.items p.updates id p.cut s
+    × AreBuilt ps (id + 1) rest next)
 
 -- The segments that were built of pieces stand after the old ones.
 pub record TakesPieces (pieces : List Piece) (old new : Published) : Type 0 where
@@ -51,7 +52,8 @@ abbrev pub AreApplied : Packet → List Lived → List Lived → Type 0
 AreApplied packet [] [] = ⊤
 AreApplied packet [] (new ∷ news) = ⊥
 AreApplied packet (old ∷ olds) [] = ⊥
-AreApplied packet (old ∷ olds) (new ∷ news) = (new.segment ≡ old.segment) × Applied packet old new.live × AreApplied packet olds news
+AreApplied packet (old ∷ olds) (new ∷ news) =
+    (new.segment ≡ old.segment) × Applied packet old new.live × AreApplied packet olds news
 
 -- The packet was applied to all segments.
 pub record AppliesUp (packet : Packet) (old new : Published) : Type 0 where

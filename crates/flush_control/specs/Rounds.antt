@@ -13,8 +13,8 @@ use Rattle.thread_writer.specs.declared.piece.Piece.{Piece}
 use Rattle.flush_control.specs.Published.{IsPublished, StandsFor, HasInversion, TakesPieces, AppliesUp}
 use Rattle.flush_control.specs.declared.published.Published.{Published}
 
--- A piece in operations that are numbered above `base`, `upto` at most: its updates stand for those above `after`, up to
--- its cut. Its rows were born after that number, by the cut, and their births rise.
+-- A piece in operations that are numbered above `base`, `upto` at most: its updates stand for those above `after`, up
+-- to its cut. Its rows were born after that number, by the cut, and their births rise.
 pub record StandsIn (base : ℕ) (ops : List Numbered) (upto : ℕ) (p : Piece) : Type 0 where
   pub can : HasInversion p
   pub after : ℕ
@@ -46,10 +46,12 @@ pub record EndsRound (ops : List Numbered) (old new : Published) : Type 0 where
 
 -- Where the pieces of a round are taken, and its packet is applied then, the round ends.
 abbrev pub RoundsStand : Type 0
-RoundsStand = (old mid new : Published) (pieces : List Piece) (packet : Packet) (ops : List Numbered) → IsPublished old
-    → IsRound old.upto ops pieces packet → TakesPieces pieces old mid → AppliesUp packet mid new → EndsRound ops old new
+RoundsStand = (old mid new : Published) (pieces : List Piece) (packet : Packet) (ops : List Numbered)
+    → IsPublished old → IsRound old.upto ops pieces packet → TakesPieces pieces old mid → AppliesUp packet mid new
+    → EndsRound ops old new
 
 -- The packet of a round meets the segments once the pieces are taken.
 abbrev pub RoundsMeet : Type 0
-RoundsMeet = (old mid : Published) (pieces : List Piece) (packet : Packet) (ops : List Numbered) → IsPublished old
-    → IsRound old.upto ops pieces packet → TakesPieces pieces old mid → All (Meets packet) mid.segments
+RoundsMeet = (old mid : Published) (pieces : List Piece) (packet : Packet) (ops : List Numbered)
+    → IsPublished old → IsRound old.upto ops pieces packet → TakesPieces pieces old mid
+    → All (Meets packet) mid.segments

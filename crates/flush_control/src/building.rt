@@ -1,5 +1,5 @@
 //! Segments made of pieces.
-ghost use Rattle.std.specs.Prelude.{◌≡◌, ◌+◌, ◌<◌, ◌^◌, ◌∷◌, [], ◌++◌, length, Some, None, IfOk, OnOk};
+ghost use Rattle.std.specs.Prelude.{◌+◌, ◌<◌, ◌^◌, length, IfOk, OnOk};
 ghost use Rattle.std.specs.List.{AllByRecursion};
 ghost use Rattle.flush_control.specs.Made.{Adds};
 ghost use Rattle.flush_control.specs.Published.{AreBuilt, HasInversion};
