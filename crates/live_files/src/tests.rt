@@ -218,7 +218,7 @@ fn values_rise(rt: HostRuntime) -> Result<(), Fail> {
 fn many_rows(alloc: Global) -> Result<LiveDocs, Fail>
     ensures { IfOk result (λ docs. 19 ≡ length docs.marks) }
 {
-    let mut docs = LiveDocs::new(alloc, 19, 0).ok().ok_or("memory")?;
+    let mut docs = LiveDocs::new(alloc, 19, 0)?;
     docs.kill(1);
     docs.kill(7);
     docs.kill(8);
