@@ -1,5 +1,7 @@
 //! Writers of a small queue, against what was worked out by hand.
-ghost use Rattle.std.specs.Prelude.{◌≤◌, IfOk, OnOk};
+ghost use Rattle.std.specs.Prelude.{◌<◌, ◌≤◌, IfOk, OnOk, length};
+ghost use Rattle.delete_queue.specs.Seats.{own_of};
+ghost use Rattle.thread_writer.specs.Answers.{IfFull};
 ghost use Rattle.thread_writer.specs.Writing.{IsWriter};
 
 use crate::{Piece, ThreadWriter, Told};
@@ -137,7 +139,8 @@ fn told(
     key: &str,
 ) -> Result<Told, Fail>
     requires { IsWriter queue.now writer.old }
-    ensures { OnOk result (IsWriter queue.now writer.new) }
+    ensures writer { OnOk result (IsWriter queue.now writer.new) }
+    ensures full { IfOk result (λ told. IfFull told (λ need left. 0 < length (own_of writer.new.seat))) }
 {
     let operation = operation_of(alloc, act, key)?;
     if writer.rows.rows() >= writer.size {
@@ -185,17 +188,32 @@ fn run_alone(alloc: Global, buffer: u32, script: &[(Act, &str)]) -> Result<Strin
     Ok(out)
 }
 
-/// What two writers whose buffers hold two documents each are told and give off. The lines of
-/// `true` are the second one's.
+/// Does one line of one of two writers. The lines of `true` are the second one's.
+fn step_of(
+    alloc: Global,
+    queue: &DeleteQueue,
+    first: &mut ThreadWriter,
+    second: &mut ThreadWriter,
+    line: (bool, Act, &str),
+    out: &mut String,
+) -> Result<(), Fail>
+    requires first { IsWriter queue.now first.old }
+    requires second { IsWriter queue.now second.old }
+    ensures first { OnOk result (IsWriter queue.now first.new) }
+    ensures second { OnOk result (IsWriter queue.now second.new) }
+{
+    if line.0 {
+        return step(alloc, queue, second, (line.1, line.2), out);
+    }
+    step(alloc, queue, first, (line.1, line.2), out)
+}
+
+/// What two writers whose buffers hold two documents each are told and give off.
 fn run_two(alloc: Global, script: &[(bool, Act, &str)]) -> Result<String, Fail> {
     let (queue, mut first, mut second) = two_writers(alloc, 2)?;
     let mut out = String::new(alloc);
     for line in script {
-        if line.0 {
-            step(alloc, &queue, &mut second, (line.1, line.2), &mut out)?;
-        } else {
-            step(alloc, &queue, &mut first, (line.1, line.2), &mut out)?;
-        }
+        step_of(alloc, &queue, &mut first, &mut second, *line, &mut out)?;
     }
     Ok(out)
 }
@@ -299,6 +317,14 @@ fn delete_fives(
     Ok(right)
 }
 
+fn show_turn(out: &mut String, linked: Linked) -> Result<(), Fail> {
+    match linked {
+        Linked::At(number) => write!(out, " turn {number}")?,
+        _ => write!(out, " no turn")?,
+    }
+    Ok(())
+}
+
 /// Shows what a delete of `abcdef` is told, and where the seat has no room for it, a turn.
 fn delete_or_turn(
     alloc: Global,
@@ -309,15 +335,12 @@ fn delete_or_turn(
     requires { IsWriter queue.now writer.old }
     ensures { OnOk result (IsWriter queue.now writer.new) }
 {
-    let operation = operation_of(alloc, Act::Delete, "abcdef")?;
-    let told = writer.do_line(queue, &operation);
+    let told = told(alloc, queue, writer, Act::Delete, "abcdef")?;
     show_told(out, told)?;
-    if let Told::Full { .. } = told {
-        if let Linked::At(number) = writer.turn(queue) {
-            write!(out, " turn {number}")?;
-        }
+    match told {
+        Told::Full { .. } => show_turn(out, writer.turn(queue)),
+        _ => Ok(()),
     }
-    Ok(())
 }
 
 /// What is told by a seat that is filled by deletes, and what it gives off.

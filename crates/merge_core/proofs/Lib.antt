@@ -1,0 +1,11 @@
+pub mod Later
+pub mod Unread
+pub mod Staging
+pub mod Setting
+pub mod Finding
+pub mod Starting
+pub mod Buffering
+pub mod Taking
+pub mod Finishing
+pub mod Stepping
+pub mod Picked

@@ -1,0 +1,5 @@
+pub mod Merging
+pub mod Reading
+pub mod Choosing
+pub mod Carrying
+pub mod Picking

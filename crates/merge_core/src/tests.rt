@@ -1,0 +1,75 @@
+//! Segments picked, worked out by hand.
+ghost use Rattle.std.specs.Prelude.{◌≡◌, ◌<◌, ◌≤◌, length, IfOk};
+ghost use Rattle.segment_core.specs.LiveRows.{CanBuild};
+
+use crate::picking::pick;
+use analysis::invert;
+use frozen_packet::Updates;
+use ix_base::{Document, Fields, Numbers, Row, Text};
+use ram_postings::Frozen;
+use segment_core::{LiveSegment, build};
+use std::alloc::Global;
+use std::fmt::Write;
+use std::test::*;
+
+fn row_of(alloc: Global, birth: u64) -> Result<Row, Fail> {
+    let key = Text::new(String::from_str(alloc, "a")?).ok_or("long")?;
+    let doc = Document::of_key(alloc, key);
+    Ok(Row { birth, doc })
+}
+
+fn rows_of(alloc: Global, births: &[u64]) -> Result<Vec<Row>, Fail>
+    ensures { IfOk result (λ rows. length rows.items ≡ length births.now) }
+{
+    let mut rows = Vec::new(alloc);
+    for birth in births {
+        rows.push(row_of(alloc, *birth)?)?;
+    }
+    Ok(rows)
+}
+
+/// A segment of rows with these births.
+fn segment_of(alloc: Global, id: u64, births: &[u64]) -> Result<LiveSegment, Fail>
+    requires { length births.now < 8 }
+{
+    let rows = rows_of(alloc, births)?;
+    let postings = invert(alloc, rows.as_slice())?;
+    let frozen = Frozen { rows, postings };
+    match build(alloc, id, frozen, &Updates::new(alloc), 9)? {
+        Some(segment) => Ok(segment),
+        None => Err("no row is live")?,
+    }
+}
+
+/// The ids that are picked.
+fn picked(alloc: Global, segments: &[LiveSegment], count: u32) -> Result<String, Fail>
+    requires { count ≤ 64 }
+{
+    let mut out = String::new(alloc);
+    match pick(alloc, segments, count)? {
+        Some(ids) => {
+            for id in &ids {
+                write!(out, "{id},")?;
+            }
+        }
+        None => write!(out, "none")?,
+    }
+    Ok(out)
+}
+
+/// The fewest live rows first, ties by smaller id.
+#[test]
+fn smallest_segments(rt: HostRuntime) -> Result<(), Fail> {
+    let alloc = rt.alloc();
+    let mut segments = Vec::new(alloc);
+    segments.push(segment_of(alloc, 1, &[1, 2, 3])?)?;
+    segments.push(segment_of(alloc, 2, &[4, 5])?)?;
+    segments.push(segment_of(alloc, 3, &[6, 7])?)?;
+    segments.push(segment_of(alloc, 4, &[8])?)?;
+    let all = segments.as_slice();
+    assert_eq!(rt; picked(alloc, all, 2)?.as_str(), "4,2,");
+    assert_eq!(rt; picked(alloc, all, 3)?.as_str(), "4,2,3,");
+    assert_eq!(rt; picked(alloc, all, 4)?.as_str(), "4,2,3,1,");
+    assert_eq!(rt; picked(alloc, all, 5)?.as_str(), "none");
+    Ok(())
+}
