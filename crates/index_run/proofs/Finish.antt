@@ -118,7 +118,7 @@ runs_of g w lines outcomes start began did now (Ok bytes) same rise begins on be
       files = files;
       images = images;
       crash = crash;
-      again = again;
+      again = subst (λ (ls : List Line). IsKept g began → g.next + length (numbered ls) ≤ 2 ^ 61 → GivesBack did) (sym same) again;
     })
 
 -- a run of which something else was written

@@ -9,7 +9,7 @@ use Rattle.ix_outside.specs.Files.{Files}
 use Rattle.commit_point.specs.Holds.{HoldsInverted, IsAboveIds, KeepsCommits}
 use Rattle.op_script.specs.declared.script.Line.{Line}
 use Rattle.index_run.specs.Given.{Given, CanRun, IsKept}
-use Rattle.index_run.specs.Numbering.{Interleaves, rows_at, commit_numbers}
+use Rattle.index_run.specs.Numbering.{Interleaves, rows_at, commit_numbers, numbered}
 use Rattle.index_run.specs.Report.{report}
 
 -- the number is one of these
@@ -59,7 +59,7 @@ pub record Runs (g : Given) (wrote : List ℕ → Type 0) (old new : Option Disk
   pub files : IsSomeAnd (told_files new) (HasAll g log)
   pub images : IsKept g old → (c : Files) → MayHold new c → HasAll g log c
   pub crash : IsKept g old → LeavesOnly old new (HasSome g log)
-  pub again : IsKept g old → g.next + length log ≤ 2 ^ 61 → GivesBack new
+  pub again : IsKept g old → g.next + length (numbered g.lines) ≤ 2 ^ 61 → GivesBack new
 
 -- A run that stopped, or was done: for one order of its numbered lines, a crash at any moment of
 -- the call leaves the first ones of its commits.
