@@ -14,10 +14,10 @@ use Rattle.live_files.specs.LiveFits.{LiveFits, ValuesFit}
 use Rattle.live_files.specs.LiveSpelling.{live_bits, values_of, live_file, values_file}
 use Rattle.commit_point.specs.declared.heads.HeadSegment.{HeadSegment}
 use Rattle.commit_point.specs.declared.written.Written.{Written}
-use Rattle.commit_point.specs.BirthLaws.{births_append}
+use Rattle.segment_core.specs.Births.{births_append, BirthsDiffer, births_at}
 use Rattle.commit_point.specs.Encoding.{own_files, AreWhole, IsEncoded, AreEncoded, HaveSpelling}
 use Rattle.commit_point.specs.Fits.{IdsRise, EntryFits}
-use Rattle.commit_point.specs.Holds.{HasHead, HasSegment, HasSegments, HaveSegments, BirthsDiffer, births_at}
+use Rattle.commit_point.specs.Holds.{HasHead, HasSegment, HasSegments, HaveSegments}
 use Rattle.commit_point.specs.Publishing.{File, IsNoneOf, AreThere, SameBesides, IsWhole as IsAllThere, Publishes, MayPublish}
 use Rattle.commit_point.specs.Spelling.{commit_file}
 use Rattle.commit_point.specs.Writing.{CanWrite, CanCommit, SegmentIdsRise, WrittenUpTo, IsWritten, AreWritten, Commits, MayCommit, is_alive, listed, files_of, commit_files, entry_of, entries_of, new_head}

@@ -5,8 +5,7 @@ use Rattle.ix_base.specs.declared.document.Row.{Row}
 use Rattle.segment_core.specs.LiveRows.{Lived}
 use Rattle.segment_files.specs.Fits.{BirthsRise}
 use Rattle.commit_point.specs.declared.written.Written.{Written}
-use Rattle.commit_point.specs.BirthLaws.{births_append, at_most_one}
-use Rattle.commit_point.specs.Holds.{births_at}
+use Rattle.segment_core.specs.Births.{births_append, at_most_one, births_at}
 use Rattle.commit_point.specs.Writing.{CanWrite, CanCommit, WrittenUpTo}
 
 -- a birth that stands in rows isn't below the first or above the last

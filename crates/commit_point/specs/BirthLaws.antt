@@ -1,4 +1,4 @@
--- Births in lists of rows: how often each stands there.
+-- Births that no earlier segment has.
 use Rattle.std.proofs.Common.{◌≡◌, ◌≢◌, ℕ, ◌+◌, ◌<◌, ◌≤◌, Bool, true, false, cond, eqb, List, [], ◌∷◌, ◌++◌, refl, subst, arith}
 use Rattle.std.specs.Prelude.{◌||◌}
 use Rattle.std.specs.List.{AllByRecursion}
@@ -6,42 +6,9 @@ use Rattle.std.proofs.lemmas.Bool.{eqb-true, eq-eqb}
 use Rattle.ix_base.specs.declared.document.Row.{Row}
 use Rattle.segment_core.specs.LiveRows.{Lived, stored_rows}
 use Rattle.segment_files.specs.Fits.{BirthsRise}
-use Rattle.commit_point.specs.Holds.{births_at, BirthsDiffer}
+use Rattle.segment_core.specs.Births.{births_at, births_append, BirthsDiffer, EachRises, at_most_one, by_bool, one_other, one_true, one_false}
 use Rattle.commit_point.specs.Loading.{Unknown}
 use Rattle.commit_point.specs.Reading.{has_birth}
-
-abbrev one_at : ℕ → Row → ℕ
-one_at b r = cond (eqb r.birth b) 1 0
-
-pub births_append : (b : ℕ) (xs ys : List Row) → births_at b (xs ++ ys) ≡ births_at b xs + births_at b ys
-births_append b [] ys = omega arith
-births_append b (x ∷ xs) ys = omega (arith, births_append b xs ys)
-
-by_bool : {A : Type 0} (b : Bool) → (b ≡ true → A) → (b ≡ false → A) → A
-by_bool true yes_ no_ = yes_ refl
-by_bool false yes_ no_ = no_ refl
-
-one_true : (b : ℕ) (r : Row) → eqb r.birth b ≡ true → one_at b r ≡ 1
-one_true b r e = rw e refl
-
-one_false : (b : ℕ) (r : Row) → eqb r.birth b ≡ false → one_at b r ≡ 0
-one_false b r e = rw e refl
-
-one_other : (b : ℕ) (r : Row) → r.birth ≢ b → one_at b r ≡ 0
-one_other b r ne = by_bool (eqb r.birth b) (λ e. absurd (ne (eqb-true _ _ e))) (one_false b r)
-
-below_none : (low s b : ℕ) (rows : List Row) → BirthsRise low s rows → b < low → births_at b rows ≡ 0
-below_none low s b [] rise lt = refl
-below_none low s b (r ∷ rs) rise lt =
-    let here : one_at b r ≡ 0 = one_other b r (λ e. absurd (omega (arith, e, rise.0))) in
-    omega (arith, here, below_none (r.birth + 1) s b rs rise.2 (omega (arith, rise.0)))
-
-pub at_most_one : (low s b : ℕ) (rows : List Row) → BirthsRise low s rows → births_at b rows ≤ 1
-at_most_one low s b [] rise = omega arith
-at_most_one low s b (r ∷ rs) rise =
-    by_bool (eqb r.birth b)
-    (λ e. let is : r.birth ≡ b = eqb-true _ _ e in omega (arith, one_true b r e, below_none (r.birth + 1) s b rs rise.2 (omega (arith, is))))
-    (λ e. omega (arith, one_false b r e, at_most_one (r.birth + 1) s b rs rise.2))
 
 absent : (b : ℕ) (rows : List Row) → has_birth rows b ≡ false → births_at b rows ≡ 0
 absent b [] e = refl
@@ -62,9 +29,6 @@ present b (r ∷ rs) e = by_bool (eqb r.birth b) (λ h. omega (arith, one_true b
     rest h e = rw h at e
 
 -- ---- segments: births rise in each, and none stands in two
-
-abbrev pub EachRises : ℕ → List Lived → Type 0
-EachRises s segments = AllByRecursion (λ (g : Lived). BirthsRise 1 s g.segment.rows) segments
 
 unknown_none : (known : ℕ → Bool) (b : ℕ) (rows : List Row) → AllByRecursion (λ (r : Row). known r.birth ≡ false) rows → known b ≡ true → births_at b rows ≡ 0
 unknown_none known b [] all e = refl

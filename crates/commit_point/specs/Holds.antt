@@ -5,7 +5,8 @@ use Rattle.ix_base.specs.declared.file_name.FileName.{FileName}
 use Rattle.ix_base.specs.declared.file_name.FileName.TheVariants.{Commit, Rows, Posts, Live, Values}
 use Rattle.ix_base.specs.declared.document.Row.{Row}
 use Rattle.ix_outside.specs.Files.{Files}
-use Rattle.segment_core.specs.LiveRows.{Lived, IsWhole, stored_rows, all_live}
+use Rattle.segment_core.specs.Births.{BirthsDiffer}
+use Rattle.segment_core.specs.LiveRows.{Lived, IsWhole, all_live}
 use Rattle.segment_core.specs.Segments.{IsInverted}
 use Rattle.segment_files.specs.Fits.{RowsFit, PostingsFit, BirthsRise}
 use Rattle.live_files.specs.LiveFits.{LiveFits, ValuesFit}
@@ -45,15 +46,6 @@ abbrev pub HaveSegments : Files → ℕ → List HeadSegment → List Lived → 
 HaveSegments files s [] [] = ⊤
 HaveSegments files s (e ∷ es) (g ∷ gs) = HasSegment files s e g × HaveSegments files s es gs
 HaveSegments files s es gs = ⊥
-
--- how many rows have this birth
-abbrev pub births_at : ℕ → List Row → ℕ
-births_at b [] = 0
-births_at b (r ∷ rs) = (if r.birth == b then 1 else 0) + births_at b rs
-
--- no two rows of the segments have one birth, live or not
-abbrev pub BirthsDiffer : List Lived → Type 0
-BirthsDiffer segments = (b : ℕ) → births_at b (stored_rows segments) ≤ 1
 
 -- what the commit file of these segments says
 abbrev pub head_of : ℕ → ℕ → List HeadSegment → List Lived → Head

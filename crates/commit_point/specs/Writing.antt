@@ -14,7 +14,8 @@ use Rattle.segment_files.specs.Spelling.{rows_file, posts_file}
 use Rattle.commit_point.specs.declared.heads.HeadSegment.{HeadSegment}
 use Rattle.commit_point.specs.declared.heads.Head.{Head}
 use Rattle.commit_point.specs.declared.written.Written.{Written}
-use Rattle.commit_point.specs.Holds.{HasSegment, HasSegments, BirthsDiffer, Lists, head_of}
+use Rattle.segment_core.specs.Births.{BirthsDiffer}
+use Rattle.commit_point.specs.Holds.{HasSegment, HasSegments, Lists, head_of}
 use Rattle.commit_point.specs.Publishing.{File, AreThere, publishes}
 use Rattle.commit_point.specs.Spelling.{commit_file}
 

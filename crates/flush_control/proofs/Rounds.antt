@@ -12,7 +12,7 @@ use Rattle.packet_apply.specs.Stages.{TwoStages}
 use Rattle.segment_core.specs.LiveRows.{Lived, all_live}
 use Rattle.segment_core.specs.Segments.{IsInverted}
 use Rattle.segment_files.specs.Fits.{BirthsRise}
-use Rattle.commit_point.specs.Holds.{births_at}
+use Rattle.segment_core.specs.Births.{births_at}
 use Rattle.commit_point.specs.Writing.{CanWrite, SegmentIdsRise}
 use Rattle.thread_writer.specs.declared.piece.Piece.{Piece}
 use Rattle.flush_control.specs.Published.{IsPublished, StandsFor, TakesPieces, AreApplied, AppliesUp}

@@ -13,8 +13,8 @@ use Rattle.segment_core.specs.Segments.{documents, IsInverted}
 use Rattle.segment_core.specs.declared.segment.Segment.{Segment}
 use Rattle.segment_files.specs.Fits.{BirthsRise, RowsBelow}
 use Rattle.segment_files.specs.PostLaws.{inverted_below}
-use Rattle.commit_point.specs.BirthLaws.{births_append, at_most_one}
-use Rattle.commit_point.specs.Holds.{AreInverted, BirthsDiffer, births_at}
+use Rattle.segment_core.specs.Births.{births_append, at_most_one, BirthsDiffer, births_at}
+use Rattle.commit_point.specs.Holds.{AreInverted}
 use Rattle.commit_point.specs.Writing.{CanWrite, SegmentIdsRise}
 use Rattle.thread_writer.specs.declared.piece.Piece.{Piece}
 use Rattle.flush_control.specs.Published.{AreBuilt, AreApplied}

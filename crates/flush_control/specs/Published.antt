@@ -5,7 +5,8 @@ use Rattle.ix_base.specs.declared.document.Row.{Row}
 use Rattle.frozen_packet.specs.declared.packet.Packet.{Packet}
 use Rattle.packet_apply.specs.Packets.{Applied}
 use Rattle.segment_core.specs.LiveRows.{Lived, CanBuild, Built, IsBuilt}
-use Rattle.commit_point.specs.Holds.{AreRowsOf, AreInverted, BirthsDiffer}
+use Rattle.segment_core.specs.Births.{BirthsDiffer}
+use Rattle.commit_point.specs.Holds.{AreRowsOf, AreInverted}
 use Rattle.commit_point.specs.Writing.{CanWrite, SegmentIdsRise}
 use Rattle.thread_writer.specs.declared.piece.Piece.{Piece}
 use Rattle.flush_control.specs.declared.published.Published.{Published}

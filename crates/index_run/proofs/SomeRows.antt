@@ -12,7 +12,8 @@ use Rattle.row_fates.specs.Fate.{renumbered}
 use Rattle.segment_core.specs.LiveRows.{Lived, all_live, live, live_rows, stored_rows, with_numbers}
 use Rattle.segment_files.specs.Fits.{BirthsRise}
 use Rattle.commit_point.specs.declared.heads.HeadSegment.{HeadSegment}
-use Rattle.commit_point.specs.Holds.{AreRowsOf, HasSegments, HaveSegments, births_at}
+use Rattle.segment_core.specs.Births.{births_at}
+use Rattle.commit_point.specs.Holds.{AreRowsOf, HasSegments, HaveSegments}
 
 -- ---- one row more, at its place by birth
 

@@ -20,7 +20,8 @@ use Rattle.segment_files.specs.Fits.{BirthsRise, RowsBelow}
 use Rattle.segment_files.specs.PostLaws.{inverted_below}
 use Rattle.commit_point.specs.declared.heads.HeadSegment.{HeadSegment}
 use Rattle.commit_point.specs.declared.written.Written.{Written}
-use Rattle.commit_point.specs.Holds.{HasSegment, HaveSegments, BirthsDiffer, births_at}
+use Rattle.segment_core.specs.Births.{BirthsDiffer, births_at}
+use Rattle.commit_point.specs.Holds.{HasSegment, HaveSegments}
 use Rattle.commit_point.specs.Writing.{CanWrite, CanCommit, SegmentIdsRise, WrittenUpTo, IsWritten, AreWritten, IsOldId}
 use Rattle.index_writer.specs.Drafting.{HasMarks, renewed}
 use Rattle.index_writer.specs.Storing.{AreStored}

@@ -11,7 +11,7 @@ use Rattle.row_fates.specs.Fate.{Numbered, fate, renumbered}
 use Rattle.segment_core.specs.LiveRows.{Lived, live, live_rows, stored_rows, all_live, with_numbers}
 use Rattle.segment_core.specs.Segments.{IsInverted}
 use Rattle.commit_point.specs.declared.written.Written.{Written}
-use Rattle.commit_point.specs.Holds.{births_at}
+use Rattle.segment_core.specs.Births.{births_at}
 use Rattle.commit_point.specs.Writing.{CanCommit, CanWrite, SegmentIdsRise, WrittenUpTo, is_alive, listed, version, entry_of, entries_of}
 use Rattle.commit_point.specs.declared.open.Opened.{Opened}
 use Rattle.index_writer.specs.Drafting.{Drafts, IsAfter}

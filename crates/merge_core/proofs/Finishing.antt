@@ -12,8 +12,7 @@ use Rattle.live_docs.specs.declared.live_docs.Mark.{Mark}
 use Rattle.segment_core.specs.LiveLaws.{live_counted}
 use Rattle.segment_core.specs.LiveRows.{Lived, live, live_rows, all_live, stored_rows}
 use Rattle.segment_core.specs.Segments.{documents}
-use Rattle.commit_point.specs.Holds.{births_at}
-use Rattle.commit_point.specs.BirthLaws.{births_append, at_most_one}
+use Rattle.segment_core.specs.Births.{births_at, births_append, at_most_one}
 use Rattle.merge_core.specs.Merging.{IsMerged, AreAt, row_count}
 use Rattle.merge_core.specs.Reading.{HasStaged, HasRead, row_at, row_of, mark_of, unread}
 use Rattle.merge_core.specs.declared.merge.Merge.{Merge}

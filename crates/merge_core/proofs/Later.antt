@@ -8,7 +8,7 @@ use Rattle.live_docs.specs.Marks.{fresh, killed}
 use Rattle.live_docs.specs.declared.live_docs.Mark.{Mark}
 use Rattle.segment_core.specs.LiveRows.{Lived, with_numbers, live_rows, all_live, stored_rows, MarkLater, MarksLater}
 use Rattle.segment_core.specs.declared.segment.Segment.{Segment}
-use Rattle.commit_point.specs.BirthLaws.{EachRises}
+use Rattle.segment_core.specs.Births.{EachRises}
 use Rattle.segment_files.specs.Fits.{BirthsRise}
 use Rattle.merge_core.specs.Merging.{AreLater}
 use Rattle.merge_core.specs.Reading.{row_at, mark_at, unread}

@@ -8,8 +8,7 @@ use Rattle.live_docs.specs.declared.live_docs.Mark.{Mark}
 use Rattle.ram_postings.specs.Buffer.{Staged}
 use Rattle.segment_core.specs.LiveRows.{Lived, marked, live_rows, all_live, stored_rows}
 use Rattle.segment_files.specs.Fits.{BirthsRise}
-use Rattle.commit_point.specs.Holds.{BirthsDiffer, births_at}
-use Rattle.commit_point.specs.BirthLaws.{EachRises, births_append}
+use Rattle.segment_core.specs.Births.{BirthsDiffer, births_at, EachRises, births_append}
 use Rattle.merge_core.specs.Merging.{CanMerge, AreLater, row_count}
 use Rattle.merge_core.specs.Reading.{HasStaged, HasRead, ReadingStays, row_at, mark_at, row_of, mark_of, unread, born}
 use Rattle.merge_core.specs.Choosing.{HasFirst, next_of}

@@ -4,8 +4,7 @@ use Rattle.std.specs.List.{AllByRecursion, AllZip}
 use Rattle.segment_core.specs.LiveRows.{Lived, MarksLater, live, all_live, stored_rows}
 use Rattle.segment_core.specs.Segments.{IsInverted}
 use Rattle.segment_files.specs.Fits.{BirthsRise}
-use Rattle.commit_point.specs.BirthLaws.{EachRises}
-use Rattle.commit_point.specs.Holds.{births_at, BirthsDiffer}
+use Rattle.segment_core.specs.Births.{EachRises, births_at, BirthsDiffer}
 
 -- the ids of the segments rise
 abbrev pub IdsRise : List Lived → Type 0

@@ -7,7 +7,7 @@ use Rattle.live_docs.specs.declared.live_docs.Mark.{Mark}
 use Rattle.ram_postings.specs.Buffer.{Staged}
 use Rattle.segment_core.specs.LiveRows.{Lived, live_rows, all_live, stored_rows}
 use Rattle.segment_files.specs.Fits.{BirthsRise}
-use Rattle.commit_point.specs.BirthLaws.{EachRises}
+use Rattle.segment_core.specs.Births.{EachRises}
 use Rattle.merge_core.specs.Merging.{IdsRise, Sources, CanMerge, AreLater, AreAt, row_count}
 use Rattle.merge_core.specs.declared.merge.Merge.{Merge}
 use Rattle.merge_core.specs.declared.merge.Step.{Step}

@@ -1,4 +1,5 @@
 pub mod Segments
 pub mod LiveRows
+pub mod Births
 pub mod Marking
 pub mod LiveLaws
