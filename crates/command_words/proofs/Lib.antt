@@ -1,0 +1,13 @@
+mod ReadNumbers
+mod Rows
+mod Walks
+mod Entering
+mod Digits
+mod Naming
+mod RunWords
+mod AskWords
+mod MakeWords
+mod GoodRows
+mod GoodWalks
+mod Stops
+mod Faultless
