@@ -9,3 +9,5 @@ pub mod Taking
 pub mod Finishing
 pub mod Stepping
 pub mod Picked
+pub mod Apart
+pub mod Changing

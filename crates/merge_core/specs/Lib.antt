@@ -3,3 +3,4 @@ pub mod Reading
 pub mod Choosing
 pub mod Carrying
 pub mod Picking
+pub mod Apart

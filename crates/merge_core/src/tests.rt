@@ -29,9 +29,10 @@ fn rows_of(alloc: Global, births: &[u64]) -> Result<Vec<Row>, Fail>
 }
 
 /// A segment of rows with these births.
-fn segment_of(alloc: Global, id: u64, births: &[u64]) -> Result<LiveSegment, Fail>
-    requires { length births.now < 8 }
-{
+pub(crate) fn segment_of(alloc: Global, id: u64, births: &[u64]) -> Result<LiveSegment, Fail> {
+    if births.len() > 5000 {
+        Err("many rows")?;
+    }
     let rows = rows_of(alloc, births)?;
     let postings = invert(alloc, rows.as_slice())?;
     let frozen = Frozen { rows, postings };
