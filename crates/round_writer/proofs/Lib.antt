@@ -1,0 +1,7 @@
+mod Begins
+mod Gathering
+mod Opening
+mod Taking
+mod Committing
+mod Following
+mod Working
