@@ -1,5 +1,5 @@
 -- The writers of a round that begins.
-use Rattle.std.proofs.Common.{◌≡◌, ◌∙◌, ℕ, ◌+◌, ◌≤◌, List, [], ◌∷◌, ◌++◌, length, sym, subst, arith}
+use Rattle.std.proofs.Common.{◌≡◌, ℕ, ◌+◌, List, [], ◌∷◌, ◌++◌, length, sym, subst, arith}
 use Rattle.delete_queue.specs.declared.queue.DeleteQueue.{DeleteQueue}
 use Rattle.delete_queue.specs.declared.seat.Seat.{Seat}
 use Rattle.delete_queue.specs.Making.{IsNew}

@@ -1,5 +1,5 @@
 -- The commit of a writer.
-use Rattle.std.proofs.Common.{◌≡◌, ◌≢◌, ◌∙◌, ◌⊎◌, inl, inr, ℕ, ◌+◌, ◌<◌, ◌≤◌, cond, Bool, true, false, List, [], ◌∷◌, ◌++◌, Option, Some, None, length, refl, sym, ap, subst, arith, IsPermutation}
+use Rattle.std.proofs.Common.{◌≡◌, ◌∙◌, ℕ, ◌+◌, ◌<◌, ◌≤◌, cond, Bool, true, false, List, [], ◌∷◌, ◌++◌, Option, Some, None, length, refl, sym, ap, subst, arith, IsPermutation}
 use Rattle.std.specs.Prelude.{◌↔◌, IfSome, IsSome, IsTrue}
 use Rattle.std.specs.List.{AllByRecursion, cons_option, filter}
 use Rattle.std.proofs.lemmas.Bool.{ltb-false}
@@ -26,7 +26,7 @@ use Rattle.round_writer.specs.declared.fault.WriterFault.{WriterFault}
 use Rattle.round_writer.specs.declared.fault.WriterFault.TheVariants.{Store, NoMemory as OutOfMemory}
 use Rattle.round_writer.specs.declared.state.State.{State}
 use Rattle.round_writer.specs.Ready.{CanBePending, HasRows, IsReady, IsStored, NewIdsFrom}
-use Rattle.round_writer.specs.Storing.{Commits, GoesOn, SameBelow, Settles, on_commit, own_written, renewed}
+use Rattle.round_writer.specs.Storing.{Commits, SameBelow, Settles, on_commit, renewed}
 
 -- ---- segments without a live row
 

@@ -1,5 +1,5 @@
 -- What follows for the files once a writer committed, and where it can begin.
-use Rattle.std.proofs.Common.{◌≡◌, ◌≢◌, ◌∙◌, ◌⊎◌, inl, inr, ℕ, ◌+◌, ◌<◌, ◌≤◌, eqb, true, false, List, [], ◌∷◌, Option, Some, None, length, refl, sym, ap, subst, arith}
+use Rattle.std.proofs.Common.{◌≡◌, ◌≢◌, ◌∙◌, ◌⊎◌, inl, inr, ℕ, ◌+◌, ◌<◌, eqb, true, false, List, [], ◌∷◌, length, refl, sym, subst, arith}
 use Rattle.std.specs.List.{AllByRecursion, Contains}
 use Rattle.std.proofs.lemmas.Bool.Decides.{eqb_tells}
 use Rattle.std.proofs.lemmas.List.Elements.{All-contains, All-from_recursion}
@@ -11,16 +11,15 @@ use Rattle.segment_files.specs.Fits.{RowsBelow}
 use Rattle.commit_point.specs.declared.heads.Head.{Head}
 use Rattle.commit_point.specs.declared.heads.HeadSegment.{HeadSegment}
 use Rattle.commit_point.specs.declared.open.Opened.{Opened}
-use Rattle.commit_point.specs.declared.written.Written.{Written}
 use Rattle.commit_point.specs.Fits.{EntryFits, IdsRise}
 use Rattle.commit_point.specs.Holds.{HasHead, HasSegment, HasSegments, HaveSegments, HoldsInverted, Lists, head_of}
 use Rattle.commit_point.specs.Laws.{one_head}
 use Rattle.commit_point.specs.Writing as commit
 use Rattle.commit_point.specs.Writing.{AreWritten, CanWrite, IsOldId, SegmentIdsRise, WrittenUpTo, entries_of, listed}
 use Rattle.round_writer.specs.declared.state.State.{State}
-use Rattle.round_writer.specs.Laws.{CanBegin, CommitsGoOn, CommitsHold, CrashesHold, IsLastOf, OpenedGoOn}
-use Rattle.round_writer.specs.Ready.{CanFollow, HasRows, IsReady, IsStored, opened_on, written_of}
-use Rattle.round_writer.specs.Storing.{Commits, GoesOn, MayCommit, on_commit}
+use Rattle.round_writer.specs.Laws.{CommitsGoOn, CommitsHold, CrashesHold, OpenedGoOn}
+use Rattle.round_writer.specs.Ready.{CanFollow, HasRows, IsReady, IsStored, written_of}
+use Rattle.round_writer.specs.Storing.{Commits, GoesOn}
 use Rattle.round_writer.proofs.Committing.{rows_on}
 
 -- ---- a commit that was made

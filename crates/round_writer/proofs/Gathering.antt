@@ -13,12 +13,10 @@ use Rattle.delete_queue.specs.declared.log.QueueLog.{QueueLog}
 use Rattle.delete_queue.specs.declared.queue.DeleteQueue.{DeleteQueue}
 use Rattle.delete_queue.specs.declared.seat.Seat.{Seat}
 use Rattle.delete_queue.specs.Log.{HasAllOf, IsLogOf, Logged, entries_of, last_head_or}
-use Rattle.delete_queue.specs.Seats.{IsSeatOf, base_of, number_of, seen_of, the_view}
+use Rattle.delete_queue.specs.Seats.{IsSeatOf, base_of, the_view}
 use Rattle.ram_postings.specs.Buffer.{Staged, born_rows, row_of}
-use Rattle.ix_base.specs.Documents.{Document}
 use Rattle.row_fates.specs.Fate.{Numbered}
 use Rattle.thread_writer.specs.declared.piece.Piece.{Piece}
-use Rattle.thread_writer.specs.declared.piece.HandedBack.{HandedBack}
 use Rattle.thread_writer.specs.declared.writer.ThreadWriter.{ThreadWriter}
 use Rattle.thread_writer.specs.Writing.{Did, IsReady, parts_of}
 use Rattle.flush_control.specs.LogLaws.{RoundsAreOrdered}

@@ -1,12 +1,11 @@
 -- A round put into the segments.
-use Rattle.std.proofs.Common.{◌≡◌, ◌∙◌, ◌⊎◌, inl, inr, ℕ, zero, suc, ◌+◌, ◌-◌, ◌<◌, ◌≤◌, Bool, true, false, cond, eqb, List, [], ◌∷◌, ◌++◌, Option, Some, None, IfSome, length, replicate, refl, sym, ap, subst, arith, length-append, append_assoc}
+use Rattle.std.proofs.Common.{◌≡◌, ◌∙◌, inl, inr, ℕ, zero, suc, ◌+◌, ◌-◌, ◌<◌, ◌≤◌, Bool, true, false, cond, eqb, List, [], ◌∷◌, ◌++◌, Option, Some, None, IfSome, length, replicate, refl, sym, ap, subst, arith, length-append, append_assoc}
 use Rattle.std.specs.List.{AllByRecursion, filter}
 use Rattle.std.proofs.lemmas.Bool.{eqb-true, lt-ltb, ltb-true}
 use Rattle.std.proofs.lemmas.List.{length-map, length-replicate, replicate_more}
 use Rattle.ix_base.specs.Steps.{numbered_from}
 use Rattle.ix_base.specs.declared.document.Operation.{Operation}
 use Rattle.ix_base.specs.declared.document.Operation.TheVariants.{Commit}
-use Rattle.ix_base.specs.declared.document.Row.{Row}
 use Rattle.ix_outside.specs.Files.{Files}
 use Rattle.live_docs.specs.Marks.{count_live}
 use Rattle.live_docs.specs.declared.live_docs.Mark.{Mark}
@@ -21,7 +20,7 @@ use Rattle.commit_point.specs.Writing.{AreWritten, IsWritten, WrittenUpTo, is_al
 use Rattle.thread_writer.specs.declared.piece.Piece.{Piece}
 use Rattle.flush_control.specs.Logs.{EndBy, Working, seconds}
 use Rattle.flush_control.specs.Published.{AppliesUp, AreApplied, AreBuilt, HasInversion, IsPublished, TakesPieces}
-use Rattle.flush_control.specs.Rounds.{EndsRound, IsRound, RoundsStand, StandsIn}
+use Rattle.flush_control.specs.Rounds.{EndsRound, RoundsStand, StandsIn}
 use Rattle.flush_control.specs.declared.published.Published.{Published}
 use Rattle.round_writer.specs.declared.ending.Gathered.{Gathered}
 use Rattle.round_writer.specs.declared.round.RoundEnd.{RoundEnd}

@@ -13,7 +13,7 @@ use Rattle.thread_writer.specs.declared.writer.ThreadWriter.{ThreadWriter}
 use Rattle.thread_writer.specs.Answers.{IfNotNumbered, IfNumbered}
 use Rattle.thread_writer.specs.Writing.{Gives, IsWriter, Numbers, Stays, Turns}
 use Rattle.round_writer.specs.declared.round.RoundParts.{RoundParts}
-use Rattle.round_writer.specs.Rounds.{AreBegunFrom, ArePartsOf, AreWorkersFrom, IsBegunWriter}
+use Rattle.round_writer.specs.Rounds.{AreBegunFrom, ArePartsOf, AreWorkersFrom}
 use Rattle.round_writer.specs.Working.{ArePair, IsBusy, WorksOn, with_given}
 
 stayed : (q : DeleteQueue) (old new : ThreadWriter) (gave : List Piece) → IsWriter q new → Grows old.seat new.seat → Stays q old new

@@ -1,5 +1,6 @@
 -- What the end of a round makes of what came back.
-use Rattle.std.specs.Prelude.{◌≡◌, ℕ, ◌+◌, ◌≤◌, List, [], ◌∷◌, ◌++◌, length, slice_index_or, replicate, Option, Some, None, ◌==◌, if◌then◌else◌, false}
+use Rattle.std.specs.Prelude.{◌≡◌, ℕ, ◌+◌, ◌≤◌, List, [], ◌∷◌, ◌++◌}
+use Rattle.std.specs.Prelude.{length, slice_index_or, replicate, Option, Some, None, ◌==◌, if◌then◌else◌, false}
 use Rattle.std.specs.Global.{Vec}
 use Rattle.ix_base.specs.Steps.{numbered_from}
 use Rattle.delete_queue.specs.declared.log.QueueLog.{QueueLog}

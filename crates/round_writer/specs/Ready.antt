@@ -1,5 +1,5 @@
 -- When a writer can go on, and which rows it has.
-use Rattle.std.specs.Prelude.{◌≡◌, ℕ, ◌<◌, ◌≤◌, ◌^◌, List, [], ◌∷◌, Option, Some, None, IfSome, length, true, false}
+use Rattle.std.specs.Prelude.{◌≡◌, ℕ, ◌<◌, ◌≤◌, ◌^◌, List, [], ◌∷◌, Option, Some, None, IfSome, length, false}
 use Rattle.std.specs.List.{AllByRecursion}
 use Rattle.ix_base.specs.declared.document.Row.{Row}
 use Rattle.ix_outside.specs.Files.{Files}
@@ -19,8 +19,8 @@ written_of [] gs = []
 written_of (e ∷ es) [] = []
 written_of (e ∷ es) (g ∷ gs) = Some (record { v = e.written; live = g.live }) ∷ written_of es gs
 
--- The commit can be followed by another one: its segments could be written again as they are, and its entries name them,
--- one by one.
+-- The commit can be followed by another one: its segments could be written again as they are, and its entries name
+-- them, one by one.
 pub record CanFollow (last : Opened) : Type 0 where
   pub some_id : 1 ≤ last.next_id
   pub room : last.next_id < 2 ^ 63

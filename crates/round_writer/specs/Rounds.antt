@@ -1,5 +1,5 @@
 -- Rounds: how they begin, what comes back of them, and what they leave.
-use Rattle.std.specs.Prelude.{◌≡◌, ℕ, ◌+◌, ◌≤◌, List, [], ◌∷◌, ◌++◌, length, slice_index_or, Some, None, true, false}
+use Rattle.std.specs.Prelude.{◌≡◌, ℕ, ◌+◌, ◌≤◌, List, [], ◌∷◌, ◌++◌, length, slice_index_or, Some, None, false}
 use Rattle.std.specs.Global.{Vec}
 use Rattle.ix_base.specs.Steps.{after, numbered_from}
 use Rattle.ix_base.specs.declared.document.Row.{Row}
@@ -44,7 +44,8 @@ pub record IsBegun (n : ℕ) (s : State) (round : Round) : Type 0 where
 -- ---- what came back
 
 -- A writer of the queue with this seat number was told these operations with their numbers, and gave these pieces off.
-pub record IsWorker (q : DeleteQueue) (number : ℕ) (told : List Numbered) (w : ThreadWriter) (gave : List Piece) : Type 0 where
+pub record IsWorker (q : DeleteQueue) (number : ℕ) (told : List Numbered) (w : ThreadWriter) (gave : List Piece)
+    : Type 0 where
   pub number_is : number_of w.seat ≡ number
   pub writer : IsWriter q w
   pub did : Did q (parts_of w) told gave
@@ -82,7 +83,8 @@ pub record Ends (told : List (List Numbered)) (end : RoundEnd) (old new : State)
   pub rows : (rows : List Row) → HasRows old rows → HasRows new (after rows old.published.upto (seconds ts))
   pub stored : (files : Files) → IsStored files old → IsStored files new
   pub ids : old.published.next_id ≤ new.published.next_id
-  pub few : new.published.next_id ≤ old.published.next_id + length (rows_added (numbered_from old.published.upto (seconds ts)))
+  pub few : new.published.next_id
+      ≤ old.published.next_id + length (rows_added (numbered_from old.published.upto (seconds ts)))
   pub by_end : EndsBy end (seconds ts) new
   pub out : new.out ≡ false
   pub last : new.last ≡ old.last

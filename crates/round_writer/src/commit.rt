@@ -1,5 +1,6 @@
 //! The commit of what is in the segments.
-ghost use Rattle.std.specs.Prelude.{◌≡◌, ◌≤◌, ◌<◌, ◌^◌, ◌↔◌, ◌++◌, length, IsSome, IsTrue, Some, None, IfOk, OnOk, OnErr, Err, true, false};
+ghost use Rattle.std.specs.Prelude.{◌≡◌, ◌≤◌, ◌<◌, ◌^◌, ◌↔◌, ◌++◌, length, IsSome};
+ghost use Rattle.std.specs.Prelude.{IsTrue, Some, None, IfOk, OnOk, OnErr, Err, true, false};
 ghost use Rattle.ix_base.specs.declared.document.Row.{Row};
 ghost use Rattle.std.specs.Prelude.{List as ListOf};
 ghost use Rattle.ix_base.specs.declared.file_name.FileName.TheVariants.{Commit};
@@ -38,16 +39,20 @@ impl<S: Store> IndexWriter<S> {
         ensures sound { IsSound self.new.state }
         ensures on { OnOk result (self.new.state ≡ on_commit self.old.state) }
         ensures number { IfOk result (λ info. self.old.state.pending ≡ Some info.number) }
-        ensures docs { (rows : ListOf Row) → HasRows self.old.state rows → IfOk result (λ info. info.docs ≡ length rows) }
+        ensures docs { (rows : ListOf Row) → HasRows self.old.state rows
+            → IfOk result (λ info. info.docs ≡ length rows) }
         ensures stands { (rows : ListOf Row) → HasRows self.old.state rows → OnOk result (HasRows self.new.state rows) }
-        ensures made { self.old.state.published.next_id ≤ 2 ^ 62 → OnOk result (Changes (Commits self.old.state self.new.state)
+        ensures made { self.old.state.published.next_id ≤ 2 ^ 62
+            → OnOk result (Changes (Commits self.old.state self.new.state)
             (told_files (S.disk self.old.store)) (told_files (S.disk self.new.store))) }
         ensures elsewhere { OnErr result (Changes (SameBelow self.old.state.published.upto self.old.state.since)
             (told_files (S.disk self.old.store)) (told_files (S.disk self.new.store))) }
         // Once it is acknowledged every image has the commit whole; a crash meanwhile leaves it whole or not at all.
-        ensures acknowledged { self.old.state.published.next_id ≤ 2 ^ 62 → OnOk result (Follows (Commits self.old.state self.new.state)
+        ensures acknowledged { self.old.state.published.next_id ≤ 2 ^ 62
+            → OnOk result (Follows (Commits self.old.state self.new.state)
             (MayHold (S.disk self.old.store)) (MayHold (S.disk self.new.store))) }
-        ensures crash { self.old.state.published.next_id ≤ 2 ^ 62 → LeavesOnly (S.disk self.old.store) (S.disk self.new.store)
+        ensures crash { self.old.state.published.next_id ≤ 2 ^ 62
+            → LeavesOnly (S.disk self.old.store) (S.disk self.new.store)
             (Reaches (MayCommit self.old.state) (MayHold (S.disk self.old.store))) }
         // Commits that were kept before, and the new one, are kept in every image.
         ensures settled { self.old.state.published.next_id ≤ 2 ^ 62
@@ -62,7 +67,8 @@ impl<S: Store> IndexWriter<S> {
             → result ≡ Err WriterFault.NoMemory
             → (IsTrue self.new.state.closed ↔ IsSome (now (Commit self.old.state.published.upto))) }
         ensures later { S.fault_count self.old.store ≤ S.fault_count self.new.store }
-        ensures failed { result ≡ Err WriterFault.Store → Rose (S.fault_count self.old.store) (S.fault_count self.new.store) }
+        ensures failed { result ≡ Err WriterFault.Store
+            → Rose (S.fault_count self.old.store) (S.fault_count self.new.store) }
     {
         if self.state.closed {
             return Err(WriterFault::Closed);

@@ -1,5 +1,6 @@
 //! The end of a round.
-ghost use Rattle.std.specs.Prelude.{◌≡◌, ◌≤◌, ◌+◌, ◌-◌, List, length, Some, None, IfOk, IfErr, OnOk, OnErr, Err, IsTrue, true, false};
+ghost use Rattle.std.specs.Prelude.{◌≡◌, ◌≤◌, ◌+◌, ◌-◌, List, length, Some, None};
+ghost use Rattle.std.specs.Prelude.{IfOk, IfErr, OnOk, OnErr, Err, IsTrue, true, false};
 ghost use Rattle.row_fates.specs.Fate.{Numbered};
 ghost use Rattle.round_writer.specs.Rounds.{ArePartsOf, Ends};
 ghost use Rattle.round_writer.specs.Ready.{IsReady, IsSound};

@@ -86,7 +86,8 @@ impl Busy {
     /// Gives the buffer off where it is full.
     fn give(&mut self, queue: &DeleteQueue) -> Result<(), Fail>
         requires { IsWriter queue.now self.old.writer }
-        ensures works { OnOk result (WorksOn queue.now self.old.writer self.old.pieces.items self.new.writer self.new.pieces.items) }
+        ensures works { OnOk result (WorksOn queue.now self.old.writer self.old.pieces.items
+            self.new.writer self.new.pieces.items) }
         ensures writer { OnOk result (IsWriter queue.now self.new.writer) }
         ensures room { OnOk result (length self.new.writer.rows < self.new.writer.size) }
     {
@@ -98,7 +99,8 @@ impl Busy {
     /// Gives the buffer off where it is full, and does an operation.
     fn operate(&mut self, queue: &DeleteQueue, operation: &Operation) -> Result<Told, Fail>
         requires { IsWriter queue.now self.old.writer }
-        ensures works { OnOk result (WorksOn queue.now self.old.writer self.old.pieces.items self.new.writer self.new.pieces.items) }
+        ensures works { OnOk result (WorksOn queue.now self.old.writer self.old.pieces.items
+            self.new.writer self.new.pieces.items) }
         ensures writer { OnOk result (IsWriter queue.now self.new.writer) }
         ensures own { IfOk result (λ told. IfNumbered told (λ n. 0 < length (own_of self.new.writer.seat))) }
     {
@@ -110,7 +112,8 @@ impl Busy {
     fn turn(&mut self, queue: &DeleteQueue, told: Told) -> Result<(), Fail>
         requires writer { IsWriter queue.now self.old.writer }
         requires own { IfNumbered told (λ n. 0 < length (own_of self.old.writer.seat)) }
-        ensures { OnOk result (WorksOn queue.now self.old.writer self.old.pieces.items self.new.writer self.new.pieces.items) }
+        ensures { OnOk result (WorksOn queue.now self.old.writer self.old.pieces.items
+            self.new.writer self.new.pieces.items) }
     {
         let Told::Numbered(_) = told else {
             return Err("no number")?;
@@ -122,7 +125,8 @@ impl Busy {
     /// Does a line of a script.
     fn line(&mut self, alloc: Global, queue: &DeleteQueue, act: Act, key: &str) -> Result<(), Fail>
         requires { IsWriter queue.now self.old.writer }
-        ensures { OnOk result (WorksOn queue.now self.old.writer self.old.pieces.items self.new.writer self.new.pieces.items) }
+        ensures { OnOk result (WorksOn queue.now self.old.writer self.old.pieces.items
+            self.new.writer self.new.pieces.items) }
     {
         let operation = operation_of(alloc, act, key)?;
         let told = self.operate(queue, &operation)?;
@@ -141,8 +145,10 @@ impl Pair {
         queue: &DeleteQueue,
         line: (bool, Act, &str),
     ) -> Result<(), Fail>
-        requires { ArePair queue.now self.old.first.writer self.old.first.pieces.items self.old.second.writer self.old.second.pieces.items }
-        ensures { OnOk result (ArePair queue.now self.new.first.writer self.new.first.pieces.items self.new.second.writer self.new.second.pieces.items) }
+        requires { ArePair queue.now self.old.first.writer self.old.first.pieces.items
+            self.old.second.writer self.old.second.pieces.items }
+        ensures { OnOk result (ArePair queue.now self.new.first.writer self.new.first.pieces.items
+            self.new.second.writer self.new.second.pieces.items) }
     {
         if line.0 {
             return self.line_of_second(alloc, queue, line.1, line.2);
@@ -157,8 +163,10 @@ impl Pair {
         act: Act,
         key: &str,
     ) -> Result<(), Fail>
-        requires { ArePair queue.now self.old.first.writer self.old.first.pieces.items self.old.second.writer self.old.second.pieces.items }
-        ensures { OnOk result (ArePair queue.now self.new.first.writer self.new.first.pieces.items self.new.second.writer self.new.second.pieces.items) }
+        requires { ArePair queue.now self.old.first.writer self.old.first.pieces.items
+            self.old.second.writer self.old.second.pieces.items }
+        ensures { OnOk result (ArePair queue.now self.new.first.writer self.new.first.pieces.items
+            self.new.second.writer self.new.second.pieces.items) }
     {
         self.first.line(alloc, queue, act, key)?;
         Ok(())
@@ -171,8 +179,10 @@ impl Pair {
         act: Act,
         key: &str,
     ) -> Result<(), Fail>
-        requires { ArePair queue.now self.old.first.writer self.old.first.pieces.items self.old.second.writer self.old.second.pieces.items }
-        ensures { OnOk result (ArePair queue.now self.new.first.writer self.new.first.pieces.items self.new.second.writer self.new.second.pieces.items) }
+        requires { ArePair queue.now self.old.first.writer self.old.first.pieces.items
+            self.old.second.writer self.old.second.pieces.items }
+        ensures { OnOk result (ArePair queue.now self.new.first.writer self.new.first.pieces.items
+            self.new.second.writer self.new.second.pieces.items) }
     {
         self.second.line(alloc, queue, act, key)?;
         Ok(())
@@ -180,8 +190,10 @@ impl Pair {
 
     /// Does the lines of a script.
     fn work(&mut self, alloc: Global, queue: &DeleteQueue, script: Script) -> Result<(), Fail>
-        requires { ArePair queue.now self.old.first.writer self.old.first.pieces.items self.old.second.writer self.old.second.pieces.items }
-        ensures { OnOk result (ArePair queue.now self.new.first.writer self.new.first.pieces.items self.new.second.writer self.new.second.pieces.items) }
+        requires { ArePair queue.now self.old.first.writer self.old.first.pieces.items
+            self.old.second.writer self.old.second.pieces.items }
+        ensures { OnOk result (ArePair queue.now self.new.first.writer self.new.first.pieces.items
+            self.new.second.writer self.new.second.pieces.items) }
     {
         for line in script {
             self.line(alloc, queue, *line)?;
@@ -192,7 +204,8 @@ impl Pair {
     /// What comes back of a round.
     fn parts(self, alloc: Global, queue: DeleteQueue) -> Result<RoundParts, Fail>
         requires seats { seats_of queue ≡ 2 }
-        requires pair { ArePair queue self.first.writer self.first.pieces.items self.second.writer self.second.pieces.items }
+        requires pair { ArePair queue self.first.writer self.first.pieces.items
+            self.second.writer self.second.pieces.items }
         ensures { IfOk result (λ parts. (told : List (List Numbered)) × ArePartsOf (base_of queue) told parts) }
     {
         let Pair { first, second } = self;

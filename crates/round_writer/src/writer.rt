@@ -25,7 +25,8 @@ impl<S> IndexWriter<S> {
         requires buffer { (1 ≤ buffer) × (buffer ≤ 65536) }
         ensures store { result.store ≡ store }
         ensures ready { IsReady result.state }
-        ensures state { result.state ≡ opened_on (record { number = 0; next_id = 1; entries = []; segments = [] }) buffer }
+        ensures state { result.state
+            ≡ opened_on (record { number = 0; next_id = 1; entries = []; segments = [] }) buffer }
     {
         IndexWriter {
             store,

@@ -1,6 +1,5 @@
 use Rattle.std.proofs.Common.{List, sym, subst}
 use Rattle.std.specs.List.{AllByRecursion}
-use Rattle.delete_queue.specs.declared.seat.Seat.{Seat}
 use Rattle.delete_queue.specs.Seats.{IsSeatOf}
 use Rattle.queue_rule.specs.Lists.{Each}
 use Rattle.round_writer.specs.declared.ending.Rest.{Rest}

@@ -1,4 +1,4 @@
-use Rattle.std.proofs.Common.{◌≡◌, ◌∙◌, List, ℕ, length, map, sym, ap, subst, arith}
+use Rattle.std.proofs.Common.{◌∙◌, List, length, map, sym, ap, subst, arith}
 use Rattle.ix_base.specs.Inversion.{IsInversion}
 use Rattle.ix_base.specs.declared.document.Row.{Row}
 use Rattle.delete_slice.specs.declared.slice.Slice.{Slice}

@@ -1,6 +1,5 @@
 use Rattle.std.proofs.Common.{ℕ, sym, subst}
 use Rattle.commit_point.specs.Holds.{HasSegments}
-use Rattle.round_writer.specs.Laws.{OpenedGoOn}
 use Rattle.round_writer.proofs.tests.opened_on.Goals as goal
 
 pub open-requires-clause-last : goal.open-requires-clause-last
