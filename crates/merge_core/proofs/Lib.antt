@@ -9,5 +9,3 @@ pub mod Taking
 pub mod Finishing
 pub mod Stepping
 pub mod Picked
-pub mod Apart
-pub mod Changing

@@ -3,4 +3,3 @@ pub mod Reading
 pub mod Choosing
 pub mod Carrying
 pub mod Picking
-pub mod Apart

@@ -10,8 +10,6 @@ mod origin;
 mod picking;
 #[cfg(test)]
 mod tests;
-#[cfg(test)]
-mod tests_merging;
 
 pub use laws::reading_stays;
 pub use merge::{Merge, MergeRefused, Step};
