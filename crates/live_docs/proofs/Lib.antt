@@ -4,3 +4,4 @@ pub mod SetRows
 mod SameFlagged
 mod NumbersRise
 mod SetValues
+pub mod NumberedRows

@@ -1,5 +1,5 @@
 -- The live bits and set values of a segment's rows.
-use Rattle.std.specs.Prelude.{◌≡◌, ◌≢◌, ℕ, zero, suc, ℤ, List, [], ◌∷◌, Bool, true, false, ◌&&◌, Option, Some, None, length, map, if◌then◌else◌}
+use Rattle.std.specs.Prelude.{◌≡◌, ◌≢◌, ℕ, zero, suc, ◌+◌, ℤ, List, [], ◌∷◌, Bool, true, false, ◌&&◌, Option, Some, None, length, map, if◌then◌else◌}
 use Rattle.std.specs.Bool.{beq}
 use Rattle.std.specs.List.{filter, AllByRecursion}
 use Rattle.std.specs.Ordering.{int_eq}
@@ -39,6 +39,20 @@ count_live marks = length (filter (λ (m : Mark). m.live) marks)
 -- the names of each row's numbers rise
 abbrev pub RowsNamesRise : List Mark → Type 0
 RowsNamesRise marks = AllByRecursion (λ (m : Mark). names_rise (map (λ number. number.0) m.values) ≡ true) marks
+
+-- whether there are numbers among these
+abbrev pub has_numbers : List Named → Bool
+has_numbers [] = false
+has_numbers (n ∷ ns) = true
+
+-- of rows of which this is the first, those in which numbers were set
+abbrev pub numbered_from : ℕ → List Mark → List ℕ
+numbered_from row [] = []
+numbered_from row (m ∷ marks) = if has_numbers m.values then row ∷ numbered_from (row + 1) marks else numbered_from (row + 1) marks
+
+-- the rows in which numbers were set, in order
+abbrev pub numbered_rows : List Mark → List ℕ
+numbered_rows marks = numbered_from 0 marks
 
 -- the number by this name, if there is one
 abbrev pub value_of : List ℕ → List Named → Option ℤ

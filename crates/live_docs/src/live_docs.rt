@@ -1,7 +1,7 @@
 //! Live bits and set values of the rows of a segment.
 ghost use Rattle.std.specs.Prelude.{◌≡◌, ◌+◌, ◌<◌, ◌^◌, ◌++◌, [], ◌∷◌, true, length, map, replicate, IfOk, OnOk, OnErr, slice_index_or};
 ghost use Rattle.ix_base.specs.Limits.{names_rise};
-ghost use Rattle.live_docs.specs.Marks.{fresh, killed, valued, changed_at, count_live, value_of, RowsNamesRise, same_marks};
+ghost use Rattle.live_docs.specs.Marks.{fresh, killed, valued, changed_at, count_live, value_of, numbered_rows, same_marks};
 
 use crate::set_numbers::{SetNumbers, is_none};
 use ix_base::{Name, NoMemory, Numbers};
@@ -58,8 +58,7 @@ impl LiveDocs {
 
     /// Rows with these marks.
     pub fn from_marks(alloc: Global, applied: u64, marks: Vec<Mark>) -> Result<LiveDocs, NoMemory>
-        requires few { length marks.items < 2 ^ 32 }
-        requires rise { RowsNamesRise marks.items }
+        requires { length marks.items < 2 ^ 32 }
         ensures { IfOk result (λ docs. docs ≡ record { applied = applied; marks = marks.items }) }
     {
         let mut docs = LiveDocs::new(alloc, 0, applied)?;
@@ -141,6 +140,14 @@ impl LiveDocs {
         ensures { result ≡ value_of name.now (slice_index_or self.now.marks row fresh).values }
     {
         value_in(self.values(row), name)
+    }
+
+    /// The rows in which numbers were set, in order. It takes time and memory as there are such
+    /// rows.
+    pub fn numbered_rows(&self, alloc: Global) -> Result<Vec<u32>, NoMemory>
+        ensures { IfOk result (λ rows. rows.items ≡ numbered_rows self.now.marks) }
+    {
+        self.numbers.rows(alloc)
     }
 
     /// Whether the same rows are live, with the same numbers set. It doesn't compare up to which

@@ -5,7 +5,7 @@ ghost use Rattle.std.specs.Ordering.{nat_cmp};
 ghost use Rattle.std.specs.Bool.{Decides};
 ghost use Rattle.ix_base.specs.Limits.{names_rise};
 ghost use Rattle.ix_base.specs.Steps.{with_number};
-ghost use Rattle.live_docs.specs.Flags.{values_at, SetsRow};
+ghost use Rattle.live_docs.specs.Flags.{values_at, SetsRow, AreNumbered};
 ghost use Rattle.live_docs.specs.Marks.{same_numbers};
 ghost use Rattle.live_docs.specs.MarkLaws.{numbers_equivalence};
 
@@ -87,6 +87,17 @@ impl SetNumbers {
             Some(own) => own.numbers.as_slice(),
             None => &[],
         }
+    }
+
+    /// The rows in which numbers were set, in order.
+    pub(crate) fn rows(&self, alloc: Global) -> Result<Vec<u32>, NoMemory>
+        ensures { IfOk result (λ rows. AreNumbered rows.items self.now) }
+    {
+        let mut rows = Vec::new(alloc);
+        for (row, _own) in &self.rows {
+            rows.push(*row)?;
+        }
+        Ok(rows)
     }
 
     /// Whether each row has the same numbers here and there.

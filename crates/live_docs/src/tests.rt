@@ -55,6 +55,39 @@ fn rows_and_numbers(rt: HostRuntime) {
     assert_eq!(rt; docs.values(2).len(), 2);
 }
 
+/// Nine rows with numbers in four of them, which are set in falling order, in one of them twice.
+/// Two of the four are killed, one before and one after its number is set, and a further one.
+fn falling_rows(alloc: Global) -> Result<LiveDocs, NoMemory> {
+    let name = name(alloc, "a")?;
+    let mut docs = LiveDocs::new(alloc, 9, 7)?;
+    docs.kill(3);
+    docs.set_value(alloc, 8, &name, 1)?;
+    docs.set_value(alloc, 5, &name, 2)?;
+    docs.set_value(alloc, 5, &name, 0)?;
+    docs.set_value(alloc, 3, &name, 3)?;
+    docs.set_value(alloc, 0, &name, 4)?;
+    docs.kill(8);
+    docs.kill(4);
+    Ok(docs)
+}
+
+#[test]
+fn rows_with_numbers(rt: HostRuntime) {
+    let alloc = rt.alloc();
+    let Ok(none) = LiveDocs::new(alloc, 9, 7) else {
+        panic!(rt; "memory");
+    };
+    let Ok(docs) = falling_rows(alloc) else {
+        panic!(rt; "memory");
+    };
+    for (docs, rows) in [(&none, [].as_slice()), (&docs, [0, 3, 5, 8].as_slice())] {
+        let Ok(numbered) = docs.numbered_rows(alloc) else {
+            panic!(rt; "memory");
+        };
+        assert_eq!(rt; numbered.as_slice(), rows);
+    }
+}
+
 /// Two rows: a live one with this number set in it, and one with none.
 fn two_rows(
     alloc: Global,
@@ -151,6 +184,13 @@ fn many_rows_beside_a_plain_list(rt: HostRuntime) {
         );
     }
     assert_eq!(rt; docs.live_count(), 2000);
+    let Ok(numbered) = docs.numbered_rows(alloc) else {
+        panic!(rt; "memory");
+    };
+    assert_eq!(rt; numbered.len(), 31);
+    for (i, row) in numbered.iter().enumerate() {
+        assert_eq!(rt; (*row as usize / 97, *row % 97), (i, 5));
+    }
 }
 
 #[test]

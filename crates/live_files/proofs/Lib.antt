@@ -4,3 +4,4 @@ pub mod ValuesRead
 pub mod LiveWrite
 pub mod ValuesWrite
 pub mod JoinLive
+pub mod NumberedValues

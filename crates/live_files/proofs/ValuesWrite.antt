@@ -19,7 +19,7 @@ use Rattle.segment_files.specs.Rising.{rises}
 use Rattle.live_files.specs.ValueOrder.{of_before}
 use Rattle.live_files.proofs.ValuesRead.{ValueComes, itself, before_trans}
 
-abbrev names : List Named → List (List ℕ)
+abbrev pub names : List Named → List (List ℕ)
 names numbers = map (λ number. number.0) numbers
 
 -- ---- the numbers of one row
@@ -40,11 +40,11 @@ pair_bytes row pairs i x old before now lt is was writes =
     ∙ flat_map_more value_bytes old (row_values row (take i pairs)) (row, x.0, x.1)
     ∙ ap (λ (l : List SetValue). old ++ flat_map value_bytes l) (sym (pair_more row pairs i x lt is))
 
-all_append : (P : SetValue → Type 0) (xs ys : List SetValue) → AllByRecursion P xs → AllByRecursion P ys → AllByRecursion P (xs ++ ys)
+pub all_append : (P : SetValue → Type 0) (xs ys : List SetValue) → AllByRecursion P xs → AllByRecursion P ys → AllByRecursion P (xs ++ ys)
 all_append P [] ys first second = second
 all_append P (x ∷ xs) ys first second = (first.0, all_append P xs ys first.1 second)
 
-all_same : (P : SetValue → Type 0) (xs ys : List SetValue) → ys ≡ xs → AllByRecursion P xs → AllByRecursion P ys
+pub all_same : (P : SetValue → Type 0) (xs ys : List SetValue) → ys ≡ xs → AllByRecursion P xs → AllByRecursion P ys
 all_same P xs ys is all = rw is all
 
 pub pair_fits : (n row : ℕ) (pairs : List Named) (i : ℕ) (x : Named) → i < length pairs → x ≡ get_or pairs i x → AllByRecursion (ValueFits n) (row_values row (take i pairs)) → ValueFits n (row, x.0, x.1)
@@ -53,68 +53,7 @@ pair_fits n row pairs i x lt is all one =
     all_same (ValueFits n) (row_values row (take i pairs) ++ (row, x.0, x.1) ∷ []) (row_values row (take (i + 1) pairs)) (pair_more row pairs i x lt is)
     (all_append (ValueFits n) (row_values row (take i pairs)) ((row, x.0, x.1) ∷ []) all (one, tt))
 
--- ---- the numbers of all rows
-
-one_mark : (low : ℕ) (marks : List Mark) (i : ℕ) → i < length marks → values_from low (take (suc i) marks) ≡ values_from low (take i marks) ++ row_values (low + i) (get_or marks i fresh).values
-one_mark low [] i lt = absurd (omega arith)
-one_mark low (m ∷ ms) zero lt =
-    let k : low ≡ low + 0 = omega arith in
-    append-nil (row_values low m.values) ∙ ap (λ (j : ℕ). row_values j m.values) k
-one_mark low (m ∷ ms) (suc i) lt =
-    let k : low + 1 + i ≡ low + suc i = omega arith in
-    let numbers = (get_or ms i fresh).values in
-    ap (λ (l : List SetValue). row_values low m.values ++ l) (one_mark (low + 1) ms i (omega arith))
-    ∙ sym (append_assoc (row_values low m.values) (values_from (low + 1) (take i ms)) (row_values (low + 1 + i) numbers))
-    ∙ ap (λ (j : ℕ). (row_values low m.values ++ values_from (low + 1) (take i ms)) ++ row_values j numbers) k
-
-mark_more : (marks : List Mark) (i : ℕ) (numbers : List Named) → i < length marks → numbers ≡ (get_or marks i fresh).values → values_of (take (i + 1) marks) ≡ values_of (take i marks) ++ row_values i numbers
-mark_more marks i numbers lt is =
-    let k : i + 1 ≡ suc i = omega arith in
-    let z : 0 + i ≡ i = omega arith in
-    ap (λ (j : ℕ). values_of (take j marks)) k
-    ∙ one_mark 0 marks i lt
-    ∙ ap (λ (j : ℕ). values_of (take i marks) ++ row_values j (get_or marks i fresh).values) z
-    ∙ ap (λ (l : List Named). values_of (take i marks) ++ row_values i l) (sym is)
-
-pub row_bytes : (marks : List Mark) (i : ℕ) (numbers : List Named) (old before now : List ℕ) → i < length marks → numbers ≡ (get_or marks i fresh).values
-    → before ≡ old ++ flat_map value_bytes (values_of (take i marks)) → now ≡ before ++ flat_map value_bytes (row_values i numbers) → now ≡ old ++ flat_map value_bytes (values_of (take (i + 1) marks))
-row_bytes marks i numbers old before now lt is was writes =
-    let front = values_of (take i marks) in
-    writes
-    ∙ ap (λ (l : List ℕ). l ++ flat_map value_bytes (row_values i numbers)) was
-    ∙ append_assoc old (flat_map value_bytes front) (flat_map value_bytes (row_values i numbers))
-    ∙ ap (λ (l : List ℕ). old ++ l) (sym (flat_map-append value_bytes front (row_values i numbers)))
-    ∙ ap (λ (l : List SetValue). old ++ flat_map value_bytes l) (sym (mark_more marks i numbers lt is))
-
-pub row_fits : (n : ℕ) (marks : List Mark) (i : ℕ) (numbers : List Named) → i < length marks → numbers ≡ (get_or marks i fresh).values
-    → AllByRecursion (ValueFits n) (values_of (take i marks)) → AllByRecursion (ValueFits n) (row_values i numbers) → AllByRecursion (ValueFits n) (values_of (take (i + 1) marks))
-row_fits n marks i numbers lt is all more =
-    all_same (ValueFits n) (values_of (take i marks) ++ row_values i numbers) (values_of (take (i + 1) marks)) (mark_more marks i numbers lt is)
-    (all_append (ValueFits n) (values_of (take i marks)) (row_values i numbers) all more)
-
-one_rises : (marks : List Mark) (i : ℕ) → i < length marks → names_rise (names (get_or marks i fresh).values) ≡ true → RowsNamesRise (take i marks) → RowsNamesRise (take (suc i) marks)
-one_rises [] i lt one rise = absurd (omega (arith, lt))
-one_rises (m ∷ ms) zero lt one rise = (one, tt)
-one_rises (m ∷ ms) (suc i) lt one rise = (rise.0, one_rises ms i (omega (arith, lt)) one rise.1)
-
-pub row_rises : (marks : List Mark) (i : ℕ) (numbers : List Named) → i < length marks → numbers ≡ (get_or marks i fresh).values → names_rise (names numbers) ≡ true
-    → RowsNamesRise (take i marks) → RowsNamesRise (take (i + 1) marks)
-row_rises marks i numbers lt is one rise =
-    let k : suc i ≡ i + 1 = omega arith in
-    subst (λ (j : ℕ). RowsNamesRise (take j marks)) k (one_rises marks i lt (subst (λ (ns : List Named). names_rise (names ns) ≡ true) is one) rise)
-
 -- ---- how many numbers there are
-
-abbrev Counted : List Mark → ℕ → Type 0
-Counted marks count = length (values_of marks) < 2 ^ 64 → count ≡ length (values_of marks)
-
-pub count_more : (marks : List Mark) (i count now : ℕ) (numbers : List Named) → i < length marks → numbers ≡ (get_or marks i fresh).values → now ≡ min (count + length numbers) (2 ^ 64 - 1) → Counted (take i marks) count → Counted (take (i + 1) marks) now
-count_more marks i count now numbers lt is sum was small =
-    let front = values_of (take i marks) in
-    let whole : length (values_of (take (i + 1) marks)) ≡ length front + length numbers =
-    ap length (mark_more marks i numbers lt is) ∙ length-append front (row_values i numbers) ∙ ap (λ (k : ℕ). length front + k) (length-map numbers (λ (number : Named). (i, number.0, number.1))) in
-    let before : length front < 2 ^ 64 = omega (arith, whole, small) in
-    omega (arith, whole, small, sum, was before)
 
 be32_length : (n : ℕ) → length (be32 n) ≡ 4
 unfolding be32

@@ -1,7 +1,7 @@
 //! The numbers that were set in the rows of a segment as bytes.
 ghost use Rattle.std.specs.Prelude.{◌≡◌, ℕ, ◌<◌, ◌^◌, ◌++◌, length, OnOk, IfOk};
 ghost use Rattle.std.specs.List.{flat_map, AllByRecursion};
-ghost use Rattle.live_docs.specs.Marks.{RowsNamesRise};
+ghost use Rattle.live_docs.specs.Marks.{numbered_rows, RowsNamesRise};
 ghost use Rattle.live_files.specs.LiveFits.{ValueFits, ValuesFit};
 ghost use Rattle.live_files.specs.LiveSpelling.{row_values, value_bytes, values_file, values_of};
 
@@ -11,15 +11,15 @@ use ix_base::{Name, NoMemory};
 use live_docs::LiveDocs;
 use std::alloc::Global;
 
-/// How many numbers were set in all rows, or the largest `u64` where there are more: so many don't
-/// fit in memory, since each takes some bytes of the file.
-fn count_values(rows: u32, live: &LiveDocs) -> u64
-    requires { rows ≡ length live.now.marks }
+/// How many numbers were set in all rows, of which these are the ones with numbers, or the largest
+/// `u64` where there are more: so many don't fit in memory, since each takes some bytes of the file.
+fn count_values(numbered: &[u32], live: &LiveDocs) -> u64
+    requires { numbered.now ≡ numbered_rows live.now.marks }
     ensures { length (values_of live.now.marks) < 2 ^ 64 → result ≡ length (values_of live.now.marks) }
 {
     let mut count = 0u64;
-    for row in 0..rows {
-        count = count.saturating_add(live.values(row).len() as u64);
+    for row in numbered {
+        count = count.saturating_add(live.values(*row).len() as u64);
     }
     count
 }
@@ -46,15 +46,16 @@ fn put_row_values(out: &mut Vec<u8>, row: u32, pairs: &[(Name, i64)]) -> Result<
     Ok(())
 }
 
-/// Appends the numbers of all rows. After an error a prefix of them may stand there.
-fn put_values(out: &mut Vec<u8>, rows: u32, live: &LiveDocs) -> Result<(), NoMemory>
-    requires { rows ≡ length live.now.marks }
+/// Appends the numbers of all rows, of which these are the ones with numbers. After an error a
+/// prefix of them may stand there.
+fn put_values(out: &mut Vec<u8>, numbered: &[u32], live: &LiveDocs) -> Result<(), NoMemory>
+    requires { numbered.now ≡ numbered_rows live.now.marks }
     ensures bytes { OnOk result (out.new.items ≡ out.old.items ++ flat_map value_bytes (values_of live.now.marks)) }
-    ensures fits { OnOk result (AllByRecursion (ValueFits rows) (values_of live.now.marks)) }
+    ensures fits { OnOk result (AllByRecursion (ValueFits (length live.now.marks)) (values_of live.now.marks)) }
     ensures rise { OnOk result (RowsNamesRise live.now.marks) }
 {
-    for row in 0..rows {
-        put_row_values(out, row, live.values(row))?;
+    for row in numbered {
+        put_row_values(out, *row, live.values(*row))?;
     }
     Ok(())
 }
@@ -72,12 +73,13 @@ pub fn encode_val(
     ensures file { IfOk result (λ bytes. bytes.items ≡ values_file id v rows (values_of live.now.marks)) }
     ensures fits { OnOk result (ValuesFit rows (values_of live.now.marks)) }
 {
+    let numbered = live.numbered_rows(alloc)?;
     let mut out = Vec::new(alloc);
     put_values_mark(&mut out)?;
     put_u64(&mut out, id)?;
     put_u64(&mut out, v)?;
     put_u32(&mut out, rows)?;
-    put_u64(&mut out, count_values(rows, live))?;
-    put_values(&mut out, rows, live)?;
+    put_u64(&mut out, count_values(&numbered, live))?;
+    put_values(&mut out, &numbered, live)?;
     Ok(out)
 }

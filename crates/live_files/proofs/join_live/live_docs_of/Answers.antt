@@ -1,9 +1,8 @@
-use Rattle.std.proofs.Common.{◌≡◌, ◌∙◌, List, false, length, get_or, refl, ap, sym, subst, arith}
+use Rattle.std.proofs.Common.{◌≡◌, ◌∙◌, List, false, length, get_or, refl, ap, arith}
 use Rattle.std.proofs.lemmas.Result.{IfOk-weaker}
 use Rattle.live_docs.specs.declared.live_docs.Mark.{Mark}
-use Rattle.live_docs.specs.Marks.{RowsNamesRise}
 use Rattle.live_files.specs.LiveMarks.{unrowed, own_values, marks_of}
-use Rattle.live_files.specs.LiveMarkLaws.{marks_count, marks_rise}
+use Rattle.live_files.specs.LiveMarkLaws.{marks_count}
 use Rattle.live_files.proofs.JoinLive.{join_more, join_ends, own_rises}
 use Rattle.live_files.proofs.join_live.live_docs_of.Goals as goal
 
@@ -19,16 +18,11 @@ loop-row-preserved c =
     rw c.in_ok-push.ensures.items (join_more c.args.bits.now c.loop-row.row c.loop-row.rest.now c.split_at.result.1.now c.loop-row.marks.items (marks_of c.args.bits.now c.args.values.now) (get_or c.args.bits.now c.loop-row.row false) false c.in_ok-numbers_of.field-0
     c.loop-row-test.true refl own others c.loop-row.invariant)
 
-pub from_marks-requires-clause-few : goal.from_marks-requires-clause-few
-from_marks-requires-clause-few c =
+pub from_marks-requires : goal.from_marks-requires
+from_marks-requires c =
     let all = join_ends c.args.bits.now c.loop-row.row c.loop-row.rest.now c.loop-row.marks.items (marks_of c.args.bits.now c.args.values.now) c.loop-row-test.false c.loop-row.invariant in
     let count = ap length all ∙ marks_count c.args.bits.now c.args.values.now in
     omega (arith, c.requires.few, count)
-
-pub from_marks-requires-clause-rise : goal.from_marks-requires-clause-rise
-from_marks-requires-clause-rise c =
-    let all = join_ends c.args.bits.now c.loop-row.row c.loop-row.rest.now c.loop-row.marks.items (marks_of c.args.bits.now c.args.values.now) c.loop-row-test.false c.loop-row.invariant in
-    subst RowsNamesRise (sym all) (marks_rise c.args.bits.now c.args.values.now c.requires.fit)
 
 pub returns : goal.returns
 returns c =
