@@ -1,5 +1,5 @@
 -- The numbers of the rows in which some were set are those of all rows.
-use Rattle.std.proofs.Common.{◌≡◌, ◌∙◌, ℕ, zero, suc, ◌+◌, ◌-◌, ◌^◌, ◌<◌, true, List, [], ◌∷◌, ◌++◌, length, take, get_or, min, refl, sym, ap, subst, append_assoc, arith}
+use Rattle.std.proofs.Common.{◌≡◌, ◌∙◌, ℕ, zero, suc, ◌+◌, ◌-◌, ◌^◌, ◌<◌, ◌≤◌, true, List, [], ◌∷◌, ◌++◌, length, take, get_or, min, refl, sym, ap, subst, append_assoc, arith}
 use Rattle.std.specs.Prelude.{⊤}
 use Rattle.std.specs.List.{flat_map, AllByRecursion}
 use Rattle.std.proofs.lemmas.Grind.{flat_map-append}
@@ -36,8 +36,7 @@ Agree f row (m ∷ marks) = (f row ≡ m.values) × Agree f (row + 1) marks
 agree_by : (f : ℕ → List Named) (row : ℕ) (marks : List Mark) → ((i : ℕ) → i < length marks → f (row + i) ≡ numbers_at marks i) → Agree f row marks
 agree_by f row [] each = tt
 agree_by f row (m ∷ marks) each =
-    let here : row + 0 ≡ row = omega arith in
-    (
+    let here : row + 0 ≡ row = omega arith in (
       subst (λ (k : ℕ). f k ≡ m.values) here (each 0 (omega arith)),
       agree_by f (row + 1) marks (λ i lt. let at : row + suc i ≡ row + 1 + i = omega arith in subst (λ (k : ℕ). f k ≡ numbers_at marks i) at (each (suc i) (omega (arith, lt)))),
     )
@@ -83,55 +82,54 @@ all_fit n marks rows i is le all = subst (AllByRecursion (ValueFits n)) (all_val
 -- ---- one row more
 
 -- what holds of all holds of one
-one_of : (P : ℕ → Type 0) (rows : List ℕ) (i x : ℕ) → i < length rows → x ≡ get_or rows i x → AllByRecursion P rows → P x
-one_of P [] i x lt is all = absurd (omega (arith, lt))
-one_of P (r ∷ rows) zero x lt is all = subst P (sym is) all.0
-one_of P (r ∷ rows) (suc i) x lt is all = one_of P rows i x (omega (arith, lt)) is all.1
+one_of : (P : ℕ → Type 0) (rows : List ℕ) (i : ℕ) → i < length rows → AllByRecursion P rows → P (get_or rows i 0)
+one_of P [] i lt all = absurd (omega (arith, lt))
+one_of P (r ∷ rows) zero lt all = all.0
+one_of P (r ∷ rows) (suc i) lt all = one_of P rows i (omega (arith, lt)) all.1
 
 -- a row with numbers is there
-pub row_there : (marks : List Mark) (rows : List ℕ) (i row : ℕ) → rows ≡ numbered_rows marks → i < length rows → row ≡ get_or rows i row → row < length marks
-row_there marks rows i row are lt is =
-    one_of (λ (r : ℕ). r < length marks) rows i row lt is (subst (AllByRecursion (λ (r : ℕ). r < length marks)) (sym are) (numbered_within marks))
-
-seen_more : (rows : List ℕ) (i row : ℕ) → i < length rows → row ≡ get_or rows i row → take (i + 1) rows ≡ take i rows ++ row ∷ []
-seen_more rows i row lt is = take_more rows i row lt ∙ ap (λ (r : ℕ). take i rows ++ r ∷ []) (sym is)
+pub row_there : (marks : List Mark) (rows : List ℕ) (i : ℕ) → rows ≡ numbered_rows marks → i < length rows → get_or rows i 0 < length marks
+row_there marks rows i are lt =
+    one_of (λ (r : ℕ). r < length marks) rows i lt (subst (AllByRecursion (λ (r : ℕ). r < length marks)) (sym are) (numbered_within marks))
 
 values_behind : (f : ℕ → List Named) (rows : List ℕ) (row : ℕ) → values_in f (rows ++ row ∷ []) ≡ values_in f rows ++ row_values row (f row)
 values_behind f [] row = append-nil (row_values row (f row))
 values_behind f (r ∷ rows) row =
     ap (λ (rest : List SetValue). row_values r (f r) ++ rest) (values_behind f rows row) ∙ sym (append_assoc (row_values r (f r)) (values_in f rows) (row_values row (f row)))
 
-values_more : (f : ℕ → List Named) (rows : List ℕ) (i row : ℕ) (numbers : List Named) → i < length rows → row ≡ get_or rows i row → numbers ≡ f row
-    → values_in f (take (i + 1) rows) ≡ values_in f (take i rows) ++ row_values row numbers
-values_more f rows i row numbers lt is own =
-    ap (values_in f) (seen_more rows i row lt is)
-    ∙ values_behind f (take i rows) row
-    ∙ ap (λ (ns : List Named). values_in f (take i rows) ++ row_values row ns) (sym own)
+values_more : (f : ℕ → List Named) (rows : List ℕ) (i : ℕ) (numbers : List Named) → i < length rows → numbers ≡ f (get_or rows i 0)
+    → values_in f (take (i + 1) rows) ≡ values_in f (take i rows) ++ row_values (get_or rows i 0) numbers
+values_more f rows i numbers lt own =
+    ap (values_in f) (take_more rows i 0 lt)
+    ∙ values_behind f (take i rows) (get_or rows i 0)
+    ∙ ap (λ (ns : List Named). values_in f (take i rows) ++ row_values (get_or rows i 0) ns) (sym own)
 
-pub row_bytes : (f : ℕ → List Named) (rows : List ℕ) (i row : ℕ) (numbers : List Named) (old before now : List ℕ) → i < length rows → row ≡ get_or rows i row → numbers ≡ f row
-    → before ≡ old ++ flat_map value_bytes (values_in f (take i rows)) → now ≡ before ++ flat_map value_bytes (row_values row numbers) → now ≡ old ++ flat_map value_bytes (values_in f (take (i + 1) rows))
-row_bytes f rows i row numbers old before now lt is own was writes =
+pub row_bytes : (f : ℕ → List Named) (rows : List ℕ) (i : ℕ) (numbers : List Named) (old before now : List ℕ) → i < length rows → numbers ≡ f (get_or rows i 0)
+    → before ≡ old ++ flat_map value_bytes (values_in f (take i rows)) → now ≡ before ++ flat_map value_bytes (row_values (get_or rows i 0) numbers)
+    → now ≡ old ++ flat_map value_bytes (values_in f (take (i + 1) rows))
+row_bytes f rows i numbers old before now lt own was writes =
     let front = values_in f (take i rows) in
+    let more = row_values (get_or rows i 0) numbers in
     writes
-    ∙ ap (λ (l : List ℕ). l ++ flat_map value_bytes (row_values row numbers)) was
-    ∙ append_assoc old (flat_map value_bytes front) (flat_map value_bytes (row_values row numbers))
-    ∙ ap (λ (l : List ℕ). old ++ l) (sym (flat_map-append value_bytes front (row_values row numbers)))
-    ∙ ap (λ (l : List SetValue). old ++ flat_map value_bytes l) (sym (values_more f rows i row numbers lt is own))
+    ∙ ap (λ (l : List ℕ). l ++ flat_map value_bytes more) was
+    ∙ append_assoc old (flat_map value_bytes front) (flat_map value_bytes more)
+    ∙ ap (λ (l : List ℕ). old ++ l) (sym (flat_map-append value_bytes front more))
+    ∙ ap (λ (l : List SetValue). old ++ flat_map value_bytes l) (sym (values_more f rows i numbers lt own))
 
-pub row_fits : (n : ℕ) (f : ℕ → List Named) (rows : List ℕ) (i row : ℕ) (numbers : List Named) → i < length rows → row ≡ get_or rows i row → numbers ≡ f row
-    → AllByRecursion (ValueFits n) (values_in f (take i rows)) → AllByRecursion (ValueFits n) (row_values row numbers) → AllByRecursion (ValueFits n) (values_in f (take (i + 1) rows))
-row_fits n f rows i row numbers lt is own all more =
-    all_same (ValueFits n) (values_in f (take i rows) ++ row_values row numbers) (values_in f (take (i + 1) rows)) (values_more f rows i row numbers lt is own)
-    (all_append (ValueFits n) (values_in f (take i rows)) (row_values row numbers) all more)
+pub row_fits : (n : ℕ) (f : ℕ → List Named) (rows : List ℕ) (i : ℕ) (numbers : List Named) → i < length rows → numbers ≡ f (get_or rows i 0)
+    → AllByRecursion (ValueFits n) (values_in f (take i rows)) → AllByRecursion (ValueFits n) (row_values (get_or rows i 0) numbers) → AllByRecursion (ValueFits n) (values_in f (take (i + 1) rows))
+row_fits n f rows i numbers lt own all more =
+    all_same (ValueFits n) (values_in f (take i rows) ++ row_values (get_or rows i 0) numbers) (values_in f (take (i + 1) rows)) (values_more f rows i numbers lt own)
+    (all_append (ValueFits n) (values_in f (take i rows)) (row_values (get_or rows i 0) numbers) all more)
 
 rise_behind : (f : ℕ → List Named) (rows : List ℕ) (row : ℕ) → NamesRiseIn f rows → names_rise (names (f row)) ≡ true → NamesRiseIn f (rows ++ row ∷ [])
 rise_behind f [] row all one = (one, tt)
 rise_behind f (r ∷ rows) row all one = (all.0, rise_behind f rows row all.1 one)
 
-pub row_rises : (f : ℕ → List Named) (rows : List ℕ) (i row : ℕ) (numbers : List Named) → i < length rows → row ≡ get_or rows i row → numbers ≡ f row → names_rise (names numbers) ≡ true
+pub row_rises : (f : ℕ → List Named) (rows : List ℕ) (i : ℕ) (numbers : List Named) → i < length rows → numbers ≡ f (get_or rows i 0) → names_rise (names numbers) ≡ true
     → NamesRiseIn f (take i rows) → NamesRiseIn f (take (i + 1) rows)
-row_rises f rows i row numbers lt is own one all =
-    subst (NamesRiseIn f) (sym (seen_more rows i row lt is)) (rise_behind f (take i rows) row all (subst (λ (ns : List Named). names_rise (names ns) ≡ true) own one))
+row_rises f rows i numbers lt own one all =
+    subst (NamesRiseIn f) (sym (take_more rows i 0 lt)) (rise_behind f (take i rows) (get_or rows i 0) all (subst (λ (ns : List Named). names_rise (names ns) ≡ true) own one))
 
 -- ---- how many numbers there are
 
@@ -139,12 +137,13 @@ row_rises f rows i row numbers lt is own one all =
 abbrev pub Counted : List SetValue → ℕ → Type 0
 Counted values count = length values < 2 ^ 64 → count ≡ length values
 
-pub count_more : (f : ℕ → List Named) (rows : List ℕ) (i row count now : ℕ) (numbers : List Named) → i < length rows → row ≡ get_or rows i row → numbers ≡ f row → now ≡ min (count + length numbers) (2 ^ 64 - 1)
+pub count_more : (f : ℕ → List Named) (rows : List ℕ) (i count now : ℕ) (numbers : List Named) → i < length rows → numbers ≡ f (get_or rows i 0) → now ≡ min (count + length numbers) (2 ^ 64 - 1)
     → Counted (values_in f (take i rows)) count → Counted (values_in f (take (i + 1) rows)) now
-count_more f rows i row count now numbers lt is own sum was small =
+count_more f rows i count now numbers lt own sum was small =
     let front = values_in f (take i rows) in
+    let row = get_or rows i 0 in
     let whole : length (values_in f (take (i + 1) rows)) ≡ length front + length numbers =
-    ap length (values_more f rows i row numbers lt is own) ∙ length-append front (row_values row numbers) ∙ ap (λ (k : ℕ). length front + k) (length-map numbers (λ (number : Named). (row, number.0, number.1))) in
+    ap length (values_more f rows i numbers lt own) ∙ length-append front (row_values row numbers) ∙ ap (λ (k : ℕ). length front + k) (length-map numbers (λ (number : Named). (row, number.0, number.1))) in
     let before : length front < 2 ^ 64 = omega (arith, whole, small) in
     omega (arith, whole, small, sum, was before)
 

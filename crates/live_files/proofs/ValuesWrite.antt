@@ -1,16 +1,15 @@
 -- The bytes of set numbers, as a loop over rows and one over the numbers of a row make them.
-use Rattle.std.proofs.Common.{◌≡◌, ℕ, zero, suc, ◌+◌, ◌-◌, ◌^◌, ◌<◌, ◌≤◌, true, List, [], ◌∷◌, ◌++◌, length, map, take, get_or, Option, Some, None, min, refl, sym, ap, subst, ◌∙◌, append_assoc, arith, inl, inr}
+use Rattle.std.proofs.Common.{◌≡◌, ℕ, zero, suc, ◌+◌, ◌^◌, ◌<◌, ◌≤◌, true, List, [], ◌∷◌, ◌++◌, length, map, take, get_or, Option, Some, None, refl, sym, ap, ◌∙◌, append_assoc, arith, inl, inr}
 use Rattle.std.specs.Prelude.{ℤ, ⊤}
 use Rattle.std.specs.List.{flat_map, AllByRecursion}
 use Rattle.std.proofs.lemmas.Bool.{and_parts}
-use Rattle.std.proofs.lemmas.Grind.{flat_map-append}
-use Rattle.std.proofs.lemmas.List.{append-nil, length-append, length-map, flat_map_more}
+use Rattle.std.proofs.lemmas.List.{length-append, flat_map_more}
 use Rattle.std.proofs.lemmas.List.Concat.{flat_map-cons}
 use Rattle.ix_base.specs.ItemLaws.{AllGood}
 use Rattle.ix_base.specs.Limits.{text_lt, rise_after, names_rise}
 use Rattle.ix_base.specs.Spelling.{be32, signed64, text_bytes}
 use Rattle.ix_base.specs.Steps.{Named}
-use Rattle.live_docs.specs.Marks.{fresh, RowsNamesRise}
+use Rattle.live_docs.specs.Marks.{RowsNamesRise}
 use Rattle.live_docs.specs.declared.live_docs.Mark.{Mark}
 use Rattle.live_files.specs.LiveSpelling.{SetValue, value_bytes, row_values, values_from, values_of}
 use Rattle.live_files.specs.LiveFits.{IsBefore, ValueFits, ValuesFit}

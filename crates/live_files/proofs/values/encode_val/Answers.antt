@@ -1,6 +1,7 @@
-use Rattle.std.proofs.Common.{◌≡◌, ◌<◌, ◌^◌, ◌++◌, ℕ, length, ap, ◌∙◌, arith}
-use Rattle.std.specs.List.{flat_map}
+use Rattle.std.proofs.Common.{◌≡◌, ◌<◌, ◌^◌, ◌++◌, ℕ, length, sym, ap, subst, ◌∙◌, arith}
+use Rattle.std.specs.List.{flat_map, AllByRecursion}
 use Rattle.ix_base.specs.Spelling.{be32, be64}
+use Rattle.live_files.specs.LiveFits.{ValueFits}
 use Rattle.live_files.specs.LiveSpelling.{values_mark, value_bytes, values_of}
 use Rattle.live_files.proofs.ValuesWrite.{few, in_order, values_fit}
 use Rattle.live_files.proofs.values.encode_val.Goals as goal
@@ -18,5 +19,7 @@ returns-clause-file c =
 
 pub returns-clause-fits : goal.returns-clause-fits
 returns-clause-fits c =
+    let values = values_of c.args.live.now.marks in
     let short : length c.put_values.new.out.items < 2 ^ 64 = omega arith in
-    values_fit c.args.rows c.args.live.now.marks (few (values_of c.args.live.now.marks) c.put_values.new.out.items c.put_u64-3.new.out.items c.in_ok-put_values.ensures.bytes short) c.in_ok-put_values.ensures.fits c.in_ok-put_values.ensures.rise
+    let each : AllByRecursion (ValueFits c.args.rows) values = subst (λ (n : ℕ). AllByRecursion (ValueFits n) values) (sym c.requires) c.in_ok-put_values.ensures.fits in
+    values_fit c.args.rows c.args.live.now.marks (few values c.put_values.new.out.items c.put_u64-3.new.out.items c.in_ok-put_values.ensures.bytes short) each c.in_ok-put_values.ensures.rise

@@ -5,18 +5,18 @@ use Rattle.live_files.proofs.NumberedValues.{numbers_at, row_there, row_bytes, r
 use Rattle.live_files.proofs.values.put_values.Goals as goal
 
 pub values-requires : goal.values-requires
-values-requires c = row_there c.args.live.now.marks c.args.numbered.now c.loop-row.row-index c.row-item.result c.requires c.loop-row-test.true c.row-item.is
+values-requires c = row_there c.args.live.now.marks c.args.numbered.now c.loop-row.row-index c.requires c.loop-row-test.true
 
 pub loop-row-preserved : goal.loop-row-preserved
 loop-row-preserved c =
-    let there = row_there c.args.live.now.marks c.args.numbered.now c.loop-row.row-index c.row-item.result c.requires c.loop-row-test.true c.row-item.is in
+    let there = row_there c.args.live.now.marks c.args.numbered.now c.loop-row.row-index c.requires c.loop-row-test.true in
     record {
-      bytes = row_bytes (numbers_at c.args.live.now.marks) c.args.numbered.now c.loop-row.row-index c.row-item.result c.values.result.now c.args.out.now.items c.loop-row.out.items c.put_row_values.new.out.items
-          c.loop-row-test.true c.row-item.is c.values.ensures.values c.loop-row.invariant.bytes c.in_ok-put_row_values.ensures.bytes;
-      fits = row_fits _ (numbers_at c.args.live.now.marks) c.args.numbered.now c.loop-row.row-index c.row-item.result c.values.result.now
-          c.loop-row-test.true c.row-item.is c.values.ensures.values c.loop-row.invariant.fits (c.in_ok-put_row_values.ensures.fits _ there);
-      rise = row_rises (numbers_at c.args.live.now.marks) c.args.numbered.now c.loop-row.row-index c.row-item.result c.values.result.now
-          c.loop-row-test.true c.row-item.is c.values.ensures.values c.values.ensures.rise c.loop-row.invariant.rise;
+      bytes = row_bytes (numbers_at c.args.live.now.marks) c.args.numbered.now c.loop-row.row-index c.values.result.now c.args.out.now.items c.loop-row.out.items c.put_row_values.new.out.items
+          c.loop-row-test.true c.values.ensures.values c.loop-row.invariant.bytes c.in_ok-put_row_values.ensures.bytes;
+      fits = row_fits _ (numbers_at c.args.live.now.marks) c.args.numbered.now c.loop-row.row-index c.values.result.now
+          c.loop-row-test.true c.values.ensures.values c.loop-row.invariant.fits (c.in_ok-put_row_values.ensures.fits _ there);
+      rise = row_rises (numbers_at c.args.live.now.marks) c.args.numbered.now c.loop-row.row-index c.values.result.now
+          c.loop-row-test.true c.values.ensures.values c.values.ensures.rise c.loop-row.invariant.rise;
     }
 
 pub returns-clause-bytes : goal.returns-clause-bytes
