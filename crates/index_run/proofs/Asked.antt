@@ -9,9 +9,9 @@ use Rattle.op_script.specs.declared.script.Line.{Line}
 use Rattle.run_report.specs.declared.outcome.Answer.TheVariants.{Searched}
 use Rattle.run_report.specs.declared.outcome.Outcome.{Outcome}
 use Rattle.index_run.specs.Damage.{IsAsked}
-use Rattle.index_run.specs.Numbering.{numbered}
+use Rattle.run_log.specs.Numbering.{numbered}
 use Rattle.index_run.specs.Outcomes.{IsAskedFor, commit_after}
-use Rattle.index_run.specs.Report.{last_commit}
+use Rattle.run_log.specs.Report.{last_commit}
 use Rattle.index_run.proofs.Told.{last_is}
 
 pub is_asked : (base : ℕ) (lines : List Line) (outcomes : List Outcome) (o : Outcome) (number : ℕ) (query : Query) → LinesRise 1 lines

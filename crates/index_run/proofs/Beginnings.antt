@@ -16,8 +16,8 @@ use Rattle.index_writer.specs.declared.writer.IndexWriter.{IndexWriter}
 use Rattle.index_writer.specs.Writing.{IsCommitOf, StandsFor}
 use Rattle.index_run.specs.Beginning.{BeginsOn, last_or_zero}
 use Rattle.index_run.specs.Doing.{CanBegin, GoesOn, HasLast, IsOnGiven, Starts}
-use Rattle.index_run.specs.Given.{Given, CanRun, HasNoCommit, IsLast, IsOn}
-use Rattle.index_run.specs.Headline.{GivesBack}
+use Rattle.run_log.specs.Given.{Given, CanRun, HasNoCommit, IsLast, IsOn}
+use Rattle.run_log.specs.Headline.{GivesBack}
 use Rattle.index_run.proofs.Held.{none_of}
 use Rattle.index_run.proofs.Kept.{listed_below, nat_or}
 use Rattle.index_run.proofs.Searchable.{IsOnInverted, on_rows}

@@ -22,9 +22,9 @@ use Rattle.op_script.specs.declared.script.Act.{Act}
 use Rattle.op_script.specs.declared.script.Act.TheVariants.{Do}
 use Rattle.run_report.specs.declared.outcome.Outcome.{Outcome}
 use Rattle.index_run.specs.Doing.{AreMade, CanBegin, IsMade, IsOnGiven, MayLeave, Starts, next_number}
-use Rattle.index_run.specs.Given.{Given, IsKept}
-use Rattle.index_run.specs.Headline.{HasSome}
-use Rattle.index_run.specs.Numbering.{is_numbered, numbered, commit_numbers}
+use Rattle.run_log.specs.Given.{Given, IsKept}
+use Rattle.run_log.specs.Headline.{HasSome}
+use Rattle.run_log.specs.Numbering.{is_numbered, numbered, commit_numbers}
 use Rattle.index_run.specs.Outcomes.{number_after, rows_after}
 use Rattle.index_run.proofs.Far.{Far, commits_or, count_commit, numbers_more}
 use Rattle.index_run.proofs.Held.{HasOnly, at_given, has_first, only_image, starts_there}

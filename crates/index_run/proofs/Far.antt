@@ -20,7 +20,7 @@ use Rattle.op_script.specs.declared.script.Act.TheVariants.{Do, Search}
 use Rattle.run_report.specs.declared.outcome.Outcome.{Outcome}
 use Rattle.run_report.specs.declared.outcome.Answer.{Answer}
 use Rattle.run_report.specs.declared.outcome.Answer.TheVariants.{Searched}
-use Rattle.index_run.specs.Numbering.{is_numbered, is_commit, numbered, operations, commit_numbers}
+use Rattle.run_log.specs.Numbering.{is_numbered, is_commit, numbered, operations, commit_numbers}
 use Rattle.index_run.specs.Outcomes.{AsksFor, IsAskedFor, number_after, rows_after, commit_after, outcome_of, answer_of, told_answer, done_answer, outcomes_from}
 use Rattle.index_run.specs.Doing.{CanBegin, IsOnNext, WriterAfter, Writes, answer_by, lasts_after}
 use Rattle.index_run.proofs.Kept.{AllBelow, all_push, below-push, below-widen}

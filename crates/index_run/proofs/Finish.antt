@@ -29,11 +29,11 @@ use Rattle.index_run.specs.Causes.{IsBadIn, IsOneOf, stop_status}
 use Rattle.index_run.specs.Damage.{FindsDamage}
 use Rattle.index_run.specs.Doing.{AreMade, DoesLines, HasRows, IsOnGiven}
 use Rattle.index_run.specs.Endings.{Caused, Met}
-use Rattle.index_run.specs.Given.{Given, CanRun, IsKept, IsOn}
-use Rattle.index_run.specs.Headline.{GivesBack, HasAll, HasSome, Keeps, Runs, Stops}
-use Rattle.index_run.specs.Numbering.{Interleaves, numbered, commit_numbers}
+use Rattle.run_log.specs.Given.{Given, CanRun, IsKept, IsOn}
+use Rattle.run_log.specs.Headline.{GivesBack, HasAll, HasSome, Keeps, Runs, Stops}
+use Rattle.run_log.specs.Numbering.{Interleaves, numbered, commit_numbers}
 use Rattle.index_run.specs.Outcomes.{IsAskedFor, outcomes_from}
-use Rattle.index_run.specs.Report.{report}
+use Rattle.run_log.specs.Report.{report}
 use Rattle.index_run.specs.Words.{IsAccepted}
 use Rattle.index_run.proofs.Beginnings.{begins_inverted}
 use Rattle.index_run.proofs.Held.{at_both, has_none, only_image, only_itself}

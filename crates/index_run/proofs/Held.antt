@@ -14,9 +14,9 @@ use Rattle.commit_point.specs.Holds.{HoldsInverted, HasSegments, HaveSegments, I
 use Rattle.index_writer.specs.declared.writer.IndexWriter.{IndexWriter}
 use Rattle.op_script.specs.declared.script.Line.{Line}
 use Rattle.index_run.specs.Doing.{AreMade, CanBegin, GoesOn, HasLast, IsMade, IsOnGiven, Starts}
-use Rattle.index_run.specs.Given.{Given, IsKept}
-use Rattle.index_run.specs.Headline.{HasFirst, HasSome, IsNewCommit}
-use Rattle.index_run.specs.Numbering.{commit_numbers, rows_at}
+use Rattle.run_log.specs.Given.{Given, IsKept}
+use Rattle.run_log.specs.Headline.{HasFirst, HasSome, IsNewCommit}
+use Rattle.run_log.specs.Numbering.{commit_numbers, rows_at}
 use Rattle.index_run.proofs.Kept.{Rowed, holds_of, keeps_itself}
 
 -- ---- what a commit holds, an image that keeps it holds

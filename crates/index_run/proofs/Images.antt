@@ -19,9 +19,9 @@ use Rattle.op_script.specs.declared.script.Act.{Act}
 use Rattle.op_script.specs.declared.script.Act.TheVariants.{Do, Search}
 use Rattle.run_report.specs.declared.outcome.Outcome.{Outcome}
 use Rattle.index_run.specs.Doing.{AreMade, CanBegin, DiskAfter, DoesLines, GoesOn, HasLast, HasRows, IsMade, IsOnGiven, IsOnNext, MakesCommit, MayLeave, Starts, WriterAfter, next_number}
-use Rattle.index_run.specs.Given.{Given, IsKept}
-use Rattle.index_run.specs.Headline.{HasAll}
-use Rattle.index_run.specs.Numbering.{is_commit, numbered, commit_numbers, rows_at}
+use Rattle.run_log.specs.Given.{Given, IsKept}
+use Rattle.run_log.specs.Headline.{HasAll}
+use Rattle.run_log.specs.Numbering.{is_commit, numbered, commit_numbers, rows_at}
 use Rattle.index_run.specs.Outcomes.{number_after, rows_after}
 use Rattle.index_run.proofs.Far.{Far, commits_or, last_next, last_same, numbers_more, numbers_same}
 use Rattle.index_run.proofs.Held.{HasOnly, at_given, goes_on_there, has_first, only_image, only_itself, starts_there}

@@ -19,8 +19,8 @@ use Rattle.index_writer.specs.Storing.{IsStored, SameBelow}
 use Rattle.index_writer.specs.Writing.{IsCommitOf}
 use Rattle.op_script.specs.declared.script.Line.{Line}
 use Rattle.index_run.specs.Doing.{AreMade, IsMade, Starts}
-use Rattle.index_run.specs.Numbering.{rows_at}
-use Rattle.index_run.specs.Headline.{IsIn}
+use Rattle.run_log.specs.Numbering.{rows_at}
+use Rattle.run_log.specs.Headline.{IsIn}
 
 pub nat_or : (s t : ℕ) → (s ≡ t) ⊎ (s ≢ t)
 nat_or s t = elim (cases_lt s t) [

@@ -10,7 +10,7 @@ use Rattle.op_script.specs.declared.script.Line.{Line}
 use Rattle.op_script.specs.declared.script.Act.{Act}
 use Rattle.op_script.specs.declared.script.Act.TheVariants.{Do, Search}
 use Rattle.run_report.specs.declared.outcome.Outcome.{Outcome}
-use Rattle.index_run.specs.Numbering.{is_numbered, is_commit, numbered, operations, act_operation, commit_numbers, rows_at}
+use Rattle.run_log.specs.Numbering.{is_numbered, is_commit, numbered, operations, act_operation, commit_numbers, rows_at}
 use Rattle.index_run.specs.Outcomes.{number_after, rows_after, commit_after, outcome_of, outcomes_from}
 
 -- a line that gets no number adds nothing, and one that does adds itself

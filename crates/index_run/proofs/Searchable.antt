@@ -15,9 +15,9 @@ use Rattle.run_report.specs.declared.outcome.Answer.TheVariants.{Numbered, Commi
 use Rattle.run_report.specs.declared.outcome.Outcome.{Outcome}
 use Rattle.run_report.specs.Searching.{AnswerHolds, AnswerReads, CanRead, CanSearch, HoldsCommit, ReadsCommit}
 use Rattle.index_run.specs.Doing.{AreMade, IsMade}
-use Rattle.index_run.specs.Given.{Given, HasNoCommit, IsOn}
-use Rattle.index_run.specs.Headline.{HasAll, IsIn, IsNewCommit}
-use Rattle.index_run.specs.Numbering.{is_numbered, is_commit, numbered, operations, commit_numbers}
+use Rattle.run_log.specs.Given.{Given, HasNoCommit, IsOn}
+use Rattle.run_log.specs.Headline.{HasAll, IsIn, IsNewCommit}
+use Rattle.run_log.specs.Numbering.{is_numbered, is_commit, numbered, operations, commit_numbers}
 use Rattle.index_run.specs.Outcomes.{AsksFor, IsAskedFor, commit_after}
 use Rattle.index_run.proofs.Held.{inverted_there}
 use Rattle.index_run.proofs.SomeRows.{some_rows}

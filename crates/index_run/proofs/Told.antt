@@ -16,9 +16,9 @@ use Rattle.op_script.specs.Shape.{LinesRise}
 use Rattle.op_script.specs.declared.script.Line.{Line}
 use Rattle.op_script.specs.declared.script.Act.{Act}
 use Rattle.op_script.specs.declared.script.Act.TheVariants.{Do, Search}
-use Rattle.index_run.specs.Numbering.{is_numbered, is_commit, numbered, operations, number_of, rows_at}
+use Rattle.run_log.specs.Numbering.{is_numbered, is_commit, numbered, operations, number_of, rows_at}
 use Rattle.report_text.specs.Lines.{text_line, write_value, commit_value, search_value}
-use Rattle.index_run.specs.Report.{report_from, act_text, done_text, told_text, last_commit}
+use Rattle.run_log.specs.Report.{report_from, act_text, done_text, told_text, last_commit}
 use Rattle.run_report.specs.Texts.{outcome_text, answer_text, texts}
 use Rattle.index_run.specs.Outcomes.{number_after, rows_after, commit_after, outcome_of, outcomes_from, answer_of, told_answer, done_answer}
 use Rattle.index_run.proofs.Log.{numbered-same, number_after-push, rows_after-push, rows_at-front}

@@ -5,7 +5,7 @@ use Rattle.ix_outside.specs.Files.{Files, Was}
 use Rattle.searcher.specs.Searching.{IsDamagedIn}
 use Rattle.index_writer.specs.declared.writer.IndexWriter.{IndexWriter}
 use Rattle.index_run.specs.Doing.{HasLast}
-use Rattle.index_run.specs.Given.{IsLast}
+use Rattle.run_log.specs.Given.{IsLast}
 
 -- the writer is on the commit `base`, or on none
 pub record BeginsOn (files : Files) (base next : ℕ) (w : IndexWriter) : Type 0 where

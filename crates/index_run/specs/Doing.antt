@@ -23,9 +23,9 @@ use Rattle.op_script.specs.declared.script.Act.TheVariants.{Do, Search}
 use Rattle.op_script.specs.declared.script.Line.{Line}
 use Rattle.run_report.specs.declared.outcome.Answer.{Answer}
 use Rattle.run_report.specs.declared.outcome.Answer.TheVariants.{Searched}
-use Rattle.index_run.specs.Given.{Given}
-use Rattle.index_run.specs.Headline.{IsIn}
-use Rattle.index_run.specs.Numbering.{numbered, commit_numbers, rows_at}
+use Rattle.run_log.specs.Given.{Given}
+use Rattle.run_log.specs.Headline.{IsIn}
+use Rattle.run_log.specs.Numbering.{numbered, commit_numbers, rows_at}
 use Rattle.index_run.specs.Outcomes.{told_answer, done_answer}
 
 -- ---- what a run begins on and goes on from

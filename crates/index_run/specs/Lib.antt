@@ -1,8 +1,4 @@
 pub mod Words
-pub mod Numbering
-pub mod Report
-pub mod Given
-pub mod Headline
 pub mod Causes
 pub mod Outcomes
 pub mod Doing

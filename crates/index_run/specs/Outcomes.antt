@@ -13,7 +13,7 @@ use Rattle.op_script.specs.declared.script.Act.TheVariants.{Do, Search}
 use Rattle.run_report.specs.declared.outcome.Outcome.{Outcome}
 use Rattle.run_report.specs.declared.outcome.Answer.{Answer}
 use Rattle.run_report.specs.declared.outcome.Answer.TheVariants.{Numbered, Committed, Refused, Searched}
-use Rattle.index_run.specs.Numbering.{is_numbered, is_commit, numbered, operations}
+use Rattle.run_log.specs.Numbering.{is_numbered, is_commit, numbered, operations}
 
 -- the last number after these lines
 abbrev pub number_after : ℕ → List Line → ℕ

@@ -7,7 +7,7 @@ ghost use Rattle.ix_outside.specs.Files.{Files};
 ghost use Rattle.commit_point.specs.Holds.{Holds, HoldsInverted};
 ghost use Rattle.ix_base.specs.declared.damaged.Damaged.{Damaged};
 ghost use Rattle.index_writer.specs.Writing.{StandsFor};
-ghost use Rattle.index_run.specs.Given.{Given, CanRun, IsLast, IsOn};
+ghost use Rattle.run_log.specs.Given.{Given, CanRun, IsLast, IsOn};
 ghost use Rattle.index_run.specs.Causes.{IsOneOf, stop_status};
 ghost use Rattle.searcher.specs.Searching.{IsDamagedIn};
 ghost use Rattle.index_run.specs.Beginning.{BeginsOn, IsBase, IsHighBase, IsDamagedBase, last_or_zero};

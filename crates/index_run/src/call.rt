@@ -8,8 +8,8 @@ ghost use Rattle.op_script.specs.declared.script.BadLine.{BadLine};
 ghost use Rattle.report_text.specs.Faults.{fault_text, status_of};
 ghost use Rattle.index_run.specs.Causes.{IsOneOf, TakesUpTo, WritesFront};
 ghost use Rattle.index_run.specs.Endings.{EndsBy};
-ghost use Rattle.index_run.specs.Given.{Given, CanEnd, CanRun, IsGiven};
-ghost use Rattle.index_run.specs.Headline.{Keeps, Runs, Stops};
+ghost use Rattle.run_log.specs.Given.{Given, CanEnd, CanRun, IsGiven};
+ghost use Rattle.run_log.specs.Headline.{Keeps, Runs, Stops};
 ghost use Rattle.index_run.specs.Words.{IsAccepted};
 
 use crate::output::write_all;

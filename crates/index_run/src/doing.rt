@@ -12,8 +12,8 @@ ghost use Rattle.run_report.specs.Texts.{texts};
 ghost use Rattle.index_run.specs.Beginning.{IsHighBase};
 ghost use Rattle.index_run.specs.Causes.{IsOneOf, stop_status};
 ghost use Rattle.index_run.specs.Damage.{ReadsDamaged};
-ghost use Rattle.index_run.specs.Given.{Given, CanEnd, CanRun, IsLast};
-ghost use Rattle.index_run.specs.Headline.{Keeps, Runs, Stops};
+ghost use Rattle.run_log.specs.Given.{Given, CanEnd, CanRun, IsLast};
+ghost use Rattle.run_log.specs.Headline.{Keeps, Runs, Stops};
 
 use crate::begin::begin;
 use crate::lines::do_lines;

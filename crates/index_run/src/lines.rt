@@ -15,9 +15,9 @@ ghost use Rattle.index_writer.specs.Writing.{IsReady, StandsFor};
 ghost use Rattle.op_script.specs.Shape.{AreScriptLines};
 ghost use Rattle.index_run.specs.Doing.{CanBegin, DiskAfter, DoesLines, HasLast, IsOnGiven, MayLeave, WriterAfter};
 ghost use Rattle.index_run.specs.Doing.{answer_by, lasts_after};
-ghost use Rattle.index_run.specs.Given.{Given, IsKept};
-ghost use Rattle.index_run.specs.Headline.{GivesBack, HasAll, HasSome};
-ghost use Rattle.index_run.specs.Numbering.{numbered};
+ghost use Rattle.run_log.specs.Given.{Given, IsKept};
+ghost use Rattle.run_log.specs.Headline.{GivesBack, HasAll, HasSome};
+ghost use Rattle.run_log.specs.Numbering.{numbered};
 ghost use Rattle.index_run.specs.Outcomes.{IsAskedFor, outcomes_from};
 
 use index_writer::IndexWriter;

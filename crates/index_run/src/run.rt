@@ -7,8 +7,8 @@ ghost use Rattle.op_script.specs.declared.script.BadLine.{BadLine};
 ghost use Rattle.report_text.specs.declared.fault.Fault.{Fault};
 ghost use Rattle.index_run.specs.Causes.{IsOneOf, TakesUpTo, stop_status};
 ghost use Rattle.index_run.specs.Endings.{Caused};
-ghost use Rattle.index_run.specs.Given.{Given, CanEnd, CanRun, IsGiven};
-ghost use Rattle.index_run.specs.Headline.{Keeps, Runs, Stops};
+ghost use Rattle.run_log.specs.Given.{Given, CanEnd, CanRun, IsGiven};
+ghost use Rattle.run_log.specs.Headline.{Keeps, Runs, Stops};
 ghost use Rattle.index_run.specs.Words.{IsAccepted};
 
 use crate::doing::do_script;

@@ -3,7 +3,7 @@ use Rattle.std.proofs.Common.{◌≡◌, ℕ, ◌+◌, List, [], ◌∷◌, ◌+
 use Rattle.delete_queue.specs.declared.queue.DeleteQueue.{DeleteQueue}
 use Rattle.delete_queue.specs.declared.seat.Seat.{Seat}
 use Rattle.delete_queue.specs.Making.{IsNew}
-use Rattle.delete_queue.specs.Seats.{IsSeatOf, number_of}
+use Rattle.delete_queue.specs.Seats.{IsSeatOf, number_of, own_of}
 use Rattle.thread_writer.specs.declared.writer.ThreadWriter.{ThreadWriter}
 use Rattle.thread_writer.specs.Writing.{Did, IsWriter, parts_of}
 use Rattle.round_writer.specs.Rounds.{AreBegunFrom, IsBegunWriter}
@@ -21,5 +21,6 @@ made q size n s w new is size_is ready = record {
   number_is = subst (λ (t : Seat). number_of t ≡ n) (sym is) new.number;
   writer = (ready q new.seat).0;
   did = (ready q new.seat).1;
+  own = subst (λ (t : Seat). own_of t ≡ []) (sym is) new.own;
   size_is = size_is;
 }

@@ -4,4 +4,5 @@ mod Opening
 mod Taking
 mod Committing
 mod Following
-mod Working
+mod AtWork
+mod Opened

@@ -7,7 +7,7 @@ use Rattle.ix_base.specs.declared.document.Operation.{Operation}
 use Rattle.ix_base.specs.declared.document.Operation.TheVariants.{Commit}
 use Rattle.ix_outside.specs.Files.{Files}
 use Rattle.delete_queue.specs.declared.queue.DeleteQueue.{DeleteQueue}
-use Rattle.delete_queue.specs.Seats.{base_of, seats_of, number_of}
+use Rattle.delete_queue.specs.Seats.{base_of, number_of, own_of, seats_of}
 use Rattle.row_fates.specs.Fate.{Numbered, rows_added}
 use Rattle.thread_writer.specs.declared.piece.Piece.{Piece}
 use Rattle.thread_writer.specs.declared.writer.ThreadWriter.{ThreadWriter}
@@ -22,11 +22,13 @@ use Rattle.round_writer.specs.Ready.{HasRows, IsStored}
 
 -- ---- a round that was begun
 
--- A writer of the queue that was told nothing and gave nothing off, with this seat number and size of its buffer.
+-- A writer of the queue that was told nothing, linked nothing and gave nothing off, with this seat number and size of its
+-- buffer.
 pub record IsBegunWriter (q : DeleteQueue) (size number : ℕ) (w : ThreadWriter) : Type 0 where
   pub number_is : number_of w.seat ≡ number
   pub writer : IsWriter q w
   pub did : Did q (parts_of w) [] []
+  pub own : own_of w.seat ≡ []
   pub size_is : w.size ≡ size
 
 -- such writers with the seat numbers from this one on, one after another

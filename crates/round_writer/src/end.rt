@@ -5,6 +5,7 @@ ghost use Rattle.row_fates.specs.Fate.{Numbered};
 ghost use Rattle.round_writer.specs.Rounds.{ArePartsOf, Ends};
 ghost use Rattle.round_writer.specs.Ready.{IsReady, IsSound};
 ghost use Rattle.round_writer.specs.Ending.{IsGathered, end_of, with_none};
+ghost use Rattle.round_writer.specs.Working.{IsStuck};
 
 use crate::ending::{Gathered, gather};
 use crate::fault::{EndRefused, WriterFault};
@@ -49,6 +50,8 @@ impl<S> IndexWriter<S> {
         ensures left { self.old.state.closed ≡ false → OnErr result (self.new.state.out ≡ false) }
         ensures upto { OnErr result (self.new.state.published.upto ≡ self.old.state.published.upto) }
         ensures last { OnErr result (self.new.state.last ≡ self.old.state.last) }
+        // What closes a queue was linked by one of its writers.
+        ensures open { self.old.state.closed ≡ false → OnOk result (IsStuck parts → ⊥) }
     {
         if self.state.closed {
             return Err(EndRefused {
@@ -85,6 +88,7 @@ impl State {
         ensures ready { OnOk result (IsReady self.new) }
         ensures upto { OnErr result (self.new.published.upto ≡ self.old.published.upto) }
         ensures last { OnErr result (self.new.last ≡ self.old.last) }
+        ensures open { OnOk result (IsStuck parts → ⊥) }
     {
         let gathered = gather(alloc, self.published.upto, parts)?;
         self.take(rt, alloc, gathered)

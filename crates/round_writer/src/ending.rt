@@ -1,6 +1,6 @@
 //! What came back of a round, put together: the pieces of all its writers, and the packet of all its
 //! operations.
-ghost use Rattle.std.specs.Prelude.{◌≡◌, ◌≤◌, ◌+◌, List, map, length, IfOk};
+ghost use Rattle.std.specs.Prelude.{◌≡◌, ◌≤◌, ◌+◌, List, map, length, IfOk, OnOk};
 ghost use Rattle.std.specs.List.{AllByRecursion};
 ghost use Rattle.ix_base.specs.Words.{head_kind};
 ghost use Rattle.delete_queue.specs.Log.{entries_of, last_head_or, last_number};
@@ -10,6 +10,7 @@ ghost use Rattle.thread_writer.specs.Writing.{parts_of};
 ghost use Rattle.flush_control.specs.Logs.{IsPacketOf};
 ghost use Rattle.round_writer.specs.Rounds.{ArePartsOf};
 ghost use Rattle.round_writer.specs.Ending.{AreEnded, CanEnd, IsGathered, IsLastOf, TakesAfter, rests_of};
+ghost use Rattle.round_writer.specs.Working.{IsStuck};
 
 use crate::round::RoundParts;
 use delete_queue::{Place, QueueLog, Seat};
@@ -50,7 +51,9 @@ pub struct Gathered {
 /// queue.
 pub fn gather(alloc: Global, base: u64, parts: RoundParts) -> Result<Gathered, NoMemory>
     requires parts { (told : List (List Numbered)) × ArePartsOf base told parts }
-    ensures { (told : List (List Numbered)) → ArePartsOf base told parts → IfOk result (IsGathered base told) }
+    ensures gathered { (told : List (List Numbered)) → ArePartsOf base told parts
+        → IfOk result (IsGathered base told) }
+    ensures open { OnOk result (IsStuck parts → ⊥) }
 {
     rounds_are_ordered();
     logs_are_in_grammar();

@@ -13,10 +13,12 @@ mod round;
 mod state;
 #[cfg(test)]
 mod tests;
+mod working;
 mod writer;
 
 pub use fault::{EndRefused, OpenRefused, WriterFault};
 pub use laws::{commits_go_on, commits_hold, opened_go_on};
 pub use round::{CommitInfo, Round, RoundEnd, RoundParts};
 pub use state::State;
+pub use working::Worked;
 pub use writer::IndexWriter;

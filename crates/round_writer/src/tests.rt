@@ -1,24 +1,18 @@
 //! Rounds of two writers and their commits, against what was worked out by hand.
-ghost use Rattle.std.specs.Prelude.{◌≡◌, ◌<◌, ℕ, [], ◌∷◌, List, length, IfOk, OnOk};
-ghost use Rattle.delete_queue.specs.Seats.{base_of, own_of, seats_of};
-ghost use Rattle.row_fates.specs.Fate.{Numbered};
-ghost use Rattle.thread_writer.specs.Answers.{IfNumbered};
-ghost use Rattle.thread_writer.specs.Writing.{IsWriter};
+ghost use Rattle.std.specs.Prelude.{◌≡◌, ◌≤◌, ℕ, None, false, true, IfOk, OnOk};
 ghost use Rattle.round_writer.specs.Ready.{IsSound};
-ghost use Rattle.round_writer.specs.Rounds.{AreBegunFrom, ArePartsOf};
-ghost use Rattle.round_writer.specs.Working.{ArePair, WorksOn, with_given};
+ghost use Rattle.round_writer.specs.Working.{IsUnderWay};
 
-use crate::{IndexWriter, Round, RoundEnd, RoundParts, WriterFault, opened_go_on};
+use crate::{IndexWriter, RoundEnd, RoundParts, Worked, WriterFault, opened_go_on};
 use commit_point::open_commit;
-use delete_queue::DeleteQueue;
-use ix_base::{Document, Fields, Name, Numbers, Operation, Term, Text};
+use ix_base::{Document, Fields, Name, Numbers, Operation, Refusal, Term, Text};
 use ix_memory::MemoryStore;
 use segment_core::LiveSegment;
 use std::alloc::Global;
 use std::fmt::Write;
 use std::test::*;
 use std::thread::Threads;
-use thread_writer::{Piece, ThreadWriter, Told};
+use thread_writer::Piece;
 
 /// What a line of a script does.
 #[derive(Clone, Copy)]
@@ -26,26 +20,12 @@ enum Act {
     Add,
     Delete,
     Commit,
-    /// Deletes a key, and then closes the queue without a number.
-    Turn,
 }
 
-/// Lines of a script; those of `true` are the second writer's.
-type Script<'a> = &'a [(bool, Act, &'a str)];
+/// A line of a script: the seat number of its writer, what it does, and a key.
+type Line<'a> = (usize, Act, &'a str);
 
-/// A writer of a round, and the pieces that it gave off.
-#[derive(Drop)]
-struct Busy {
-    writer: ThreadWriter,
-    pieces: Vec<Piece>,
-}
-
-/// The two writers of a round.
-#[derive(Drop)]
-struct Pair {
-    first: Busy,
-    second: Busy,
-}
+type Script<'a> = &'a [Line<'a>];
 
 fn text_of(alloc: Global, text: &str) -> Result<Text, Fail> {
     Ok(Text::new(String::from_str(alloc, text)?).ok_or("long")?)
@@ -67,196 +47,51 @@ fn document_of(alloc: Global, key: &str) -> Result<Document, Fail> {
 fn operation_of(alloc: Global, act: Act, key: &str) -> Result<Operation, Fail> {
     match act {
         Act::Add => Ok(Operation::Add(document_of(alloc, key)?)),
-        Act::Delete | Act::Turn => Ok(Operation::DeleteTerm(term_of(alloc, key)?)),
+        Act::Delete => Ok(Operation::DeleteTerm(term_of(alloc, key)?)),
         Act::Commit => Ok(Operation::Commit),
     }
 }
 
-/// Puts a piece at the end, if there is one.
-fn keep(pieces: &mut Vec<Piece>, given: Option<Piece>) -> Result<(), Fail>
-    ensures { OnOk result (pieces.new.items ≡ with_given pieces.old.items given) }
+/// Does a line of a script.
+fn told(alloc: Global, parts: &mut RoundParts, line: Line) -> Result<Worked, Fail>
+    requires { (base : ℕ) × IsUnderWay base parts.old }
+    ensures { OnOk result ((base : ℕ) → IsUnderWay base parts.old → IsUnderWay base parts.new) }
 {
-    if let Some(piece) = given {
-        pieces.push(piece)?;
+    let (worker, act, key) = line;
+    if worker >= parts.writers.len() {
+        Err("a writer")?;
+    }
+    let operation = operation_of(alloc, act, key)?;
+    Ok(parts.do_line(worker, &operation))
+}
+
+/// Does the lines of a script.
+fn work(alloc: Global, parts: &mut RoundParts, script: Script) -> Result<(), Fail>
+    requires { (base : ℕ) × IsUnderWay base parts.old }
+    ensures { OnOk result ((base : ℕ) → IsUnderWay base parts.old → IsUnderWay base parts.new) }
+{
+    for line in script {
+        told(alloc, parts, *line)?;
     }
     Ok(())
 }
 
-impl Busy {
-    /// Gives the buffer off where it is full.
-    fn give(&mut self, queue: &DeleteQueue) -> Result<(), Fail>
-        requires { IsWriter queue.now self.old.writer }
-        ensures works { OnOk result (WorksOn queue.now self.old.writer self.old.pieces.items
-            self.new.writer self.new.pieces.items) }
-        ensures writer { OnOk result (IsWriter queue.now self.new.writer) }
-        ensures room { OnOk result (length self.new.writer.rows < self.new.writer.size) }
-    {
-        let given = self.writer.take_pieces(queue)?;
-        keep(&mut self.pieces, given)?;
-        Ok(())
-    }
-
-    /// Gives the buffer off where it is full, and does an operation.
-    fn operate(&mut self, queue: &DeleteQueue, operation: &Operation) -> Result<Told, Fail>
-        requires { IsWriter queue.now self.old.writer }
-        ensures works { OnOk result (WorksOn queue.now self.old.writer self.old.pieces.items
-            self.new.writer self.new.pieces.items) }
-        ensures writer { OnOk result (IsWriter queue.now self.new.writer) }
-        ensures own { IfOk result (λ told. IfNumbered told (λ n. 0 < length (own_of self.new.writer.seat))) }
-    {
-        self.give(queue)?;
-        Ok(self.writer.do_line(queue, operation))
-    }
-
-    /// Closes the queue without a number, after an operation that was told this.
-    fn turn(&mut self, queue: &DeleteQueue, told: Told) -> Result<(), Fail>
-        requires writer { IsWriter queue.now self.old.writer }
-        requires own { IfNumbered told (λ n. 0 < length (own_of self.old.writer.seat)) }
-        ensures { OnOk result (WorksOn queue.now self.old.writer self.old.pieces.items
-            self.new.writer self.new.pieces.items) }
-    {
-        let Told::Numbered(_) = told else {
-            return Err("no number")?;
-        };
-        let _ = self.writer.turn(queue);
-        Ok(())
-    }
-
-    /// Does a line of a script.
-    fn line(&mut self, alloc: Global, queue: &DeleteQueue, act: Act, key: &str) -> Result<(), Fail>
-        requires { IsWriter queue.now self.old.writer }
-        ensures { OnOk result (WorksOn queue.now self.old.writer self.old.pieces.items
-            self.new.writer self.new.pieces.items) }
-    {
-        let operation = operation_of(alloc, act, key)?;
-        let told = self.operate(queue, &operation)?;
-        if let Act::Turn = act {
-            return self.turn(queue, told);
-        }
-        Ok(())
-    }
-}
-
-impl Pair {
-    /// Does a line of a script.
-    fn line(
-        &mut self,
-        alloc: Global,
-        queue: &DeleteQueue,
-        line: (bool, Act, &str),
-    ) -> Result<(), Fail>
-        requires { ArePair queue.now self.old.first.writer self.old.first.pieces.items
-            self.old.second.writer self.old.second.pieces.items }
-        ensures { OnOk result (ArePair queue.now self.new.first.writer self.new.first.pieces.items
-            self.new.second.writer self.new.second.pieces.items) }
-    {
-        if line.0 {
-            return self.line_of_second(alloc, queue, line.1, line.2);
-        }
-        self.line_of_first(alloc, queue, line.1, line.2)
-    }
-
-    fn line_of_first(
-        &mut self,
-        alloc: Global,
-        queue: &DeleteQueue,
-        act: Act,
-        key: &str,
-    ) -> Result<(), Fail>
-        requires { ArePair queue.now self.old.first.writer self.old.first.pieces.items
-            self.old.second.writer self.old.second.pieces.items }
-        ensures { OnOk result (ArePair queue.now self.new.first.writer self.new.first.pieces.items
-            self.new.second.writer self.new.second.pieces.items) }
-    {
-        self.first.line(alloc, queue, act, key)?;
-        Ok(())
-    }
-
-    fn line_of_second(
-        &mut self,
-        alloc: Global,
-        queue: &DeleteQueue,
-        act: Act,
-        key: &str,
-    ) -> Result<(), Fail>
-        requires { ArePair queue.now self.old.first.writer self.old.first.pieces.items
-            self.old.second.writer self.old.second.pieces.items }
-        ensures { OnOk result (ArePair queue.now self.new.first.writer self.new.first.pieces.items
-            self.new.second.writer self.new.second.pieces.items) }
-    {
-        self.second.line(alloc, queue, act, key)?;
-        Ok(())
-    }
-
-    /// Does the lines of a script.
-    fn work(&mut self, alloc: Global, queue: &DeleteQueue, script: Script) -> Result<(), Fail>
-        requires { ArePair queue.now self.old.first.writer self.old.first.pieces.items
-            self.old.second.writer self.old.second.pieces.items }
-        ensures { OnOk result (ArePair queue.now self.new.first.writer self.new.first.pieces.items
-            self.new.second.writer self.new.second.pieces.items) }
-    {
-        for line in script {
-            self.line(alloc, queue, *line)?;
-        }
-        Ok(())
-    }
-
-    /// What comes back of a round.
-    fn parts(self, alloc: Global, queue: DeleteQueue) -> Result<RoundParts, Fail>
-        requires seats { seats_of queue ≡ 2 }
-        requires pair { ArePair queue self.first.writer self.first.pieces.items
-            self.second.writer self.second.pieces.items }
-        ensures { IfOk result (λ parts. (told : List (List Numbered)) × ArePartsOf (base_of queue) told parts) }
-    {
-        let Pair { first, second } = self;
-        let mut writers = Vec::new(alloc);
-        let mut pieces = Vec::new(alloc);
-        writers.push(first.writer)?;
-        pieces.push(first.pieces)?;
-        writers.push(second.writer)?;
-        pieces.push(second.pieces)?;
-        Ok(RoundParts {
-            queue,
-            writers,
-            pieces,
-        })
-    }
-}
-
-/// The two writers of a list.
-fn pair_of(alloc: Global, writers: Vec<ThreadWriter>) -> Result<Pair, Fail>
-    ensures pair { IfOk result (λ pair. writers.items ≡ pair.first.writer ∷ pair.second.writer ∷ []) }
-    ensures first { IfOk result (λ pair. pair.first.pieces.items ≡ []) }
-    ensures second { IfOk result (λ pair. pair.second.pieces.items ≡ []) }
+/// A round that begins.
+fn begun(
+    alloc: Global,
+    writer: &mut IndexWriter<MemoryStore>,
+    writers: u32,
+) -> Result<RoundParts, Fail>
+    requires sound { IsSound writer.old.state }
+    requires writers { (1 ≤ writers) × (writers ≤ 16) }
+    requires out { writer.old.state.out ≡ false }
+    requires few { (writer.old.state.published.upto ≤ 1000) × (writer.old.state.published.next_id ≤ 1000) }
+    ensures parts { IfOk result (IsUnderWay writer.new.state.published.upto) }
+    ensures sound { IsSound writer.new.state }
+    ensures out { OnOk result (writer.new.state.out ≡ true) }
+    ensures pending { writer.new.state.pending ≡ writer.old.state.pending }
 {
-    let mut writers = writers;
-    let second = writers.pop().ok_or("a writer")?;
-    let first = writers.pop().ok_or("a writer")?;
-    if writers.len() > 0 {
-        Err("further writers")?;
-    }
-    Ok(Pair {
-        first: Busy {
-            writer: first,
-            pieces: Vec::new(alloc),
-        },
-        second: Busy {
-            writer: second,
-            pieces: Vec::new(alloc),
-        },
-    })
-}
-
-/// Does the lines of a script with the writers of a round that was begun.
-fn worked(alloc: Global, round: Round, script: Script) -> Result<RoundParts, Fail>
-    requires seats { seats_of round.queue ≡ 2 }
-    requires begun { (size : ℕ) × AreBegunFrom round.queue size 0 round.writers.items }
-    ensures { IfOk result (λ parts. (told : List (List Numbered)) × ArePartsOf (base_of round.queue) told parts) }
-{
-    let Round { queue, writers } = round;
-    let mut pair = pair_of(alloc, writers)?;
-    pair.work(alloc, &queue, script)?;
-    pair.parts(alloc, queue)
+    Ok(writer.begin_round(writers)?.into_parts(alloc)?)
 }
 
 /// A round of two writers that do the lines of a script.
@@ -275,8 +110,23 @@ fn round<R: Threads + Sync>(
     if writer.upto() > 1000 || writer.next_id() > 1000 {
         Err("many operations")?;
     }
-    let round = writer.begin_round(2)?;
-    let parts = worked(alloc, round, script)?;
+    let mut parts = begun(alloc, writer, 2)?;
+    work(alloc, &mut parts, script)?;
+    ended(rt, writer, parts)
+}
+
+/// How a round ends.
+fn ended<R: Threads + Sync>(
+    rt: &R,
+    writer: &mut IndexWriter<MemoryStore>,
+    parts: RoundParts,
+) -> Result<RoundEnd, Fail>
+    requires sound { IsSound writer.old.state }
+    requires out { writer.old.state.out ≡ true }
+    requires pending { writer.old.state.pending ≡ None }
+    requires parts { IsUnderWay writer.old.state.published.upto parts }
+    ensures { OnOk result (IsSound writer.new.state) }
+{
     match writer.end_round(rt, parts) {
         Ok(end) => Ok(end),
         Err(refused) => Err(refused.fault)?,
@@ -328,30 +178,25 @@ fn three_rounds(rt: HostRuntime) -> Result<(), Fail> {
     let alloc = rt.alloc();
     let mut writer = IndexWriter::none(alloc, MemoryStore::new(alloc), 2);
     let script = [
-        (false, Add, "a"),
-        (true, Add, "b"),
-        (true, Delete, "a"),
-        (false, Add, "c"),
-        (false, Add, "d"),
-        (true, Commit, ""),
-        (false, Add, "e"),
+        (0, Add, "a"),
+        (1, Add, "b"),
+        (1, Delete, "a"),
+        (0, Add, "c"),
+        (0, Add, "d"),
+        (1, Commit, ""),
+        (0, Add, "e"),
     ];
     let end = round(&rt, alloc, &mut writer, &script)?;
     assert_eq!(rt; end, RoundEnd::Committed(6));
     assert_eq!(rt; writer.pending_commit(), Some(6));
     assert_eq!(rt; committed(&mut writer)?, (6, 3));
-    let end = round(
-        &rt,
-        alloc,
-        &mut writer,
-        &[(true, Add, "f"), (false, Delete, "d")],
-    )?;
+    let end = round(&rt, alloc, &mut writer, &[(1, Add, "f"), (0, Delete, "d")])?;
     assert_eq!(rt; end, RoundEnd::Ran);
     let end = round(
         &rt,
         alloc,
         &mut writer,
-        &[(false, Delete, "f"), (true, Commit, "")],
+        &[(0, Delete, "f"), (1, Commit, "")],
     )?;
     assert_eq!(rt; end, RoundEnd::Committed(10));
     assert_eq!(rt; committed(&mut writer)?, (10, 2));
@@ -362,16 +207,112 @@ fn three_rounds(rt: HostRuntime) -> Result<(), Fail> {
     Ok(())
 }
 
-/// A turn ends a round without a number.
+/// What a line is told.
+fn show_worked(out: &mut String, worked: Worked) -> Result<(), Fail> {
+    match worked {
+        Worked::Numbered(number) => write!(out, " {number}")?,
+        Worked::Refused(Refusal::Term { size }) => write!(out, " term {size}")?,
+        Worked::Refused(Refusal::Query { size }) => write!(out, " query {size}")?,
+        Worked::Closed => write!(out, " closed")?,
+        Worked::NoMemory => write!(out, " memory")?,
+    }
+    Ok(())
+}
+
+/// What a writer gave off: of each piece its rows with their births.
+fn show_pieces(out: &mut String, pieces: &[Piece]) -> Result<(), Fail> {
+    write!(out, ";")?;
+    for piece in pieces {
+        write!(out, " [{}:", piece.worker)?;
+        for row in piece.frozen.rows.as_slice() {
+            write!(out, " {}{}", row.doc.key.as_str(), row.birth)?;
+        }
+        write!(out, "]")?;
+    }
+    Ok(())
+}
+
+/// What the lines of a script are told, and what each writer gave off.
+fn shown_work(alloc: Global, parts: &mut RoundParts, script: Script) -> Result<String, Fail>
+    requires { (base : ℕ) × IsUnderWay base parts.old }
+{
+    let mut out = String::new(alloc);
+    for line in script {
+        show_worked(&mut out, told(alloc, parts, *line)?)?;
+    }
+    for pieces in parts.pieces.as_slice() {
+        show_pieces(&mut out, pieces.as_slice())?;
+    }
+    Ok(out)
+}
+
+/// A round of a writer without a commit, whose thread writers have buffers of this size.
+fn first_round(alloc: Global, writers: u32, buffer: u32) -> Result<RoundParts, Fail>
+    requires writers { (1 ≤ writers) × (writers ≤ 16) }
+    requires buffer { (1 ≤ buffer) × (buffer ≤ 65536) }
+    ensures { IfOk result (λ parts. (base : ℕ) × IsUnderWay base parts) }
+{
+    let mut writer = IndexWriter::none(alloc, MemoryStore::new(alloc), buffer);
+    begun(alloc, &mut writer, writers)
+}
+
+/// Numbers, a refused document, full buffers that are given off, and a commit that closes the round.
+#[test]
+fn lines_of_a_round(rt: HostRuntime) -> Result<(), Fail> {
+    use Act::*;
+    let alloc = rt.alloc();
+    let long = "k".repeat(alloc, 32_767)?;
+    let script = [
+        (0, Add, "a"),
+        (0, Add, "b"),
+        (1, Add, "c"),
+        (0, Add, long.as_str()),
+        (0, Delete, "a"),
+        (1, Add, "d"),
+        (1, Add, "e"),
+        (1, Commit, ""),
+        (0, Add, "f"),
+        (1, Delete, "a"),
+    ];
+    let mut parts = first_round(alloc, 2, 1)?;
+    let expected =
+        " 1 2 3 term 32767 4 5 6 7 closed closed; [0: a1] [0: b2]; [1: c3] [1: d5] [1: e6]";
+    assert_eq!(rt; shown_work(alloc, &mut parts, &script)?.as_str(), expected);
+    let mut parts = first_round(alloc, 2, 2)?;
+    let expected = " 1 2 3 term 32767 4 5 6 7 closed closed; [0: a1 b2]; [1: c3 d5]";
+    assert_eq!(rt; shown_work(alloc, &mut parts, &script)?.as_str(), expected);
+    Ok(())
+}
+
+/// Deletes by the first writer, which are to have the numbers from 1: each of three words with its
+/// next word. Returns whether each has its number.
+fn fill(alloc: Global, parts: &mut RoundParts, count: u64) -> Result<bool, Fail>
+    requires { (base : ℕ) × IsUnderWay base parts.old }
+    ensures { OnOk result ((base : ℕ) → IsUnderWay base parts.old → IsUnderWay base parts.new) }
+{
+    let mut right = true;
+    for number in 1..=count {
+        let told = told(alloc, parts, (0, Act::Delete, "abcde"))?;
+        right = right && told == Worked::Numbered(number);
+    }
+    Ok(right)
+}
+
+/// A writer whose part of the queue is full ends the round by a turn, without a number.
 #[test]
 fn turned(rt: HostRuntime) -> Result<(), Fail> {
     use Act::*;
     let alloc = rt.alloc();
     let mut writer = IndexWriter::none(alloc, MemoryStore::new(alloc), 2);
-    let script = [(true, Add, "a"), (true, Turn, "z"), (false, Add, "b")];
-    let end = round(&rt, alloc, &mut writer, &script)?;
+    let mut parts = begun(alloc, &mut writer, 2)?;
+    assert!(rt; fill(alloc, &mut parts, 4159)?);
+    let told_first = told(alloc, &mut parts, (0, Delete, "abcdef"))?;
+    assert_eq!(rt; told_first, Worked::Closed);
+    let told_second = told(alloc, &mut parts, (1, Add, "a"))?;
+    assert_eq!(rt; told_second, Worked::Closed);
+    let end = ended(&rt, &mut writer, parts)?;
     assert_eq!(rt; end, RoundEnd::Turned);
-    assert_eq!(rt; (writer.upto(), writer.next_id()), (2, 2));
+    assert_eq!(rt; (writer.upto(), writer.next_id()), (4159, 1));
     assert_eq!(rt; writer.pending_commit(), None);
     Ok(())
 }
@@ -385,7 +326,7 @@ fn closed_after_a_fault(rt: HostRuntime) -> Result<(), Fail> {
     calls.push(1)?;
     let store = MemoryStore::new(alloc).failing(calls);
     let mut writer = IndexWriter::none(alloc, store, 2);
-    let script = [(false, Add, "a"), (true, Commit, "")];
+    let script = [(0, Add, "a"), (1, Commit, "")];
     let end = round(&rt, alloc, &mut writer, &script)?;
     assert_eq!(rt; end, RoundEnd::Committed(2));
     assert_eq!(rt; fault_of(&mut writer)?, WriterFault::Store);
@@ -429,12 +370,12 @@ fn reopened(rt: HostRuntime) -> Result<(), Fail> {
     use Act::*;
     let alloc = rt.alloc();
     let mut writer = IndexWriter::none(alloc, MemoryStore::new(alloc), 65536);
-    let script = [(false, Add, "a"), (true, Add, "b"), (true, Commit, "")];
+    let script = [(0, Add, "a"), (1, Add, "b"), (1, Commit, "")];
     let end = round(&rt, alloc, &mut writer, &script)?;
     assert_eq!(rt; end, RoundEnd::Committed(3));
     assert_eq!(rt; committed(&mut writer)?, (3, 2));
     let mut writer = opened_on(alloc, writer.into_store(), 3)?;
-    let script = [(true, Delete, "a"), (false, Add, "c"), (false, Commit, "")];
+    let script = [(1, Delete, "a"), (0, Add, "c"), (0, Commit, "")];
     let end = round(&rt, alloc, &mut writer, &script)?;
     assert_eq!(rt; end, RoundEnd::Committed(6));
     assert_eq!(rt; committed(&mut writer)?, (6, 2));

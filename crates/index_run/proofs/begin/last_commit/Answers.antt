@@ -2,7 +2,7 @@ use Rattle.std.proofs.Common.{◌≡◌, ◌∙◌, ℕ, ap, sym, subst}
 use Rattle.ix_outside.specs.Disk.{told_files}
 use Rattle.std.specs.Prelude.{Option, Some}
 use Rattle.ix_outside.specs.Files.{Files, Was}
-use Rattle.index_run.specs.Given.{IsLast}
+use Rattle.run_log.specs.Given.{IsLast}
 use Rattle.index_run.specs.Beginning.{last_or_zero}
 use Rattle.index_run.proofs.Beginnings.{last_told, last_one}
 use Rattle.index_run.proofs.begin.last_commit.Goals as goal

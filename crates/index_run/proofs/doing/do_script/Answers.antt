@@ -7,8 +7,8 @@ use Rattle.run_report.specs.declared.outcome.Outcome.{Outcome}
 use Rattle.searcher.specs.Searching.{IsDamagedIn}
 use Rattle.index_run.specs.declared.stop.Stop.{Stop}
 use Rattle.index_run.specs.Causes.{IsOneOf, stop_status}
-use Rattle.index_run.specs.Headline.{Keeps, Stops}
-use Rattle.index_run.specs.Numbering.{numbered}
+use Rattle.run_log.specs.Headline.{Keeps, Stops}
+use Rattle.run_log.specs.Numbering.{numbered}
 use Rattle.index_run.specs.Outcomes.{IsAskedFor}
 use Rattle.index_run.proofs.Asked.{is_asked}
 use Rattle.index_run.proofs.Beginnings.{begins_on, on_given}

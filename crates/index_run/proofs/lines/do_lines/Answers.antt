@@ -7,8 +7,8 @@ use Rattle.ix_outside.specs.Files.{Files}
 use Rattle.commit_point.specs.Holds.{AreKept}
 use Rattle.op_script.specs.declared.script.Line.{Line}
 use Rattle.run_report.specs.declared.outcome.Outcome.{Outcome}
-use Rattle.index_run.specs.Headline.{HasSome}
-use Rattle.index_run.specs.Numbering.{numbered}
+use Rattle.run_log.specs.Headline.{HasSome}
+use Rattle.run_log.specs.Numbering.{numbered}
 use Rattle.index_run.specs.Outcomes.{rows_after}
 use Rattle.index_run.proofs.Beginnings.{gives_back}
 use Rattle.index_run.proofs.Crashed.{crash_more}

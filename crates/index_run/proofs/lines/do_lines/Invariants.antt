@@ -7,9 +7,9 @@ use Rattle.ix_outside.specs.Files.{Files, Changes}
 use Rattle.ix_outside.specs.Images.{Follows}
 use Rattle.commit_point.specs.Holds.{AreKept}
 use Rattle.index_run.specs.Doing.{HasLast, IsOnGiven}
-use Rattle.index_run.specs.Given.{Given, IsKept}
-use Rattle.index_run.specs.Headline.{HasSome}
-use Rattle.index_run.specs.Numbering.{numbered}
+use Rattle.run_log.specs.Given.{Given, IsKept}
+use Rattle.run_log.specs.Headline.{HasSome}
+use Rattle.run_log.specs.Numbering.{numbered}
 use Rattle.index_run.proofs.Far.{Far}
 use Rattle.index_run.proofs.Images.{Stands}
 use Rattle.index_run.proofs.lines.do_lines.Given as goal

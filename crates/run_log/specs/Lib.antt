@@ -1,0 +1,15 @@
+pub mod Numbering
+pub mod Report
+pub mod Given
+pub mod Headline
+pub mod Telling
+pub mod Lists
+pub mod PlaceLaws
+pub mod ToldLaws
+pub mod TellingLaws
+pub mod NumberLaws
+pub mod CommitLaws
+pub mod RoundLaws
+pub mod LogLaws
+pub mod CountLaws
+pub mod Laws

@@ -1,0 +1,8 @@
+//! What a run promises: the numbers of its lines, its report, what it is given and what it leaves; and
+//! the laws of its log, the numbered lines in the order of their numbers. It has definitions and laws
+//! alone.
+#![tactic(auto)]
+
+mod laws;
+
+pub use laws::lines_in_order;
