@@ -1,5 +1,5 @@
 //! The top call.
-ghost use Rattle.std.specs.Prelude.{◌≡◌, ◌<◌, ◌+◌, ◌^◌, ℕ, List, [], ◌∷◌, take, Ok, Err, Some};
+ghost use Rattle.std.specs.Prelude.{◌≡◌, ◌<◌, ◌≤◌, ◌+◌, ◌^◌, ℕ, List, [], ◌∷◌, take, Ok, Err, Some};
 ghost use Rattle.std.specs.Io.KnownBytes.{Appends, IsAtEnd};
 ghost use Rattle.ix_outside.specs.Causes.{Rose};
 ghost use Rattle.ix_outside.specs.Disk.{told_files};
@@ -12,7 +12,6 @@ ghost use Rattle.run_log.specs.Given.{Given, CanEnd, CanRun, IsGiven};
 ghost use Rattle.run_log.specs.Headline.{Keeps, Runs, Stops};
 ghost use Rattle.index_run.specs.Words.{IsAccepted};
 
-use crate::doing::Done;
 use crate::output::write_all;
 use crate::run::run;
 use crate::stop::Stop;
@@ -29,15 +28,14 @@ pub struct Ended<S> {
     pub store: S,
 }
 
-/// Does the command that the words are: `run`, with `--threads` (1 to 16, 4 without it) and `--buffer`
-/// (1 to 65,536, 1,000 without it). It reads a script from the input to its end, does it over the
-/// store's last commit by so many writers, each with a buffer of so many documents, writes the report
-/// to the sink, and ends with the exit status.
+/// Does the command that the words are: the one word `run`. It reads a script from the input to
+/// its end, does it over the store's last commit, writes the report to the sink, and ends with the
+/// exit status.
 ///
 /// | Status | Comes |
 /// |---|---|
 /// | 0 | the script was done and its report written |
-/// | 2 | only where the words are no such command; where they are none it is 2, or 4 |
+/// | 2 | exactly where the words are not `run` |
 /// | 3 | exactly where the input has a bad line, which the line that is written names |
 /// | 4 | where memory ran out, at any point; nothing is written |
 /// | 5, 6, 7 | only where the source, the sink or the store failed in this call |
@@ -80,7 +78,7 @@ pub fn top<R: Threads + Wait + Sync, I: Source, O: Sink, S: Store, G: Gate>(
         (O.fault_count out.old) (O.fault_count out.new)) }
     ensures sink { result.status ≡ 6 → Rose (O.fault_count out.old) (O.fault_count out.new) }
     ensures nothing { result.status ≡ 4 → O.written out.new ≡ O.written out.old }
-    ensures words { (IsAccepted words.now → ⊥) → IsOneOf result.status (2 ∷ 4 ∷ []) }
+    ensures words { (IsAccepted words.now → ⊥) → result.status ≡ 2 }
     ensures unread { result.status ≡ 2 → input.new ≡ input.old }
     ensures bad { (bytes : List ℕ) (bad : BadLine) → IsAccepted words.now
         → I.left input.old ≡ Some bytes → script bytes ≡ Err bad
@@ -119,8 +117,8 @@ pub fn top<R: Threads + Wait + Sync, I: Source, O: Sink, S: Store, G: Gate>(
     // No more of the input is read than what shows that it is too long.
     ensures bound { TakesUpTo (most_bytes + 1) (I.left input.old) (I.left input.new) }
 {
-    let Done { text, store } = run(rt, alloc, words, input, store, gate);
-    match text {
+    let mut store = store;
+    match run(rt, alloc, words, input, &mut store, gate) {
         Ok(text) => {
             let status = write_report(out, text.as_slice());
             Ended { status, store }

@@ -15,7 +15,6 @@ mod input;
 mod lines;
 mod output;
 mod reading;
-mod rounds;
 mod run;
 mod stop;
 #[cfg(test)]
@@ -28,8 +27,6 @@ mod tests_gate;
 mod tests_large;
 #[cfg(test)]
 mod tests_operations;
-#[cfg(test)]
-mod tests_rounds;
 #[cfg(test)]
 mod tests_stores;
 mod words;

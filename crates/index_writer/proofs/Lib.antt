@@ -1,8 +1,7 @@
-mod Begins
-mod Gathering
-mod Opening
-mod Taking
-mod Committing
-mod Following
-mod AtWork
-mod Opened
+pub mod Taking
+pub mod Permuted
+pub mod Drafting
+pub mod DraftRows
+pub mod Drafts
+pub mod Following
+pub mod Committing

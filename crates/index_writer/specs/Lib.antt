@@ -1,6 +1,5 @@
-pub mod Ready
-pub mod Rounds
-pub mod Ending
+pub mod Writing
 pub mod Storing
 pub mod Laws
-pub mod Working
+pub mod Taking
+pub mod Drafting

@@ -61,12 +61,11 @@ pub record Runs (g : Given) (wrote : List ℕ → Type 0) (old new : Option Disk
   pub crash : IsKept g old → LeavesOnly old new (HasSome g log)
   pub again : IsKept g old → g.next + length (numbered g.lines) ≤ 2 ^ 61 → GivesBack new
 
--- A run that stopped, or was done: for one order of its numbered lines, the files have the first
--- ones of its commits, and a crash at any moment of the call leaves the first ones.
+-- A run that stopped, or was done: for one order of its numbered lines, a crash at any moment of
+-- the call leaves the first ones of its commits.
 pub record Stops (g : Given) (old new : Option Disk) : Type 0 where
   pub log : List Line
   pub numbering : Interleaves g.lines log
-  pub files : IsKept g old → IsSomeAnd (told_files new) (HasSome g log)
   pub crash : IsKept g old → LeavesOnly old new (HasSome g log)
 
 -- The commits that were there have their files and bytes: in the files that the store tells, and

@@ -1,0 +1,6 @@
+pub mod Ready
+pub mod Rounds
+pub mod Ending
+pub mod Storing
+pub mod Laws
+pub mod Working

@@ -1,0 +1,24 @@
+//! The writer of an index over rounds: in each round several thread writers share one queue. The end
+//! of a round puts what they did into the segments, in memory; a commit puts the segments on the
+//! store.
+#![tactic(auto)]
+
+mod begin;
+mod commit;
+mod end;
+mod ending;
+mod fault;
+mod laws;
+mod round;
+mod state;
+#[cfg(test)]
+mod tests;
+mod working;
+mod writer;
+
+pub use fault::{EndRefused, OpenRefused, WriterFault};
+pub use laws::{commits_go_on, commits_hold, opened_go_on};
+pub use round::{CommitInfo, Round, RoundEnd, RoundParts};
+pub use state::State;
+pub use working::Worked;
+pub use writer::IndexWriter;
