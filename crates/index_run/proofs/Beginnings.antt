@@ -1,26 +1,27 @@
--- The last commit of a store, and what a run finds there.
-use Rattle.std.proofs.Common.{◌≡◌, ◌≢◌, ◌⊎◌, inl, inr, ◌∙◌, ℕ, zero, suc, ◌-◌, ◌<◌, ◌≤◌, ◌^◌, false, cond, eqb, List, [], ◌∷◌, length, get_or, refl, sym, ap, subst, arith}
+-- The last commit of a store, and a writer that begins there.
+use Rattle.std.proofs.Common.{◌≡◌, ◌≢◌, ◌⊎◌, inl, inr, ◌∙◌, ℕ, zero, suc, ◌-◌, ◌<◌, ◌≤◌, false, cond, eqb}
+use Rattle.std.proofs.Common.{List, [], ◌∷◌, length, get_or, refl, sym, ap, subst, arith}
 use Rattle.std.specs.Prelude.{Option, Some, None, IsSome, IfSome, AllPairs, Contains, ◌↔◌, slice_get, unwrap_or}
 use Rattle.std.proofs.lemmas.Bool.{cases_lt, eq-eqb}
 use Rattle.std.proofs.lemmas.Bool.Decides.{eqb_tells}
 use Rattle.ix_base.specs.declared.file_name.FileName.TheVariants.{Commit}
-use Rattle.ix_base.specs.declared.document.Row.{Row}
-use Rattle.ix_outside.specs.Crash.{MayHold}
-use Rattle.ix_outside.specs.Disk.{Disk, told_files}
 use Rattle.ix_outside.specs.Files.{Files, Was}
-use Rattle.segment_files.specs.Fits.{BirthsRise}
+use Rattle.segment_core.specs.LiveRows.{Lived}
 use Rattle.commit_point.specs.declared.heads.HeadSegment.{HeadSegment}
 use Rattle.commit_point.specs.declared.open.Opened.{Opened}
-use Rattle.commit_point.specs.Holds.{AreKept, IsLawful, Lists}
-use Rattle.index_writer.specs.declared.writer.IndexWriter.{IndexWriter}
-use Rattle.index_writer.specs.Writing.{IsCommitOf, StandsFor}
-use Rattle.index_run.specs.Beginning.{BeginsOn, last_or_zero}
-use Rattle.index_run.specs.Doing.{CanBegin, GoesOn, HasLast, IsOnGiven, Starts}
-use Rattle.run_log.specs.Given.{Given, CanRun, HasNoCommit, IsLast, IsOn}
-use Rattle.run_log.specs.Headline.{GivesBack}
-use Rattle.index_run.proofs.Held.{none_of}
-use Rattle.index_run.proofs.Kept.{listed_below, nat_or}
-use Rattle.index_run.proofs.Searchable.{IsOnInverted, on_rows}
+use Rattle.commit_point.specs.Holds.{HasSegment, HaveSegments, Holds, IsLawful}
+use Rattle.commit_point.specs.Writing.{AreWritten}
+use Rattle.index_writer.specs.declared.state.State.{State}
+use Rattle.index_writer.specs.Laws.{OpenedGoOn}
+use Rattle.index_writer.specs.Ready.{CanFollow, IsStored, opened_on, written_of}
+use Rattle.run_log.specs.Headline.{CanRun, Given, HasNoCommit, IsLast, IsOn}
+use Rattle.index_run.specs.Beginning.{BeginsOn, IsGivenCommit, IsSpelled, last_or_zero}
+use Rattle.index_run.specs.Doing.{IsOnGiven}
+use Rattle.index_run.proofs.KeptThere.{none_of}
+use Rattle.index_run.proofs.LogNumbers.{nat_or}
+use Rattle.index_run.proofs.RunBegins.{begins_lawful}
+
+-- ---- the last of the numbers that are listed
 
 get_last : (n : ℕ) (ns : List ℕ) → last_or_zero (n ∷ ns) ≡ get_or (n ∷ ns) (length ns) 0
 get_last n ns =
@@ -55,7 +56,8 @@ greatest (n ∷ ns) s rise has =
 
 last_in : (numbers : List ℕ) → last_or_zero numbers ≢ 0 → Contains numbers (last_or_zero numbers)
 last_in [] ne = absurd (ne refl)
-last_in (n ∷ ns) ne = (length ns, omega arith, here (n ∷ ns) (length ns) (last_or_zero (n ∷ ns)) (omega arith) (get_last n ns))
+last_in (n ∷ ns) ne =
+    (length ns, omega arith, here (n ∷ ns) (length ns) (last_or_zero (n ∷ ns)) (omega arith) (get_last n ns))
   where
     here : (xs : List ℕ) (i d : ℕ) → i < length xs → d ≡ get_or xs i 0 → get_or xs i d ≡ d
     here [] i d lt is = absurd (omega arith)
@@ -77,14 +79,16 @@ last_alone n = record {
   none_above = λ s above. rw (eqb_not s n (λ e. absurd (omega (arith, e, above)))) refl;
 }
 
-pub last_told : (told : Option Files) (numbers : List ℕ) → IfSome told (λ files. (s : ℕ) → Contains numbers s ↔ IsSome (files (Commit s))) → AllPairs ◌<◌ numbers
+pub last_told : (told : Option Files) (numbers : List ℕ)
+    → IfSome told (λ files. (s : ℕ) → Contains numbers s ↔ IsSome (files (Commit s))) → AllPairs ◌<◌ numbers
     → (files : Files) × Was told files × IsLast files (last_or_zero numbers)
 last_told (Some files) numbers each rise = (
   files,
   refl,
   record {
     there = λ some. (each (last_or_zero numbers)).0 (last_in numbers some);
-    none_above = λ s above. none_of (files (Commit s)) (λ there. absurd (omega (arith, above, greatest numbers s rise ((each s).1 there))));
+    none_above = λ s above. none_of (files (Commit s))
+        (λ there. absurd (omega (arith, above, greatest numbers s rise ((each s).1 there))));
   },
 )
 last_told None numbers each rise = (one_commit (last_or_zero numbers), tt, last_alone (last_or_zero numbers))
@@ -92,102 +96,88 @@ last_told None numbers each rise = (one_commit (last_or_zero numbers), tt, last_
 pub last_one : (files : Files) (a b : ℕ) → IsLast files a → IsLast files b → a ≡ b
 last_one files a b p q = elim (nat_or a b) [
   | inl e ↦ e
-  | inr ne ↦ elim (cases_lt a b) [ inl lt ↦ absurd (not_both a b p q lt) | inr ge ↦ absurd (not_both b a q p (omega (arith, ne, ge))) ]
+  | inr ne ↦ elim (cases_lt a b) [
+    | inl lt ↦ absurd (not_both a b p q lt)
+    | inr ge ↦ absurd (not_both b a q p (omega (arith, ne, ge)))
+  ]
 ]
   where
     not_both : (x y : ℕ) → IsLast files x → IsLast files y → x < y → ⊥
     not_both x y h k lt =
         let gone : files (Commit y) ≡ None = h.none_above y lt in
-        let none : IsSome {T = List ℕ} None = subst (λ (o : Option (List ℕ)). IsSome o) gone (k.there (λ e. absurd (omega (arith, e, lt)))) in
+        let none : IsSome {T = List ℕ} None =
+        subst (λ (o : Option (List ℕ)). IsSome o) gone (k.there (λ e. absurd (omega (arith, e, lt)))) in
         cc
 
--- a run that begins on a lawful commit, or on nothing, finds no commit above it and no id from its next id on
-begins_starts : (g : Given) → CanRun g → Starts g.files g.base g.next
-begins_starts g begins = record {
-  none_above = begins.0.none_above;
-  ids_below = λ s e lists. below s e lists begins.1;
-}
-  where
-    not_above : (s : ℕ) (e : HeadSegment) → Lists g.files s e → g.base < s → ⊥
-    not_above s e lists above = let gone = begins.0.none_above s above in let here = lists.has_head.file in cc
-
-    below : (s : ℕ) (e : HeadSegment) → Lists g.files s e → HasNoCommit g ⊎ ((1 ≤ g.base) × IsLawful g.files g.base g.next g.rows) → e.id < g.next
-    below s e lists (inl none) =
-        let some = lists.has_head.fits.some in
-        let number = lists.has_head.number in
-        absurd (not_above s e lists (omega (arith, none.0, some, number)))
-    below s e lists (inr on) =
-        let holds = on.1.holds.holds in
-        elim (nat_or s g.base) [
-          | inl is ↦ listed_below g.files g.base g.next holds.entries holds.segments e holds.spelled (subst (λ (n : ℕ). Lists g.files n e) is lists)
-          | inr ne ↦ elim (cases_lt s g.base) [ inl lt ↦ on.1.above s e lt lists | inr ge ↦ absurd (not_above s e lists (omega (arith, ne, ge))) ]
-        ]
-
-pub begins_inverted : (g : Given) → CanRun g → IsOnInverted g
-begins_inverted g begins = by_case begins.1
-  where
-    by_case : HasNoCommit g ⊎ ((1 ≤ g.base) × IsLawful g.files g.base g.next g.rows) → IsOnInverted g
-    by_case (inl none) = inl none
-    by_case (inr on) = inr (on.0, on.1.holds)
+-- ---- what is given
 
 pub begins_on : (g : Given) → CanRun g → IsOn g
-begins_on g begins = on_rows g (begins_inverted g begins)
-
-begins_room : (g : Given) → CanRun g → g.next ≤ 2 ^ 61
-begins_room g begins = by_case begins.1
+begins_on g can = by can.1
   where
-    by_case : HasNoCommit g ⊎ ((1 ≤ g.base) × IsLawful g.files g.base g.next g.rows) → g.next ≤ 2 ^ 61
-    by_case (inl none) = omega (arith, none.1)
-    by_case (inr on) = on.1.room
+    by : HasNoCommit g ⊎ ((1 ≤ g.base) × IsLawful g.files g.base g.next g.rows) → IsOn g
+    by (inl none) = inl none
+    by (inr on) = inr (on.0, on.1.holds.holds)
 
--- the writer that began there is on what is given
-pub on_given : (g : Given) (w : IndexWriter) → CanRun g → BeginsOn g.files g.base g.next w → CanBegin w → StandsFor w g.rows → IsOnGiven g w
-on_given g w begins on can for =
-    let starts = begins_starts g begins in
-    let here : Starts g.files w.last.number g.next = subst (λ (n : ℕ). Starts g.files n g.next) (sym (can.last ∙ on.number)) starts in
-    record {
-      number = on.number;
-      next_id = on.next_id;
-      stands = for;
-      goes_on = record { starts = subst (λ (n : ℕ). Starts g.files w.last.number n) (sym on.next_id) here; last = on.last };
-      room = begins_room g begins;
-    }
+held_given : (g : Given) → IsOn g → 1 ≤ g.base → Holds g.files g.base g.next g.rows
+held_given g (inl none) some = absurd (omega (arith, none.0, some))
+held_given g (inr on) some = on.1
 
--- ---- a run gives back what the next one asks for
-
-none_born : (rows : List Row) → BirthsRise 1 0 rows → rows ≡ []
-none_born [] rise = refl
-none_born (r ∷ rs) rise = absurd (omega (arith, rise.0, rise.1))
-
-pub gives_back : (disk : Option Disk) (files : Files) (w : IndexWriter) (rows : List Row) → w.last.next_id ≤ 2 ^ 61 → GoesOn files w → StandsFor w rows
-    → told_files disk ≡ Some files → AreKept files (MayHold disk) → GivesBack disk
-gives_back disk files w rows room on stands told kept = (
-  record { lines = []; files = files; base = w.last.number; next = w.last.next_id; rows = stands.before },
-  told,
-  (record { there = there on.last; none_above = on.starts.none_above }, by_last on.last),
-  kept,
-)
+lawful_given : (g : Given) → CanRun g → 1 ≤ g.base → IsLawful g.files g.base g.next g.rows
+lawful_given g can some = by can.1
   where
-    there : HasLast files w.last → w.last.number ≢ 0 → IsSome (files (Commit w.last.number))
-    there (inl none) some = absurd (some (ap (λ (x : Opened). x.number) none))
-    there (inr has) some = subst (λ (o : Option (List ℕ)). IsSome o) (sym has.1.head.file) refl
+    by : HasNoCommit g ⊎ ((1 ≤ g.base) × IsLawful g.files g.base g.next g.rows)
+        → IsLawful g.files g.base g.next g.rows
+    by (inl none) = absurd (omega (arith, none.0, some))
+    by (inr on) = on.1
 
-    commit : IsCommitOf w.last stands.before
-    commit = stands.came.commit
+-- ---- a writer on a commit that was read
 
-    by_last : HasLast files w.last → ((w.last.number ≡ 0) × (w.last.next_id ≡ 1) × (stands.before ≡ [])) ⊎ ((1 ≤ w.last.number) × IsLawful files w.last.number w.last.next_id stands.before)
-    by_last (inl none) =
-        let number : w.last.number ≡ 0 = ap (λ (x : Opened). x.number) none in (
-        inl (number, ap (λ (x : Opened). x.next_id) none, none_born stands.before (subst (λ (n : ℕ). BirthsRise 1 n stands.before) number commit.rows_are.births))
-        )
-    by_last (inr has) = inr (
-      has.0,
-      record {
-        holds = record {
-          holds = record { entries = w.last.entries; segments = w.last.segments; spelled = has.1; rows_are = commit.rows_are };
-          inverted = commit.inverted;
-        };
-        room = room;
-        above = λ t e below lists. on.starts.ids_below t e lists;
-      },
-    )
+-- a segment that a commit file names, with the number with which its operations are in it
+same_entry : (files : Files) (s : ℕ) (e : HeadSegment) (g : Lived) → HasSegment files s e g
+    → HasSegment files g.live.applied
+    (record { id = g.segment.id; rows = length g.segment.rows; written = e.written }) g
+same_entry files s e g has =
+    let own_id : HasSegment files s (record { id = g.segment.id; rows = e.rows; written = e.written }) g =
+    subst (λ (n : ℕ). HasSegment files s (record { id = n; rows = e.rows; written = e.written }) g) (sym has.id) has in
+    let own : HasSegment files s
+    (record { id = g.segment.id; rows = length g.segment.rows; written = e.written }) g =
+    subst (λ (n : ℕ). HasSegment files s (record { id = g.segment.id; rows = n; written = e.written }) g)
+    (sym has.count) own_id in
+    subst
+    (λ (n : ℕ). HasSegment files n
+    (record { id = g.segment.id; rows = length g.segment.rows; written = e.written }) g)
+    (sym has.applied) own
+
+are_stored : (files : Files) (s : ℕ) (es : List HeadSegment) (gs : List Lived) → HaveSegments files s es gs
+    → AreWritten files s gs (written_of es gs)
+are_stored files s [] [] have = tt
+are_stored files s [] (g ∷ gs) have = absurd have
+are_stored files s (e ∷ es) [] have = absurd have
+are_stored files s (e ∷ es) (g ∷ gs) have =
+    ((λ alive. (omega (arith, have.0.applied), same_entry files s e g have.0)), are_stored files s es gs have.1)
+
+-- a writer can follow what was read
+pub follows : OpenedGoOn → (told : Option Files) (last : Opened)
+    → (files : Files) × Was told files × IsSpelled files last → CanFollow last
+follows law told last found = (law found.0 last).follows found.2.spelled
+
+pub opened_begins : (g : Given) (last : Opened) (size : ℕ) (w : State) → IsOn g → IsGivenCommit g last
+    → w ≡ opened_on last size → BeginsOn g w
+opened_begins g last size w on given is =
+    let held = held_given g on given.some in
+    let stored : IsStored g.files (opened_on (record {
+      number = g.base;
+      next_id = g.next;
+      entries = held.entries;
+      segments = held.segments;
+    }) size) = are_stored g.files g.base held.entries held.segments held.spelled.each in
+    let last_is = given.is held.entries held.segments held.spelled in
+    subst (BeginsOn g) (sym is) (subst (λ (x : Opened). BeginsOn g (opened_on x size)) (sym last_is)
+    (record { number = refl; next_id = refl; stored = stored }))
+
+pub opened_on_given : OpenedGoOn → (g : Given) (last : Opened) (size : ℕ) (w : State) → CanRun g
+    → IsGivenCommit g last → w ≡ opened_on last size → IsOnGiven g w
+opened_on_given law g last size w can given is =
+    let lawful = lawful_given g can given.some in
+    let holds = lawful.holds.holds in
+    begins_lawful law g last size w can lawful (given.is holds.entries holds.segments holds.spelled) is

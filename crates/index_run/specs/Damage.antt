@@ -8,8 +8,7 @@ use Rattle.op_script.specs.declared.script.Line.{Line}
 use Rattle.searcher.specs.Searching.{IsDamagedIn}
 use Rattle.index_run.specs.Beginning.{IsBase}
 use Rattle.index_run.specs.Causes.{IsScript}
-use Rattle.run_log.specs.Numbering.{Interleaves}
-use Rattle.run_log.specs.Report.{last_commit}
+use Rattle.run_log.specs.Headline.{Interleaves, last_commit}
 
 -- A search line asks for the commit of this number, for one order of the numbered lines: for that
 -- of its caller's last commit line before it, or else for the one that the run began on.

@@ -1,7 +1,10 @@
 pub mod Words
 pub mod Causes
 pub mod Outcomes
+pub mod OutcomeLaws
+pub mod Leaving
 pub mod Doing
+pub mod Driving
 pub mod Beginning
 pub mod Damage
 pub mod Endings

@@ -1,73 +1,73 @@
--- What becomes of the lines of a script that are done in its order.
-use Rattle.std.specs.Prelude.{◌≡◌, ℕ, ◌+◌, List, [], ◌∷◌, ◌++◌, length, ◌&&◌, ◌==◌, if◌then◌else◌, Option, Some, None}
+-- What becomes of the lines of a script, by the log.
+use Rattle.std.specs.Prelude.{◌≡◌, ℕ, zero, suc, ◌<◌, List, [], ◌∷◌, ◌++◌, slice_index, Option, Some, None}
 use Rattle.ix_base.specs.declared.document.Operation.{Operation}
-use Rattle.ix_base.specs.declared.document.Operation.TheVariants.{Commit}
+use Rattle.ix_base.specs.declared.document.Operation.TheVariants.{Add, Update, DeleteTerm, DeleteQuery, SetNumber, Commit}
 use Rattle.ix_base.specs.declared.document.Row.{Row}
 use Rattle.ix_base.specs.declared.query.Query.{Query}
-use Rattle.ix_base.specs.Refusals.{refusal}
 use Rattle.ix_base.specs.declared.refusal.Refusal.{Refusal}
-use Rattle.ix_base.specs.Steps.{after}
+use Rattle.ix_base.specs.Refusals.{refusal}
 use Rattle.op_script.specs.declared.script.Line.{Line}
 use Rattle.op_script.specs.declared.script.Act.{Act}
 use Rattle.op_script.specs.declared.script.Act.TheVariants.{Do, Search}
-use Rattle.run_report.specs.declared.outcome.Outcome.{Outcome}
 use Rattle.run_report.specs.declared.outcome.Answer.{Answer}
 use Rattle.run_report.specs.declared.outcome.Answer.TheVariants.{Numbered, Committed, Refused, Searched}
-use Rattle.run_log.specs.Numbering.{is_numbered, is_commit, numbered, operations}
+use Rattle.run_report.specs.declared.outcome.Outcome.{Outcome}
+use Rattle.run_log.specs.Headline.{last_commit, number_of, rows_at}
 
--- the last number after these lines
-abbrev pub number_after : ℕ → List Line → ℕ
-number_after base done = base + length (numbered done)
+-- What becomes of an operation that gets the number s: a commit is told how many rows it has.
+abbrev pub IsDone : (ℕ → ℕ → Type 0) → ℕ → Operation → Answer → Type 0
+IsDone Docs s (Add doc) answer = answer ≡ Numbered s
+IsDone Docs s (Update term doc) answer = answer ≡ Numbered s
+IsDone Docs s (DeleteTerm term) answer = answer ≡ Numbered s
+IsDone Docs s (DeleteQuery query) answer = answer ≡ Numbered s
+IsDone Docs s (SetNumber term name value) answer = answer ≡ Numbered s
+IsDone Docs s Commit answer = (docs : ℕ) × Docs s docs × (answer ≡ Committed s docs)
 
--- the rows after these lines
-abbrev pub rows_after : ℕ → List Row → List Line → List Row
-rows_after base rows done = after rows base (operations (numbered done))
+-- a refused operation is told its refusal
+abbrev pub IsTold : Option Refusal → Answer → Type 0 → Type 0
+IsTold (Some refusal) answer P = answer ≡ Refused refusal
+IsTold None answer P = P
 
--- the number of the caller's last commit line after these lines, of which the first has the number
--- after `last`
-abbrev pub commit_after : ℕ → ℕ → ℕ → List Line → ℕ
-commit_after last caller found [] = found
-commit_after last caller found (l ∷ ls) =
-    if is_numbered l.act then
-    commit_after (last + 1) caller
-    (if (l.caller == caller) && is_commit l.act then last + 1 else found) ls
-    else commit_after last caller found ls
+-- What becomes of a line, by the log and by the lines before it. `Docs` says of a commit how many rows it has.
+abbrev pub IsAnswer : (ℕ → ℕ → Type 0) → ℕ → List Line → List Line → Line → Act → Answer → Type 0
+IsAnswer Docs base log before l (Search query) answer =
+    answer ≡ Searched (last_commit base log l.caller base before) query
+IsAnswer Docs base log before l (Do op) answer =
+    IsTold (refusal op) answer (IsDone Docs (number_of base log l.line) op answer)
 
--- what becomes of a line that gets its number
-abbrev pub done_answer : ℕ → ℕ → Operation → Answer
-done_answer s docs Commit = Committed s docs
-done_answer s docs op = Numbered s
+pub record IsOutcome (Docs : ℕ → ℕ → Type 0) (base : ℕ) (log before : List Line) (l : Line) (o : Outcome) : Type 0 where
+  pub line : o.line ≡ l.line
+  pub answer : IsAnswer Docs base log before l l.act o.answer
 
--- what becomes of a line that is refused, and otherwise this
-abbrev pub told_answer : Option Refusal → Answer → Answer
-told_answer (Some refusal) answer = Refused refusal
-told_answer None answer = answer
+-- what becomes of lines, one by one, with the lines before them
+abbrev pub AreOutcomes : (ℕ → ℕ → Type 0) → ℕ → List Line → List Line → List Line → List Outcome → Type 0
+AreOutcomes Docs base log before [] [] = Unit {0}
+AreOutcomes Docs base log before [] (o ∷ outcomes) = ⊥
+AreOutcomes Docs base log before (l ∷ lines) [] = ⊥
+AreOutcomes Docs base log before (l ∷ lines) (o ∷ outcomes) =
+    IsOutcome Docs base log before l o × AreOutcomes Docs base log (before ++ l ∷ []) lines outcomes
 
--- what becomes of a line after those that were done
-abbrev pub answer_of : ℕ → List Row → List Line → Line → Act → Answer
-answer_of base rows done l (Search query) = Searched (commit_after base l.caller base done) query
-answer_of base rows done l (Do op) = told_answer (refusal op)
-    (done_answer (number_after base done + 1) (length (rows_after base rows done)) op)
-
-abbrev pub outcome_of : ℕ → List Row → List Line → Line → Outcome
-outcome_of base rows done l = record { line = l.line; answer = answer_of base rows done l l.act }
-
-abbrev pub outcomes_from : ℕ → List Row → List Line → List Line → List Outcome
-outcomes_from base rows done [] = []
-outcomes_from base rows done (l ∷ ls) =
-    outcome_of base rows done l ∷ outcomes_from base rows (done ++ l ∷ []) ls
-
--- a search line asks for the commit of this number, as the lines are done
-pub record AsksFor (base : ℕ) (lines : List Line) (number : ℕ) : Type 0 where
+-- A line of the script searches with this query, in the commit of this number: that of its caller's
+-- last commit line before it, or else the one that the run began on.
+pub record AsksBy (base : ℕ) (log lines : List Line) (number : ℕ) (query : Query) : Type 0 where
   pub before : List Line
   pub line : Line
   pub rest : List Line
-  pub query : Query
   pub at : lines ≡ before ++ line ∷ rest
   pub search : line.act ≡ Search query
-  pub is : number ≡ commit_after base line.caller base before
+  pub is : number ≡ last_commit base log line.caller base before
 
 -- an outcome that searches a commit has a line that asks for it
-abbrev pub IsAskedFor : ℕ → List Line → Outcome → Type 0
-IsAskedFor base lines outcome = (number : ℕ) (query : Query)
-    → outcome.answer ≡ Searched number query → AsksFor base lines number
+abbrev pub IsAskedBy : ℕ → List Line → List Line → Outcome → Type 0
+IsAskedBy base log lines o = (number : ℕ) (query : Query)
+    → o.answer ≡ Searched number query → AsksBy base log lines number query
+
+-- the rows of a commit, where the number 0 stands for none
+abbrev pub rows_of : ℕ → List Row → List Line → ℕ → List Row
+rows_of base rows log zero = []
+rows_of base rows log (suc s) = rows_at base rows log (suc s)
+
+-- the table of the callers' last commits, after these lines
+abbrev pub AreLasts : ℕ → List Line → List Line → List ℕ → Type 0
+AreLasts base log done lasts = (caller : ℕ) → caller < 256
+    → slice_index lasts caller ≡ last_commit base log caller base done

@@ -1,21 +1,19 @@
 //! The commit that a run begins on.
-ghost use Rattle.std.specs.Prelude.{◌≡◌, ◌⊎◌, ◌<◌, ◌≤◌, ◌^◌, ℕ, List, [], ◌∷◌, IfOk, IfErr, IsErrAnd, Err, Some};
+ghost use Rattle.std.specs.Prelude.{◌≡◌, ◌⊎◌, ◌<◌, ◌≤◌, ◌^◌, ℕ, [], ◌∷◌};
+ghost use Rattle.std.specs.Prelude.{IfOk, IfErr, IsErrAnd, Ok, Err, Some, None, false};
 ghost use Rattle.ix_outside.specs.Disk.{told_files};
-ghost use Rattle.ix_base.specs.declared.document.Row.{Row};
 ghost use Rattle.ix_outside.specs.Causes.{Rose};
 ghost use Rattle.ix_outside.specs.Files.{Files};
-ghost use Rattle.commit_point.specs.Holds.{Holds, HoldsInverted};
 ghost use Rattle.ix_base.specs.declared.damaged.Damaged.{Damaged};
-ghost use Rattle.index_writer.specs.Writing.{StandsFor};
-ghost use Rattle.run_log.specs.Given.{Given, CanRun, IsLast, IsOn};
+ghost use Rattle.index_run.specs.Doing.{CanBegin, IsOnGiven};
+ghost use Rattle.run_log.specs.Headline.{CanRun, Given, IsLast, IsOn};
 ghost use Rattle.index_run.specs.Causes.{IsOneOf, stop_status};
-ghost use Rattle.searcher.specs.Searching.{IsDamagedIn};
-ghost use Rattle.index_run.specs.Beginning.{BeginsOn, IsBase, IsHighBase, IsDamagedBase, last_or_zero};
-ghost use Rattle.index_run.specs.Doing.{CanBegin};
+ghost use Rattle.index_run.specs.Beginning.{BeginsOn, IsBase, IsDamagedBase, IsHighBase};
+ghost use Rattle.index_run.specs.Beginning.{IsOpened, OpensOn, StopsWith, last_or_zero};
 
 use crate::stop::Stop;
-use commit_point::{OpenFault, list_commits, read_commit};
-use index_writer::IndexWriter;
+use commit_point::{Opened, list_commits, read_commit};
+use index_writer::{IndexWriter, opened_go_on};
 use ix_outside::{Store, StoreFault};
 use report_text::Fault;
 use std::alloc::Global;
@@ -49,15 +47,11 @@ fn last_of(numbers: &[u64]) -> u64
     numbers.last().copied().unwrap_or(0)
 }
 
-/// The writer on the store's last commit. Without a commit it has no row, the number 0, and 1 as
-/// the next id.
-pub fn begin<S: Store>(alloc: Global, store: &mut S) -> Result<IndexWriter, Stop>
-    ensures ready { IfOk result CanBegin }
-    ensures last { IfOk result (λ writer. IsBase (told_files (S.disk store.old)) writer.number) }
+/// The store's last commit, as it was read, or `None` without one.
+fn last_opened<S: Store>(alloc: Global, store: &mut S) -> Result<Option<Opened>, Stop>
+    ensures found { IfOk result (IsOpened (told_files (S.disk store.old))) }
     ensures on { (g : Given) → told_files (S.disk store.old) ≡ Some g.files
-        → IsLast g.files g.base → IsOn g → IfOk result (BeginsOn g.files g.base g.next) }
-    ensures stands { (g : Given) → told_files (S.disk store.old) ≡ Some g.files
-        → CanRun g → IfOk result (λ writer. StandsFor writer g.rows) }
+        → IsLast g.files g.base → IsOn g → IfOk result (OpensOn g) }
     ensures base { (base : ℕ) → result ≡ Err (Stop.Fault (Fault.Base base))
         → IsHighBase (told_files (S.disk store.old)) base }
     ensures high { (files : Files) (base : ℕ) → told_files (S.disk store.old) ≡ Some files
@@ -75,47 +69,73 @@ pub fn begin<S: Store>(alloc: Global, store: &mut S) -> Result<IndexWriter, Stop
         → Rose (S.fault_count store.old) (S.fault_count store.new) }
     ensures others { IfErr result (λ stop. IsOneOf (stop_status stop) (4 ∷ 7 ∷ 8 ∷ 10 ∷ [])) }
 {
-    let base = match last_commit(alloc, store) {
-        Ok(base) => base,
-        Err(stop) => return Err(stop),
-    };
+    let base = last_commit(alloc, store)?;
     if base > MOST_BASE {
         return Err(Stop::Fault(Fault::Base(base)));
     }
     if base == 0 {
-        return Ok(IndexWriter::none(alloc));
+        return Ok(None);
     }
-    begin_on(alloc, store, base)
+    match read_commit(alloc, store, base) {
+        Ok(opened) => Ok(Some(opened)),
+        Err(fault) => Err(Stop::from(fault)),
+    }
 }
 
-/// The writer on the commit of this number.
-fn begin_on<S: Store>(alloc: Global, store: &mut S, base: u64) -> Result<IndexWriter, Stop>
-    requires { (1 ≤ base) × (base ≤ 2 ^ 61) }
-    ensures ready { IfOk result CanBegin }
-    ensures number { IfOk result (λ writer. writer.number ≡ base) }
-    ensures on { (files : Files) (next : ℕ) (rows : List Row)
-        → told_files (S.disk store.old) ≡ Some files → Holds files base next rows
-        → IfOk result (BeginsOn files base next) }
-    ensures stands { (files : Files) (next : ℕ) (rows : List Row)
-        → told_files (S.disk store.old) ≡ Some files → HoldsInverted files base next rows
-        → IfOk result (λ writer. StandsFor writer rows) }
-    ensures whole { (files : Files) (next : ℕ) (rows : List Row)
-        → told_files (S.disk store.old) ≡ Some files → Holds files base next rows
-        → IfErr result (λ stop. (stop ≡ Stop.Fault Fault.Store) ⊎ (stop ≡ Stop.NoMemory)) }
-    ensures damaged { (damaged : Damaged) → result ≡ Err (Stop.Fault (Fault.Damaged damaged))
-        → IsDamagedIn (told_files (S.disk store.old)) base damaged }
-    ensures reads { S.disk store.new ≡ S.disk store.old }
-    ensures later { S.fault_count store.old ≤ S.fault_count store.new }
-    ensures failed { result ≡ Err (Stop.Fault Fault.Store)
-        → Rose (S.fault_count store.old) (S.fault_count store.new) }
-    ensures others { IfErr result (λ stop. (stop ≡ Stop.Fault Fault.Store) ⊎ ((stop ≡ Stop.NoMemory)
-        ⊎ ((damaged : Damaged) × (stop ≡ Stop.Fault (Fault.Damaged damaged))))) }
+/// Why no writer was begun, with the store.
+#[derive(Drop)]
+pub struct Unbegun<S> {
+    pub store: S,
+    pub stop: Stop,
+}
+
+/// The writer on the store's last commit, with buffers of so many documents. Without a commit it has
+/// no row, the number 0, and 1 as the next id. The store is read alone; after an error it is given back.
+pub fn begin<S: Store>(alloc: Global, store: S, buffer: u32) -> Result<IndexWriter<S>, Unbegun<S>>
+    requires buffer { (1 ≤ buffer) × (buffer ≤ 65536) }
+    ensures ready { IfOk result (λ writer. CanBegin writer.state) }
+    ensures out { IfOk result (λ writer. writer.state.out ≡ false) }
+    ensures last { IfOk result (λ writer.
+        IsBase (told_files (S.disk store)) writer.state.published.upto) }
+    ensures on { (g : Given) → told_files (S.disk store) ≡ Some g.files
+        → IsLast g.files g.base → IsOn g → IfOk result (λ writer. BeginsOn g writer.state) }
+    ensures given { (g : Given) → told_files (S.disk store) ≡ Some g.files → CanRun g
+        → IfOk result (λ writer. IsOnGiven g writer.state) }
+    ensures base { (base : ℕ) → StopsWith result (Stop.Fault (Fault.Base base))
+        → IsHighBase (told_files (S.disk store)) base }
+    ensures high { (files : Files) (base : ℕ) → told_files (S.disk store) ≡ Some files
+        → IsLast files base → 2 ^ 61 < base
+        → IsErrAnd result (λ unbegun. (unbegun.stop ≡ Stop.Fault (Fault.Base base))
+        ⊎ ((unbegun.stop ≡ Stop.Fault Fault.Store) ⊎ (unbegun.stop ≡ Stop.NoMemory))) }
+    ensures whole { (g : Given) → told_files (S.disk store) ≡ Some g.files
+        → IsLast g.files g.base → IsOn g → g.base ≤ 2 ^ 61
+        → IfErr result (λ unbegun. (unbegun.stop ≡ Stop.Fault Fault.Store)
+        ⊎ (unbegun.stop ≡ Stop.NoMemory)) }
+    ensures damaged { (damaged : Damaged) → StopsWith result (Stop.Fault (Fault.Damaged damaged))
+        → (base : ℕ) × IsDamagedBase (told_files (S.disk store)) base damaged }
+    ensures reads { IfOk result (λ writer. S.disk writer.store ≡ S.disk store) }
+    ensures left { IfErr result (λ unbegun. S.disk unbegun.store ≡ S.disk store) }
+    ensures later { IfOk result (λ writer. S.fault_count store ≤ S.fault_count writer.store) }
+    ensures failed { IfErr result (λ unbegun. unbegun.stop ≡ Stop.Fault Fault.Store
+        → Rose (S.fault_count store) (S.fault_count unbegun.store)) }
+    ensures rises { IfErr result (λ unbegun. S.fault_count store ≤ S.fault_count unbegun.store) }
+    ensures others { IfErr result (λ unbegun.
+        IsOneOf (stop_status unbegun.stop) (4 ∷ 7 ∷ 8 ∷ 10 ∷ [])) }
 {
-    match read_commit(alloc, store, base) {
-        Ok(opened) => Ok(IndexWriter::on(alloc, opened)),
-        Err(OpenFault::Store) => Err(Stop::Fault(Fault::Store)),
-        Err(OpenFault::Damaged(damaged)) => Err(Stop::Fault(Fault::Damaged(damaged))),
-        Err(OpenFault::NoSuch { number: _ }) => Err(Stop::NoMemory),
-        Err(OpenFault::NoMemory) => Err(Stop::NoMemory),
+    opened_go_on();
+    let mut store = store;
+    let last = match last_opened(alloc, &mut store) {
+        Ok(last) => last,
+        Err(stop) => return Err(Unbegun { store, stop }),
+    };
+    let Some(opened) = last else {
+        return Ok(IndexWriter::none(alloc, store, buffer));
+    };
+    match IndexWriter::open(alloc, store, opened, buffer) {
+        Ok(writer) => Ok(writer),
+        Err(refused) => Err(Unbegun {
+            store: refused.store,
+            stop: Stop::NoMemory,
+        }),
     }
 }

@@ -1,25 +1,28 @@
 //! The top call.
-ghost use Rattle.std.specs.Prelude.{◌≡◌, ◌<◌, ◌≤◌, ◌+◌, ◌^◌, ℕ, List, [], ◌∷◌, take, Ok, Err, Some};
+ghost use Rattle.std.specs.Prelude.{◌≡◌, ◌<◌, ◌+◌, ◌^◌, ℕ, List, [], ◌∷◌, take, Ok, Err, Some};
 ghost use Rattle.std.specs.Io.KnownBytes.{Appends, IsAtEnd};
 ghost use Rattle.ix_outside.specs.Causes.{Rose};
 ghost use Rattle.ix_outside.specs.Disk.{told_files};
 ghost use Rattle.op_script.specs.Language.{most_bytes, script};
 ghost use Rattle.op_script.specs.declared.script.BadLine.{BadLine};
-ghost use Rattle.report_text.specs.Faults.{fault_text, status_of};
-ghost use Rattle.index_run.specs.Causes.{IsOneOf, TakesUpTo, WritesFront};
+ghost use Rattle.report_text.specs.Faults.{fault_text};
+ghost use Rattle.report_text.specs.declared.fault.Fault.{Fault};
+ghost use Rattle.index_run.specs.Causes.{IsOneOf, TakesUpTo, WritesFront, stop_status};
 ghost use Rattle.index_run.specs.Endings.{EndsBy};
-ghost use Rattle.run_log.specs.Given.{Given, CanEnd, CanRun, IsGiven};
-ghost use Rattle.run_log.specs.Headline.{Keeps, Runs, Stops};
+ghost use Rattle.run_log.specs.Headline.{CanEnd, CanRun, Given, IsGiven, Keeps, Runs, Stops};
 ghost use Rattle.index_run.specs.Words.{IsAccepted};
 
+use crate::doing::{Done, do_script};
 use crate::output::write_all;
-use crate::run::run;
+use crate::reading::read_lines;
 use crate::stop::Stop;
 use ix_outside::{Gate, Sink, Source, Store};
-use report_text::Fault;
 use std::alloc::Global;
 use std::sync::Wait;
 use std::thread::Threads;
+
+/// The exit status where memory ran out.
+const NO_MEMORY: u8 = 4;
 
 /// How the call ended, with the store.
 #[derive(Drop)]
@@ -28,14 +31,15 @@ pub struct Ended<S> {
     pub store: S,
 }
 
-/// Does the command that the words are: the one word `run`. It reads a script from the input to
-/// its end, does it over the store's last commit, writes the report to the sink, and ends with the
-/// exit status.
+/// Does the command that the words are: `run`, with `--threads` (1 to 16, 4 without it) and `--buffer`
+/// (1 to 65,536, 1,000 without it). It reads a script from the input to its end, does it over the
+/// store's last commit by so many writers, each with a buffer of so many documents, writes the report
+/// to the sink, and ends with the exit status.
 ///
 /// | Status | Comes |
 /// |---|---|
 /// | 0 | the script was done and its report written |
-/// | 2 | exactly where the words are not `run` |
+/// | 2 | only where the words are no such command; where they are none it is 2, or 4 |
 /// | 3 | exactly where the input has a bad line, which the line that is written names |
 /// | 4 | where memory ran out, at any point; nothing is written |
 /// | 5, 6, 7 | only where the source, the sink or the store failed in this call |
@@ -78,7 +82,7 @@ pub fn top<R: Threads + Wait + Sync, I: Source, O: Sink, S: Store, G: Gate>(
         (O.fault_count out.old) (O.fault_count out.new)) }
     ensures sink { result.status ≡ 6 → Rose (O.fault_count out.old) (O.fault_count out.new) }
     ensures nothing { result.status ≡ 4 → O.written out.new ≡ O.written out.old }
-    ensures words { (IsAccepted words.now → ⊥) → result.status ≡ 2 }
+    ensures words { (IsAccepted words.now → ⊥) → IsOneOf result.status (2 ∷ 4 ∷ []) }
     ensures unread { result.status ≡ 2 → input.new ≡ input.old }
     ensures bad { (bytes : List ℕ) (bad : BadLine) → IsAccepted words.now
         → I.left input.old ≡ Some bytes → script bytes ≡ Err bad
@@ -117,15 +121,22 @@ pub fn top<R: Threads + Wait + Sync, I: Source, O: Sink, S: Store, G: Gate>(
     // No more of the input is read than what shows that it is too long.
     ensures bound { TakesUpTo (most_bytes + 1) (I.left input.old) (I.left input.new) }
 {
-    let mut store = store;
-    match run(rt, alloc, words, input, &mut store, gate) {
-        Ok(text) => {
-            let status = write_report(out, text.as_slice());
-            Ended { status, store }
+    match read_lines(alloc, words, input) {
+        Ok((options, lines)) => {
+            let Done { text, store } = do_script(rt, alloc, store, gate, options, lines);
+            match text {
+                Ok(text) => {
+                    let status = write_report(out, text.as_slice());
+                    Ended { status, store }
+                }
+                Err(stop) => {
+                    let status = tell(out, stop);
+                    Ended { status, store }
+                }
+            }
         }
-        Err(Stop::NoMemory) => Ended { status: 4, store },
-        Err(Stop::Fault(fault)) => {
-            let status = tell(out, fault);
+        Err(stop) => {
+            let status = tell(out, stop);
             Ended { status, store }
         }
     }
@@ -145,13 +156,17 @@ fn write_report<O: Sink>(out: &mut O, text: &[u8]) -> u8
     }
 }
 
-/// Writes the line that tells a fault, and returns the fault's status. A sink that fails there
-/// changes nothing of the status.
-fn tell<O: Sink>(out: &mut O, fault: Fault) -> u8
-    ensures status { result ≡ status_of fault }
-    ensures front { WritesFront (O.written out.old) (O.written out.new)
-        (O.fault_count out.old) (O.fault_count out.new) (fault_text fault) }
+/// Writes the line that tells why the call stopped, or nothing where memory ran out, and returns the
+/// exit status. A sink that fails there changes nothing of the status.
+fn tell<O: Sink>(out: &mut O, stop: Stop) -> u8
+    ensures status { result ≡ stop_status stop }
+    ensures nothing { stop ≡ Stop.NoMemory → O.written out.new ≡ O.written out.old }
+    ensures front { (f : Fault) → stop ≡ Stop.Fault f → WritesFront (O.written out.old) (O.written out.new)
+        (O.fault_count out.old) (O.fault_count out.new) (fault_text f) }
 {
+    let Stop::Fault(fault) = stop else {
+        return NO_MEMORY;
+    };
     let text = fault.text();
     let _written = write_all(out, text.as_str().as_bytes());
     fault.status()

@@ -1,5 +1,6 @@
 //! A script's lines done over a store, and their report made.
-ghost use Rattle.std.specs.Prelude.{◌≡◌, ◌⊎◌, ◌<◌, ◌≤◌, ◌^◌, ◌∷◌, [], ℕ, List, IfOk, IfErr, IsErrAnd, Err, Some, Contains};
+ghost use Rattle.std.specs.Prelude.{◌≡◌, ◌⊎◌, ◌<◌, ◌≤◌, ◌^◌, ◌∷◌, [], ℕ, List};
+ghost use Rattle.std.specs.Prelude.{IfOk, IfErr, IsErrAnd, Err, Some, Contains};
 ghost use Rattle.ix_outside.specs.Disk.{told_files};
 ghost use Rattle.ix_base.specs.declared.document.Row.{Row};
 ghost use Rattle.ix_outside.specs.Causes.{Rose};
@@ -12,65 +13,86 @@ ghost use Rattle.run_report.specs.Texts.{texts};
 ghost use Rattle.index_run.specs.Beginning.{IsHighBase};
 ghost use Rattle.index_run.specs.Causes.{IsOneOf, stop_status};
 ghost use Rattle.index_run.specs.Damage.{ReadsDamaged};
-ghost use Rattle.run_log.specs.Given.{Given, CanEnd, CanRun, IsLast};
-ghost use Rattle.run_log.specs.Headline.{Keeps, Runs, Stops};
+ghost use Rattle.run_log.specs.Headline.{CanEnd, CanRun, Given, IsLast, Keeps, Runs, Stops};
 
 use crate::begin::begin;
 use crate::lines::do_lines;
 use crate::stop::Stop;
+use crate::words::Options;
 use ix_base::List;
-use ix_outside::{Gate, Store, StoreFault};
+use ix_outside::{Gate, Store};
 use op_script::Line;
 use report_text::Fault;
 use run_report::{Outcome, report};
 use std::alloc::Global;
 use std::thread::Threads;
 
-/// Does the lines over the store's last commit, and answers their report, of which nothing is
-/// written yet.
+/// The report of a script that was done, or why it stopped, with the store.
+#[derive(Drop)]
+pub struct Done<S> {
+    pub text: Result<Vec<u8>, Stop>,
+    pub store: S,
+}
+
+/// Does the lines over the store's last commit by so many writers, whose buffers hold so many
+/// documents, and returns their report, of which nothing is written yet.
 pub fn do_script<R: Threads + Sync, S: Store, G: Gate>(
     rt: &R,
     alloc: Global,
-    store: &mut S,
+    store: S,
     gate: &G,
+    options: Options,
     lines: List<Line>,
-) -> Result<Vec<u8>, Stop>
-    requires { AreScriptLines lines }
-    ensures done { (g : Given) → g.lines ≡ lines → told_files (S.disk store.old) ≡ Some g.files
-        → CanRun g → IfOk result (λ text. Runs g (λ report. text.items ≡ report)
-        (S.disk store.old) (S.disk store.new)) }
-    ensures stops { (g : Given) → g.lines ≡ lines → told_files (S.disk store.old) ≡ Some g.files
-        → CanRun g → Stops g (S.disk store.old) (S.disk store.new) }
-    ensures kept { (g : Given) → told_files (S.disk store.old) ≡ Some g.files → CanRun g
-        → Keeps g (S.disk store.old) (S.disk store.new) }
-    ensures base { (base : ℕ) → result ≡ Err (Stop.Fault (Fault.Base base))
-        → IsHighBase (told_files (S.disk store.old)) base }
-    ensures same { (base : ℕ) → result ≡ Err (Stop.Fault (Fault.Base base))
-        → told_files (S.disk store.new) ≡ told_files (S.disk store.old) }
-    ensures high { (g : Given) → told_files (S.disk store.old) ≡ Some g.files
+) -> Done<S>
+    requires lines { AreScriptLines lines }
+    requires threads { (1 ≤ options.threads) × (options.threads ≤ 16) }
+    requires buffer { (1 ≤ options.buffer) × (options.buffer ≤ 65536) }
+    ensures done { (g : Given) → g.lines ≡ lines → told_files (S.disk store) ≡ Some g.files
+        → CanRun g → IfOk result.text (λ text. Runs g (λ report. text.items ≡ report)
+        (S.disk store) (S.disk result.store)) }
+    ensures stops { (g : Given) → g.lines ≡ lines → told_files (S.disk store) ≡ Some g.files
+        → CanRun g → Stops g (S.disk store) (S.disk result.store) }
+    ensures kept { (g : Given) → told_files (S.disk store) ≡ Some g.files → CanRun g
+        → Keeps g (S.disk store) (S.disk result.store) }
+    ensures base { (base : ℕ) → result.text ≡ Err (Stop.Fault (Fault.Base base))
+        → IsHighBase (told_files (S.disk store)) base }
+    ensures same { (base : ℕ) → result.text ≡ Err (Stop.Fault (Fault.Base base))
+        → told_files (S.disk result.store) ≡ told_files (S.disk store) }
+    ensures high { (g : Given) → told_files (S.disk store) ≡ Some g.files
         → IsLast g.files g.base → 2 ^ 61 < g.base
-        → IsErrAnd result (λ stop. IsOneOf (stop_status stop) (4 ∷ 7 ∷ 10 ∷ [])) }
-    ensures whole { (g : Given) → told_files (S.disk store.old) ≡ Some g.files
+        → IsErrAnd result.text (λ stop. IsOneOf (stop_status stop) (4 ∷ 7 ∷ 10 ∷ [])) }
+    ensures whole { (g : Given) → told_files (S.disk store) ≡ Some g.files
         → IsLast g.files g.base → CanEnd g
-        → IfErr result (λ stop. IsOneOf (stop_status stop) (4 ∷ 7 ∷ [])) }
-    ensures damaged { (damaged : Damaged) → result ≡ Err (Stop.Fault (Fault.Damaged damaged))
-        → ReadsDamaged lines (told_files (S.disk store.old))
-        (told_files (S.disk store.new)) damaged }
-    ensures later { S.fault_count store.old ≤ S.fault_count store.new }
-    ensures failed { result ≡ Err (Stop.Fault Fault.Store)
-        → Rose (S.fault_count store.old) (S.fault_count store.new) }
-    ensures others { IfErr result (λ stop. IsOneOf (stop_status stop) (4 ∷ 7 ∷ 8 ∷ 10 ∷ [])) }
+        → IfErr result.text (λ stop. IsOneOf (stop_status stop) (4 ∷ 7 ∷ [])) }
+    ensures damaged { (damaged : Damaged) → result.text ≡ Err (Stop.Fault (Fault.Damaged damaged))
+        → ReadsDamaged lines (told_files (S.disk store))
+        (told_files (S.disk result.store)) damaged }
+    ensures later { S.fault_count store ≤ S.fault_count result.store }
+    ensures failed { result.text ≡ Err (Stop.Fault Fault.Store)
+        → Rose (S.fault_count store) (S.fault_count result.store) }
+    ensures others { IfErr result.text (λ stop. IsOneOf (stop_status stop) (4 ∷ 7 ∷ 8 ∷ 10 ∷ [])) }
 {
-    let writer = match begin(alloc, store) {
+    let mut writer = match begin(alloc, store, options.buffer) {
         Ok(writer) => writer,
-        Err(stop) => return Err(stop),
+        Err(unbegun) => {
+            return Done {
+                text: Err(unbegun.stop),
+                store: unbegun.store,
+            };
+        }
     };
-    let outcomes = match do_lines(rt, alloc, store, gate, writer, lines) {
-        Ok(outcomes) => outcomes,
-        Err(StoreFault::Failed) => return Err(Stop::Fault(Fault::Store)),
-        Err(StoreFault::NoMemory) => return Err(Stop::NoMemory),
-    };
-    report_of(alloc, store, outcomes.as_slice())
+    let done = do_lines(rt, alloc, gate, &mut writer, options.threads, lines);
+    let mut store = writer.into_store();
+    match done {
+        Ok(outcomes) => Done {
+            text: report_of(alloc, &mut store, outcomes.as_slice()),
+            store,
+        },
+        Err(fault) => Done {
+            text: Err(Stop::from(fault)),
+            store,
+        },
+    }
 }
 
 /// The report of what became of the lines, or why the run stops.

@@ -15,7 +15,7 @@ mod input;
 mod lines;
 mod output;
 mod reading;
-mod run;
+mod rounds;
 mod stop;
 #[cfg(test)]
 mod tests;
@@ -27,6 +27,8 @@ mod tests_gate;
 mod tests_large;
 #[cfg(test)]
 mod tests_operations;
+#[cfg(test)]
+mod tests_rounds;
 #[cfg(test)]
 mod tests_stores;
 mod words;

@@ -1,9 +1,10 @@
 //! Why a run stopped before its end.
 ghost use Rattle.std.specs.Prelude.{◌≡◌};
-ghost use Rattle.index_run.specs.Causes.{stop_of};
+ghost use Rattle.index_run.specs.Causes.{stop_by, stop_of};
 ghost use Rattle.index_run.specs.declared.stop.Stop.TheVariants as stop;
 
 use commit_point::OpenFault;
+use index_writer::WriterFault;
 use ix_base::NoMemory;
 use report_text::Fault;
 use std::alloc::{AllocError, AllocFailed};
@@ -25,6 +26,17 @@ impl From<OpenFault> for Stop {
             OpenFault::Store => Stop::Fault(Fault::Store),
             OpenFault::Damaged(damaged) => Stop::Fault(Fault::Damaged(damaged)),
             OpenFault::NoSuch { number: _ } | OpenFault::NoMemory => Stop::NoMemory,
+        }
+    }
+}
+
+impl From<WriterFault> for Stop {
+    ghost from_gives = { λ fault reason. reason ≡ stop_by fault };
+
+    fn from(fault: WriterFault) -> Stop {
+        match fault {
+            WriterFault::Store => Stop::Fault(Fault::Store),
+            WriterFault::Closed | WriterFault::NoMemory => Stop::NoMemory,
         }
     }
 }

@@ -30,10 +30,11 @@ pub(crate) struct Done<S> {
     pub(crate) store: S,
 }
 
-/// A run of the script over the store.
-pub(crate) fn run_over<R: Threads + Wait + Sync, S: Store + Drop>(
+/// A run of the script over the store, with these words.
+pub(crate) fn run_words<R: Threads + Wait + Sync, S: Store + Drop>(
     rt: &R,
     alloc: Global,
+    words: &[&str],
     script: &[&str],
     store: S,
     failing_reads: Vec<u64>,
@@ -43,14 +44,16 @@ pub(crate) fn run_over<R: Threads + Wait + Sync, S: Store + Drop>(
     for line in script {
         bytes.extend_from_slice(line.as_bytes())?;
     }
-    let mut words = Vec::new(alloc);
-    words.push(String::from_str(alloc, "run")?)?;
+    let mut texts = Vec::new(alloc);
+    for word in words {
+        texts.push(String::from_str(alloc, word)?)?;
+    }
     let mut input = MemorySource::failing(bytes, failing_reads);
     let mut out = MemorySink::failing(alloc, 1_048_576, failing_writes)?;
     let ended = top(
         rt,
         alloc,
-        words.as_slice(),
+        texts.as_slice(),
         &mut input,
         &mut out,
         store,
@@ -61,6 +64,26 @@ pub(crate) fn run_over<R: Threads + Wait + Sync, S: Store + Drop>(
         written: out.into_bytes(),
         store: ended.store,
     })
+}
+
+/// A run of the script over the store.
+pub(crate) fn run_over<R: Threads + Wait + Sync, S: Store + Drop>(
+    rt: &R,
+    alloc: Global,
+    script: &[&str],
+    store: S,
+    failing_reads: Vec<u64>,
+    failing_writes: Vec<u64>,
+) -> Result<Done<S>, NoMemory> {
+    run_words(
+        rt,
+        alloc,
+        &["run"],
+        script,
+        store,
+        failing_reads,
+        failing_writes,
+    )
 }
 
 /// A run of the script over the store, in which no read and no write fails.

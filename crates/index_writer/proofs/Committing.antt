@@ -1,74 +1,260 @@
--- What the commit of a writer does to the files.
-use Rattle.std.proofs.Common.{◌≡◌, ◌∙◌, ◌⊎◌, inl, inr, ℕ, ◌+◌, ◌<◌, ◌≤◌, List, Option, Result, Ok, Err, IfOk, OnOk, sym, subst, arith}
+-- The commit of a writer.
+use Rattle.std.proofs.Common.{◌≡◌, ◌∙◌, ℕ, ◌+◌, ◌<◌, ◌≤◌, cond, Bool, true, false, List, [], ◌∷◌, ◌++◌, Option, Some, None, length, refl, sym, ap, subst, arith, IsPermutation}
+use Rattle.std.specs.Prelude.{◌↔◌, IfSome, IsSome, IsTrue}
+use Rattle.std.specs.List.{AllByRecursion, cons_option, filter}
+use Rattle.std.proofs.lemmas.Bool.{ltb-false}
+use Rattle.std.proofs.lemmas.List.Sorted.{length_permutation}
+use Rattle.ix_base.specs.declared.document.Row.{Row}
 use Rattle.ix_base.specs.declared.file_name.FileName.{FileName}
 use Rattle.ix_base.specs.declared.file_name.FileName.TheVariants.{Commit, Pending, Rows, Posts, Live, Values}
-use Rattle.ix_base.specs.declared.document.Row.{Row}
+use Rattle.ix_outside.specs.declared.store.StoreFault.{StoreFault}
+use Rattle.ix_outside.specs.declared.store.StoreFault.TheVariants.{Failed, NoMemory}
 use Rattle.ix_outside.specs.Disk.{Disk}
 use Rattle.ix_outside.specs.Files.{Files}
-use Rattle.commit_point.specs.Holds.{HoldsInverted}
+use Rattle.live_docs.specs.Marks.{count_live, same_marks}
+use Rattle.live_docs.specs.declared.live_docs.Mark.{Mark}
+use Rattle.row_fates.specs.Fate.{renumbered}
+use Rattle.segment_core.specs.LiveRows.{Lived, all_live, live, live_rows, stored_rows, with_numbers}
+use Rattle.segment_core.specs.Segments.{IsInverted}
+use Rattle.segment_core.specs.Births.{births_at, births_append}
+use Rattle.commit_point.specs.declared.written.Written.{Written}
+use Rattle.commit_point.specs.Holds.{HasSegment, HaveSegments}
 use Rattle.commit_point.specs.Settling as settling
 use Rattle.commit_point.specs.Writing as commit
-use Rattle.index_writer.specs.Drafting.{Drafts, IsAfter}
-use Rattle.index_writer.specs.Laws.{holds_of}
-use Rattle.index_writer.specs.Storing.{Commits, IsStored, MayCommit, SameBelow, Settles}
-use Rattle.index_writer.specs.Writing.{StandsFor}
-use Rattle.index_writer.specs.declared.draft.Draft.{Draft}
-use Rattle.index_writer.specs.declared.writer.IndexWriter.{IndexWriter}
-use Rattle.index_writer.proofs.Following.{last_of, is_commit}
+use Rattle.commit_point.specs.Writing.{AreWritten, CanCommit, CanWrite, IsOldId, SegmentIdsRise, WrittenUpTo, entries_of, entry_of, is_alive, listed, version}
+use Rattle.index_writer.specs.declared.fault.WriterFault.{WriterFault}
+use Rattle.index_writer.specs.declared.fault.WriterFault.TheVariants.{Store, NoMemory as OutOfMemory}
+use Rattle.index_writer.specs.declared.state.State.{State}
+use Rattle.index_writer.specs.Ready.{CanBePending, HasRows, IsReady, IsStored, NewIdsFrom}
+use Rattle.index_writer.specs.Storing.{Commits, SameBelow, Settles, on_commit, renewed}
 
--- files that are elsewhere for the writer are so for the draft
-elsewhere : (w : IndexWriter) (d : Draft) → Drafts w d → (name : FileName) → commit.IsElsewhere w.number (λ id. id < w.last.next_id) name
-    → commit.IsElsewhere d.number (commit.IsOldId d.segments d.written) name
-elsewhere w d drafts (Commit t) other = λ is. other (is ∙ drafts.number)
-elsewhere w d drafts (Pending t) other = λ is. other (is ∙ drafts.number)
-elsewhere w d drafts (Rows id) below = drafts.old_ids id below
-elsewhere w d drafts (Posts id) below = drafts.old_ids id below
-elsewhere w d drafts (Live id v) other = λ is. other (is ∙ drafts.number)
-elsewhere w d drafts (Values id v) other = λ is. other (is ∙ drafts.number)
+-- ---- segments without a live row
 
-pub same_below : (w : IndexWriter) (d : Draft) → Drafts w d → (old new : Files)
-    → commit.SameElsewhere d.number (commit.IsOldId d.segments d.written) old new → SameBelow w.number w.last.next_id old new
-same_below w d drafts old new same = λ name other. same name (elsewhere w d drafts name other)
-
-pub commits : (w after : IndexWriter) (d : Draft) → Drafts w d → IsAfter d after → (old new : Files)
-    → commit.Commits d.number d.next_id d.segments d.written old new → Commits w after old new
-commits w after d drafts is old new made = record {
-  spelled = λ stored. subst (IsStored new) (sym is.last) (made.spelled (drafts.written old stored));
-  elsewhere = same_below w d drafts old new made.elsewhere;
-}
-
-pub may_commit : (w : IndexWriter) (d : Draft) (rows : List Row) → Drafts w d → StandsFor w rows → (old new : Files)
-    → commit.MayCommit d.number d.next_id d.segments d.written old new → MayCommit w rows old new
-may_commit w d rows drafts stands old new may = record {
-  elsewhere = same_below w d drafts old new may.elsewhere;
-  whole = λ stored. either (drafts.written old stored) may.whole;
-}
+all_filter : {X : Type 0} (P : X → Type 0) (test : X → Bool) (xs : List X) → AllByRecursion P xs → AllByRecursion P (filter test xs)
+all_filter P test [] all = tt
+all_filter {X} P test (x ∷ xs) all = by (test x) (all_filter P test xs all.1)
   where
-    either : commit.AreWritten old d.number d.segments d.written
-        → (new (Commit d.number) ≡ old (Commit d.number)) ⊎ commit.Commits d.number d.next_id d.segments d.written old new
-        → (new (Commit w.number) ≡ old (Commit w.number))
-        ⊎ ((id : ℕ) × (w.last.next_id ≤ id) × (id ≤ w.last.next_id + 1) × HoldsInverted new w.number id rows)
-    either written (inl same) = inl (subst (λ (s : ℕ). new (Commit s) ≡ old (Commit s)) drafts.number same)
-    either written (inr made) =
-        inr (
-          d.next_id,
-          drafts.next_id,
-          drafts.next_most,
-          subst (λ (s : ℕ). HoldsInverted new s d.next_id rows) drafts.number
-              (holds_of new (last_of d) rows (made.spelled written) (is_commit w d rows drafts stands)),
-        )
+    by : (t : Bool) → AllByRecursion P (filter test xs) → AllByRecursion P (cond t (x ∷ filter test xs) (filter test xs))
+    by true more = (all.0, more)
+    by false more = more
 
-pub settles : (w : IndexWriter) (d : Draft) → Drafts w d → (old new : Option Disk)
-    → settling.Settles d.number d.segments d.written old new → Settles w old new
-settles w d drafts old new settled = λ files now told told_now below stored images.
+ids_lower : (low more limit : ℕ) (gs : List Lived) → low ≤ more → SegmentIdsRise more limit gs → SegmentIdsRise low limit gs
+ids_lower low more limit [] le rise = tt
+ids_lower low more limit (g ∷ gs) le rise = (omega (arith, rise.0), rise.1, rise.2)
+
+ids_listed : (low limit : ℕ) (gs : List Lived) → SegmentIdsRise low limit gs → SegmentIdsRise low limit (listed gs)
+ids_listed low limit [] rise = tt
+ids_listed low limit (g ∷ gs) rise = by (is_alive g) (ids_listed (g.segment.id + 1) limit gs rise.2)
+  where
+    by : (t : Bool) → SegmentIdsRise (g.segment.id + 1) limit (listed gs) → SegmentIdsRise low limit (cond t (g ∷ listed gs) (listed gs))
+    by true more = (rise.0, rise.1, more)
+    by false more = ids_lower low (g.segment.id + 1) limit (listed gs) (omega (arith, rise.0)) more
+
+births_listed : (b : ℕ) (gs : List Lived) → births_at b (stored_rows (listed gs)) ≤ births_at b (stored_rows gs)
+births_listed b [] = omega arith
+births_listed b (g ∷ gs) = by (is_alive g) (births_listed b gs)
+  where
+    by : (t : Bool) → births_at b (stored_rows (listed gs)) ≤ births_at b (stored_rows gs)
+        → births_at b (stored_rows (cond t (g ∷ listed gs) (listed gs))) ≤ births_at b (stored_rows (g ∷ gs))
+    by true more = omega (arith, births_append b g.segment.rows (stored_rows (listed gs)), births_append b g.segment.rows (stored_rows gs), more)
+    by false more = omega (arith, births_append b g.segment.rows (stored_rows gs), more)
+
+none_live : (rows : List Row) (marks : List Mark) → count_live marks ≤ 0 → live_rows rows marks ≡ []
+none_live [] marks none = refl
+none_live (row ∷ rows) [] none = refl
+none_live (row ∷ rows) (m ∷ marks) none = by m.live (none_live rows marks) none
+  where
+    by : (b : Bool) → (count_live marks ≤ 0 → live_rows rows marks ≡ [])
+        → length (cond b (m ∷ filter (λ (x : Mark). x.live) marks) (filter (λ (x : Mark). x.live) marks)) ≤ 0
+        → cons_option (cond b (Some (renumbered (with_numbers m.values row.doc.num) row)) None) (live_rows rows marks) ≡ []
+    by true more none = absurd (omega (arith, none))
+    by false more none = more none
+
+live_listed : (gs : List Lived) → all_live (listed gs) ≡ all_live gs
+live_listed [] = refl
+live_listed (g ∷ gs) = by (is_alive g) refl (live_listed gs)
+  where
+    by : (t : Bool) → is_alive g ≡ t → all_live (listed gs) ≡ all_live gs → all_live (cond t (g ∷ listed gs) (listed gs)) ≡ live g ++ all_live gs
+    by true is more = ap (λ (rs : List Row). live g ++ rs) more
+    by false is more = more ∙ ap (λ (rs : List Row). rs ++ all_live gs) (sym (none_live g.segment.rows g.live.marks (ltb-false 0 (count_live g.live.marks) is)))
+
+-- ---- what is on the store
+
+renewed_count : (s : ℕ) (gs : List Lived) (ws : List (Option Written)) → length ws ≡ length gs → length (renewed s gs ws) ≡ length (listed gs)
+renewed_count s [] ws same = refl
+renewed_count s (g ∷ gs) [] same = absurd (omega (arith, same))
+renewed_count s (g ∷ gs) (w ∷ ws) same = by (is_alive g) (renewed_count s gs ws (omega (arith, same)))
+  where
+    by : (t : Bool) → length (renewed s gs ws) ≡ length (listed gs)
+        → length (cond t (Some (record { v = version s w g; live = g.live }) ∷ []) [] ++ renewed s gs ws) ≡ length (cond t (g ∷ listed gs) (listed gs))
+    by true more = omega (arith, more)
+    by false more = more
+
+version_within : (s : ℕ) (w : Option Written) (g : Lived) → 1 ≤ s → WrittenUpTo s w → (1 ≤ version s w g) × (version s w g ≤ s)
+version_within s None g some upto = (some, omega arith)
+version_within s (Some w) g some upto = by (same_marks w.live.marks g.live.marks)
+  where
+    by : (t : Bool) → (1 ≤ cond t w.v s) × (cond t w.v s ≤ s)
+    by true = upto
+    by false = (some, omega arith)
+
+renewed_upto : (s : ℕ) (gs : List Lived) (ws : List (Option Written)) → 1 ≤ s → AllByRecursion (WrittenUpTo s) ws
+    → AllByRecursion (WrittenUpTo s) (renewed s gs ws)
+renewed_upto s [] ws some all = tt
+renewed_upto s (g ∷ gs) [] some all = tt
+renewed_upto s (g ∷ gs) (w ∷ ws) some all = by (is_alive g) (renewed_upto s gs ws some all.1)
+  where
+    by : (t : Bool) → AllByRecursion (WrittenUpTo s) (renewed s gs ws)
+        → AllByRecursion (WrittenUpTo s) (cond t (Some (record { v = version s w g; live = g.live }) ∷ []) [] ++ renewed s gs ws)
+    by true more = (version_within s w g some all.0, more)
+    by false more = more
+
+renewed_ids : (since s : ℕ) (gs : List Lived) (ws : List (Option Written)) → NewIdsFrom since (listed gs) (renewed s gs ws)
+renewed_ids since s [] ws = tt
+renewed_ids since s (g ∷ gs) [] = by (is_alive g)
+  where
+    by : (t : Bool) → NewIdsFrom since (cond t (g ∷ listed gs) (listed gs)) []
+    by true = tt
+    by false = nothing (listed gs)
+      where
+        nothing : (xs : List Lived) → NewIdsFrom since xs []
+        nothing [] = tt
+        nothing (x ∷ xs) = tt
+renewed_ids since s (g ∷ gs) (w ∷ ws) = by (is_alive g) (renewed_ids since s gs ws)
+  where
+    by : (t : Bool) → NewIdsFrom since (listed gs) (renewed s gs ws)
+        → NewIdsFrom since (cond t (g ∷ listed gs) (listed gs)) (cond t (Some (record { v = version s w g; live = g.live }) ∷ []) [] ++ renewed s gs ws)
+    by true more = more
+    by false more = more
+
+-- the files of a commit have what is on the store of its segments
+renewed_stands : (now : Files) (s : ℕ) (gs : List Lived) (ws : List (Option Written)) → length ws ≡ length gs
+    → HaveSegments now s (entries_of s gs ws) (listed gs) → AreWritten now s (listed gs) (renewed s gs ws)
+renewed_stands now s [] ws same have = tt
+renewed_stands now s (g ∷ gs) [] same have = absurd (omega (arith, same))
+renewed_stands now s (g ∷ gs) (w ∷ ws) same have =
+    by (is_alive g) (λ more. renewed_stands now s gs ws (omega (arith, same)) more) have
+  where
+    by : (t : Bool) → (HaveSegments now s (entries_of s gs ws) (listed gs) → AreWritten now s (listed gs) (renewed s gs ws))
+        → HaveSegments now s (cond t (entry_of s w g ∷ []) [] ++ entries_of s gs ws) (cond t (g ∷ listed gs) (listed gs))
+        → AreWritten now s (cond t (g ∷ listed gs) (listed gs)) (cond t (Some (record { v = version s w g; live = g.live }) ∷ []) [] ++ renewed s gs ws)
+    by true more have = (
+      λ alive. (omega (arith, have.0.applied), subst (λ (n : ℕ). HasSegment now n (entry_of s w g) g) (sym have.0.applied) have.0),
+      more have.1,
+    )
+    by false more have = more have
+
+-- ---- the state
+
+pub can_commit : (s : State) → IsReady s → CanCommit s.published.upto s.published.next_id s.published.segments s.written
+can_commit s ready = record {
+  can = ready.published.can;
+  ids = ready.published.ids;
+  differ = ready.published.differ;
+  count = ready.count;
+  written = ready.written;
+}
+
+pub on_ready : (s : State) → IsReady s → 1 ≤ s.published.upto → IsReady (on_commit s)
+on_ready s ready some = record {
+  published = record {
+    can = all_filter (CanWrite s.published.upto) is_alive s.published.segments ready.published.can;
+    ids = ids_listed 1 s.published.next_id s.published.segments ready.published.ids;
+    some_id = ready.published.some_id;
+    differ = λ b. omega (arith, births_listed b s.published.segments, ready.published.differ b);
+  };
+  count = renewed_count s.published.upto s.published.segments s.written ready.count;
+  written = renewed_upto s.published.upto s.published.segments s.written some ready.written;
+  new_ids = renewed_ids s.published.next_id s.published.upto s.published.segments s.written;
+  since = omega arith;
+  last = omega arith;
+  pending = tt;
+  some = ready.some;
+  most = ready.most;
+}
+
+pub rows_on : (s : State) (rows : List Row) → HasRows s rows → HasRows (on_commit s) rows
+rows_on s rows has = record {
+  rows_are = record {
+    merged = subst (λ (rs : List Row). IsPermutation rs rows) (sym (live_listed s.published.segments)) has.rows_are.merged;
+    births = has.rows_are.births;
+  };
+  inverted = all_filter (λ (g : Lived). IsInverted g.segment) is_alive s.published.segments has.inverted;
+}
+
+pub counted : (s : State) (rows : List Row) → HasRows s rows → length (all_live (listed s.published.segments)) ≡ length rows
+counted s rows has = sym (length_permutation (all_live (listed s.published.segments)) rows (rows_on s rows has).rows_are.merged)
+
+-- ---- the call
+
+-- a fact of the slices that the call was given, of the state's own lists
+pub at_state : (P : List Lived → List (Option Written) → Type 0) (gs : List Lived) (ws : List (Option Written)) (s : State)
+    → gs ≡ s.published.segments → ws ≡ s.written → P gs ws → P s.published.segments s.written
+at_state P gs ws s same_segments same_written fact =
+    subst (λ (xs : List Lived). P xs s.written) same_segments (subst (λ (xs : List (Option Written)). P gs xs) same_written fact)
+
+pub is_on : (gs : List Lived) (ws made : List (Option Written)) (s new : State) → gs ≡ s.published.segments → ws ≡ s.written
+    → made ≡ renewed s.published.upto gs ws → new ≡ record (on_commit s) { written = made } → new ≡ on_commit s
+is_on gs ws made s new same_segments same_written is new_is =
+    let all = at_state (λ (xs : List Lived) (ys : List (Option Written)). made ≡ renewed s.published.upto xs ys) gs ws s same_segments same_written is in
+    new_is ∙ ap (λ (xs : List (Option Written)). record (on_commit s) { written = xs }) all
+
+-- the pending number is above the last commit's
+pub less_of : (s : State) → IsReady s → IsSome s.pending → s.last < s.published.upto
+less_of s ready some = by s.pending some ready.pending
+  where
+    by : (p : Option ℕ) → IsSome p → IfSome p (CanBePending s) → s.last < s.published.upto
+    by None none can = absurd cc
+    by (Some n) some can = omega (arith, can.0, can.1)
+
+pub tells_renamed : (fault : StoreFault) (was_renamed : Bool) (result : WriterFault) (s new : State) (There : Type 0)
+    → (fault ≡ Failed → (result ≡ Store) × (new ≡ record s { closed = true }))
+    → (fault ≡ NoMemory → (result ≡ OutOfMemory) × (new ≡ record s { closed = was_renamed }))
+    → (fault ≡ NoMemory → (IsTrue was_renamed ↔ There)) → result ≡ OutOfMemory → (IsTrue new.closed ↔ There)
+tells_renamed Failed was_renamed result s new There failed no_memory tells is =
+    let other : result ≡ Store = (failed refl).0 in absurd (apart (sym other ∙ is))
+  where
+    apart : Store ≡ OutOfMemory → ⊥
+    apart e = cc
+tells_renamed NoMemory was_renamed result s new There failed no_memory tells is =
+    subst (λ (b : Bool). IsTrue b ↔ There) (sym (ap (λ (t : State). t.closed) (no_memory refl).1)) (tells refl)
+
+-- ---- the files
+
+old_ids : (since id : ℕ) (gs : List Lived) (ws : List (Option Written)) → NewIdsFrom since gs ws → id < since → IsOldId gs ws id
+old_ids since id [] ws new lt = tt
+old_ids since id (g ∷ gs) [] new lt = tt
+old_ids since id (g ∷ gs) (None ∷ ws) new lt = (λ is. absurd (omega (arith, is, new.0, lt)), old_ids since id gs ws new.1 lt)
+old_ids since id (g ∷ gs) (Some w ∷ ws) new lt = old_ids since id gs ws new lt
+
+elsewhere : (s : State) → IsReady s → (name : FileName) → commit.IsElsewhere s.published.upto (λ id. id < s.since) name
+    → commit.IsElsewhere s.published.upto (IsOldId s.published.segments s.written) name
+elsewhere s ready (Commit t) other = other
+elsewhere s ready (Pending t) other = other
+elsewhere s ready (Rows id) below = old_ids s.since id s.published.segments s.written ready.new_ids below
+elsewhere s ready (Posts id) below = old_ids s.since id s.published.segments s.written ready.new_ids below
+elsewhere s ready (Live id v) other = other
+elsewhere s ready (Values id v) other = other
+
+pub same_below : (s : State) → IsReady s → (old new : Files)
+    → commit.SameElsewhere s.published.upto (IsOldId s.published.segments s.written) old new → SameBelow s.published.upto s.since old new
+same_below s ready old new same = λ name other. same name (elsewhere s ready name other)
+
+pub commits : (s new : State) (files now : Files) → IsReady s → new ≡ on_commit s
+    → commit.Commits s.published.upto s.published.next_id s.published.segments s.written files now → Commits s new files now
+commits s new files now ready is made = record {
+  made = made;
+  stands = λ stored.
+      subst (IsStored now) (sym is)
+      (renewed_stands now s.published.upto s.published.segments s.written ready.count (made.spelled stored).each);
+}
+
+pub settles : (s : State) (old new : Option Disk) → IsReady s → s.last < s.published.upto
+    → settling.Settles s.published.upto s.published.segments s.written old new → Settles s old new
+settles s old new ready less settled = λ files now told told_now goes images.
     settled files now told told_now
     (record {
-      none_from = λ t le. below.none_from t (omega (arith, drafts.number, le));
-      new_ids = λ t e lists. drafts.old_ids e.id (below.ids t e lists);
+      none_from = λ t le. goes.none_above t (omega (arith, le, less));
+      new_ids = λ t e lists. old_ids s.since e.id s.published.segments s.written ready.new_ids (goes.ids t e lists);
     })
-    (drafts.written files stored) (λ c image. drafts.written c (images c image))
-
--- what follows from two facts about a success
-pub both_ok : {T E Q : Type 0} (r : Result T E) (P R : T → Type 0) → ((x : T) → P x → Q → R x) → IfOk r P → OnOk r Q → IfOk r R
-both_ok (Ok x) P R follows p q = follows x p q
-both_ok (Err e) P R follows p q = tt
+    goes.stored images

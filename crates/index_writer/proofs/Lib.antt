@@ -1,7 +1,8 @@
-pub mod Taking
-pub mod Permuted
-pub mod Drafting
-pub mod DraftRows
-pub mod Drafts
-pub mod Following
-pub mod Committing
+mod Begins
+mod Gathering
+mod Opening
+mod Taking
+mod Committing
+mod Following
+mod AtWork
+mod Opened

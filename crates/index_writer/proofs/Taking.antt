@@ -1,293 +1,275 @@
--- One more operation taken.
-use Rattle.std.proofs.Common.{◌≡◌, ◌∙◌, ℕ, ◌+◌, ◌<◌, ◌≤◌, List, [], ◌∷◌, ◌++◌, Option, Some, None, Result, Ok, Err, IfOk, OnOk, OnErr, length, drop, refl, sym, ap, subst, arith, append-nil, append_assoc}
-use Rattle.std.specs.List.{All, AllByRecursion}
-use Rattle.std.proofs.Math.Seq.{drop-append_seam}
-use Rattle.std.proofs.lemmas.List.Elements.{All-from_recursion}
-use Rattle.std.proofs.lemmas.Result.{on_ok_weaker, IfOk-weaker}
-use Rattle.node_words.specs.declared.entry.Entry.{Entry}
-use Rattle.ix_base.specs.Documents.{Document}
-use Rattle.ix_base.specs.Refusals.{own_refusal, refusal}
-use Rattle.ix_base.specs.Steps.{step, rows_after}
+-- A round put into the segments.
+use Rattle.std.proofs.Common.{◌≡◌, ◌∙◌, inl, inr, ℕ, zero, suc, ◌+◌, ◌-◌, ◌<◌, ◌≤◌, Bool, true, false, cond, eqb, List, [], ◌∷◌, ◌++◌, Option, Some, None, IfSome, length, replicate, refl, sym, ap, subst, arith, length-append, append_assoc}
+use Rattle.std.specs.List.{AllByRecursion, filter}
+use Rattle.std.proofs.lemmas.Bool.{eqb-true, lt-ltb, ltb-true}
+use Rattle.std.proofs.lemmas.List.{length-map, length-replicate, replicate_more}
+use Rattle.ix_base.specs.Steps.{numbered_from}
 use Rattle.ix_base.specs.declared.document.Operation.{Operation}
-use Rattle.ix_base.specs.declared.document.Operation.TheVariants.{Add, Update, DeleteTerm, DeleteQuery, SetNumber, Commit}
-use Rattle.ix_base.specs.declared.document.Row.{Row}
-use Rattle.ix_base.specs.declared.refusal.Refusal.{Refusal}
-use Rattle.ram_postings.specs.Buffer.{Staged, waiting, row_of, born_rows, with_birth}
-use Rattle.row_fates.specs.Fate.{Numbered, NumbersRise, added, rows_added}
-use Rattle.frozen_packet.specs.Updates.{NumberedUpTo, NumberedWithin, as_operations, entry_for, TakingStands}
-use Rattle.commit_point.specs.declared.open.Opened.{Opened}
-use Rattle.segment_files.specs.Fits.{BirthsRise}
-use Rattle.index_writer.specs.Taking.{TakesParts, DoesParts, rows_for, refusal_for}
-use Rattle.index_writer.specs.Writing.{CanFollow, IsCommitOf, IsReady, Came, Stays, Does, document_of}
-use Rattle.index_writer.specs.declared.writer.IndexWriter.{IndexWriter}
+use Rattle.ix_base.specs.declared.document.Operation.TheVariants.{Commit}
+use Rattle.ix_outside.specs.Files.{Files}
+use Rattle.live_docs.specs.Marks.{count_live}
+use Rattle.live_docs.specs.declared.live_docs.Mark.{Mark}
+use Rattle.packet_apply.specs.Packets.{Applied}
+use Rattle.frozen_packet.specs.declared.packet.Packet.{Packet}
+use Rattle.row_fates.specs.Fate.{Numbered}
+use Rattle.segment_core.specs.LiveRows.{Lived, MarksLater}
+use Rattle.segment_core.specs.declared.segment.Segment.{Segment}
+use Rattle.commit_point.specs.declared.written.Written.{Written}
+use Rattle.commit_point.specs.Holds.{HasSegment}
+use Rattle.commit_point.specs.Writing.{AreWritten, IsWritten, WrittenUpTo, is_alive}
+use Rattle.thread_writer.specs.declared.piece.Piece.{Piece}
+use Rattle.flush_control.specs.Logs.{EndBy, Working, seconds}
+use Rattle.flush_control.specs.Published.{AppliesUp, AreApplied, AreBuilt, HasInversion, IsPublished, TakesPieces}
+use Rattle.flush_control.specs.Rounds.{EndsRound, RoundsStand, StandsIn}
+use Rattle.flush_control.specs.declared.published.Published.{Published}
+use Rattle.index_writer.specs.declared.ending.Gathered.{Gathered}
+use Rattle.index_writer.specs.declared.round.RoundEnd.{RoundEnd}
+use Rattle.index_writer.specs.declared.round.RoundEnd.TheVariants.{Committed, Turned, Ran}
+use Rattle.index_writer.specs.declared.state.State.{State}
+use Rattle.index_writer.specs.Ending.{IsGathered, committed, end_of, uncommitted, with_none}
+use Rattle.index_writer.specs.Ready.{CanBePending, IsReady, NewIdsFrom}
+use Rattle.index_writer.specs.Rounds.{Ends, EndsBy}
 
--- ---- births
+-- ---- what is on the store
 
-pub births_more : (low limit more : ℕ) (rows : List Row) → limit ≤ more → BirthsRise low limit rows → BirthsRise low more rows
-births_more low limit more [] le rise = tt
-births_more low limit more (r ∷ rs) le rise = (rise.0, omega (arith, rise.1), births_more (r.birth + 1) limit more rs le rise.2)
+pub padded : (ws now : List (Option Written)) (at : ℕ) → now ≡ with_none ws at → now ++ None ∷ [] ≡ with_none ws (at + 1)
+padded ws now at is =
+    ap (λ (xs : List (Option Written)). xs ++ None ∷ []) is
+    ∙ (append_assoc ws (replicate at None) (None ∷ []) ∙ ap (λ (xs : List (Option Written)). ws ++ xs) (replicate_more at None))
 
-pub births_one_more : (low limit : ℕ) (rows : List Row) (row : Row) → BirthsRise low limit rows → low ≤ limit + 1
-    → row.birth ≡ limit + 1 → BirthsRise low (limit + 1) (rows ++ row ∷ [])
-births_one_more low limit [] row rise le is = (omega arith, omega arith, tt)
-births_one_more low limit (r ∷ rs) row rise le is =
-    (rise.0, omega (arith, rise.1), births_one_more (r.birth + 1) limit rs row rise.2 (omega (arith, rise.1)) is)
+later : (n m : ℕ) (w : Option Written) → n ≤ m → WrittenUpTo n w → WrittenUpTo m w
+later n m None le upto = tt
+later n m (Some w) le upto = (upto.0, omega (arith, upto.1))
 
-births_below : (low limit n : ℕ) (rows : List Row) → limit < n → BirthsRise low limit rows → AllByRecursion (λ (row : Row). row.birth < n) rows
-births_below low limit n [] lt rise = tt
-births_below low limit n (r ∷ rs) lt rise = (omega (arith, rise.1), births_below (r.birth + 1) limit n rs lt rise.2)
+nones : (m k : ℕ) → AllByRecursion (WrittenUpTo m) (replicate k None)
+nones m zero = tt
+nones m (suc k) = (tt, nones m k)
 
-pub all_below : (low limit n : ℕ) (rows : List Row) → limit < n → BirthsRise low limit rows → All (λ (row : Row). row.birth < n) rows
-all_below low limit n rows lt rise = All-from_recursion _ rows (births_below low limit n rows lt rise)
+written_on : (n m k : ℕ) (ws : List (Option Written)) → n ≤ m → AllByRecursion (WrittenUpTo n) ws → AllByRecursion (WrittenUpTo m) (with_none ws k)
+written_on n m k [] le all = nones m k
+written_on n m k (w ∷ ws) le all = (later n m w le all.0, written_on n m k ws le all.1)
 
--- ---- the buffer
+-- ---- ids
 
-born_after : (xs : List Staged) (s : Staged) → born_rows (xs ++ s ∷ []) ≡ born_rows xs ++ row_of s.doc s.birth
-born_after [] s = append-nil _
-born_after (x ∷ xs) s = ap (λ (rs : List Row). row_of x.doc x.birth ++ rs) (born_after xs s) ∙ sym (append_assoc (row_of x.doc x.birth) (born_rows xs) (row_of s.doc s.birth))
+ids_above : (low id next : ℕ) (ps : List Piece) (made : List Lived) → low ≤ id → AreBuilt ps id made next
+    → AllByRecursion (λ (g : Lived). low ≤ g.segment.id) made
+ids_above low id next [] made le are = subst (AllByRecursion (λ (g : Lived). low ≤ g.segment.id)) (sym are.0) tt
+ids_above low id next (p ∷ ps) made le (inl dead) = ids_above low id next ps made le dead.1
+ids_above low id next (p ∷ ps) made le (inr lives) =
+    subst (AllByRecursion (λ (g : Lived). low ≤ g.segment.id)) (sym lives.2)
+    (omega (arith, lives.3.id, le), ids_above low (id + 1) next ps lives.1 (omega (arith, le)) lives.4)
 
--- a document that waits is in no row
-pub born_still : (xs : List Staged) (doc : Document) → born_rows (xs ++ waiting doc ∷ []) ≡ born_rows xs
-born_still xs doc = born_after xs (waiting doc) ∙ append-nil _
+as_many : (packet : Packet) (olds news : List Lived) → AreApplied packet olds news → length news ≡ length olds
+as_many packet [] [] are = refl
+as_many packet [] (g ∷ gs) are = absurd are
+as_many packet (o ∷ olds) [] are = absurd are
+as_many packet (o ∷ olds) (g ∷ gs) are = ap (λ (n : ℕ). suc n) (as_many packet olds gs are.2)
 
-with_birth_last : (xs : List Staged) (doc : Document) (n : ℕ)
-    → with_birth (xs ++ waiting doc ∷ []) (length xs) n ≡ xs ++ record { doc = doc; birth = Some n } ∷ []
-with_birth_last [] doc n = refl
-with_birth_last (x ∷ xs) doc n = ap (λ (ys : List Staged). x ∷ ys) (with_birth_last xs doc n)
+new_on : (since k : ℕ) (packet : Packet) (made ups : List Lived) → AllByRecursion (λ (g : Lived). since ≤ g.segment.id) made
+    → AreApplied packet made ups → NewIdsFrom since ups (replicate k None)
+new_on since zero packet made [] all are = tt
+new_on since (suc k) packet made [] all are = tt
+new_on since k packet [] (u ∷ ups) all are = absurd are
+new_on since zero packet (m ∷ made) (u ∷ ups) all are = tt
+new_on since (suc k) packet (m ∷ made) (u ∷ ups) all are =
+    (subst (λ (g : Segment). since ≤ g.id) (sym are.0) all.0, new_on since k packet made ups all.1 are.2)
 
--- once it has its number it is the last row
-pub born_last : (xs : List Staged) (doc : Document) (n : ℕ)
-    → born_rows (with_birth (xs ++ waiting doc ∷ []) (length xs) n) ≡ born_rows xs ++ record { birth = n; doc = doc } ∷ []
-born_last xs doc n = ap born_rows (with_birth_last xs doc n) ∙ born_after xs (record { doc = doc; birth = Some n })
+ids_on : (since k : ℕ) (packet : Packet) (olds made ups : List Lived) (ws : List (Option Written)) → length ws ≡ length olds
+    → NewIdsFrom since olds ws → AllByRecursion (λ (g : Lived). since ≤ g.segment.id) made → AreApplied packet (olds ++ made) ups
+    → NewIdsFrom since ups (with_none ws k)
+ids_on since k packet [] made ups [] same ids all are = new_on since k packet made ups all are
+ids_on since k packet [] made ups (w ∷ ws) same ids all are = absurd (omega (arith, same))
+ids_on since k packet (o ∷ olds) made ups [] same ids all are = absurd (omega (arith, same))
+ids_on since k packet (o ∷ olds) made [] (w ∷ ws) same ids all are = absurd are
+ids_on since k packet (o ∷ olds) made (u ∷ ups) (None ∷ ws) same ids all are =
+    (subst (λ (g : Segment). since ≤ g.id) (sym are.0) ids.0, ids_on since k packet olds made ups ws (omega (arith, same)) ids.1 all are.2)
+ids_on since k packet (o ∷ olds) made (u ∷ ups) (Some w ∷ ws) same ids all are =
+    ids_on since k packet olds made ups ws (omega (arith, same)) ids all are.2
 
-waits : (xs : List Staged) (doc : Document) → AllByRecursion (λ (s : Staged). s.birth ≡ None) (drop (length xs) (xs ++ waiting doc ∷ []))
-waits xs doc = subst (AllByRecursion (λ (s : Staged). s.birth ≡ None)) (sym (drop-append_seam xs (waiting doc ∷ []))) (refl, tt)
+-- ---- what is on the store of them
 
-pub all_wait : (xs : List Staged) (doc : Document) → All (λ (s : Staged). s.birth ≡ None) (drop (length xs) (xs ++ waiting doc ∷ []))
-all_wait xs doc = All-from_recursion _ _ (waits xs doc)
+-- no row was brought back
+fewer_live : (ms ls : List Mark) → MarksLater ms ls → count_live ls ≤ count_live ms
+fewer_live [] [] later_ = omega arith
+fewer_live [] (l ∷ ls) later_ = absurd later_
+fewer_live (m ∷ ms) [] later_ = absurd later_
+fewer_live (m ∷ ms) (l ∷ ls) later_ = by m.live l.live later_.0.0 (fewer_live ms ls later_.1)
+  where
+    by : (b c : Bool) → (c ≡ true → b ≡ true) → count_live ls ≤ count_live ms
+        → length (cond c (l ∷ filter (λ (x : Mark). x.live) ls) (filter (λ (x : Mark). x.live) ls)) ≤ length (cond b (m ∷ filter (λ (x : Mark). x.live) ms) (filter (λ (x : Mark). x.live) ms))
+    by true true h more = omega (arith, more)
+    by true false h more = omega (arith, more)
+    by false true h more = let e : false ≡ true = h refl in absurd cc
+    by false false h more = more
 
--- ---- operations
+was_alive : (packet : Packet) (old new : Lived) → Applied packet old new.live → is_alive new ≡ true → is_alive old ≡ true
+was_alive packet old new applied alive =
+    lt-ltb 0 (count_live old.live.marks)
+    (omega (arith, ltb-true 0 (count_live new.live.marks) alive, fewer_live old.live.marks new.live.marks applied.later))
 
-pub up_to_more : (low high : ℕ) (ops : List Numbered) → low ≤ high → NumberedUpTo low ops → NumberedUpTo high ops
-up_to_more low high [] le all = tt
-up_to_more low high (o ∷ ops) le all = (omega (arith, all.0), up_to_more low high ops le all.1)
+same_written : (files : Files) (n m : ℕ) (w : Option Written) (old new : Lived) → n ≤ m → new.segment ≡ old.segment → IsWritten files n w old → IsWritten files m w new
+same_written files n m None old new le same is = tt
+same_written files n m (Some w) old new le same is = (
+  omega (arith, is.0, le),
+  subst (λ (g : Segment). HasSegment files w.live.applied (record { id = g.id; rows = length g.rows; written = w.v }) (record { segment = g; live = w.live })) (sym same) is.1,
+)
 
-pub within_up_to : (after upto : ℕ) (ops : List Numbered) → NumberedWithin after upto ops → NumberedUpTo upto ops
-within_up_to after upto [] all = tt
-within_up_to after upto (o ∷ ops) all = (all.0.1, within_up_to after upto ops all.1)
+nones_stand : (files : Files) (m k : ℕ) (gs : List Lived) → AreWritten files m gs (replicate k None)
+nones_stand files m k [] = tt
+nones_stand files m zero (g ∷ gs) = tt
+nones_stand files m (suc k) (g ∷ gs) = (λ alive. tt, nones_stand files m k gs)
 
-pub within_more : (after low high : ℕ) (ops : List Numbered) → low ≤ high → NumberedWithin after low ops → NumberedWithin after high ops
-within_more after low high [] le all = tt
-within_more after low high (o ∷ ops) le all = ((all.0.0, omega (arith, all.0.1)), within_more after low high ops le all.1)
+stored_on : (files : Files) (n m k : ℕ) (packet : Packet) (olds made ups : List Lived) (ws : List (Option Written)) → n ≤ m → length ws ≡ length olds
+    → AreWritten files n olds ws → AreApplied packet (olds ++ made) ups → AreWritten files m ups (with_none ws k)
+stored_on files n m k packet [] made ups [] le same are up = nones_stand files m k ups
+stored_on files n m k packet [] made ups (w ∷ ws) le same are up = absurd (omega (arith, same))
+stored_on files n m k packet (o ∷ olds) made ups [] le same are up = absurd (omega (arith, same))
+stored_on files n m k packet (o ∷ olds) made [] (w ∷ ws) le same are up = absurd up
+stored_on files n m k packet (o ∷ olds) made (u ∷ ups) (w ∷ ws) le same are up = (
+  λ alive. same_written files n m w o u le up.0 (are.0 (was_alive packet o u up.1 alive)),
+  stored_on files n m k packet olds made ups ws le (omega (arith, same)) are.1 up.2,
+)
 
-up_to_append : (n : ℕ) (ops : List Numbered) (o : Numbered) → NumberedUpTo n ops → o.0 ≤ n → NumberedUpTo n (ops ++ o ∷ [])
-up_to_append n [] o all le = (le, tt)
-up_to_append n (x ∷ ops) o all le = (all.0, up_to_append n ops o all.1 le)
+-- ---- the round
 
-rise_append : (low n : ℕ) (ops : List Numbered) (op : Operation) → low ≤ n → NumbersRise low ops → NumberedUpTo n ops
-    → NumbersRise low (ops ++ (n + 1, op) ∷ [])
-rise_append low n [] op le rise all = (omega arith, tt)
-rise_append low n (x ∷ ops) op le rise all = (rise.0, rise_append x.0 n ops op all.0 rise.1 all.1)
+pub pieces_can : (base upto : ℕ) (ops : List Numbered) (ps : List Piece) → AllByRecursion (StandsIn base ops upto) ps → AllByRecursion HasInversion ps
+pieces_can base upto ops [] all = tt
+pieces_can base upto ops (p ∷ ps) all = (all.0.can, pieces_can base upto ops ps all.1)
 
-rows_after_append : (rows : List Row) (ops : List Numbered) (o : Numbered) → rows_after rows (ops ++ o ∷ []) ≡ step (rows_after rows ops) o.0 o.1
-rows_after_append rows [] o = refl
-rows_after_append rows (x ∷ ops) o = rows_after_append (step rows x.0 x.1) ops o
+-- the operations of a round, with their numbers
+abbrev pub operations_of : (told : List (List Numbered)) (base : ℕ) (g : Gathered) → IsGathered base told g → List Numbered
+operations_of told base g gathered = numbered_from base (seconds gathered.ts)
 
-rows_added_append : (ops : List Numbered) (o : Numbered) → rows_added (ops ++ o ∷ []) ≡ rows_added ops ++ added o.0 o.1
-rows_added_append [] o = append-nil _
-rows_added_append (x ∷ ops) o = ap (λ (rs : List Row). added x.0 x.1 ++ rs) (rows_added_append ops o) ∙ sym (append_assoc (added x.0 x.1) (rows_added ops) (added o.0 o.1))
+-- all of a state that can go on but its pending number
+pub record Core (s : State) : Type 0 where
+  pub published : IsPublished s.published
+  pub count : length s.written ≡ length s.published.segments
+  pub written : AllByRecursion (WrittenUpTo s.published.upto) s.written
+  pub new_ids : NewIdsFrom s.since s.published.segments s.written
+  pub since : s.since ≤ s.published.next_id
+  pub last : s.last ≤ s.published.upto
+  pub some : 1 ≤ s.buffer
+  pub most : s.buffer ≤ 65536
 
--- ---- an operation, by its document
-
-added_is : (n : ℕ) (op : Operation) → added n op ≡ rows_for n (document_of op)
-added_is n (Add doc) = refl
-added_is n (Update term doc) = refl
-added_is n (DeleteTerm term) = refl
-added_is n (DeleteQuery query) = refl
-added_is n (SetNumber term name value) = refl
-added_is n Commit = refl
-
--- an operation that isn't refused for itself is refused for its document
-pub refused_for : (op : Operation) → own_refusal op ≡ None → refusal op ≡ refusal_for (document_of op)
-refused_for (Add doc) own = refl
-refused_for (Update term doc) own = rw own refl
-refused_for (DeleteTerm term) own = own
-refused_for (DeleteQuery query) own = own
-refused_for (SetNumber term name value) own = own
-refused_for Commit own = refl
-
--- an operation that is refused for itself is refused for that
-pub refused_own : (op : Operation) (r : Refusal) → own_refusal op ≡ Some r → refusal op ≡ Some r
-refused_own (Add doc) r own = absurd cc
-refused_own (Update term doc) r own = rw own refl
-refused_own (DeleteTerm term) r own = own
-refused_own (DeleteQuery query) r own = own
-refused_own (SetNumber term name value) r own = own
-refused_own Commit r own = absurd cc
-
--- ---- the writer
-
--- a writer of the same commit, number, rows and updates is as before
-pub stays : (old new : IndexWriter) → new.last ≡ old.last → new.number ≡ old.number → born_rows new.buffer ≡ born_rows old.buffer
-    → new.updates ≡ old.updates → IsReady old → Stays old new
-stays old new last number rows updates ready = record {
-  ready = record {
-    last = subst CanFollow (sym last) ready.last;
-    not_before = omega (arith, number, ap (λ (l : Opened). l.number) last, ready.not_before);
-    births = births;
-    within = within;
-  };
-  last = last;
-  number = number;
-  stands = λ all stands. record {
-    before = stands.before;
-    ops = stands.ops;
-    came = came stands.before stands.ops stands.came;
-    are = stands.are;
-  };
+ready_for : (s : State) (p : Option ℕ) → Core s → IfSome p (CanBePending s) → IsReady (record s { out = false; pending = p })
+ready_for s p core pending = record {
+  published = core.published;
+  count = core.count;
+  written = core.written;
+  new_ids = core.new_ids;
+  since = core.since;
+  last = core.last;
+  pending = as_pending p pending;
+  some = core.some;
+  most = core.most;
 }
   where
-    births : BirthsRise (new.last.number + 1) new.number (born_rows new.buffer)
-    births = rw (last, number, rows) ready.births
+    as_pending : (o : Option ℕ) → IfSome o (CanBePending s) → IfSome o (CanBePending (record s { out = false; pending = p }))
+    as_pending None h = tt
+    as_pending (Some n) h = h
 
-    within : NumberedWithin new.last.number new.number (as_operations new.updates)
-    within = rw (last, number, updates) ready.within
+ready_end : (kind : ℕ) (ops : List Operation) (s : State) → Core s → EndBy kind ops → (1 ≤ length ops → s.last < s.published.upto)
+    → IsReady (end_of kind s).1
+ready_end kind ops s core (inl h) less =
+    let some : 1 ≤ length ops = omega (arith, ap (λ (os : List Operation). length os) h.3, length-append h.1 (Commit ∷ [])) in
+    subst (λ (k : ℕ). IsReady (end_of k s).1) (sym h.0) (ready_for s (Some s.published.upto) core (refl, less some))
+ready_end kind ops s core (inr h) less = tells (eqb kind 6) refl
+  where
+    tells : (b : Bool) → eqb kind 6 ≡ b → IsReady (cond b (committed s) (uncommitted kind s)).1
+    tells true e = absurd (h.0 (eqb-true kind 6 e))
+    tells false e = ready_for s None core tt
 
-    came : (before : List Row) (ops : List Numbered) → Came old before ops → Came new before ops
-    came before ops c = record {
-      commit = subst (λ (l : Opened). IsCommitOf l before) (sym last) c.commit;
-      rise = rw last c.rise;
-      upto = rw number c.upto;
-      added = rows ∙ c.added;
-      stands = rw updates c.stands;
+ends_end : (told : List (List Numbered)) (kind : ℕ) (ops : List Operation) (old s : State) → EndBy kind ops
+    → ((end : RoundEnd) (p : Option ℕ) → EndsBy end ops (record s { out = false; pending = p }) → Ends told end old (record s { out = false; pending = p }))
+    → Ends told (end_of kind s).0 old (end_of kind s).1
+ends_end told kind ops old s (inl h) ends =
+    subst (λ (k : ℕ). Ends told (end_of k s).0 old (end_of k s).1) (sym h.0) (ends (Committed s.published.upto) (Some s.published.upto) (refl, refl, (h.1, h.2, h.3)))
+ends_end told kind ops old s (inr h) ends = tells (eqb kind 6) (eqb kind 7) refl
+  where
+    tells : (b c : Bool) → eqb kind 6 ≡ b
+        → Ends told (cond b (committed s) (cond c Turned Ran, record s { out = false; pending = None })).0 old (cond b (committed s) (cond c Turned Ran, record s { out = false; pending = None })).1
+    tells true c e = absurd (h.0 (eqb-true kind 6 e))
+    tells false true e = ends Turned None (refl, h.1)
+    tells false false e = ends Ran None (refl, h.1)
+
+-- the state before its end
+abbrev pub put : State → Published → List (Option Written) → State
+put old up ws = record old { published = up; written = ws }
+
+stands : RoundsStand → (told : List (List Numbered)) (old : State) (g : Gathered) (mid up : Published) → IsReady old
+    → (gathered : IsGathered old.published.upto told g) → TakesPieces g.pieces.items old.published mid → AppliesUp g.packet mid up
+    → EndsRound (numbered_from old.published.upto (seconds gathered.ts)) old.published up
+stands law told old g mid up ready gathered taken applied =
+    law old.published mid up g.pieces.items g.packet (numbered_from old.published.upto (seconds gathered.ts)) ready.published gathered.round taken applied
+
+pub ends : RoundsStand → (told : List (List Numbered)) (old : State) (g : Gathered) (mid up : Published) (ws : List (Option Written)) → IsReady old
+    → IsGathered old.published.upto told g → TakesPieces g.pieces.items old.published mid → AppliesUp g.packet mid up
+    → ws ≡ with_none old.written (length mid.segments - length old.written)
+    → Ends told (end_of g.kind (put old up ws)).0 old (end_of g.kind (put old up ws)).1
+ends law told old g mid up ws ready gathered taken applied is =
+    let round = stands law told old g mid up ready gathered taken applied in
+    ends_end told g.kind (seconds gathered.ts) old (put old up ws) gathered.ends
+    (λ end p by_end. record {
+      ts = gathered.ts;
+      order = gathered.order;
+      upto = applied.upto ∙ gathered.upto;
+      rows = λ rows has. round.rows rows has;
+      stored = λ files stored.
+          subst (AreWritten files up.upto up.segments) (sym is)
+          (stored_on files old.published.upto up.upto (length mid.segments - length old.written) g.packet old.published.segments taken.made up.segments old.written
+          (omega (arith, applied.upto, gathered.upto)) ready.count stored
+          (subst (λ (gs : List Lived). AreApplied g.packet gs up.segments) taken.segments applied.applied));
+      ids = round.ids;
+      few = round.few;
+      by_end = by_end;
+      out = refl;
+      last = refl;
+      since = refl;
+      buffer = refl;
+      closed = refl;
+    })
+
+pub ready_again : RoundsStand → (told : List (List Numbered)) (old : State) (g : Gathered) (mid up : Published) (ws : List (Option Written)) → IsReady old
+    → IsGathered old.published.upto told g → TakesPieces g.pieces.items old.published mid → AppliesUp g.packet mid up
+    → ws ≡ with_none old.written (length mid.segments - length old.written)
+    → IsReady (end_of g.kind (put old up ws)).1
+ready_again law told old g mid up ws ready gathered taken applied is =
+    ready_end g.kind (seconds gathered.ts) (put old up ws) core gathered.ends
+    (λ some. omega (arith, some, upto, length-map gathered.ts (λ (t : Working). t.1), ready.last))
+  where
+    upto : up.upto ≡ old.published.upto + length gathered.ts
+    upto = applied.upto ∙ gathered.upto
+
+    more : ℕ
+    more = length mid.segments - length old.written
+
+    long : length mid.segments ≡ length old.published.segments + length taken.made
+    long = ap (λ (gs : List Lived). length gs) taken.segments ∙ length-append old.published.segments taken.made
+
+    core : Core (put old up ws)
+    core = record {
+      published = (stands law told old g mid up ready gathered taken applied).published;
+      count =
+          let n : ℕ = length mid.segments - length old.written in
+          omega (
+            arith,
+            ap (λ (xs : List (Option Written)). length xs) is,
+            length-append old.written (replicate n None),
+            length-replicate {A = Option Written} n None,
+            as_many g.packet mid.segments up.segments applied.applied,
+            long,
+            ready.count,
+          );
+      written =
+          subst (AllByRecursion (WrittenUpTo up.upto)) (sym is)
+          (written_on old.published.upto up.upto (length mid.segments - length old.written) old.written (omega (arith, upto)) ready.written);
+      new_ids =
+          subst (NewIdsFrom old.since up.segments) (sym is)
+          (ids_on old.since (length mid.segments - length old.written) g.packet old.published.segments taken.made up.segments old.written ready.count ready.new_ids
+          (ids_above old.since old.published.next_id mid.next_id g.pieces.items taken.made ready.since taken.built)
+          (subst (λ (gs : List Lived). AreApplied g.packet gs up.segments) taken.segments applied.applied));
+      since = omega (arith, ready.since, (stands law told old g mid up ready gathered taken applied).ids);
+      last = omega (arith, upto, ready.last);
+      some = ready.some;
+      most = ready.most;
     }
-
--- a writer that is as before stays
-pub stays_same : (old new : IndexWriter) → new ≡ old → IsReady old → Stays old new
-stays_same old new same ready =
-    stays old new (ap (λ (w : IndexWriter). w.last) same) (ap (λ (w : IndexWriter). w.number) same)
-    (ap (λ (w : IndexWriter). born_rows w.buffer) same) (ap (λ (w : IndexWriter). w.updates) same) ready
-
--- one that staged a document stays
-pub staged : (w new : IndexWriter) (buffer : List Staged) (doc : Document) → buffer ≡ w.buffer ++ waiting doc ∷ []
-    → new ≡ record w { buffer = buffer } → IsReady w → Stays w new
-staged w new buffer doc waits same ready =
-    stays w new (ap (λ (x : IndexWriter). x.last) same) (ap (λ (x : IndexWriter). x.number) same)
-    (ap (λ (x : IndexWriter). born_rows x.buffer) same ∙ (ap born_rows waits ∙ born_still w.buffer doc)) (ap (λ (x : IndexWriter). x.updates) same) ready
-
-pub on_err : {T E P : Type 0} (r : Result T E) → P → OnErr r P
-on_err (Ok x) p = tt
-on_err (Err e) p = p
-
--- the rows of a buffer with one more document, which has its number
-pub born_added : (w : IndexWriter) (buffer born : List Staged) (doc : Document) (place number : ℕ) → buffer ≡ w.buffer ++ waiting doc ∷ []
-    → place ≡ length w.buffer → number ≡ w.number + 1 → born ≡ with_birth buffer place number
-    → born_rows born ≡ born_rows w.buffer ++ record { birth = w.number + 1; doc = doc } ∷ []
-born_added w buffer born doc place number waits at is made =
-    ap born_rows made
-    ∙ (ap (λ (b : List Staged). born_rows (with_birth b place number)) waits
-    ∙ (ap (λ (k : ℕ). born_rows (with_birth (w.buffer ++ waiting doc ∷ []) k number)) at
-    ∙ (born_last w.buffer doc number ∙ ap (λ (k : ℕ). born_rows w.buffer ++ record { birth = k; doc = doc } ∷ []) is)))
-
-pub all_before : (w : IndexWriter) (buffer : List Staged) (doc : Document) (number : ℕ) → buffer ≡ w.buffer ++ waiting doc ∷ []
-    → number ≡ w.number + 1 → IsReady w → All (λ (row : Row). row.birth < number) (born_rows buffer)
-all_before w buffer doc number waits is ready =
-    rw (waits, born_still w.buffer doc) (all_below (w.last.number + 1) w.number number (born_rows w.buffer) (omega arith) ready.births)
-
--- an operation that was taken
-taken : TakingStands → (op : Operation) (old new : IndexWriter) → TakesParts (entry_for op) (document_of op) old new → IsReady old
-    → Does op None old new
-taken law op old new t ready = record {
-  ready = record {
-    last = subst CanFollow (sym last) ready.last;
-    not_before = omega (arith, number, ap (λ (l : Opened). l.number) last, ready.not_before);
-    births = births;
-    within = within;
-  };
-  last = last;
-  number = number;
-  stands = λ all stands. record {
-    before = stands.before;
-    ops = stands.ops ++ (old.number + 1, op) ∷ [];
-    came = came stands.before stands.ops stands.came;
-    are = ap (λ (rs : List Row). step rs (old.number + 1) op) stands.are ∙ sym (rows_after_append stands.before stands.ops (old.number + 1, op));
-  };
-}
-  where
-    last : new.last ≡ old.last
-    last = t.entry_taken.last
-
-    number : new.number ≡ old.number + 1
-    number = t.entry_taken.number
-
-    rows : born_rows new.buffer ≡ born_rows old.buffer ++ added (old.number + 1) op
-    rows = t.rows ∙ ap (λ (rs : List Row). born_rows old.buffer ++ rs) (sym (added_is (old.number + 1) op))
-
-    one : (document : Option Document) → BirthsRise (old.last.number + 1) (old.number + 1) (born_rows old.buffer ++ rows_for (old.number + 1) document)
-    one None = rw append-nil (births_more (old.last.number + 1) old.number (old.number + 1) (born_rows old.buffer) (omega arith) ready.births)
-    one (Some doc) = births_one_more (old.last.number + 1) old.number (born_rows old.buffer) _ ready.births (omega (arith, ready.not_before)) refl
-
-    births : BirthsRise (new.last.number + 1) new.number (born_rows new.buffer)
-    births = rw (last, number, t.rows) (one (document_of op))
-
-    within : NumberedWithin new.last.number new.number (as_operations new.updates)
-    within = rw (last, number) (t.entry_taken.bounds old.last.number (old.number + 1)
-        (within_more old.last.number old.number (old.number + 1) (as_operations old.updates) (omega arith) ready.within)
-        (omega (arith, ready.not_before)) (omega arith))
-
-    came : (before : List Row) (ops : List Numbered) → Came old before ops → Came new before (ops ++ (old.number + 1, op) ∷ [])
-    came before ops c = record {
-      commit = subst (λ (l : Opened). IsCommitOf l before) (sym last) c.commit;
-      rise = rw last (rise_append old.last.number old.number ops op ready.not_before c.rise c.upto);
-      upto = rw number (up_to_append (old.number + 1) ops (old.number + 1, op) (up_to_more old.number (old.number + 1) ops (omega arith) c.upto) (omega arith));
-      added = rows ∙ (ap (λ (rs : List Row). rs ++ added (old.number + 1) op) c.added ∙ sym (rows_added_append ops (old.number + 1, op)));
-      stands = law old.updates new.updates ops (old.number + 1) op t.entry_taken.takes c.stands;
-    }
-
--- an operation that was refused changes nothing
-pub refused : (op : Operation) (r : Refusal) (old new : IndexWriter) → new ≡ old → IsReady old → Does op (Some r) old new
-refused op r old new same ready = let stay = stays_same old new same ready in record {
-  ready = stay.ready;
-  last = stay.last;
-  number = stay.number;
-  stands = stay.stands;
-}
-
--- an operation of these parts was done, or refused for its document
-pub done : TakingStands → (op : Operation) (old new : IndexWriter) → own_refusal op ≡ None
-    → DoesParts (entry_for op) (document_of op) (refusal_for (document_of op)) old new → IsReady old → Does op (refusal op) old new
-done law op old new own did ready = rw (refused_for op own) (by (refusal_for (document_of op)) did)
-  where
-    by : (r : Option Refusal) → DoesParts (entry_for op) (document_of op) r old new → Does op r old new
-    by None did = taken law op old new did ready
-    by (Some r) did = refused op r old new did ready
-
--- ---- the answers of `apply`
-
--- refused for itself
-pub told_own : (op : Operation) (found : Option Refusal) (r : Refusal) (w : IndexWriter) → found ≡ own_refusal op → found ≡ Some r
-    → IsReady w → Does op (refusal op) w w
-told_own op found r w own some ready = rw (refused_own op r (sym own ∙ some)) (refused op r w w refl ready)
-
-none_of : (o : Option Refusal) → ((r : Refusal) → o ≡ Some r → ⊥) → o ≡ None
-none_of None not = refl
-none_of (Some r) not = absurd (not r refl)
-
--- refused for its document, or not
-pub told_for : {E : Type 0} (op : Operation) (found : Option Refusal) (document : Option Document) (result : Result (Option Refusal) E)
-    → found ≡ own_refusal op → ((r : Refusal) → found ≡ Some r → ⊥) → document ≡ document_of op
-    → IfOk result (λ told. told ≡ refusal_for document) → IfOk result (λ told. told ≡ refusal op)
-told_for op found document result own not is told =
-    IfOk-weaker result (λ t. t ≡ refusal_for document) (λ t. t ≡ refusal op)
-    (λ t e. e ∙ (ap refusal_for is ∙ sym (refused_for op (sym own ∙ none_of found not)))) told
-
-pub done_for : {E : Type 0} (op : Operation) (found : Option Refusal) (entry : Entry) (document : Option Document)
-    (result : Result (Option Refusal) E) (old new : IndexWriter) → TakingStands
-    → found ≡ own_refusal op → ((r : Refusal) → found ≡ Some r → ⊥) → entry ≡ entry_for op → document ≡ document_of op → IsReady old
-    → OnOk result (DoesParts entry document (refusal_for document) old new) → OnOk result (Does op (refusal op) old new)
-done_for op found entry document result old new law own not first second ready did =
-    on_ok_weaker result
-    (λ (d : DoesParts entry document (refusal_for document) old new).
-    done law op old new (sym own ∙ none_of found not)
-    (subst (λ (o : Option Document). DoesParts (entry_for op) o (refusal_for o) old new) second
-    (subst (λ (e : Entry). DoesParts e document (refusal_for document) old new) first d)) ready) did

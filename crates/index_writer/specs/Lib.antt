@@ -1,5 +1,6 @@
-pub mod Writing
+pub mod Ready
+pub mod Rounds
+pub mod Ending
 pub mod Storing
 pub mod Laws
-pub mod Taking
-pub mod Drafting
+pub mod Working

@@ -1,58 +1,66 @@
--- What the commit of a writer does to the files.
-use Rattle.std.specs.Prelude.{◌≡◌, ◌⊎◌, ℕ, ◌+◌, ◌<◌, ◌≤◌, List, Option, Some, None}
+-- What a commit does to the files, and to the state.
+use Rattle.std.specs.Prelude.{◌≡◌, ℕ, ◌<◌, List, [], ◌∷◌, ◌++◌, Option, Some, None, if◌then◌else◌}
 use Rattle.ix_base.specs.declared.file_name.FileName.TheVariants.{Commit}
-use Rattle.ix_base.specs.declared.document.Row.{Row}
 use Rattle.ix_outside.specs.Crash.{MayHold}
 use Rattle.ix_outside.specs.Disk.{Disk, told_files}
 use Rattle.ix_outside.specs.Files.{Files}
+use Rattle.segment_core.specs.LiveRows.{Lived}
 use Rattle.commit_point.specs.declared.heads.HeadSegment.{HeadSegment}
-use Rattle.commit_point.specs.declared.open.Opened.{Opened}
-use Rattle.commit_point.specs.Holds.{HasSegments, HaveSegments, HoldsInverted, Lists, AreKept}
-use Rattle.commit_point.specs.Writing.{SameElsewhere}
-use Rattle.index_writer.specs.declared.writer.IndexWriter.{IndexWriter}
-use Rattle.index_writer.specs.Writing.{StandsFor, IsCommitOf}
+use Rattle.commit_point.specs.declared.written.Written.{Written}
+use Rattle.commit_point.specs.Holds.{AreKept, Lists}
+use Rattle.commit_point.specs.Writing as commit
+use Rattle.commit_point.specs.Writing.{SameElsewhere, is_alive, listed, version}
+use Rattle.index_writer.specs.declared.state.State.{State}
+use Rattle.index_writer.specs.Ready.{IsStored}
 
--- the files of the commit are those of this one
-abbrev pub IsStored : Files → Opened → Type 0
-IsStored files last = HasSegments files last.number last.next_id last.entries last.segments
+-- ---- the state on its commit
 
--- the files of the commit's segments are there
-abbrev pub AreStored : Files → Opened → Type 0
-AreStored files last = HaveSegments files last.number last.entries last.segments
+-- what is on the store of a segment with a live row once the commit s is there: its live docs, written with s unless
+-- they were written before as they are
+abbrev pub own_written : ℕ → Option Written → Lived → List (Option Written)
+own_written s w g = if is_alive g then Some (record { v = version s w g; live = g.live }) ∷ [] else []
+
+-- the same of each segment
+abbrev pub renewed : ℕ → List Lived → List (Option Written) → List (Option Written)
+renewed s [] ws = []
+renewed s (g ∷ gs) [] = []
+renewed s (g ∷ gs) (w ∷ ws) = own_written s w g ++ renewed s gs ws
+
+-- The state on its commit: that has the segments with a live row, and nothing is to be written.
+abbrev pub on_commit : State → State
+on_commit s = record s {
+  published = record s.published { segments = listed s.published.segments };
+  written = renewed s.published.upto s.published.segments s.written;
+  last = s.published.upto;
+  since = s.published.next_id;
+  pending = None;
+}
+
+-- ---- the files
 
 -- every file is as it was, but the commit file of s, files of segments with an id from `next` on, and what is written
 -- with s of live bits and set numbers
 abbrev pub SameBelow : ℕ → ℕ → Files → Files → Type 0
 SameBelow s next = SameElsewhere s (λ id. id < next)
 
--- A writer committed: the store has the commit that it is on now, and the files of older commits are as they were.
-pub record Commits (old_writer new_writer : IndexWriter) (old new : Files) : Type 0 where
-  pub spelled : AreStored old old_writer.last → IsStored new new_writer.last
-  pub elsewhere : SameBelow old_writer.number old_writer.last.next_id old new
+-- A writer committed: the files have the commit, and what is on the store of its segments stands in them.
+pub record Commits (old new : State) (files now : Files) : Type 0 where
+  pub made : commit.Commits old.published.upto old.published.next_id old.published.segments old.written files now
+  pub stands : IsStored files old → IsStored now new
 
--- a crash while a writer that stands for these rows commits: the commit is there whole, or its commit file is as before
-pub record MayCommit (w : IndexWriter) (rows : List Row) (old new : Files) : Type 0 where
-  pub elsewhere : SameBelow w.number w.last.next_id old new
-  pub whole : AreStored old w.last → (new (Commit w.number) ≡ old (Commit w.number))
-      ⊎ ((id : ℕ) × (w.last.next_id ≤ id) × (id ≤ w.last.next_id + 1) × HoldsInverted new w.number id rows)
+-- a crash while a writer commits: the commit is there whole, or its commit file is as before
+abbrev pub MayCommit : State → Files → Files → Type 0
+MayCommit s = commit.MayCommit s.published.upto s.published.next_id s.published.segments s.written
 
--- The writer is on its commit: the number, the next id and the segments are those of the commit, the next id rose by one
--- at most, and nothing came since.
-pub record IsOnCommit (old new : IndexWriter) : Type 0 where
-  pub number : new.number ≡ old.number
-  pub last : new.last.number ≡ old.number
-  pub next_id : old.last.next_id ≤ new.last.next_id
-  pub next_most : new.last.next_id ≤ old.last.next_id + 1
-  pub commit : (rows : List Row) → StandsFor old rows → IsCommitOf new.last rows
+-- The writer can go on from these files: no commit is above its last one, none lists an id that is new since that one,
+-- and what is on the store of its segments stands.
+pub record GoesOn (files : Files) (s : State) : Type 0 where
+  pub none_above : (t : ℕ) → s.last < t → files (Commit t) ≡ None
+  pub ids : (t : ℕ) (e : HeadSegment) → Lists files t e → e.id < s.since
+  pub stored : IsStored files s
 
--- The commits that are there are below the writer's number, and list ids below its next one.
-pub record AreBelow (files : Files) (w : IndexWriter) : Type 0 where
-  pub none_from : (t : ℕ) → w.number ≤ t → files (Commit t) ≡ None
-  pub ids : (t : ℕ) (e : HeadSegment) → Lists files t e → e.id < w.last.next_id
-
--- A writer's commit settles: where each commit was kept before, and the files of the segments that the writer is on stand
--- in the files and in every image, each commit is kept, the new one too.
-abbrev pub Settles : IndexWriter → Option Disk → Option Disk → Type 0
-Settles w old new = (files now : Files) → told_files old ≡ Some files → told_files new ≡ Some now
-    → AreBelow files w → AreStored files w.last → ((d : Files) → MayHold old d → AreStored d w.last)
-    → AreKept files (MayHold old) → AreKept now (MayHold new)
+-- A writer's commit settles: where each commit was kept before, and what is on the store of its segments stands in the
+-- files and in every image, each commit is kept, the new one too.
+abbrev pub Settles : State → Option Disk → Option Disk → Type 0
+Settles s old new = (files now : Files) → told_files old ≡ Some files → told_files new ≡ Some now → GoesOn files s
+    → ((d : Files) → MayHold old d → IsStored d s) → AreKept files (MayHold old) → AreKept now (MayHold new)

@@ -1,12 +1,24 @@
-//! The writer of an index: operations that are kept in memory after the last commit, and the commit
-//! that puts them on the store.
+//! The writer of an index over rounds: in each round several thread writers share one queue. The end
+//! of a round puts what they did into the segments, in memory; a commit puts the segments on the
+//! store.
 #![tactic(auto)]
 
-mod draft;
-mod parts;
-mod publish;
+mod begin;
+mod commit;
+mod end;
+mod ending;
+mod fault;
+mod laws;
+mod round;
+mod state;
 #[cfg(test)]
 mod tests;
+mod working;
 mod writer;
 
+pub use fault::{EndRefused, OpenRefused, WriterFault};
+pub use laws::{commits_go_on, commits_hold, opened_go_on};
+pub use round::{CommitInfo, Round, RoundEnd, RoundParts};
+pub use state::State;
+pub use working::Worked;
 pub use writer::IndexWriter;

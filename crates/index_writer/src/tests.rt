@@ -1,39 +1,38 @@
-//! Commits of a few operations, read back, against what was worked out by hand.
-ghost use Rattle.std.specs.Prelude.{◌≡◌, IfOk, OnOk};
-ghost use Rattle.index_writer.specs.Writing.{IsReady};
+//! Rounds of two writers and their commits, against what was worked out by hand.
+ghost use Rattle.std.specs.Prelude.{◌≡◌, ◌≤◌, ℕ, None, false, true, IfOk, OnOk};
+ghost use Rattle.index_writer.specs.Ready.{IsSound};
+ghost use Rattle.index_writer.specs.Working.{IsUnderWay};
 
-use crate::IndexWriter;
+use crate::{IndexWriter, RoundEnd, RoundParts, Worked, WriterFault, opened_go_on};
 use commit_point::open_commit;
-use ix_base::{Document, Fields, Name, Numbers, Operation, Query, Refusal, Term, Text};
+use ix_base::{Document, Fields, Name, Numbers, Operation, Refusal, Term, Text};
 use ix_memory::MemoryStore;
 use segment_core::LiveSegment;
 use std::alloc::Global;
 use std::fmt::Write;
 use std::test::*;
 use std::thread::Threads;
+use thread_writer::Piece;
 
 /// What a line of a script does.
 #[derive(Clone, Copy)]
 enum Act {
     Add,
-    Update,
     Delete,
-    DeleteByQuery,
-    Set,
-    /// Commits, opens the commit, and goes on from it.
     Commit,
 }
+
+/// A line of a script: the seat number of its writer, what it does, and a key.
+type Line<'a> = (usize, Act, &'a str);
+
+type Script<'a> = &'a [Line<'a>];
 
 fn text_of(alloc: Global, text: &str) -> Result<Text, Fail> {
     Ok(Text::new(String::from_str(alloc, text)?).ok_or("long")?)
 }
 
-fn name_of(alloc: Global, text: &str) -> Result<Name, Fail> {
-    Ok(Name::new(text_of(alloc, text)?).ok_or("no name")?)
-}
-
 fn term_of(alloc: Global, key: &str) -> Result<Term, Fail> {
-    let field = name_of(alloc, "key")?;
+    let field = Name::new(text_of(alloc, "key")?).ok_or("no name")?;
     let bytes = text_of(alloc, key)?;
     Ok(Term { field, bytes })
 }
@@ -45,216 +44,360 @@ fn document_of(alloc: Global, key: &str) -> Result<Document, Fail> {
     Ok(doc.ok_or("names that stand twice")?)
 }
 
-fn setting_of(alloc: Global, key: &str) -> Result<Operation, Fail> {
-    let term = term_of(alloc, key)?;
-    let num = name_of(alloc, "n")?;
-    let value = 4;
-    Ok(Operation::SetNumber { term, num, value })
-}
-
-fn update_of(alloc: Global, key: &str) -> Result<Operation, Fail> {
-    let term = term_of(alloc, key)?;
-    Ok(Operation::Update(term, document_of(alloc, key)?))
-}
-
 fn operation_of(alloc: Global, act: Act, key: &str) -> Result<Operation, Fail> {
     match act {
         Act::Add => Ok(Operation::Add(document_of(alloc, key)?)),
-        Act::Update => update_of(alloc, key),
         Act::Delete => Ok(Operation::DeleteTerm(term_of(alloc, key)?)),
-        Act::DeleteByQuery => Ok(Operation::DeleteQuery(Query::Term(term_of(alloc, key)?))),
-        Act::Set => setting_of(alloc, key),
         Act::Commit => Ok(Operation::Commit),
     }
 }
 
-/// Does one operation.
-fn attempt(
-    alloc: Global,
-    writer: &mut IndexWriter,
-    act: Act,
-    key: &str,
-) -> Result<Option<Refusal>, Fail>
-    requires { IsReady writer.old }
-    ensures { OnOk result (IsReady writer.new) }
+/// Does a line of a script.
+fn told(alloc: Global, parts: &mut RoundParts, line: Line) -> Result<Worked, Fail>
+    requires { (base : ℕ) × IsUnderWay base parts.old }
+    ensures { OnOk result ((base : ℕ) → IsUnderWay base parts.old → IsUnderWay base parts.new) }
 {
+    let (worker, act, key) = line;
+    if worker >= parts.writers.len() {
+        Err("a writer")?;
+    }
     let operation = operation_of(alloc, act, key)?;
-    if writer.number > 1000 {
+    Ok(parts.do_line(worker, &operation))
+}
+
+/// Does the lines of a script.
+fn work(alloc: Global, parts: &mut RoundParts, script: Script) -> Result<(), Fail>
+    requires { (base : ℕ) × IsUnderWay base parts.old }
+    ensures { OnOk result ((base : ℕ) → IsUnderWay base parts.old → IsUnderWay base parts.new) }
+{
+    for line in script {
+        told(alloc, parts, *line)?;
+    }
+    Ok(())
+}
+
+/// A round that begins.
+fn begun(
+    alloc: Global,
+    writer: &mut IndexWriter<MemoryStore>,
+    writers: u32,
+) -> Result<RoundParts, Fail>
+    requires sound { IsSound writer.old.state }
+    requires writers { (1 ≤ writers) × (writers ≤ 16) }
+    requires out { writer.old.state.out ≡ false }
+    requires few { (writer.old.state.published.upto ≤ 1000) × (writer.old.state.published.next_id ≤ 1000) }
+    ensures parts { IfOk result (IsUnderWay writer.new.state.published.upto) }
+    ensures sound { IsSound writer.new.state }
+    ensures out { OnOk result (writer.new.state.out ≡ true) }
+    ensures pending { writer.new.state.pending ≡ writer.old.state.pending }
+{
+    Ok(writer.begin_round(writers)?.into_parts(alloc)?)
+}
+
+/// A round of two writers that do the lines of a script.
+fn round<R: Threads + Sync>(
+    rt: &R,
+    alloc: Global,
+    writer: &mut IndexWriter<MemoryStore>,
+    script: Script,
+) -> Result<RoundEnd, Fail>
+    requires { IsSound writer.old.state }
+    ensures { OnOk result (IsSound writer.new.state) }
+{
+    if writer.in_round() || writer.pending_commit().is_some() {
+        Err("a round or a commit before")?;
+    }
+    if writer.upto() > 1000 || writer.next_id() > 1000 {
         Err("many operations")?;
     }
-    Ok(writer.apply(alloc, operation)?)
+    let mut parts = begun(alloc, writer, 2)?;
+    work(alloc, &mut parts, script)?;
+    ended(rt, writer, parts)
 }
 
-/// Commits, and returns the writer on the commit and how many rows it has.
-fn committed<R: Threads + Sync>(
+/// How a round ends.
+fn ended<R: Threads + Sync>(
     rt: &R,
-    alloc: Global,
-    store: &mut MemoryStore,
-    writer: IndexWriter,
-) -> Result<(IndexWriter, u64), Fail>
-    requires { IsReady writer }
-    ensures { IfOk result (λ x. IsReady x.0) }
+    writer: &mut IndexWriter<MemoryStore>,
+    parts: RoundParts,
+) -> Result<RoundEnd, Fail>
+    requires sound { IsSound writer.old.state }
+    requires out { writer.old.state.out ≡ true }
+    requires pending { writer.old.state.pending ≡ None }
+    requires parts { IsUnderWay writer.old.state.published.upto parts }
+    ensures { OnOk result (IsSound writer.new.state) }
 {
-    if writer.last.number >= writer.number {
-        Err("no operation since the last commit")?;
+    match writer.end_round(rt, parts) {
+        Ok(end) => Ok(end),
+        Err(refused) => Err(refused.fault)?,
     }
-    Ok(writer.commit(rt, alloc, store)?)
 }
 
-/// A writer on the commit of this number.
-fn reopened(alloc: Global, store: &mut MemoryStore, number: u64) -> Result<IndexWriter, Fail>
-    ensures { IfOk result IsReady }
-{
+/// The live rows of the commit of this number, of each segment its id and then its rows with their
+/// births.
+fn shown(alloc: Global, store: &mut MemoryStore, number: u64) -> Result<String, Fail> {
+    let mut out = String::new(alloc);
     let opened = open_commit(alloc, store, number)?;
-    Ok(IndexWriter::on(alloc, opened))
-}
-
-/// Does a line of a script.
-fn step<R: Threads + Sync>(
-    rt: &R,
-    alloc: Global,
-    store: &mut MemoryStore,
-    writer: IndexWriter,
-    line: (Act, &str),
-) -> Result<IndexWriter, Fail>
-    requires { IsReady writer }
-    ensures { IfOk result IsReady }
-{
-    let mut writer = writer;
-    attempt(alloc, &mut writer, line.0, line.1)?;
-    if !matches!(line.0, Act::Commit) {
-        return Ok(writer);
+    write!(out, "{}:", opened.next_id)?;
+    for segment in opened.segments.as_slice() {
+        write!(out, " {}", segment.segment().id)?;
+        for at in 0..4 {
+            show_row(&mut out, segment, at)?;
+        }
     }
-    let (writer, _rows) = committed(rt, alloc, store, writer)?;
-    reopened(alloc, store, writer.number)
+    Ok(out)
 }
 
-/// A row of a segment where it is live: its key and birth, and the number that was set.
-fn show_row(alloc: Global, out: &mut String, segment: &LiveSegment, at: u32) -> Result<(), Fail> {
+fn show_row(out: &mut String, segment: &LiveSegment, at: u32) -> Result<(), Fail> {
     let rows = segment.segment().rows.as_slice();
     if at as usize >= rows.len() || !segment.live().is_live(at) {
         return Ok(());
     }
     let row = &rows[at as usize];
     write!(out, " {}{}", row.doc.key.as_str(), row.birth)?;
-    match segment.live().value(at, &name_of(alloc, "n")?) {
-        Some(value) => write!(out, "={value}")?,
-        None => {}
+    Ok(())
+}
+
+/// Commits, and returns the number of the commit and how many rows it has.
+fn committed(writer: &mut IndexWriter<MemoryStore>) -> Result<(u64, u64), Fail>
+    requires { IsSound writer.old.state }
+    ensures { OnOk result (IsSound writer.new.state) }
+{
+    if writer.pending_commit().is_none() {
+        Err("no commit to be written")?;
+    }
+    let info = writer.commit()?;
+    Ok((info.number, info.docs))
+}
+
+/// Two writers, deletes across them, and a commit; then a round that isn't closed, and one whose
+/// commit has the rows of all three. The buffers hold two documents each.
+#[test]
+fn three_rounds(rt: HostRuntime) -> Result<(), Fail> {
+    use Act::*;
+    let alloc = rt.alloc();
+    let mut writer = IndexWriter::none(alloc, MemoryStore::new(alloc), 2);
+    let script = [
+        (0, Add, "a"),
+        (1, Add, "b"),
+        (1, Delete, "a"),
+        (0, Add, "c"),
+        (0, Add, "d"),
+        (1, Commit, ""),
+        (0, Add, "e"),
+    ];
+    let end = round(&rt, alloc, &mut writer, &script)?;
+    assert_eq!(rt; end, RoundEnd::Committed(6));
+    assert_eq!(rt; writer.pending_commit(), Some(6));
+    assert_eq!(rt; committed(&mut writer)?, (6, 3));
+    let end = round(&rt, alloc, &mut writer, &[(1, Add, "f"), (0, Delete, "d")])?;
+    assert_eq!(rt; end, RoundEnd::Ran);
+    let end = round(
+        &rt,
+        alloc,
+        &mut writer,
+        &[(0, Delete, "f"), (1, Commit, "")],
+    )?;
+    assert_eq!(rt; end, RoundEnd::Committed(10));
+    assert_eq!(rt; committed(&mut writer)?, (10, 2));
+    assert_eq!(rt; (writer.last(), writer.next_id()), (10, 5));
+    let mut store = writer.into_store();
+    assert_eq!(rt; shown(alloc, &mut store, 6)?.as_str(), "4: 1 c4 2 d5 3 b2");
+    assert_eq!(rt; shown(alloc, &mut store, 10)?.as_str(), "5: 1 c4 3 b2");
+    Ok(())
+}
+
+/// What a line is told.
+fn show_worked(out: &mut String, worked: Worked) -> Result<(), Fail> {
+    match worked {
+        Worked::Numbered(number) => write!(out, " {number}")?,
+        Worked::Refused(Refusal::Term { size }) => write!(out, " term {size}")?,
+        Worked::Refused(Refusal::Query { size }) => write!(out, " query {size}")?,
+        Worked::Closed => write!(out, " closed")?,
+        Worked::NoMemory => write!(out, " memory")?,
     }
     Ok(())
 }
 
-/// A segment: its id, how many rows it has, the commit that wrote its live docs, and the live rows.
-fn show_segment(
-    alloc: Global,
-    out: &mut String,
-    segment: &LiveSegment,
-    written: u64,
-) -> Result<(), Fail> {
-    let rows = segment.segment().rows.len();
-    write!(out, "{}:{rows}@{written}", segment.segment().id)?;
-    for at in 0..8 {
-        show_row(alloc, out, segment, at)?;
-    }
-    write!(out, "; ")?;
-    Ok(())
-}
-
-/// The segments of the last commit.
-fn shown(alloc: Global, writer: &IndexWriter) -> Result<String, Fail> {
-    let mut out = String::new(alloc);
-    let entries = writer.last.entries.as_slice();
-    for (at, segment) in writer.last.segments.as_slice().iter().enumerate() {
-        if at < entries.len() {
-            show_segment(alloc, &mut out, segment, entries[at].written)?;
+/// What a writer gave off: of each piece its rows with their births.
+fn show_pieces(out: &mut String, pieces: &[Piece]) -> Result<(), Fail> {
+    write!(out, ";")?;
+    for piece in pieces {
+        write!(out, " [{}:", piece.worker)?;
+        for row in piece.frozen.rows.as_slice() {
+            write!(out, " {}{}", row.doc.key.as_str(), row.birth)?;
         }
+        write!(out, "]")?;
+    }
+    Ok(())
+}
+
+/// What the lines of a script are told, and what each writer gave off.
+fn shown_work(alloc: Global, parts: &mut RoundParts, script: Script) -> Result<String, Fail>
+    requires { (base : ℕ) × IsUnderWay base parts.old }
+{
+    let mut out = String::new(alloc);
+    for line in script {
+        show_worked(&mut out, told(alloc, parts, *line)?)?;
+    }
+    for pieces in parts.pieces.as_slice() {
+        show_pieces(&mut out, pieces.as_slice())?;
     }
     Ok(out)
 }
 
-/// What is read of the last commit after a script.
-fn run<R: Threads + Sync>(rt: &R, alloc: Global, script: &[(Act, &str)]) -> Result<String, Fail> {
-    let mut store = MemoryStore::new(alloc);
-    let mut writer = IndexWriter::none(alloc);
-    for line in script {
-        writer = step(rt, alloc, &mut store, writer, *line)?;
-    }
-    shown(alloc, &writer)
+/// A round of a writer without a commit, whose thread writers have buffers of this size.
+fn first_round(alloc: Global, writers: u32, buffer: u32) -> Result<RoundParts, Fail>
+    requires writers { (1 ≤ writers) × (writers ≤ 16) }
+    requires buffer { (1 ≤ buffer) × (buffer ≤ 65536) }
+    ensures { IfOk result (λ parts. (base : ℕ) × IsUnderWay base parts) }
+{
+    let mut writer = IndexWriter::none(alloc, MemoryStore::new(alloc), buffer);
+    begun(alloc, &mut writer, writers)
 }
 
-/// A delete and a set in an older segment, whose live docs alone are written again, and a segment of
-/// which no row is left.
+/// Numbers, a refused document, full buffers that are given off, and a commit that closes the round.
 #[test]
-fn commits_are_read(rt: HostRuntime) -> Result<(), Fail> {
+fn lines_of_a_round(rt: HostRuntime) -> Result<(), Fail> {
     use Act::*;
     let alloc = rt.alloc();
-    let two = [(Add, "a"), (Add, "b"), (Commit, "")];
-    assert_eq!(rt; run(&rt, alloc, &two)?.as_str(), "1:2@3 a1 b2; ");
-    let deleted = [
-        (Add, "a"),
-        (Add, "b"),
-        (Commit, ""),
-        (Delete, "a"),
-        (Commit, ""),
+    let long = "k".repeat(alloc, 32_767)?;
+    let script = [
+        (0, Add, "a"),
+        (0, Add, "b"),
+        (1, Add, "c"),
+        (0, Add, long.as_str()),
+        (0, Delete, "a"),
+        (1, Add, "d"),
+        (1, Add, "e"),
+        (1, Commit, ""),
+        (0, Add, "f"),
+        (1, Delete, "a"),
     ];
-    assert_eq!(rt; run(&rt, alloc, &deleted)?.as_str(), "1:2@5 b2; ");
-    let set = [
-        (Add, "a"),
-        (Commit, ""),
-        (Set, "a"),
-        (Commit, ""),
-        (Add, "b"),
-        (Commit, ""),
-    ];
-    assert_eq!(rt; run(&rt, alloc, &set)?.as_str(), "1:1@4 a1=4; 2:1@6 b5; ");
-    let none = [(Add, "a"), (Commit, ""), (DeleteByQuery, "a"), (Commit, "")];
-    assert_eq!(rt; run(&rt, alloc, &none)?.as_str(), "");
+    let mut parts = first_round(alloc, 2, 1)?;
+    let expected =
+        " 1 2 3 term 32767 4 5 6 7 closed closed; [0: a1] [0: b2]; [1: c3] [1: d5] [1: e6]";
+    assert_eq!(rt; shown_work(alloc, &mut parts, &script)?.as_str(), expected);
+    let mut parts = first_round(alloc, 2, 2)?;
+    let expected = " 1 2 3 term 32767 4 5 6 7 closed closed; [0: a1 b2]; [1: c3 d5]";
+    assert_eq!(rt; shown_work(alloc, &mut parts, &script)?.as_str(), expected);
     Ok(())
 }
 
-/// An update never takes its own document away, and a set reaches no document added after it.
+/// Deletes by the first writer, which are to have the numbers from 1: each of three words with its
+/// next word. Returns whether each has its number.
+fn fill(alloc: Global, parts: &mut RoundParts, count: u64) -> Result<bool, Fail>
+    requires { (base : ℕ) × IsUnderWay base parts.old }
+    ensures { OnOk result ((base : ℕ) → IsUnderWay base parts.old → IsUnderWay base parts.new) }
+{
+    let mut right = true;
+    for number in 1..=count {
+        let told = told(alloc, parts, (0, Act::Delete, "abcde"))?;
+        right = right && told == Worked::Numbered(number);
+    }
+    Ok(right)
+}
+
+/// A writer whose part of the queue is full ends the round by a turn, without a number.
 #[test]
-fn numbers_decide(rt: HostRuntime) -> Result<(), Fail> {
+fn turned(rt: HostRuntime) -> Result<(), Fail> {
     use Act::*;
     let alloc = rt.alloc();
-    let update = [(Add, "a"), (Update, "a"), (Commit, "")];
-    assert_eq!(rt; run(&rt, alloc, &update)?.as_str(), "1:2@3 a2; ");
-    let later = [(Add, "a"), (Commit, ""), (Update, "a"), (Commit, "")];
-    assert_eq!(rt; run(&rt, alloc, &later)?.as_str(), "2:1@4 a3; ");
-    let set = [(Set, "a"), (Add, "a"), (Set, "a"), (Add, "a"), (Commit, "")];
-    assert_eq!(rt; run(&rt, alloc, &set)?.as_str(), "1:2@5 a2=4 a4; ");
-    let gone = [(Add, "a"), (DeleteByQuery, "a"), (Commit, "")];
-    assert_eq!(rt; run(&rt, alloc, &gone)?.as_str(), "");
+    let mut writer = IndexWriter::none(alloc, MemoryStore::new(alloc), 2);
+    let mut parts = begun(alloc, &mut writer, 2)?;
+    assert!(rt; fill(alloc, &mut parts, 4159)?);
+    let told_first = told(alloc, &mut parts, (0, Delete, "abcdef"))?;
+    assert_eq!(rt; told_first, Worked::Closed);
+    let told_second = told(alloc, &mut parts, (1, Add, "a"))?;
+    assert_eq!(rt; told_second, Worked::Closed);
+    let end = ended(&rt, &mut writer, parts)?;
+    assert_eq!(rt; end, RoundEnd::Turned);
+    assert_eq!(rt; (writer.upto(), writer.next_id()), (4159, 1));
+    assert_eq!(rt; writer.pending_commit(), None);
     Ok(())
 }
 
-/// The refusal of an operation with so many letters, and the number of the writer after it.
-fn refused(alloc: Global, kind: Act, letters: usize) -> Result<(Option<Refusal>, u64), Fail> {
-    let key = "a".repeat(alloc, letters)?;
-    let mut writer = IndexWriter::none(alloc);
-    let told = attempt(alloc, &mut writer, kind, key.as_str())?;
-    Ok((told, writer.number))
-}
-
-/// An operation of each kind at its limit, which gets a number, and one letter beyond, which gets
-/// none.
+/// A writer whose first write fails is closed then, with the number that it had.
 #[test]
-fn refusals_of_each_kind(rt: HostRuntime) -> Result<(), Fail> {
+fn closed_after_a_fault(rt: HostRuntime) -> Result<(), Fail> {
+    use Act::*;
     let alloc = rt.alloc();
-    for kind in [Act::Add, Act::Update, Act::Delete, Act::Set] {
-        assert_eq!(rt; refused(alloc, kind, 32_766)?, (None, 1));
-        let size = 32_767;
-        assert_eq!(rt;
-            refused(alloc, kind, 32_767)?,
-            (Some(Refusal::Term { size }), 0)
-        );
-    }
-    assert_eq!(rt; refused(alloc, Act::DeleteByQuery, 131_060)?, (None, 1));
-    let size = 131_073;
-    assert_eq!(rt;
-        refused(alloc, Act::DeleteByQuery, 131_061)?,
-        (Some(Refusal::Query { size }), 0)
-    );
-    assert_eq!(rt; refused(alloc, Act::Commit, 0)?, (None, 1));
+    let mut calls = Vec::new(alloc);
+    calls.push(1)?;
+    let store = MemoryStore::new(alloc).failing(calls);
+    let mut writer = IndexWriter::none(alloc, store, 2);
+    let script = [(0, Add, "a"), (1, Commit, "")];
+    let end = round(&rt, alloc, &mut writer, &script)?;
+    assert_eq!(rt; end, RoundEnd::Committed(2));
+    assert_eq!(rt; fault_of(&mut writer)?, WriterFault::Store);
+    assert!(rt; writer.is_closed());
+    assert_eq!(rt; fault_of(&mut writer)?, WriterFault::Closed);
+    assert_eq!(rt; begin_fault(&mut writer)?, WriterFault::Closed);
+    assert_eq!(rt; (writer.upto(), writer.last()), (2, 0));
     Ok(())
+}
+
+/// Why a commit isn't written.
+fn fault_of(writer: &mut IndexWriter<MemoryStore>) -> Result<WriterFault, Fail>
+    requires { IsSound writer.old.state }
+    ensures { OnOk result (IsSound writer.new.state) }
+{
+    if writer.pending_commit().is_none() {
+        Err("no commit to be written")?;
+    }
+    match writer.commit() {
+        Ok(_) => Err("a commit")?,
+        Err(fault) => Ok(fault),
+    }
+}
+
+/// Why a round isn't begun.
+fn begin_fault(writer: &mut IndexWriter<MemoryStore>) -> Result<WriterFault, Fail>
+    requires { IsSound writer.old.state }
+{
+    if writer.in_round() || writer.upto() > 1000 || writer.next_id() > 1000 {
+        Err("a round before")?;
+    }
+    match writer.begin_round(1) {
+        Ok(_) => Err("a round")?,
+        Err(fault) => Ok(fault),
+    }
+}
+
+/// A writer on a commit that was read back goes on from it.
+#[test]
+fn reopened(rt: HostRuntime) -> Result<(), Fail> {
+    use Act::*;
+    let alloc = rt.alloc();
+    let mut writer = IndexWriter::none(alloc, MemoryStore::new(alloc), 65536);
+    let script = [(0, Add, "a"), (1, Add, "b"), (1, Commit, "")];
+    let end = round(&rt, alloc, &mut writer, &script)?;
+    assert_eq!(rt; end, RoundEnd::Committed(3));
+    assert_eq!(rt; committed(&mut writer)?, (3, 2));
+    let mut writer = opened_on(alloc, writer.into_store(), 3)?;
+    let script = [(1, Delete, "a"), (0, Add, "c"), (0, Commit, "")];
+    let end = round(&rt, alloc, &mut writer, &script)?;
+    assert_eq!(rt; end, RoundEnd::Committed(6));
+    assert_eq!(rt; committed(&mut writer)?, (6, 2));
+    let mut store = writer.into_store();
+    assert_eq!(rt; shown(alloc, &mut store, 6)?.as_str(), "4: 2 b2 3 c5");
+    assert_eq!(rt; shown(alloc, &mut store, 3)?.as_str(), "3: 1 a1 2 b2");
+    Ok(())
+}
+
+/// A writer on the commit of this number.
+fn opened_on(
+    alloc: Global,
+    store: MemoryStore,
+    number: u64,
+) -> Result<IndexWriter<MemoryStore>, Fail>
+    ensures { IfOk result (λ writer. IsSound writer.state) }
+{
+    opened_go_on();
+    let mut store = store;
+    let opened = open_commit(alloc, &mut store, number)?;
+    match IndexWriter::open(alloc, store, opened, 1) {
+        Ok(writer) => Ok(writer),
+        Err(_) => Err("out of memory")?,
+    }
 }

@@ -1,16 +1,158 @@
--- What a run promises.
-use Rattle.std.specs.Prelude.{◌≡◌, ◌⊎◌, ℕ, ◌+◌, ◌*◌, ◌≤◌, ◌^◌, List, [], ◌∷◌, length, take, Option, Some, IsSome, IsSomeAnd}
-use Rattle.std.specs.List.{AllByRecursion}
-use Rattle.ix_base.specs.declared.file_name.FileName.TheVariants.{Commit}
-use Rattle.ix_outside.specs.Calls.{LeavesOnly}
+-- What a run promises: what it is given, how its lines are numbered, what its report is, and what it leaves.
+use Rattle.std.specs.Prelude.{◌≡◌, ◌≢◌, ◌⊎◌, ◌<◌, ◌≤◌, ◌+◌, ◌-◌, ◌*◌, ◌^◌, ℕ, Bool, true, false, ◌==◌, ◌&&◌, if◌then◌else◌}
+use Rattle.std.specs.Prelude.{List, [], ◌∷◌, ◌++◌, length, take, Option, Some, None, is_none, IsSome, IsSomeAnd, Ok}
+use Rattle.ix_base.specs.declared.document.Row.{Row}
+use Rattle.ix_base.specs.declared.file_name.FileName.TheVariants as file
 use Rattle.ix_outside.specs.Crash.{MayHold}
 use Rattle.ix_outside.specs.Disk.{Disk, told_files}
 use Rattle.ix_outside.specs.Files.{Files}
-use Rattle.commit_point.specs.Holds.{HoldsInverted, IsAboveIds, KeepsCommits}
+use Rattle.commit_point.specs.Holds.{AreKept, Holds, IsLawful, HoldsInverted, IsAboveIds, KeepsCommits}
+use Rattle.op_script.specs.Language.{script}
 use Rattle.op_script.specs.declared.script.Line.{Line}
-use Rattle.run_log.specs.Given.{Given, CanRun, IsKept}
-use Rattle.run_log.specs.Numbering.{Interleaves, rows_at, commit_numbers, numbered}
-use Rattle.run_log.specs.Report.{report}
+use Rattle.std.specs.List.{filter, filter_map, AllByRecursion}
+use Rattle.ix_base.specs.declared.document.Operation.{Operation}
+use Rattle.ix_base.specs.declared.document.Operation.TheVariants.{Commit}
+use Rattle.ix_base.specs.Refusals.{refusal}
+use Rattle.ix_base.specs.Steps.{after}
+use Rattle.op_script.specs.declared.script.Act.{Act}
+use Rattle.op_script.specs.declared.script.Act.TheVariants.{Do, Search}
+use Rattle.ix_base.specs.Hits.{hits}
+use Rattle.ix_base.specs.declared.refusal.Refusal.{Refusal}
+use Rattle.report_text.specs.Lines.{text_line, write_value, commit_value, refused_value, search_value}
+use Rattle.ix_outside.specs.Calls.{LeavesOnly}
+
+-- ---- what a run is given
+
+-- the number of the last commit, or 0 where there is none
+pub record IsLast (files : Files) (base : ℕ) : Type 0 where
+  pub there : base ≢ 0 → IsSome (files (file.Commit base))
+  pub none_above : (s : ℕ) → base < s → files (file.Commit s) ≡ None
+
+-- What a run is given: the lines of its script, the files of its store and, of their last commit,
+-- the number, the next id and the rows. Without a commit these are 0, 1 and no row.
+pub record Given : Type 0 where
+  pub lines : List Line
+  pub files : Files
+  pub base : ℕ
+  pub next : ℕ
+  pub rows : List Row
+
+-- The input spells the lines, and the store tells the files, of whose commits the last one is the
+-- base.
+pub record IsGiven (g : Given) (input : Option (List ℕ)) (store : Option Disk) : Type 0 where
+  pub bytes : List ℕ
+  pub told : input ≡ Some bytes
+  pub spelled : script bytes ≡ Ok g.lines
+  pub stored : told_files store ≡ Some g.files
+  pub last : IsLast g.files g.base
+
+-- there is no commit
+abbrev pub HasNoCommit : Given → Type 0
+HasNoCommit g = (g.base ≡ 0) × (g.next ≡ 1) × (g.rows ≡ [])
+
+-- The base is the last commit, and it is lawful; or there is none.
+abbrev pub CanRun : Given → Type 0
+CanRun g = IsLast g.files g.base
+    × (HasNoCommit g ⊎ ((1 ≤ g.base) × IsLawful g.files g.base g.next g.rows))
+
+-- the files of the base are in the grammar, and spell these rows and this next id; or there is no
+-- commit
+abbrev pub IsOn : Given → Type 0
+IsOn g = HasNoCommit g ⊎ ((1 ≤ g.base) × Holds g.files g.base g.next g.rows)
+
+-- the same, and the number and the next id leave room
+abbrev pub CanEnd : Given → Type 0
+CanEnd g = IsOn g × (g.base ≤ 2 ^ 61) × (g.next ≤ 2 ^ 61)
+
+-- each commit is kept when the run begins: nothing of it is still on its way to the disk
+abbrev pub IsKept : Given → Option Disk → Type 0
+IsKept g store = AreKept g.files (MayHold store)
+
+-- ---- the numbers: a run has a log, the numbered lines in one order, of which the first has the
+-- number after `base`, and each other the next one
+
+-- the operation of a write or commit line
+abbrev pub act_operation : Act → Option Operation
+act_operation (Do op) = Some op
+act_operation (Search q) = None
+
+-- a write or commit line gets a number unless it is refused
+abbrev pub is_numbered : Act → Bool
+is_numbered (Do op) = is_none (refusal op)
+is_numbered (Search q) = false
+
+abbrev pub is_commit : Act → Bool
+is_commit (Do Commit) = true
+is_commit a = false
+
+-- the lines that get a number
+abbrev pub numbered : List Line → List Line
+numbered = filter (λ l. is_numbered l.act)
+
+-- The log has the numbered lines, each once, those of each caller in the order of the script.
+abbrev pub Interleaves : List Line → List Line → Type 0
+Interleaves lines log = (caller : ℕ)
+    → filter (λ l. l.caller == caller) log ≡ filter (λ l. l.caller == caller) (numbered lines)
+
+-- the number of the log's line that stands at this place of the script
+abbrev pub number_of : ℕ → List Line → ℕ → ℕ
+number_of base [] line = base
+number_of base (l ∷ log) line = if l.line == line then base + 1 else number_of (base + 1) log line
+
+abbrev pub operations : List Line → List Operation
+operations = filter_map (λ l. act_operation l.act)
+
+-- the rows by the operations numbered up to s
+abbrev pub rows_at : ℕ → List Row → List Line → ℕ → List Row
+rows_at base rows log s = after rows base (operations (take (s - base) log))
+
+-- the numbers of the log's commit lines
+abbrev pub commit_numbers : ℕ → List Line → List ℕ
+commit_numbers last [] = []
+commit_numbers last (l ∷ log) =
+    if is_commit l.act then (last + 1) ∷ commit_numbers (last + 1) log
+    else commit_numbers (last + 1) log
+
+-- ---- the report: the text of each line of the script, in its order
+
+-- The commit of a caller's search: that of the last commit line among these, or else the one that
+-- was found before.
+abbrev pub last_commit : ℕ → List Line → ℕ → ℕ → List Line → ℕ
+last_commit base log caller found [] = found
+last_commit base log caller found (l ∷ ls) = last_commit base log caller
+    (if (l.caller == caller) && is_commit l.act then number_of base log l.line else found) ls
+
+-- the text of a line that got its number
+abbrev pub done_text : ℕ → List Row → List Line → ℕ → Operation → List ℕ
+done_text base rows log line Commit =
+    let s = number_of base log line in
+    text_line (commit_value (length (rows_at base rows log s)) line s)
+done_text base rows log line op = text_line (write_value line (number_of base log line))
+
+-- the text of a line that was refused, and otherwise this one
+abbrev pub told_text : Option Refusal → ℕ → List ℕ → List ℕ
+told_text (Some refusal) line text = text_line (refused_value line refusal)
+told_text None line text = text
+
+-- the text of a line, with the lines that stand before it in the script
+abbrev pub act_text : ℕ → List Row → List Line → List Line → Line → Act → List ℕ
+act_text base rows log before l (Search query) =
+    let s = last_commit base log l.caller base before in
+    text_line (search_value s (hits query (rows_at base rows log s)) l.line)
+act_text base rows log before l (Do op) =
+    told_text (refusal op) l.line (done_text base rows log l.line op)
+
+abbrev pub report_from : ℕ → List Row → List Line → List Line → List Line → List ℕ
+report_from base rows log before [] = []
+report_from base rows log before (l ∷ ls) =
+    act_text base rows log before l l.act ++ report_from base rows log (before ++ l ∷ []) ls
+
+-- the whole report of a script, whose lines were numbered by the log over these rows of the commit
+-- `base`
+abbrev pub report : ℕ → List Row → List Line → List Line → List ℕ
+report base rows lines log = report_from base rows log [] lines
+
+-- ---- what a run promises
 
 -- the number is one of these
 abbrev pub IsIn : List ℕ → ℕ → Type 0
@@ -31,8 +173,8 @@ pub record IsNewCommit (g : Given) (log : List Line) (files : Files) (s : ℕ) :
 -- one. The commits that were there have their files and bytes.
 pub record HasFirst (g : Given) (log : List Line) (count : ℕ) (files : Files) : Type 0 where
   pub each : AllByRecursion (IsNewCommit g log files) (commit_numbers g.base (take count log))
-  pub only : (s : ℕ) → IsSome (files (Commit s))
-      → IsSome (g.files (Commit s)) ⊎ IsIn (commit_numbers g.base (take count log)) s
+  pub only : (s : ℕ) → IsSome (files (file.Commit s))
+      → IsSome (g.files (file.Commit s)) ⊎ IsIn (commit_numbers g.base (take count log)) s
   pub kept : KeepsCommits g.files files
 
 -- all of the log's commits are there
@@ -61,11 +203,12 @@ pub record Runs (g : Given) (wrote : List ℕ → Type 0) (old new : Option Disk
   pub crash : IsKept g old → LeavesOnly old new (HasSome g log)
   pub again : IsKept g old → g.next + length (numbered g.lines) ≤ 2 ^ 61 → GivesBack new
 
--- A run that stopped, or was done: for one order of its numbered lines, a crash at any moment of
--- the call leaves the first ones of its commits.
+-- A run that stopped, or was done: for one order of its numbered lines, the files have the first
+-- ones of its commits, and a crash at any moment of the call leaves the first ones.
 pub record Stops (g : Given) (old new : Option Disk) : Type 0 where
   pub log : List Line
   pub numbering : Interleaves g.lines log
+  pub files : IsKept g old → IsSomeAnd (told_files new) (HasSome g log)
   pub crash : IsKept g old → LeavesOnly old new (HasSome g log)
 
 -- The commits that were there have their files and bytes: in the files that the store tells, and

@@ -1,6 +1,3 @@
-pub mod Numbering
-pub mod Report
-pub mod Given
 pub mod Headline
 pub mod Telling
 pub mod Lists

@@ -8,9 +8,7 @@ use Rattle.op_script.specs.Shape.{LinesRise}
 use Rattle.op_script.specs.declared.script.Act.{Act}
 use Rattle.op_script.specs.declared.script.Act.TheVariants.{Do, Search}
 use Rattle.op_script.specs.declared.script.Line.{Line}
-use Rattle.run_log.specs.Numbering.{Interleaves, commit_numbers, is_commit, is_numbered, number_of, numbered}
-use Rattle.run_log.specs.Headline.{IsIn}
-use Rattle.run_log.specs.Report.{last_commit}
+use Rattle.run_log.specs.Headline.{Interleaves, IsIn, commit_numbers, is_commit, is_numbered, last_commit, number_of, numbered}
 
 -- ---- numbers
 

@@ -6,7 +6,7 @@ use Rattle.op_script.specs.declared.script.Line.{Line}
 use Rattle.op_script.specs.declared.script.Act.TheVariants.{Do}
 use Rattle.row_fates.specs.Fate.{Numbered}
 use Rattle.flush_control.specs.Logs.{Working, seconds}
-use Rattle.run_log.specs.Numbering.{number_of, operations}
+use Rattle.run_log.specs.Headline.{number_of, operations}
 
 -- A line that was told a number, with its operation.
 pub record Tell : Type 0 where

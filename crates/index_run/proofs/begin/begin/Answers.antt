@@ -1,55 +1,23 @@
-use Rattle.std.proofs.Common.{◌≡◌, ◌∙◌, ℕ, inl, inr, ap, sym, subst, arith}
-use Rattle.std.proofs.lemmas.Result.{IfOk-weaker}
-use Rattle.std.specs.Prelude.{IfOk, Option}
+use Rattle.std.proofs.Common.{subst}
+use Rattle.std.specs.Prelude.{Some}
 use Rattle.ix_outside.specs.Disk.{told_files}
-use Rattle.ix_outside.specs.Files.{Files}
-use Rattle.commit_point.specs.Holds.{Holds, HoldsInverted}
-use Rattle.searcher.specs.Searching.{IsDamagedIn}
-use Rattle.index_run.specs.Beginning.{BeginsOn, IsBase}
+use Rattle.index_run.specs.Beginning.{IsOpened, OpensOn}
+use Rattle.index_run.proofs.Beginnings.{begins_on, follows, opened_begins, opened_on_given}
 use Rattle.index_run.proofs.begin.begin.Goals as goal
 
-pub returns-clause-on : goal.returns-clause-on
-returns-clause-on g c = λ given told last on.
-    let same : c.in-Ok.base ≡ given.base = c.in-Ok.ensures.only given.files given.base told last in
-    let still = (ap told_files c.last_commit.ensures.reads) ∙ told in
-    elim on [
-      | inl none ↦ absurd (c.if-base-eq0.false (same ∙ none.0))
-      | inr held ↦
-          subst (λ (n : ℕ). IfOk c.begin_on.result (BeginsOn given.files n given.next)) same
-          (c.begin_on.ensures.on given.files given.next given.rows still (subst (λ (n : ℕ). Holds given.files n given.next given.rows) (sym same) held.1))
-    ]
+pub open-requires-clause-last : goal.open-requires-clause-last
+open-requires-clause-last g c =
+    let told = told_files (g.S.Store.disk c.args.store) in
+    let found : IsOpened told (Some c.in-Some.opened) = subst (IsOpened told) c.in-Some.is c.in-Ok.ensures.found in
+    follows c.opened_go_on.ensures told c.in-Some.opened found.1
 
-pub returns-clause-stands : goal.returns-clause-stands
-returns-clause-stands g c = λ given told begins.
-    let same : c.in-Ok.base ≡ given.base = c.in-Ok.ensures.only given.files given.base told begins.0 in
-    let still = (ap told_files c.last_commit.ensures.reads) ∙ told in
-    elim begins.1 [
-      | inl none ↦ absurd (c.if-base-eq0.false (same ∙ none.0))
-      | inr held ↦
-          c.begin_on.ensures.stands given.files given.next given.rows still (subst (λ (n : ℕ). HoldsInverted given.files n given.next given.rows) (sym same) held.1.holds)
-    ]
+pub returns-in-Ok-open-clause-on : goal.returns-in-Ok-open-clause-on
+returns-in-Ok-open-clause-on g c = λ given told last on.
+    let opens = subst (OpensOn given) c.in-Some.is (c.in-Ok.ensures.on given told last on) in
+    opened_begins given c.in-Some.opened c.args.buffer c.in-Ok-open.writer.state on opens c.in-Ok-open.ensures.state
 
-pub returns-clause-whole : goal.returns-clause-whole
-returns-clause-whole g c = λ given told last on low.
-    let same : c.in-Ok.base ≡ given.base = c.in-Ok.ensures.only given.files given.base told last in
-    let still = (ap told_files c.last_commit.ensures.reads) ∙ told in
-    elim on [
-      | inl none ↦ absurd (c.if-base-eq0.false (same ∙ none.0))
-      | inr held ↦ c.begin_on.ensures.whole given.files given.next given.rows still (subst (λ (n : ℕ). Holds given.files n given.next given.rows) (sym same) held.1)
-    ]
-
-pub returns-clause-last : goal.returns-clause-last
-returns-clause-last g c =
-    IfOk-weaker c.begin_on.result _ _ (λ writer is. subst (λ (n : ℕ). IsBase (told_files (g.S.Store.disk c.args.store.now)) n) (sym is) c.in-Ok.ensures.last) c.begin_on.ensures.number
-
-pub returns-clause-damaged : goal.returns-clause-damaged
-returns-clause-damaged g c = λ damaged is.
-    let base = c.in-Ok.base in
-    let not_none = c.if-base-eq0.false in (
-      base,
-      record {
-        last = c.in-Ok.ensures.last;
-        some = omega (arith, not_none);
-        broken = subst (λ (told : Option Files). IsDamagedIn told base damaged) (ap told_files c.last_commit.ensures.reads) (c.begin_on.ensures.damaged damaged is);
-      },
-    )
+pub returns-in-Ok-open-clause-given : goal.returns-in-Ok-open-clause-given
+returns-in-Ok-open-clause-given g c = λ given told can.
+    let opens = subst (OpensOn given) c.in-Some.is (c.in-Ok.ensures.on given told can.0 (begins_on given can)) in
+    opened_on_given c.opened_go_on.ensures given c.in-Some.opened c.args.buffer c.in-Ok-open.writer.state can opens
+    c.in-Ok-open.ensures.state

@@ -3,4 +3,8 @@ use Rattle.index_run.specs.Causes.{stop_of}
 use Rattle.index_run.proofs.doing.report_of.Goals as goal
 
 pub returns-in-Err-clause-whole : goal.returns-in-Err-clause-whole
-returns-in-Err-clause-whole g c = λ files told can. elim (c.in-Err.ensures.whole files told can) [ inl e ↦ inl (c.from.ensures ∙ ap stop_of e) | inr e ↦ inr (c.from.ensures ∙ ap stop_of e) ]
+returns-in-Err-clause-whole g c = λ files told can.
+    elim (c.in-Err.ensures.whole files told can) [
+      | inl e ↦ inl (c.from.ensures ∙ ap stop_of e)
+      | inr e ↦ inr (c.from.ensures ∙ ap stop_of e)
+    ]

@@ -1,23 +1,21 @@
-use Rattle.std.proofs.Common.{sym, subst}
-use Rattle.ix_outside.specs.Calls.{LeavesOnly}
-use Rattle.ix_outside.specs.Crash.{MayHold}
-use Rattle.ix_outside.specs.Images.{Reaches}
-use Rattle.op_script.specs.declared.script.Act.{Act}
-use Rattle.index_run.specs.Doing.{MayLeave}
-use Rattle.index_run.proofs.Operating.{leaves_still}
+use Rattle.std.proofs.Common.{refl}
+use Rattle.std.specs.Prelude.{slice_index}
+use Rattle.run_report.specs.declared.outcome.Answer.TheVariants.{Searched}
+use Rattle.index_run.proofs.Driven.{come_search}
 use Rattle.index_run.proofs.lines.do_line.Goals as goal
 
-pub returns-in_err-writer-in-Do-clause-crash : goal.returns-in_err-writer-in-Do-clause-crash
-returns-in_err-writer-in-Do-clause-crash g c = λ rows for room.
-    let start = g.S.Store.disk c.args.store.now in
-    subst (λ (a : Act). LeavesOnly start (g.S.Store.disk c.do_operation.new.store) (Reaches (MayLeave a c.args.writer rows) (MayHold start))) (sym c.in-Do.is)
-    (c.do_operation.ensures.crash rows for room)
+pub returns-in-Search-clause-come : goal.returns-in-Search-clause-come
+returns-in-Search-clause-come g c = λ r done outcomes size rise come.
+    let line = c.args.line in
+    let lasts = c.args.lasts.now in
+    come_search r done lasts outcomes line (record { line = line.line; answer = Searched (slice_index lasts line.caller) c.in-Search.query }) c.in-Search.query
+    c.args.writer.now.state c.args.parts (g.S.Store.disk c.args.writer.now.store) rise c.in-Search.is c.requires.caller refl refl come
 
-pub returns-in-Search-clause-crash : goal.returns-in-Search-clause-crash
-returns-in-Search-clause-crash g c = λ rows for room. leaves_still c.args.line.act c.args.writer rows (g.S.Store.disk c.args.store.now)
+pub do_write-requires-clause-come : goal.do_write-requires-clause-come
+do_write-requires-clause-come g c = λ κs within.
+    let q = c.requires.come in
+    (q.0, q.1, q.2, c.args.line, q.3, c.in-Do.is, refl, q.5, q.4)
 
-pub returns-after-answer-clause-crash : goal.returns-after-answer-clause-crash
-returns-after-answer-clause-crash g c = λ rows for room.
-    let start = g.S.Store.disk c.args.store.now in
-    subst (λ (a : Act). LeavesOnly start (g.S.Store.disk c.do_operation.new.store) (Reaches (MayLeave a c.args.writer rows) (MayHold start))) (sym c.in-Do.is)
-    (c.do_operation.ensures.crash rows for room)
+pub returns-in-Ok-clause-come : goal.returns-in-Ok-clause-come
+returns-in-Ok-clause-come g c = λ r done outcomes size rise come.
+    c.in-Ok.ensures.come r done outcomes c.args.line size c.in-Do.is refl rise come

@@ -1,96 +1,97 @@
-use Rattle.std.proofs.Common.{◌≡◌, ℕ, ◌≤◌, ◌^◌, length, refl, inl, arith}
-use Rattle.std.proofs.lemmas.Result.{IfOk-weaker, on_ok_weaker, on_err_weaker}
-use Rattle.ix_outside.specs.CallLaws.{leaves_none, leaves_less}
+use Rattle.std.proofs.Common.{◌∙◌, List, Option, length, refl, sym, ap, subst, inl, arith}
+use Rattle.std.specs.Prelude.{IsSome}
+use Rattle.ix_base.specs.declared.file_name.FileName.TheVariants.{Commit}
+use Rattle.ix_outside.specs.CallLaws.{leaves_none}
 use Rattle.ix_outside.specs.Crash.{MayHold}
 use Rattle.ix_outside.specs.Disk.{told_files}
 use Rattle.ix_outside.specs.Files.{Changes, onto}
-use Rattle.ix_outside.specs.Images.{Follows, Reaches}
-use Rattle.segment_core.specs.LiveRows.{all_live}
+use Rattle.ix_outside.specs.Images.{Reaches}
+use Rattle.segment_core.specs.LiveRows.{Lived, all_live}
+use Rattle.commit_point.specs.declared.heads.Head.{Head}
+use Rattle.commit_point.specs.declared.written.Written.{Written}
 use Rattle.commit_point.specs.Settling as settling
 use Rattle.commit_point.specs.Writing as commit
-use Rattle.index_writer.specs.Drafting.{IsAfter}
-use Rattle.index_writer.specs.Storing.{Commits, MayCommit, SameBelow, IsOnCommit}
-use Rattle.index_writer.specs.Writing.{IsReady, StandsFor}
-use Rattle.index_writer.specs.declared.writer.IndexWriter.{IndexWriter}
-use Rattle.index_writer.proofs.Committing.{both_ok, same_below, commits, may_commit, settles}
-use Rattle.index_writer.proofs.Following.{is_ready, on_commit, stands_on, counted}
+use Rattle.index_writer.specs.declared.state.State.{State}
+use Rattle.index_writer.specs.Ready.{HasRows, IsReady}
+use Rattle.index_writer.specs.Storing.{Commits, MayCommit, SameBelow}
+use Rattle.index_writer.proofs.Committing.{at_state, commits, counted, is_on, less_of, on_ready, rows_on, same_below, settles, tells_renamed}
 use Rattle.index_writer.proofs.writer.IndexWriter.commit.Goals as goal
 
-pub returns-in_err-draft-clause-crash : goal.returns-in_err-draft-clause-crash
-returns-in_err-draft-clause-crash g c rows stands room =
-    leaves_none _ (Reaches (MayCommit c.args.self rows) (MayHold _))
-    (λ image may. (image, may, record { elsewhere = λ name x. refl; whole = λ stored. inl refl }))
+pub returns-then-self-clause-crash : goal.returns-then-self-clause-crash
+returns-then-self-clause-crash g c room =
+    leaves_none _ (Reaches (MayCommit c.args.self.now.state) (MayHold _))
+    (λ image may. (image, may, record { elsewhere = λ name x. refl; whole = inl refl }))
 
-pub returns-clause-ready : goal.returns-clause-ready
-returns-clause-ready g c =
-    IfOk-weaker c.publish.result (λ (x : IndexWriter × ℕ). IsAfter c.in_ok-draft.draft x.0) (λ (x : IndexWriter × ℕ). IsReady x.0)
-    (λ x after. is_ready c.args.self x.0 c.in_ok-draft.draft c.requires.ready c.requires.later c.in_ok-draft.ensures after) c.publish.ensures.after
+pub returns-in_err-renewed-clause-crash : goal.returns-in_err-renewed-clause-crash
+returns-in_err-renewed-clause-crash g c room =
+    leaves_none _ (Reaches (MayCommit c.args.self.now.state) (MayHold _))
+    (λ image may. (image, may, record { elsewhere = λ name x. refl; whole = inl refl }))
 
-pub returns-clause-on : goal.returns-clause-on
-returns-clause-on g c =
-    IfOk-weaker c.publish.result (λ (x : IndexWriter × ℕ). IsAfter c.in_ok-draft.draft x.0) (λ (x : IndexWriter × ℕ). IsOnCommit c.args.self x.0)
-    (λ x after. on_commit c.args.self x.0 c.in_ok-draft.draft c.in_ok-draft.ensures after) c.publish.ensures.after
+pub returns-in-Ok-clause-sound : goal.returns-in-Ok-clause-sound
+returns-in-Ok-clause-sound g c still =
+    let s = c.args.self.now.state in
+    let ready = c.requires.sound c.if-self.false in
+    let less = less_of s ready (c.requires.pending c.if-self.false) in
+    let on = is_on _ _ c.in_ok-renewed.renewed s c.go_on.new.self c.as_slice-segments.ensures c.as_slice-written.ensures c.in_ok-renewed.ensures c.go_on.ensures in
+    subst IsReady (sym on) (on_ready s ready (omega (arith, less)))
 
-pub returns-clause-docs : goal.returns-clause-docs
-returns-clause-docs g c rows stands =
-    IfOk-weaker c.publish.result (λ (x : IndexWriter × ℕ). x.1 ≡ length (all_live (commit.listed c.in_ok-draft.draft.segments))) (λ (x : IndexWriter × ℕ). x.1 ≡ length rows)
-    (λ x is. counted c.args.self c.in_ok-draft.draft rows x.1 c.in_ok-draft.ensures stands is) c.publish.ensures.docs
+pub returns-in-Ok-clause-docs : goal.returns-in-Ok-clause-docs
+returns-in-Ok-clause-docs g c rows has =
+    ap (λ (h : Head). h.docs) c.in-Ok.ensures.head
+    ∙ (ap (λ (gs : List Lived). length (all_live (commit.listed gs))) c.as_slice-segments.ensures ∙ counted c.args.self.now.state rows has)
 
-pub returns-clause-stands : goal.returns-clause-stands
-returns-clause-stands g c rows stands =
-    IfOk-weaker c.publish.result (λ (x : IndexWriter × ℕ). IsAfter c.in_ok-draft.draft x.0) (λ (x : IndexWriter × ℕ). StandsFor x.0 rows)
-    (λ x after. stands_on c.args.self x.0 c.in_ok-draft.draft rows c.in_ok-draft.ensures after stands) c.publish.ensures.after
+pub returns-in-Ok-clause-stands : goal.returns-in-Ok-clause-stands
+returns-in-Ok-clause-stands g c rows has =
+    let s = c.args.self.now.state in
+    let on = is_on _ _ c.in_ok-renewed.renewed s c.go_on.new.self c.as_slice-segments.ensures c.as_slice-written.ensures c.in_ok-renewed.ensures c.go_on.ensures in
+    subst (λ (t : State). HasRows t rows) (sym on) (rows_on s rows has)
 
-pub returns-clause-made : goal.returns-clause-made
-returns-clause-made g c room =
-    let w = c.args.self in
-    let d = c.in_ok-draft.draft in
-    let most : d.next_id ≤ 2 ^ 62 = omega (arith, c.in_ok-draft.ensures.next_most, room) in
-    let old = told_files (g.S.Store.disk c.args.store.now) in
-    let new = told_files (g.S.Store.disk c.publish.new.store) in
-    both_ok c.publish.result (λ (x : IndexWriter × ℕ). IsAfter d x.0) (λ (x : IndexWriter × ℕ). Changes (Commits w x.0) old new)
-    (λ x after made. onto (commit.Commits d.number d.next_id d.segments d.written) (Commits w x.0) old new (commits w x.0 d c.in_ok-draft.ensures after) made)
-    c.publish.ensures.after (c.publish.ensures.ok most)
+pub returns-in-Ok-clause-made : goal.returns-in-Ok-clause-made
+returns-in-Ok-clause-made g c room =
+    let s = c.args.self.now.state in
+    let new = c.go_on.new.self in
+    let before = told_files (g.S.Store.disk c.args.self.now.store) in
+    let after = told_files (g.S.Store.disk c.write_commit.new.store) in
+    let on = is_on _ _ c.in_ok-renewed.renewed s new c.as_slice-segments.ensures c.as_slice-written.ensures c.in_ok-renewed.ensures c.go_on.ensures in
+    let made = at_state (λ (gs : List Lived) (ws : List (Option Written)). Changes (commit.Commits s.published.upto s.published.next_id gs ws) before after) _ _ s c.as_slice-segments.ensures c.as_slice-written.ensures (c.in-Ok.ensures.ok room) in
+    onto (commit.Commits s.published.upto s.published.next_id s.published.segments s.written) (Commits s new) before after
+    (λ files now. commits s new files now (c.requires.sound c.if-self.false) on) made
 
-pub returns-clause-err : goal.returns-clause-err
-returns-clause-err g c =
-    let w = c.args.self in
-    let d = c.in_ok-draft.draft in
-    let old = told_files (g.S.Store.disk c.args.store.now) in
-    let new = told_files (g.S.Store.disk c.publish.new.store) in
-    let Old : ℕ → Type 0 = commit.IsOldId d.segments d.written in
-    on_err_weaker c.publish.result
-    (λ (made : Changes (commit.SameElsewhere d.number Old) old new).
-    onto (commit.SameElsewhere d.number Old) (SameBelow w.number w.last.next_id) old new (same_below w d c.in_ok-draft.ensures) made)
-    c.publish.ensures.err
+pub returns-in-Ok-clause-acknowledged : goal.returns-in-Ok-clause-acknowledged
+returns-in-Ok-clause-acknowledged g c room image holds =
+    let s = c.args.self.now.state in
+    let new = c.go_on.new.self in
+    let on = is_on _ _ c.in_ok-renewed.renewed s new c.as_slice-segments.ensures c.as_slice-written.ensures c.in_ok-renewed.ensures c.go_on.ensures in
+    let before = c.in-Ok.ensures.acknowledged room image holds in (
+      before.0,
+      before.1,
+      commits s new before.0 image (c.requires.sound c.if-self.false) on
+          (at_state (λ (gs : List Lived) (ws : List (Option Written)). commit.Commits s.published.upto s.published.next_id gs ws before.0 image) _ _ s
+          c.as_slice-segments.ensures c.as_slice-written.ensures before.2),
+    )
 
-pub returns-clause-acknowledged : goal.returns-clause-acknowledged
-returns-clause-acknowledged g c room =
-    let w = c.args.self in
-    let d = c.in_ok-draft.draft in
-    let most : d.next_id ≤ 2 ^ 62 = omega (arith, c.in_ok-draft.ensures.next_most, room) in
-    let old = MayHold (g.S.Store.disk c.args.store.now) in
-    let new = MayHold (g.S.Store.disk c.publish.new.store) in
-    both_ok c.publish.result (λ (x : IndexWriter × ℕ). IsAfter d x.0) (λ (x : IndexWriter × ℕ). Follows (Commits w x.0) old new)
-    (λ x after (made : Follows (commit.Commits d.number d.next_id d.segments d.written) old new) image holds.
-    let before = made image holds in (before.0, before.1, commits w x.0 d c.in_ok-draft.ensures after before.0 image before.2))
-    c.publish.ensures.after (c.publish.ensures.acknowledged most)
+pub returns-in-Ok-clause-settled : goal.returns-in-Ok-clause-settled
+returns-in-Ok-clause-settled g c room =
+    let s = c.args.self.now.state in
+    let ready = c.requires.sound c.if-self.false in
+    let before = g.S.Store.disk c.args.self.now.store in
+    let after = g.S.Store.disk c.write_commit.new.store in
+    settles s before after ready (less_of s ready (c.requires.pending c.if-self.false))
+    (at_state (λ (gs : List Lived) (ws : List (Option Written)). settling.Settles s.published.upto gs ws before after) _ _ s
+    c.as_slice-segments.ensures c.as_slice-written.ensures (c.in-Ok.ensures.settled room))
 
-pub returns-clause-crash : goal.returns-clause-crash
-returns-clause-crash g c rows stands room =
-    let d = c.in_ok-draft.draft in
-    let most : d.next_id ≤ 2 ^ 62 = omega (arith, c.in_ok-draft.ensures.next_most, room) in
-    leaves_less (g.S.Store.disk c.args.store.now) (g.S.Store.disk c.publish.new.store)
-    (Reaches (commit.MayCommit d.number d.next_id d.segments d.written) (MayHold (g.S.Store.disk c.args.store.now)))
-    (Reaches (MayCommit c.args.self rows) (MayHold (g.S.Store.disk c.args.store.now)))
-    (c.publish.ensures.crash most)
-    (λ image r. (r.0, r.1, may_commit c.args.self d rows c.in_ok-draft.ensures stands r.0 image r.2))
+pub returns-in-Err-clause-elsewhere : goal.returns-in-Err-clause-elsewhere
+returns-in-Err-clause-elsewhere g c =
+    let s = c.args.self.now.state in
+    let before = told_files (g.S.Store.disk c.args.self.now.store) in
+    let after = told_files (g.S.Store.disk c.write_commit.new.store) in
+    onto (commit.SameElsewhere s.published.upto (commit.IsOldId s.published.segments s.written)) (SameBelow s.published.upto s.since) before after
+    (same_below s (c.requires.sound c.if-self.false))
+    (at_state (λ (gs : List Lived) (ws : List (Option Written)). Changes (commit.SameElsewhere s.published.upto (commit.IsOldId gs ws)) before after) _ _ s
+    c.as_slice-segments.ensures c.as_slice-written.ensures c.in-Err.ensures.err)
 
-pub returns-clause-settled : goal.returns-clause-settled
-returns-clause-settled g c room =
-    let d = c.in_ok-draft.draft in
-    let most : d.next_id ≤ 2 ^ 62 = omega (arith, c.in_ok-draft.ensures.next_most, room) in
-    on_ok_weaker c.publish.result
-    (λ (s : settling.Settles d.number d.segments d.written (g.S.Store.disk c.args.store.now) (g.S.Store.disk c.publish.new.store)).
-    settles c.args.self d c.in_ok-draft.ensures (g.S.Store.disk c.args.store.now) (g.S.Store.disk c.publish.new.store) s)
-    (c.publish.ensures.settled most)
+pub returns-in-Err-clause-renamed : goal.returns-in-Err-clause-renamed
+returns-in-Err-clause-renamed g c files now told none told_now is =
+    tells_renamed c.in-Err.refused.fault c.in-Err.refused.renamed c.refuse.result c.args.self.now.state c.refuse.new.self
+    (IsSome (now (Commit c.args.self.now.state.published.upto)))
+    c.refuse.ensures.failed c.refuse.ensures.no_memory (c.in-Err.ensures.renamed files now told none told_now) (cc)

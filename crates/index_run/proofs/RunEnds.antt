@@ -1,0 +1,364 @@
+-- What is promised of a run's files and images, at its end and where it stops.
+use Rattle.std.proofs.Common.{◌≡◌, ◌⊎◌, inl, inr, ℕ, ◌+◌, ◌<◌, ◌≤◌, ◌^◌, List, [], ◌∷◌, ◌++◌, length}
+use Rattle.std.proofs.Common.{take, Some, None, refl, sym, ap, subst, ◌∙◌, arith}
+use Rattle.std.specs.Prelude.{Option, IsSome, IsSomeAnd}
+use Rattle.std.specs.List.{AllByRecursion}
+use Rattle.std.proofs.lemmas.List.{append-nil, length-append}
+use Rattle.ix_base.specs.declared.document.Row.{Row}
+use Rattle.ix_base.specs.declared.file_name.FileName.TheVariants.{Commit}
+use Rattle.ix_outside.specs.Calls.{LeavesOnly}
+use Rattle.ix_outside.specs.CallLaws.{leaves_less, leaves_now, reads_may_hold}
+use Rattle.ix_outside.specs.Crash.{MayHold}
+use Rattle.ix_outside.specs.Disk.{Disk, told_files}
+use Rattle.ix_outside.specs.Files.{Files, Changes, then}
+use Rattle.ix_outside.specs.Images.{Reaches}
+use Rattle.commit_point.specs.Holds.{AreKept, Holds, HoldsInverted, IsLawful, KeepsCommits}
+use Rattle.op_script.specs.declared.script.Line.{Line}
+use Rattle.index_writer.specs.declared.state.State.{State}
+use Rattle.index_writer.specs.Ready.{IsStored}
+use Rattle.index_writer.specs.Storing.{GoesOn, MayCommit, SameBelow}
+use Rattle.run_log.specs.Headline.{CanRun, Given, GivesBack, HasAll, HasFirst, HasNoCommit, HasSome, IsIn, IsKept, IsLast, IsNewCommit, IsOn, commit_numbers, rows_at}
+use Rattle.run_report.specs.Searching.{ReadsCommit}
+use Rattle.index_run.specs.Doing.{CanBegin, IsOnGiven, IsWriterOn}
+use Rattle.index_run.specs.Leaving.{AreMade, CommitLaws, HasFront, HasOnly, HasSomeFront, IsDiskAfter, IsNextCommit}
+use Rattle.index_run.specs.Leaving.{IsMade, IsOfCommits, Stands, first_numbers}
+use Rattle.index_run.proofs.LogNumbers.{AllBelow, Rises, in_last, in_most, numbers_front, numbers_whole, rises_last}
+use Rattle.index_run.proofs.LogNumbers.{rises_log, rows_front, split_last}
+use Rattle.index_run.proofs.KeptThere.{goes_on_there, inverted_there, kept_through, lists_back, none_of, only_image}
+use Rattle.index_run.proofs.KeptThere.{only_itself, there_by}
+use Rattle.index_run.proofs.MadeCommits.{kept_next}
+use Rattle.index_run.proofs.DiskAfter.{changed, comes_next, crash_commit, some_onto, the_files}
+use Rattle.index_run.proofs.SomeRows.{some_rows}
+
+-- ---- the first of a log's commits
+
+new_commit : (g : Given) (first : State) (log rest : List Line) (limit : ℕ) (old new : Files) (s : ℕ)
+    → IsOnGiven g first → limit ≤ first.published.next_id + length log → GoesOn old first
+    → IsMade first log limit old new s → IsNewCommit g (log ++ rest) new s
+new_commit g first log rest limit old new s on le goes made =
+    let here : rows_at first.published.upto g.rows log s ≡ rows_at g.base g.rows (log ++ rest) s =
+    sym (rows_front first.published.upto g.rows log rest s made.inside)
+    ∙ ap (λ (n : ℕ). rows_at n g.rows (log ++ rest) s) on.number in
+    record {
+      id = made.id;
+      from_next = omega (arith, made.from_next, on.next_id);
+      to_limit = omega (arith, made.to_limit, le, on.next_id, length-append log rest);
+      holds = subst (λ (rs : List Row). HoldsInverted new s made.id rs) here (made.rows g.rows on.rows);
+      above = made.above goes;
+    }
+
+each_new : (g : Given) (first : State) (log rest : List Line) (limit : ℕ) (old new : Files) (ns : List ℕ)
+    → IsOnGiven g first → limit ≤ first.published.next_id + length log → GoesOn old first
+    → AllByRecursion (IsMade first log limit old new) ns → AllByRecursion (IsNewCommit g (log ++ rest) new) ns
+each_new g first log rest limit old new [] on le goes each = tt
+each_new g first log rest limit old new (n ∷ ns) on le goes each = (
+  new_commit g first log rest limit old new n on le goes each.0,
+  each_new g first log rest limit old new ns on le goes each.1,
+)
+
+-- commits that were made over files with the given ones are the first of the log's
+has_first : (g : Given) (first : State) (log rest : List Line) (count limit : ℕ) (old new : Files) → IsOnGiven g first
+    → count ≤ length log → limit ≤ first.published.next_id + length log → HasOnly g.files old → GoesOn old first
+    → HasFront first log (first_numbers first log count) limit old new → HasFirst g (log ++ rest) count new
+has_first g first log rest count limit old new on few le has goes front =
+    let is : first_numbers first log count ≡ commit_numbers g.base (take count (log ++ rest)) =
+    sym (numbers_front first.published.upto count log rest few)
+    ∙ ap (λ (n : ℕ). commit_numbers n (take count (log ++ rest))) on.number in
+    let made : AreMade first log (commit_numbers g.base (take count (log ++ rest))) limit old new =
+    subst (λ (ns : List ℕ). AreMade first log ns limit old new) is (front.made goes.stored) in
+    record {
+      each = each_new g first log rest limit old new (commit_numbers g.base (take count (log ++ rest))) on le goes
+          made.each;
+      only = λ s there. elim (made.only s there) [ inl was ↦ inl (has.only s was) | inr among ↦ inr among ];
+      kept = kept_through g.files old new has.kept (front.kept goes);
+    }
+
+-- all of the log's
+has_all : (g : Given) (first w : State) (log : List Line) (old new : Files) → IsOnGiven g first
+    → w.since ≤ first.published.next_id + length log → HasOnly g.files old → GoesOn old first
+    → Stands first log (first_numbers first log (length log)) w old new → HasAll g log new
+has_all g first w log old new on high has goes stands =
+    subst (λ (ls : List Line). HasFirst g ls (length log) new) (append-nil log)
+    (has_first g first log [] (length log) w.since old new on (omega arith) high has goes stands.front)
+
+-- an image of the store at the beginning
+begins_image : (g : Given) (first : State) (start : Option Disk) → IsOnGiven g first → IsOfCommits g.files first
+    → IsKept g start → (d : Files) → MayHold start d → GoesOn d first
+begins_image g first start on stays are d image =
+    goes_on_there g.files d first on.goes_on stays (only_image g.files (MayHold start) are d image)
+
+-- ---- the end
+
+pub ends_files : (g : Given) (first w : State) (log : List Line) (start now : Option Disk) → IsOnGiven g first
+    → told_files start ≡ Some g.files → IsDiskAfter first log (length log) w start now
+    → IsSomeAnd (told_files now) (HasAll g log)
+ends_files g first w log start now on told disk =
+    let stands = Stands first log (first_numbers first log (length log)) w in
+    some_onto (told_files now) (stands g.files) (HasAll g log)
+    (λ f h. has_all g first w log g.files f on disk.high (only_itself g.files) on.goes_on h)
+    (changed stands (told_files start) (told_files now) g.files told disk.files)
+
+pub ends_images : (g : Given) (first w : State) (log : List Line) (start now : Option Disk) → IsOnGiven g first
+    → IsOfCommits g.files first → IsKept g start → IsDiskAfter first log (length log) w start now
+    → (c : Files) → MayHold now c → HasAll g log c
+ends_images g first w log start now on stays are disk c image =
+    let d = disk.images c image in
+    has_all g first w log d.0 c on disk.high (only_image g.files (MayHold start) are d.0 d.1)
+    (begins_image g first start on stays are d.0 d.1) d.2
+
+-- ---- the store is again such as a run asks for
+
+pub each_at : (P : ℕ → Type 0) (ns : List ℕ) (s : ℕ) → AllByRecursion P ns → IsIn ns s → P s
+each_at P [] s each among = absurd among
+each_at P (n ∷ ns) s each (inl e) = subst P (sym e) each.0
+each_at P (n ∷ ns) s each (inr among) = each_at P ns s each.1 among
+
+-- the files have the given commits, and no other
+again_none : (g : Given) (f : Files) → CanRun g → HasOnly g.files f → CanRun (record g { files = f })
+again_none g f can has = (
+  record {
+    there = λ some. let was = can.0.there some in there_still was (has.kept g.base was (Commit g.base) (inl refl));
+    none_above = λ s above. none_of (f (Commit s))
+        (λ there. let some = has.only s there in let gone = can.0.none_above s above in cc);
+  },
+  by can.1,
+)
+  where
+    there_still : IsSome (g.files (Commit g.base)) → f (Commit g.base) ≡ g.files (Commit g.base)
+        → IsSome (f (Commit g.base))
+    there_still was same = subst (λ (o : Option (List ℕ)). IsSome o) (sym same) was
+
+    by : HasNoCommit g ⊎ ((1 ≤ g.base) × IsLawful g.files g.base g.next g.rows)
+        → HasNoCommit g ⊎ ((1 ≤ g.base) × IsLawful f g.base g.next g.rows)
+    by (inl none) = inl none
+    by (inr on) = inr (
+      on.0,
+      record {
+        holds = inverted_there g.files f g.base g.next g.rows has.kept on.1.holds;
+        room = on.1.room;
+        above = λ t e below lists. on.1.above t e below (lists_back g.files f t e has lists);
+      },
+    )
+
+-- the last commit is one that was made
+again_some : (g : Given) (first : State) (log : List Line) (limit : ℕ) (front : List ℕ) (s : ℕ) (f : Files)
+    → CanBegin first → IsOnGiven g first → limit ≤ 2 ^ 61 → first_numbers first log (length log) ≡ front ++ s ∷ []
+    → AreMade first log (first_numbers first log (length log)) limit g.files f
+    → (next : ℕ) × (rows : List Row) × CanRun (record { lines = []; files = f; base = s; next = next; rows = rows })
+again_some g first log limit front s f begun on room is made =
+    (this.id, rows_at base g.rows log s, (is_last, inr (some, lawful)))
+  where
+    base : ℕ
+    base = first.published.upto
+
+    made_here : AreMade first log (front ++ s ∷ []) limit g.files f
+    made_here = subst (λ (ns : List ℕ). AreMade first log ns limit g.files f) is made
+
+    this : IsMade first log limit g.files f s
+    this = each_at (IsMade first log limit g.files f) (front ++ s ∷ []) s made_here.each (in_last front s)
+
+    rise : (base < s) × AllBelow s front
+    rise = rises_last base s front (subst (λ (ns : List ℕ). Rises base ns) is (rises_log base (take (length log) log)))
+
+    some : 1 ≤ s
+    some = omega (arith, rise.0)
+
+    there : IsSome (f (Commit s))
+    there = there_by f s _ this.spelled.head.file
+
+    not_above : (t : ℕ) → s < t → IsSome (f (Commit t)) → ⊥
+    not_above t above here = elim (made_here.only t here) [
+      | inl was ↦
+          let gone = on.goes_on.none_above t (omega (arith, above, rise.0, begun.last)) in
+          cc
+      | inr among ↦ absurd (omega (arith, above, in_most front s t rise.1 among))
+    ]
+
+    none_above : (t : ℕ) → s < t → f (Commit t) ≡ None
+    none_above t above = none_of (f (Commit t)) (λ here. not_above t above here)
+
+    is_last : IsLast f s
+    is_last = record { there = λ some. there; none_above = none_above }
+
+    lawful : IsLawful f s this.id (rows_at base g.rows log s)
+    lawful = record {
+      holds = this.rows g.rows on.rows;
+      room = omega (arith, this.to_limit, room);
+      above = this.above on.goes_on;
+    }
+
+pub ends_again : (g : Given) (first w : State) (log : List Line) (start now : Option Disk) → CanBegin first
+    → IsOnGiven g first → IsOfCommits g.files first → CanRun g → told_files start ≡ Some g.files → IsKept g start
+    → g.next + length log ≤ 2 ^ 61 → IsDiskAfter first log (length log) w start now → GivesBack now
+ends_again g first w log start now begun on stays can told are room disk =
+    by (split_last (first_numbers first log (length log)))
+  where
+    These : Files → Files → Type 0
+    These = Stands first log (first_numbers first log (length log)) w
+
+    found : (f : Files) × (told_files now ≡ Some f) × These g.files f
+    found = the_files (told_files now) (These g.files)
+        (changed These (told_files start) (told_files now) g.files told disk.files)
+
+    made : AreMade first log (first_numbers first log (length log)) w.since g.files found.0
+    made = found.2.front.made on.goes_on.stored
+
+    kept : AreKept found.0 (MayHold now)
+    kept = disk.settled g.files found.0 told found.1 on.goes_on (begins_image g first start on stays are) are
+
+    by : (first_numbers first log (length log) ≡ [])
+        ⊎ ((front : List ℕ) × (s : ℕ) × (first_numbers first log (length log) ≡ front ++ s ∷ [])) → GivesBack now
+    by (inl none) =
+        let here = subst (λ (ns : List ℕ). AreMade first log ns w.since g.files found.0) none made in
+        let has : HasOnly g.files found.0 = record {
+          kept = found.2.front.kept on.goes_on;
+          only = λ s there. elim (here.only s there) [ inl was ↦ was | inr among ↦ absurd among ];
+        } in
+        (record g { files = found.0 }, found.1, again_none g found.0 can has, kept)
+    by (inr some) =
+        let again = again_some g first log w.since some.0 some.1 found.0 begun on
+        (omega (arith, disk.high, room, on.next_id)) some.2 made in
+        (record { lines = []; files = found.0; base = some.1; next = again.0; rows = again.1 }, found.1, again.2, kept)
+
+-- ---- a stop at any time
+
+-- a crash leaves the first of the commits, of a longer log too
+crash_some : (g : Given) (first : State) (log rest : List Line) (start now : Option Disk) → IsOnGiven g first
+    → IsOfCommits g.files first → IsKept g start
+    → LeavesOnly start now (Reaches (HasSomeFront first log) (MayHold start))
+    → LeavesOnly start now (HasSome g (log ++ rest))
+crash_some g first log rest start now on stays are crash =
+    leaves_less start now (Reaches (HasSomeFront first log) (MayHold start)) (HasSome g (log ++ rest)) crash
+    (λ c left. (
+      left.2.0,
+      has_first g first log rest left.2.0 (first.published.next_id + length log) left.0 c on left.2.1 (omega arith)
+          (only_image g.files (MayHold start) are left.0 left.1) (begins_image g first start on stays are left.0 left.1)
+          left.2.2,
+    ))
+
+pub stops : (g : Given) (first w : State) (log rest : List Line) (count : ℕ) (start now : Option Disk)
+    → IsOnGiven g first → IsOfCommits g.files first → IsKept g start → IsDiskAfter first log count w start now
+    → LeavesOnly start now (HasSome g (log ++ rest))
+stops g first w log rest count start now on stays are disk =
+    crash_some g first log rest start now on stays are disk.crash
+
+pub stops_files : (g : Given) (first w : State) (log rest : List Line) (count : ℕ) (start now : Option Disk)
+    → IsOnGiven g first → count ≤ length log → told_files start ≡ Some g.files → IsDiskAfter first log count w start now
+    → IsSomeAnd (told_files now) (HasSome g (log ++ rest))
+stops_files g first w log rest count start now on le told disk =
+    let stands = Stands first log (first_numbers first log count) w in
+    some_onto (told_files now) (stands g.files) (HasSome g (log ++ rest))
+    (λ f h. (
+      count,
+      has_first g first log rest count w.since g.files f on le disk.high (only_itself g.files) on.goes_on h.front,
+    ))
+    (changed stands (told_files start) (told_files now) g.files told disk.files)
+
+pub keeps : (g : Given) (first w : State) (log : List Line) (count : ℕ) (start now : Option Disk) → IsOnGiven g first
+    → told_files start ≡ Some g.files → IsDiskAfter first log count w start now
+    → IsSomeAnd (told_files now) (KeepsCommits g.files)
+keeps g first w log count start now on told disk =
+    let stands = Stands first log (first_numbers first log count) w in
+    some_onto (told_files now) (stands g.files) (KeepsCommits g.files) (λ f h. h.front.kept on.goes_on)
+    (changed stands (told_files start) (told_files now) g.files told disk.files)
+
+-- where a crash leaves the first of some log's commits, it keeps those that were there
+pub keeps_some : (g : Given) (log : List Line) (start now : Option Disk) → LeavesOnly start now (HasSome g log)
+    → LeavesOnly start now (KeepsCommits g.files)
+keeps_some g log start now crash =
+    leaves_less start now (HasSome g log) (KeepsCommits g.files) crash (λ c some. some.1.kept)
+
+-- ---- a commit that failed half-way
+
+pub stops_commit : (g : Given) (first w : State) (log rest : List Line) (count : ℕ) (start mid now : Option Disk)
+    → CommitLaws → CanBegin first → IsOnGiven g first → IsOfCommits g.files first → IsWriterOn first log w
+    → IsKept g start
+    → count ≤ length log
+    → IsNextCommit first log count w.published.upto
+    → LeavesOnly mid now (Reaches (MayCommit w) (MayHold mid)) → IsDiskAfter first log count w start mid
+    → LeavesOnly start now (HasSome g (log ++ rest))
+stops_commit g first w log rest count start mid now laws begun on stays on_log are le numbers crash disk =
+    crash_some g first log rest start now on stays are
+    (crash_commit first w log count start mid now laws begun on_log le numbers crash disk)
+
+pub keeps_commit : (g : Given) (first w : State) (log : List Line) (count : ℕ) (start mid now : Option Disk)
+    → CommitLaws → CanBegin first
+    → IsOnGiven g first → IsWriterOn first log w → told_files start ≡ Some g.files
+    → IsNextCommit first log count w.published.upto
+    → Changes (SameBelow w.published.upto w.since) (told_files mid) (told_files now)
+    → IsDiskAfter first log count w start mid → IsSomeAnd (told_files now) (KeepsCommits g.files)
+keeps_commit g first w log count start mid now laws begun on on_log told numbers same disk =
+    let stands = Stands first log (first_numbers first log count) w in
+    let next = comes_next first w log count laws begun on_log disk.low numbers in
+    let keeps : Files → Files → Type 0 = λ x z. GoesOn x first → KeepsCommits x z in
+    let both =
+    then stands (SameBelow w.published.upto w.since) keeps (told_files start) (told_files mid) (told_files now)
+    (λ x y z h below. kept_next first log (first_numbers first log count) w x y z next below h.front.kept) disk.files
+    same in
+    some_onto (told_files now) (keeps g.files) (KeepsCommits g.files) (λ f h. h on.goes_on)
+    (changed keeps (told_files start) (told_files now) g.files told both)
+
+-- what reads give is one of the images
+pub files_commit : (g : Given) (first w : State) (log rest : List Line) (count : ℕ) (start mid now : Option Disk)
+    → CommitLaws → CanBegin first → IsOnGiven g first → IsOfCommits g.files first → IsWriterOn first log w
+    → IsKept g start
+    → told_files start ≡ Some g.files → count ≤ length log
+    → IsNextCommit first log count w.published.upto
+    → LeavesOnly mid now (Reaches (MayCommit w) (MayHold mid))
+    → Changes (SameBelow w.published.upto w.since) (told_files mid) (told_files now)
+    → IsDiskAfter first log count w start mid → IsSomeAnd (told_files now) (HasSome g (log ++ rest))
+files_commit g first w log rest count start mid now laws begun on stays on_log are told le numbers crash same disk =
+    let found = the_files (told_files now) (KeepsCommits g.files)
+    (keeps_commit g first w log count start mid now laws begun on on_log told numbers same disk) in
+    let left =
+    stops_commit g first w log rest count start mid now laws begun on stays on_log are le numbers crash disk in
+    subst (λ (o : Option Files). IsSomeAnd o (HasSome g (log ++ rest))) (sym found.1)
+    (leaves_now start now (HasSome g (log ++ rest)) left found.0 (reads_may_hold now found.0 found.1))
+
+-- ---- what can be read
+
+-- the number is that of the commit at the beginning, or of one of the log's
+abbrev IsOneOf : ℕ → List Line → ℕ → Type 0
+IsOneOf base log s = ((1 ≤ s) × (s ≡ base)) ⊎ IsIn (commit_numbers base log) s
+
+reads_there : (g : Given) (first w : State) (log : List Line) (now : Files) → IsOn g → first.published.upto ≡ g.base
+    → first.published.next_id ≡ g.next → IsStored g.files first
+    → Stands first log (first_numbers first log (length log)) w g.files now
+    → (s : ℕ) → IsOneOf g.base log s → ReadsCommit now s
+reads_there g first w log now is_on number next stored stands s (inl at_base) = by is_on
+  where
+    by : IsOn g → ReadsCommit now s
+    by (inl none) = absurd (omega (arith, at_base.0, at_base.1, none.0))
+    by (inr on) =
+        let was = on.1 in
+        let kept : Holds now g.base g.next g.rows = record {
+          entries = was.entries;
+          segments = was.segments;
+          spelled = (stands.front.made stored).older g.base g.next was.entries was.segments (omega (arith, number))
+              (omega (arith, next)) was.spelled;
+          rows_are = was.rows_are;
+        } in
+        (g.next, g.rows, subst (λ (n : ℕ). Holds now n g.next g.rows) (sym at_base.1) kept)
+reads_there g first w log now is_on number next stored stands s (inr among) =
+    let is : first_numbers first log (length log) ≡ commit_numbers g.base log =
+    numbers_whole first.published.upto log ∙ ap (λ (n : ℕ). commit_numbers n log) number in
+    let made = stands.front.made stored in
+    let here : IsIn (first_numbers first log (length log)) s = subst (λ (ns : List ℕ). IsIn ns s) (sym is) among in
+    let this = each_at (IsMade first log w.since g.files now) (first_numbers first log (length log)) s made.each here in
+    let found = some_rows now s this.id this.entries this.segments this.spelled in (
+      this.id,
+      found.0,
+      record { entries = this.entries; segments = this.segments; spelled = this.spelled; rows_are = found.1 },
+    )
+
+-- also where little is known of the store
+pub reads : (g : Given) (first w : State) (log : List Line) (start now : Option Disk) → told_files start ≡ Some g.files
+    → IsOn g → first.published.upto ≡ g.base → first.published.next_id ≡ g.next → IsStored g.files first
+    → IsDiskAfter first log (length log) w start now
+    → IsSomeAnd (told_files now)
+    (λ f. (s : ℕ) → ((1 ≤ s) × (s ≡ g.base)) ⊎ IsIn (commit_numbers g.base log) s → ReadsCommit f s)
+reads g first w log start now told is_on number next stored disk =
+    let stands = Stands first log (first_numbers first log (length log)) w in
+    some_onto (told_files now) (stands g.files) (λ f. (s : ℕ) → IsOneOf g.base log s → ReadsCommit f s)
+    (λ f h. reads_there g first w log f is_on number next stored h)
+    (changed stands (told_files start) (told_files now) g.files told disk.files)

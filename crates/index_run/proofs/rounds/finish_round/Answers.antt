@@ -1,0 +1,76 @@
+use Rattle.std.proofs.Common.{◌≡◌, ◌∙◌, ◌≤◌, ◌^◌, ◌++◌, false, sym, ap, subst, arith}
+use Rattle.index_writer.specs.declared.state.State.{State}
+use Rattle.flush_control.specs.Logs.{seconds}
+use Rattle.index_writer.specs.declared.round.RoundEnd.{RoundEnd}
+use Rattle.index_writer.specs.Rounds.{EndsBy}
+use Rattle.run_log.specs.Telling.{told_lists}
+use Rattle.index_run.specs.Driving.{EndsRound, IsCut, IsRound}
+use Rattle.index_run.specs.Leaving.{CommitLaws}
+use Rattle.index_run.proofs.Between.{order_in}
+use Rattle.index_run.proofs.Rounding.{cut_commit, cut_round, ended_with, ended_without, on_err}
+use Rattle.index_run.proofs.rounds.finish_round.Goals as goal
+
+pub returns-then-next_id-gt-MOST-clause-cut : goal.returns-then-next_id-gt-MOST-clause-cut
+returns-then-next_id-gt-MOST-clause-cut g c = λ r done log tells rest h.
+    subst (IsCut r (done ++ rest)) (sym (ap (λ s. g.S.Store.disk s) c.end_round.ensures.store))
+    (cut_round r done log rest tells c.args.writer.now.state c.args.parts (g.S.Store.disk c.args.writer.now.store) h)
+
+pub returns-in-Err-clause-cut : goal.returns-in-Err-clause-cut
+returns-in-Err-clause-cut g c = λ r done log tells rest h.
+    subst (IsCut r (done ++ rest)) (sym (ap (λ s. g.S.Store.disk s) c.end_round.ensures.store))
+    (cut_round r done log rest tells c.args.writer.now.state c.args.parts (g.S.Store.disk c.args.writer.now.store) h)
+
+pub returns-in-Ok-Turned-clause-ends : goal.returns-in-Ok-Turned-clause-ends
+returns-in-Ok-Turned-clause-ends g c = λ r done log tells h.
+    let w = c.args.writer.now.state in
+    let v = c.end_round.new.self.state in
+    let e = c.in-Ok-Turned.ensures.ended h.before.writer.is_open (told_lists r.workers tells) h.parts_are in
+    let ends = subst (λ (x : RoundEnd). EndsBy x (seconds e.ts) v) c.in-Ok-Turned.field-0-is e.by_end in
+    let o = order_in r done log tells w c.args.parts (g.S.Store.disk c.args.writer.now.store) h e.ts e.order in
+    subst (EndsRound r done log tells 0 v) (sym (ap (λ s. g.S.Store.disk s) c.end_round.ensures.store))
+    (ended_without r done log tells w v c.args.parts _ (g.S.Store.disk c.args.writer.now.store) h e
+    (c.end_round.ensures.sound (e.closed ∙ h.before.writer.is_open)) o.0 o.1 ends.0 ends.1)
+
+pub returns-in-Ok-Ran-clause-ends : goal.returns-in-Ok-Ran-clause-ends
+returns-in-Ok-Ran-clause-ends g c = λ r done log tells h.
+    let w = c.args.writer.now.state in
+    let v = c.end_round.new.self.state in
+    let e = c.in-Ok-Ran.ensures.ended h.before.writer.is_open (told_lists r.workers tells) h.parts_are in
+    let ends = subst (λ (x : RoundEnd). EndsBy x (seconds e.ts) v) c.in-Ok-Ran.field-0-is e.by_end in
+    let o = order_in r done log tells w c.args.parts (g.S.Store.disk c.args.writer.now.store) h e.ts e.order in
+    subst (EndsRound r done log tells 0 v) (sym (ap (λ s. g.S.Store.disk s) c.end_round.ensures.store))
+    (ended_without r done log tells w v c.args.parts _ (g.S.Store.disk c.args.writer.now.store) h e
+    (c.end_round.ensures.sound (e.closed ∙ h.before.writer.is_open)) o.0 o.1 ends.0 ends.1)
+
+pub returns-in_err-commit-in-Ok-Committed-clause-cut : goal.returns-in_err-commit-in-Ok-Committed-clause-cut
+returns-in_err-commit-in-Ok-Committed-clause-cut g c = λ r done log tells rest h.
+    let w = c.args.writer.now.state in
+    let v = c.end_round.new.self.state in
+    let mid = g.S.Store.disk c.end_round.new.self.store in
+    let e = c.in-Ok-Committed.ensures.ended h.before.writer.is_open (told_lists r.workers tells) h.parts_are in
+    let ends = subst (λ (x : RoundEnd). EndsBy x (seconds e.ts) v) c.in-Ok-Committed.field-0-is e.by_end in
+    let here : IsRound r done log tells w c.args.parts mid = subst (IsRound r done log tells w c.args.parts) (sym (ap (λ s. g.S.Store.disk s) c.end_round.ensures.store)) h in
+    let low : v.published.next_id ≤ 2 ^ 62 = (let small = c.if-next_id-gt-MOST.false in let id = c.next_id.ensures in omega (arith, small, id)) in
+    let laws : CommitLaws = record { go_on = c.commits_go_on.ensures; hold = c.commits_hold.ensures.made } in
+    let o = order_in r done log tells w c.args.parts mid here e.ts e.order in
+    on_err c.from_residual.result _
+    (cut_commit r done log tells w v c.args.parts _ mid here e (c.end_round.ensures.sound (e.closed ∙ h.before.writer.is_open)) o.0 o.1
+    rest (g.S.Store.disk c.commit.new.self.store) laws ends.2.0 ends.2.1 ends.2.2 c.in_err-commit-in-Ok-Committed.ensures.elsewhere (c.commit.ensures.crash low))
+
+pub returns-in_ok-commit-in-Ok-Committed-clause-ends : goal.returns-in_ok-commit-in-Ok-Committed-clause-ends
+returns-in_ok-commit-in-Ok-Committed-clause-ends g c = λ r done log tells h.
+    let w = c.args.writer.now.state in
+    let v = c.end_round.new.self.state in
+    let mid = g.S.Store.disk c.end_round.new.self.store in
+    let e = c.in-Ok-Committed.ensures.ended h.before.writer.is_open (told_lists r.workers tells) h.parts_are in
+    let ends = subst (λ (x : RoundEnd). EndsBy x (seconds e.ts) v) c.in-Ok-Committed.field-0-is e.by_end in
+    let here : IsRound r done log tells w c.args.parts mid = subst (IsRound r done log tells w c.args.parts) (sym (ap (λ s. g.S.Store.disk s) c.end_round.ensures.store)) h in
+    let low : v.published.next_id ≤ 2 ^ 62 = (let small = c.if-next_id-gt-MOST.false in let id = c.next_id.ensures in omega (arith, small, id)) in
+    let laws : CommitLaws = record { go_on = c.commits_go_on.ensures; hold = c.commits_hold.ensures.made } in
+    let done_well = c.in_ok-commit-in-Ok-Committed.ensures in
+    let x = c.commit.new.self.state in
+    let closed : x.closed ≡ false = ap (λ (s : State). s.closed) done_well.on ∙ (e.closed ∙ h.before.writer.is_open) in
+    let o = order_in r done log tells w c.args.parts mid here e.ts e.order in
+    ended_with r done log tells w v c.args.parts _ mid here e (c.end_round.ensures.sound (e.closed ∙ h.before.writer.is_open)) o.0 o.1
+    x c.in_ok-commit-in-Ok-Committed.field-0.docs (g.S.Store.disk c.commit.new.self.store) laws ends.2.0 ends.2.1 ends.2.2
+    done_well.on (done_well.sound closed) low done_well.docs done_well.stands done_well.made done_well.acknowledged done_well.settled c.commit.ensures.crash

@@ -1,0 +1,165 @@
+//! Whole runs with several writers, small buffers and many rounds.
+use crate::tests::{ADD_A1, ADD_A2, ALL, COMMIT, Done, run_words};
+use ix_base::NoMemory;
+use ix_memory::MemoryStore;
+use ix_outside::Store;
+use std::alloc::Global;
+use std::sync::Wait;
+use std::test::*;
+use std::thread::Threads;
+
+const DELETE_A1: &str = "{\"c\":0,\"op\":\"delete\",\"field\":\"key\",\"term\":\"a1\"}\n";
+
+/// A run of the script with these words over an empty store.
+fn run_with<R: Threads + Wait + Sync>(
+    rt: &R,
+    alloc: Global,
+    words: &[&str],
+    script: &[&str],
+) -> Result<Done<MemoryStore>, Fail> {
+    let none = Vec::new(alloc);
+    let store = MemoryStore::new(alloc);
+    let done = run_words(rt, alloc, words, script, store, none, Vec::new(alloc));
+    Ok(done.ok().ok_or("memory")?)
+}
+
+/// Two callers, each with its writer: each adds a document, deletes the other's, and commits.
+#[test]
+fn two_callers(rt: HostRuntime) -> Result<(), Fail> {
+    let script = [
+        ADD_A1,
+        "{\"c\":1,\"op\":\"add\",\"doc\":{\"key\":\"b1\"}}\n",
+        "{\"c\":0,\"op\":\"delete\",\"field\":\"key\",\"term\":\"b1\"}\n",
+        "{\"c\":1,\"op\":\"delete\",\"field\":\"key\",\"term\":\"a1\"}\n",
+        COMMIT,
+        "{\"c\":1,\"op\":\"commit\"}\n",
+        ALL,
+        "{\"c\":1,\"op\":\"search\",\"query\":\"all\"}\n",
+    ];
+    let words = ["run", "--threads", "2"];
+    let done = run_with(&rt, rt.alloc(), &words, &script)?;
+    assert_eq!(rt; done.status, 0);
+    assert_eq!(rt;
+        done.written.as_slice(),
+        b"{\"line\":1,\"seq\":1}\n{\"line\":2,\"seq\":2}\n{\"line\":3,\"seq\":3}\n{\"line\":4,\"seq\":4}\n{\"docs\":0,\"line\":5,\"seq\":5}\n{\"docs\":0,\"line\":6,\"seq\":6}\n{\"commit\":5,\"hits\":[],\"line\":7}\n{\"commit\":6,\"hits\":[],\"line\":8}\n".as_slice()
+    );
+    Ok(())
+}
+
+/// A caller without a commit of its own searches the one that the run began on.
+#[test]
+fn a_caller_without_a_commit(rt: HostRuntime) -> Result<(), Fail> {
+    let script = [
+        ADD_A1,
+        COMMIT,
+        "{\"c\":1,\"op\":\"search\",\"query\":\"all\"}\n",
+    ];
+    let words = ["run", "--threads", "2"];
+    let done = run_with(&rt, rt.alloc(), &words, &script)?;
+    assert_eq!(rt; done.status, 0);
+    assert_eq!(rt;
+        done.written.as_slice(),
+        b"{\"line\":1,\"seq\":1}\n{\"docs\":1,\"line\":2,\"seq\":2}\n{\"commit\":0,\"hits\":[],\"line\":3}\n".as_slice()
+    );
+    Ok(())
+}
+
+/// Buffers of one document: each added document is given off by itself, and a later delete meets it.
+#[test]
+fn buffers_of_one_document(rt: HostRuntime) -> Result<(), Fail> {
+    let script = [ADD_A1, ADD_A2, COMMIT, DELETE_A1, COMMIT, ALL];
+    let words = ["run", "--threads", "1", "--buffer", "1"];
+    let done = run_with(&rt, rt.alloc(), &words, &script)?;
+    assert_eq!(rt; done.status, 0);
+    assert_eq!(rt;
+        done.written.as_slice(),
+        b"{\"line\":1,\"seq\":1}\n{\"line\":2,\"seq\":2}\n{\"docs\":2,\"line\":3,\"seq\":3}\n{\"line\":4,\"seq\":4}\n{\"docs\":1,\"line\":5,\"seq\":5}\n{\"commit\":5,\"hits\":[{\"key\":\"a2\",\"num\":{}}],\"line\":6}\n".as_slice()
+    );
+    Ok(())
+}
+
+/// Updates, deletes and settings of three callers in one round give the same report whatever number
+/// of writers and documents in a buffer there are.
+#[test]
+fn the_same_whatever_the_options(rt: HostRuntime) -> Result<(), Fail> {
+    let script = [
+        "{\"c\":0,\"op\":\"add\",\"doc\":{\"key\":\"a1\",\"exact\":{\"tag\":\"x\"}}}\n",
+        "{\"c\":1,\"op\":\"set\",\"field\":\"tag\",\"term\":\"x\",\"num\":\"price\",\"value\":5}\n",
+        "{\"c\":2,\"op\":\"update\",\"field\":\"key\",\"term\":\"b1\",\"doc\":{\"key\":\"b1\",\"exact\":{\"tag\":\"x\"}}}\n",
+        "{\"c\":0,\"op\":\"set\",\"field\":\"key\",\"term\":\"a1\",\"num\":\"price\",\"value\":7}\n",
+        "{\"c\":1,\"op\":\"add\",\"doc\":{\"key\":\"c1\",\"exact\":{\"tag\":\"y\"}}}\n",
+        "{\"c\":2,\"op\":\"delete\",\"field\":\"tag\",\"term\":\"y\"}\n",
+        "{\"c\":1,\"op\":\"update\",\"field\":\"key\",\"term\":\"b1\",\"doc\":{\"key\":\"b2\",\"num\":{\"n\":1}}}\n",
+        COMMIT,
+        ALL,
+    ];
+    let report =
+        b"{\"line\":1,\"seq\":1}\n{\"line\":2,\"seq\":2}\n{\"line\":3,\"seq\":3}\n{\"line\":4,\"seq\":4}\n{\"line\":5,\"seq\":5}\n{\"line\":6,\"seq\":6}\n{\"line\":7,\"seq\":7}\n{\"docs\":2,\"line\":8,\"seq\":8}\n{\"commit\":8,\"hits\":[{\"key\":\"a1\",\"num\":{\"price\":7}},{\"key\":\"b2\",\"num\":{\"n\":1}}],\"line\":9}\n";
+    let commands: [&[&str]; 4] = [
+        &["run", "--threads", "1", "--buffer", "65536"],
+        &["run", "--buffer", "1", "--threads", "2"],
+        &["run", "--threads=3", "--buffer=2"],
+        &["run", "--threads", "16"],
+    ];
+    for words in commands {
+        let done = run_with(&rt, rt.alloc(), words, &script)?;
+        assert_eq!(rt; done.status, 0);
+        assert_eq!(rt; done.written.as_slice(), report.as_slice());
+    }
+    Ok(())
+}
+
+/// A script of 4,161 deletes and a commit, and its report.
+fn deletes_and_report(alloc: Global) -> Result<(String, String), NoMemory> {
+    let mut script = String::new(alloc);
+    let mut report = String::new(alloc);
+    for line in 1..4162 {
+        script.push_str("{\"c\":0,\"op\":\"delete\",\"field\":\"key\",\"term\":\"aaaaa\"}\n")?;
+        report.push_str(&format!(in alloc; "{{\"line\":{line},\"seq\":{line}}}\n")?)?;
+    }
+    script.push_str(COMMIT)?;
+    report.push_str("{\"docs\":0,\"line\":4162,\"seq\":4162}\n")?;
+    Ok((script, report))
+}
+
+/// More deletes than one writer's part of a queue holds: the numbers run on without a gap.
+#[test]
+fn more_than_one_round_holds(rt: HostRuntime) -> Result<(), Fail> {
+    let alloc = rt.alloc();
+    let (script, report) = deletes_and_report(alloc).ok().ok_or("memory")?;
+    let done = run_with(&rt, alloc, &["run"], &[script.as_str()])?;
+    assert_eq!(rt; done.status, 0);
+    assert!(rt;
+        done.written.as_slice() == report.as_bytes(),
+        "another report"
+    );
+    Ok(())
+}
+
+/// Words that are no command: the input and the store are left alone.
+#[test]
+fn words_that_are_refused(rt: HostRuntime) -> Result<(), Fail> {
+    let commands: [&[&str]; 9] = [
+        &[],
+        &["walk"],
+        &["run", "run"],
+        &["run", "--threads", "0"],
+        &["run", "--threads", "17"],
+        &["run", "--threads", "two"],
+        &["run", "--buffer", "0"],
+        &["run", "--buffer", "65537"],
+        &["run", "--threads", "2", "--threads", "2"],
+    ];
+    for words in commands {
+        let done = run_with(&rt, rt.alloc(), words, &[ADD_A1, COMMIT])?;
+        assert_eq!(rt; done.status, 2);
+        assert_eq!(rt;
+            done.written.as_slice(),
+            b"{\"status\":2,\"why\":\"words\"}\n".as_slice()
+        );
+        let mut store = done.store;
+        let names = store.list(rt.alloc()).ok().ok_or("a list that fails")?;
+        assert!(rt; names.is_empty(), "a file");
+    }
+    Ok(())
+}

@@ -1,0 +1,74 @@
+-- What the end of a round makes of what came back.
+use Rattle.std.specs.Prelude.{◌≡◌, ℕ, ◌+◌, ◌≤◌, List, [], ◌∷◌, ◌++◌}
+use Rattle.std.specs.Prelude.{length, slice_index_or, replicate, Option, Some, None, ◌==◌, if◌then◌else◌, false}
+use Rattle.std.specs.Global.{Vec}
+use Rattle.ix_base.specs.Steps.{numbered_from}
+use Rattle.delete_queue.specs.declared.log.QueueLog.{QueueLog}
+use Rattle.delete_queue.specs.Log.{entries_of}
+use Rattle.delete_slice.specs.Entries.{Has}
+use Rattle.delete_slice.specs.Taken.{TakesPart}
+use Rattle.frozen_packet.specs.declared.updates.Updates.{Updates}
+use Rattle.frozen_packet.specs.Updates.{as_operations}
+use Rattle.row_fates.specs.Fate.{Numbered}
+use Rattle.thread_writer.specs.declared.piece.Piece.{Piece}
+use Rattle.thread_writer.specs.declared.piece.HandedBack.{HandedBack}
+use Rattle.thread_writer.specs.declared.writer.ThreadWriter.{ThreadWriter}
+use Rattle.commit_point.specs.declared.written.Written.{Written}
+use Rattle.flush_control.specs.Logs.{EndBy, IsLast, Working, seconds, told_of}
+use Rattle.flush_control.specs.Rounds.{IsRound}
+use Rattle.index_writer.specs.declared.ending.Gathered.{Gathered}
+use Rattle.index_writer.specs.declared.ending.Rest.{Rest}
+use Rattle.index_writer.specs.declared.round.RoundEnd.{RoundEnd}
+use Rattle.index_writer.specs.declared.round.RoundEnd.TheVariants.{Committed, Turned, Ran}
+use Rattle.index_writer.specs.declared.state.State.{State}
+
+-- what writers leave besides their seats; the first of them has this seat number, and each other the next one
+abbrev pub rests_of : ℕ → List ThreadWriter → List (Vec Piece) → List Rest
+rests_of i [] ps = []
+rests_of i (w ∷ ws) [] = []
+rests_of i (w ∷ ws) (p ∷ ps) = record { worker = i; rows = w.rows; slice = w.slice; gave = p } ∷ rests_of (i + 1) ws ps
+
+-- a last piece can be made: the slice begins in the log, and the rows are few
+pub record CanEnd (log : QueueLog) (r : Rest) : Type 0 where
+  pub inside : r.slice.from.at ≤ length (entries_of log)
+  pub few : length r.rows ≤ 65536
+
+-- Updates took the entries of the log after this place, and nothing before.
+pub record TakesAfter (log : QueueLog) (place : ℕ) (updates : Updates) : Type 0 where
+  pub begun : Updates
+  pub nothing : as_operations begun ≡ []
+  pub took : TakesPart (Has log) log.base place (length (entries_of log)) begun updates
+
+-- the last piece of whoever left these rows and this slice
+abbrev pub IsLastOf : QueueLog → Rest → Piece → Type 0
+IsLastOf log r p = (h : HandedBack) → h.rest ≡ r.rows → h.slice ≡ r.slice → IsLast log h p
+
+-- the pieces that were given off with a last one, of one after another
+abbrev pub AreEnded : QueueLog → List Rest → List Piece → Type 0
+AreEnded log [] pieces = pieces ≡ []
+AreEnded log (r ∷ rs) pieces = (last : Piece) × (more : List Piece) × IsLastOf log r last
+    × (pieces ≡ r.gave.items ++ last ∷ more) × AreEnded log rs more
+
+-- What workers were told is one order of operations, and their pieces and the packet are a round of these.
+pub record IsGathered (base : ℕ) (told : List (List Numbered)) (g : Gathered) : Type 0 where
+  pub ts : List Working
+  pub order : (i : ℕ) → told_of i base ts ≡ slice_index_or told i []
+  pub round : IsRound base (numbered_from base (seconds ts)) g.pieces.items g.packet
+  pub upto : g.packet.upto ≡ base + length ts
+  pub ends : EndBy g.kind (seconds ts)
+
+-- what is on the store of segments, with more of which nothing is there
+abbrev pub with_none : List (Option Written) → ℕ → List (Option Written)
+with_none ws count = ws ++ replicate count None
+
+-- a round ends by a commit, which is still to be written
+abbrev pub committed : State → RoundEnd × State
+committed s = (Committed s.published.upto, record s { out = false; pending = Some s.published.upto })
+
+-- a round ends without one, by a turn or not
+abbrev pub uncommitted : ℕ → State → RoundEnd × State
+uncommitted kind s = ((if kind == 7 then Turned else Ran), record s { out = false; pending = None })
+
+-- how a round ends whose last entry has this kind, and the state then
+abbrev pub end_of : ℕ → State → RoundEnd × State
+end_of kind s = if kind == 6 then committed s else uncommitted kind s

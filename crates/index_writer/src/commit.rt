@@ -1,0 +1,204 @@
+//! The commit of what is in the segments.
+ghost use Rattle.std.specs.Prelude.{◌≡◌, ◌≤◌, ◌<◌, ◌^◌, ◌↔◌, ◌++◌, length, IsSome};
+ghost use Rattle.std.specs.Prelude.{IsTrue, Some, None, IfOk, OnOk, OnErr, Err, true, false};
+ghost use Rattle.ix_base.specs.declared.document.Row.{Row};
+ghost use Rattle.std.specs.Prelude.{List as ListOf};
+ghost use Rattle.ix_base.specs.declared.file_name.FileName.TheVariants.{Commit};
+ghost use Rattle.ix_outside.specs.Calls.{LeavesOnly};
+ghost use Rattle.ix_outside.specs.Causes.{Rose};
+ghost use Rattle.ix_outside.specs.Crash.{MayHold};
+ghost use Rattle.ix_outside.specs.Disk.{told_files};
+ghost use Rattle.ix_outside.specs.Files.{Files, Changes};
+ghost use Rattle.ix_outside.specs.Images.{Follows, Reaches};
+ghost use Rattle.commit_point.specs.Writing.{is_alive, listed, version};
+ghost use Rattle.index_writer.specs.Ready.{HasRows, IsSound};
+ghost use Rattle.index_writer.specs.Storing.{Commits, MayCommit, SameBelow, Settles, on_commit, own_written, renewed};
+
+use crate::fault::WriterFault;
+use crate::round::CommitInfo;
+use crate::state::State;
+use crate::writer::IndexWriter;
+use commit_point::{CommitRefused, Written, write_commit};
+use ix_base::{List, NoMemory};
+use ix_outside::{Store, StoreFault};
+use segment_core::LiveSegment;
+use std::alloc::Global;
+use std::mem;
+
+impl<S: Store> IndexWriter<S> {
+    /// Writes the commit with which the last round ended, and returns its number and how many rows it
+    /// has. It asks that there is one, unless the writer is closed. Only what is new or changed since
+    /// the last commit is written. Segments without a live row are let go then.
+    ///
+    /// `Closed` comes exactly where the writer is closed; nothing changes then. After `Store` it is
+    /// closed. After `NoMemory` all is as before, and the commit can be tried again; but where the
+    /// commit is on the store by then, the writer is closed.
+    pub fn commit(&mut self) -> Result<CommitInfo, WriterFault>
+        requires sound { IsSound self.old.state }
+        requires pending { self.old.state.closed ≡ false → IsSome self.old.state.pending }
+        ensures sound { IsSound self.new.state }
+        ensures on { OnOk result (self.new.state ≡ on_commit self.old.state) }
+        ensures number { IfOk result (λ info. self.old.state.pending ≡ Some info.number) }
+        ensures docs { (rows : ListOf Row) → HasRows self.old.state rows
+            → IfOk result (λ info. info.docs ≡ length rows) }
+        ensures stands { (rows : ListOf Row) → HasRows self.old.state rows → OnOk result (HasRows self.new.state rows) }
+        ensures made { self.old.state.published.next_id ≤ 2 ^ 62
+            → OnOk result (Changes (Commits self.old.state self.new.state)
+            (told_files (S.disk self.old.store)) (told_files (S.disk self.new.store))) }
+        ensures elsewhere { OnErr result (Changes (SameBelow self.old.state.published.upto self.old.state.since)
+            (told_files (S.disk self.old.store)) (told_files (S.disk self.new.store))) }
+        // Once it is acknowledged every image has the commit whole; a crash meanwhile leaves it whole or not at all.
+        ensures acknowledged { self.old.state.published.next_id ≤ 2 ^ 62
+            → OnOk result (Follows (Commits self.old.state self.new.state)
+            (MayHold (S.disk self.old.store)) (MayHold (S.disk self.new.store))) }
+        ensures crash { self.old.state.published.next_id ≤ 2 ^ 62
+            → LeavesOnly (S.disk self.old.store) (S.disk self.new.store)
+            (Reaches (MayCommit self.old.state) (MayHold (S.disk self.old.store))) }
+        // Commits that were kept before, and the new one, are kept in every image.
+        ensures settled { self.old.state.published.next_id ≤ 2 ^ 62
+            → OnOk result (Settles self.old.state (S.disk self.old.store) (S.disk self.new.store)) }
+        // After an error the state is as before, but that the writer may be closed.
+        ensures err { OnErr result (self.new.state ≡ record self.old.state { closed = self.new.state.closed }) }
+        ensures closed { (result ≡ Err WriterFault.Closed) ↔ IsTrue self.old.state.closed }
+        ensures kept { IsTrue self.old.state.closed → self.new ≡ self.old }
+        ensures closes { result ≡ Err WriterFault.Store → IsTrue self.new.state.closed }
+        ensures renamed { (files : Files) (now : Files) → told_files (S.disk self.old.store) ≡ Some files
+            → files (Commit self.old.state.published.upto) ≡ None → told_files (S.disk self.new.store) ≡ Some now
+            → result ≡ Err WriterFault.NoMemory
+            → (IsTrue self.new.state.closed ↔ IsSome (now (Commit self.old.state.published.upto))) }
+        ensures later { S.fault_count self.old.store ≤ S.fault_count self.new.store }
+        ensures failed { result ≡ Err WriterFault.Store
+            → Rose (S.fault_count self.old.store) (S.fault_count self.new.store) }
+    {
+        if self.state.closed {
+            return Err(WriterFault::Closed);
+        }
+        let alloc = self.alloc;
+        let number = self.state.published.upto;
+        let segments = self.state.published.segments.as_slice();
+        let written = self.state.written.as_slice();
+        let renewed = renewed(alloc, number, segments, written)?;
+        let next_id = self.state.published.next_id;
+        match write_commit(alloc, &mut self.store, number, next_id, segments, written) {
+            Ok(head) => {
+                self.state.go_on(alloc, renewed);
+                Ok(CommitInfo {
+                    number,
+                    docs: head.docs,
+                })
+            }
+            Err(refused) => Err(self.state.refuse(refused)),
+        }
+    }
+}
+
+impl State {
+    /// Goes on from the commit that was written, with what is on the store of its segments.
+    fn go_on(&mut self, alloc: Global, renewed: List<Option<Written>>)
+        ensures { self.new ≡ record self.old {
+          published = record self.old.published { segments = listed self.old.published.segments };
+          written = renewed;
+          last = self.old.published.upto;
+          since = self.old.published.next_id;
+          pending = None;
+        } }
+    {
+        let segments = mem::replace(&mut self.published.segments, List::new(alloc));
+        self.published.segments = with_rows(segments);
+        self.written = renewed;
+        self.last = self.published.upto;
+        self.since = self.published.next_id;
+        self.pending = None;
+    }
+
+    /// What is said of a commit that was refused. The writer is closed where the store failed, and
+    /// where memory ran out once the commit was there.
+    fn refuse(&mut self, refused: CommitRefused) -> WriterFault
+        requires { self.old.closed ≡ false }
+        ensures failed { refused.fault ≡ StoreFault.Failed
+            → (result ≡ WriterFault.Store) × (self.new ≡ record self.old { closed = true }) }
+        ensures no_memory { refused.fault ≡ StoreFault.NoMemory
+            → (result ≡ WriterFault.NoMemory) × (self.new ≡ record self.old { closed = refused.renamed }) }
+    {
+        match refused.fault {
+            StoreFault::Failed => {
+                self.closed = true;
+                WriterFault::Store
+            }
+            StoreFault::NoMemory => {
+                self.closed = refused.renamed;
+                WriterFault::NoMemory
+            }
+        }
+    }
+}
+
+/// The segments with a live row. It takes no memory.
+fn with_rows(segments: List<LiveSegment>) -> List<LiveSegment>
+    ensures { result ≡ listed segments }
+{
+    let mut segments = segments.into_vec();
+    segments.retain(|segment| has_row(segment));
+    List::from_vec(segments)
+}
+
+/// Whether a row of the segment is live.
+fn has_row(segment: &LiveSegment) -> bool
+    ensures { result ≡ is_alive segment.now }
+{
+    segment.live().live_count() > 0
+}
+
+/// What is on the store of each segment with a live row, once the commit of this number is there.
+fn renewed(
+    alloc: Global,
+    number: u64,
+    segments: &[LiveSegment],
+    written: &[Option<Written>],
+) -> Result<List<Option<Written>>, NoMemory>
+    requires { length segments.now ≡ length written.now }
+    ensures { IfOk result (λ made. made ≡ renewed number segments.now written.now) }
+{
+    let mut made = List::new(alloc);
+    for (at, segment) in segments.iter().enumerate() {
+        put_written(alloc, &mut made, number, &written[at], segment)?;
+    }
+    Ok(made)
+}
+
+/// Appends what is on the store of a segment, where it has a live row, once the commit of this number
+/// is there.
+fn put_written(
+    alloc: Global,
+    made: &mut List<Option<Written>>,
+    number: u64,
+    was: &Option<Written>,
+    segment: &LiveSegment,
+) -> Result<(), NoMemory>
+    ensures { OnOk result (made.new ≡ made.old ++ own_written number was.now segment.now) }
+{
+    if has_row(segment) {
+        made.push(Some(Written {
+            v: version(number, was, segment),
+            live: segment.live().clone_in(alloc)?,
+        }))?;
+    }
+    Ok(())
+}
+
+/// The commit with which the live docs of the segment are written: this one, unless they are as they
+/// were written before.
+fn version(number: u64, was: &Option<Written>, segment: &LiveSegment) -> u64
+    ensures { result ≡ version number was.now segment.now }
+{
+    match was {
+        Some(written) => {
+            if written.live.same_marks(segment.live()) {
+                written.v
+            } else {
+                number
+            }
+        }
+        None => number,
+    }
+}

@@ -1,6 +1,0 @@
-use Rattle.std.proofs.Common.{◌≡◌}
-use Rattle.round_writer.specs.Ending.{with_none}
-use Rattle.round_writer.proofs.end.pad.Given as goal
-
-abbrev pub invariant-loop-at : goal.invariant-loop-at
-invariant-loop-at l = l.written ≡ with_none l.fn.written l._at

@@ -1,6 +1,0 @@
-use Rattle.std.proofs.Common.{◌≡◌, ◌++◌, drop}
-use Rattle.round_writer.specs.Ready.{written_of}
-use Rattle.round_writer.proofs.writer.all_written.Given as goal
-
-abbrev pub invariant-loop-at : goal.invariant-loop-at
-invariant-loop-at l = l.made ++ written_of (drop l.at l.entries) (drop l.at l.segments) ≡ written_of l.entries l.segments

@@ -1,6 +1,0 @@
-pub mod Ready
-pub mod Rounds
-pub mod Ending
-pub mod Storing
-pub mod Laws
-pub mod Working
