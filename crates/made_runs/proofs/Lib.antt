@@ -1,0 +1,13 @@
+pub mod Chosen
+pub mod Later
+pub mod ByKeys
+pub mod Folded
+pub mod Tagged
+pub mod Apart
+pub mod Digits
+pub mod Own
+pub mod Short
+pub mod Numbers
+pub mod Ends
+pub mod MadeLines
+pub mod Summed

@@ -1,0 +1,6 @@
+pub mod Born
+pub mod Apart
+pub mod Own
+pub mod Ends
+pub mod Sums
+pub mod Summary
