@@ -126,4 +126,5 @@ def main():
         print(f"| {processors} | {opened:.2f} | {seconds - opened:.2f} |", flush=True)
 
 
-main()
+if __name__ == "__main__":
+    main()
