@@ -1,0 +1,15 @@
+//! What is answered from a store that is only read: questions about one commit, and the list of the
+//! commits.
+#![tactic(auto)]
+
+mod asking;
+mod finding;
+mod listing;
+mod question;
+
+pub use asking::ask;
+pub use listing::{ListFault, list};
+pub use question::Question;
+
+#[cfg(test)]
+mod tests;
