@@ -257,7 +257,6 @@ no_fault met (fault.BadLine bad) h cause a b = cc
 no_fault met fault.Source h cause a b = a cause
 no_fault met fault.Store h cause a b = b cause
 no_fault met (fault.Damaged damaged) h cause a b = cc
-no_fault met (fault.NoSuch number) h cause a b = cause
 no_fault met (fault.Base base) h cause a b = cc
 
 -- ---- the cause of a fault
@@ -288,7 +287,6 @@ caused_reading met (fault.BadLine line) h words bad source = bad line refl
 caused_reading met fault.Source h words bad source = source refl
 caused_reading met fault.Store h words bad source = absurd cc
 caused_reading met (fault.Damaged damaged) h words bad source = absurd cc
-caused_reading met (fault.NoSuch number) h words bad source = absurd cc
 caused_reading met (fault.Base base) h words bad source = absurd cc
 
 pub caused_doing : (met : Met) (f : Fault) → IsOneOf (status_of f) (4 ∷ 7 ∷ 8 ∷ 10 ∷ [])
@@ -300,5 +298,4 @@ caused_doing met (fault.BadLine bad) h store damaged base = absurd cc
 caused_doing met fault.Source h store damaged base = absurd cc
 caused_doing met fault.Store h store damaged base = store refl
 caused_doing met (fault.Damaged d) h store damaged base = damaged d refl
-caused_doing met (fault.NoSuch number) h store damaged base = absurd cc
 caused_doing met (fault.Base b) h store damaged base = base b refl

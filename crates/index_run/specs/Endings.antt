@@ -23,7 +23,7 @@ pub record Met : Type 0 where
   pub store_before : ℕ
   pub store_after : ℕ
 
--- the cause of each fault; a run asks for no commit, so it never misses one
+-- the cause of each fault
 abbrev pub Caused : Met → Fault → Type 0
 Caused met fault.Words = IsAccepted met.words → ⊥
 Caused met (fault.BadLine bad) = IsBadIn met.input bad
@@ -31,7 +31,6 @@ Caused met fault.Source = Rose met.source_before met.source_after
 Caused met fault.Store = Rose met.store_before met.store_after
 Caused met (fault.Damaged damaged) =
     FindsDamage met.input (told_files met.store) (told_files met.left) damaged
-Caused met (fault.NoSuch number) = ⊥
 Caused met (fault.Base base) = IsHighBase (told_files met.store) base
 
 -- The call ended by a fault: the status is its status, it has its cause, and of its text so much

@@ -3,7 +3,6 @@ mod Gathering
 mod Opening
 mod Taking
 mod Committing
-mod MergedState
 mod Following
 mod AtWork
 mod Opened

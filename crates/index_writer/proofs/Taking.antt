@@ -150,8 +150,6 @@ pub record Core (s : State) : Type 0 where
   pub last : s.last ≤ s.published.upto
   pub some : 1 ≤ s.buffer
   pub most : s.buffer ≤ 65536
-  pub several : 2 ≤ s.merge
-  pub within : s.merge ≤ 64
 
 ready_for : (s : State) (p : Option ℕ) → Core s → IfSome p (CanBePending s) → IsReady (record s { out = false; pending = p })
 ready_for s p core pending = record {
@@ -164,8 +162,6 @@ ready_for s p core pending = record {
   pending = as_pending p pending;
   some = core.some;
   most = core.most;
-  several = core.several;
-  within = core.within;
 }
   where
     as_pending : (o : Option ℕ) → IfSome o (CanBePending s) → IfSome o (CanBePending (record s { out = false; pending = p }))
@@ -230,7 +226,6 @@ ends law told old g mid up ws ready gathered taken applied is =
       last = refl;
       since = refl;
       buffer = refl;
-      merge = refl;
       closed = refl;
     })
 
@@ -277,6 +272,4 @@ ready_again law told old g mid up ws ready gathered taken applied is =
       last = omega (arith, upto, ready.last);
       some = ready.some;
       most = ready.most;
-      several = ready.several;
-      within = ready.within;
     }

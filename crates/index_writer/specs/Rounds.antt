@@ -92,5 +92,4 @@ pub record Ends (told : List (List Numbered)) (end : RoundEnd) (old new : State)
   pub last : new.last ≡ old.last
   pub since : new.since ≡ old.since
   pub buffer : new.buffer ≡ old.buffer
-  pub merge : new.merge ≡ old.merge
   pub closed : new.closed ≡ old.closed

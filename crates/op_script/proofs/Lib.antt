@@ -8,6 +8,3 @@ mod Scripts
 mod Examples
 mod Trees
 mod Checks
-mod QuestionLines
-mod QuestionShapes
-mod QuestionExamples

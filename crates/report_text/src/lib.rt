@@ -6,9 +6,7 @@ mod fault;
 mod texts;
 
 pub use fault::Fault;
-pub use texts::{
-    Summary, commit_text, listed_text, refused_text, search_text, summary_text, write_text,
-};
+pub use texts::{commit_text, refused_text, search_text, write_text};
 
 #[cfg(test)]
 mod tests;

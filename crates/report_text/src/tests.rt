@@ -47,8 +47,6 @@ fn faults(rt: HostRuntime) {
             8,
             "{\"at\":18446744073709551615,\"file\":\"seg_18446744073709551615_18446744073709551615.val\",\"status\":8}\n",
         ),
-        (Fault::NoSuch(99), 9, "{\"commit\":99,\"status\":9}\n"),
-        (Fault::NoSuch(0), 9, "{\"commit\":0,\"status\":9}\n"),
         (
             Fault::Base(2_305_843_009_213_693_953),
             10,
@@ -125,33 +123,6 @@ fn numbered_and_refused(rt: HostRuntime) -> Result<(), Fail> {
     assert_eq!(rt;
         query.as_slice(),
         b"{\"line\":7,\"refused\":\"query\",\"size\":65536}\n".as_slice()
-    );
-    Ok(())
-}
-
-#[test]
-fn commits_and_summaries(rt: HostRuntime) -> Result<(), Fail> {
-    let alloc = rt.alloc();
-    let listed = listed_text(alloc, 2, 1).ok().ok_or("memory")?;
-    assert_eq!(rt;
-        listed.as_slice(),
-        b"{\"commit\":2,\"docs\":1}\n".as_slice()
-    );
-    let most = listed_text(alloc, u64::MAX, 0).ok().ok_or("memory")?;
-    assert_eq!(rt;
-        most.as_slice(),
-        b"{\"commit\":18446744073709551615,\"docs\":0}\n".as_slice()
-    );
-    let summary = Summary {
-        commits: 1,
-        docs: 7,
-        lines: 11,
-        sum: 12_350,
-    };
-    let text = summary_text(alloc, summary).ok().ok_or("memory")?;
-    assert_eq!(rt;
-        text.as_slice(),
-        b"{\"commits\":1,\"docs\":7,\"lines\":11,\"sum\":12350}\n".as_slice()
     );
     Ok(())
 }

@@ -1,4 +1,0 @@
-pub mod Told
-pub mod Asked
-pub mod Answered
-pub mod Listed
