@@ -5,6 +5,9 @@ mod Births
 mod Segments
 mod Lives
 mod Rounds
+mod Parting
+mod Reading
+mod MergedSegments
 mod Examples
 mod LogLists
 mod LogOrders

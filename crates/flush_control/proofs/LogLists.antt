@@ -9,7 +9,7 @@ use Rattle.ix_base.specs.EntryLaws.{head_again, most_bytes}
 use Rattle.ix_base.specs.Words.{head_kind, Spells}
 use Rattle.delete_queue.specs.Log.{Logged, last_head_or, last_number}
 use Rattle.thread_writer.specs.Writing.{is_turn}
-use Rattle.flush_control.specs.Logs.{Working}
+use Rattle.round_order.specs.Order.{Working}
 
 -- the head of the words has the entry's kind
 pub spelled_kind : (words : List ℕ) (v : value.Entry) → Spells words v → head_kind (slice_index words 0) ≡ value.kind_of v

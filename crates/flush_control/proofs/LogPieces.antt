@@ -15,7 +15,7 @@ use Rattle.delete_queue.specs.Seats.{Knows, base_of, last_of}
 use Rattle.delete_queue.specs.Log.{Logged, HasAllOf, entries_of}
 use Rattle.delete_slice.specs.Entries.{Has, HasEntries, operations_behind}
 use Rattle.delete_slice.specs.Taken.{TakesPart}
-use Rattle.row_fates.specs.Fate.{Numbered, SameFates, BornBy, BirthsRise}
+use Rattle.row_fates.specs.Fate.{Numbered, SameFates, BornBy, BirthsRise, fate}
 use Rattle.frozen_packet.specs.declared.updates.Updates.{Updates}
 use Rattle.frozen_packet.specs.declared.packet.Packet.{Packet}
 use Rattle.frozen_packet.specs.Updates.{as_operations, Stands}
@@ -26,7 +26,8 @@ use Rattle.thread_writer.specs.Writing.{IsPiece, IsReady}
 use Rattle.thread_writer.specs.declared.piece.Piece.{Piece}
 use Rattle.thread_writer.specs.declared.piece.HandedBack.{HandedBack}
 use Rattle.flush_control.specs.Rounds.{StandsIn}
-use Rattle.flush_control.specs.Logs.{IsLast, IsPacketOf, Working, seconds}
+use Rattle.flush_control.specs.Logs.{IsLast, IsPacketOf, TakesAfter}
+use Rattle.round_order.specs.Order.{Working, seconds}
 use Rattle.flush_control.proofs.LogLists.{words_of, length-words, ClosesLast, numbered_entries, StandFor, stand_length, nearly_all}
 use Rattle.flush_control.proofs.LogEntries.{Reaches, logged_first, behind_stands, idle, none_between, all_within}
 
@@ -138,47 +139,68 @@ log_long base log list ts orders =
     let long : length (entries_of log) ≡ length list = ap (λ (l : List (List ℕ)). length l) orders.words ∙ length-words list in
     (omega (arith, count, low, long), omega (arith, count, high, long))
 
+-- no updates stand for no operations
+idle_stands : (base cut : ℕ) (ts : List Working) (new : Updates) → as_operations new ≡ [] → Stands new (within cut cut (numbered_from base (seconds ts)))
+idle_stands base cut ts new nothing = record {
+  same = λ row.
+      ap (λ (ops : List Numbered). fate ops row) (nothing ∙ sym (none_between cut cut base (seconds ts) (omega arith)));
+}
+
 -- The last piece of a writer stands in them likewise.
 pub last_stands : (q : DeleteQueue) (upto : ℕ) (log : QueueLog) (list : List Logged) (ts : List Working) (h : HandedBack) (p : Piece) → Orders (base_of q) log list ts
     → log.base ≡ base_of q → upto ≡ base_of q + length ts → p.cut ≡ upto → last_of h.seat ≤ upto → IsReady q h → IsLast log h p
     → StandsIn (base_of q) (numbered_from (base_of q) (seconds ts)) upto p
-last_stands q upto log list ts h p orders same top cut last ready is = by_order (cases_lt p.cut (base_of q + h.slice.from.at)) took
+last_stands q upto log list ts h p orders same top cut last ready is = by_updates is.updates
   where
-    took : TakesPart (Has log) (base_of q) h.slice.from.at (length (entries_of log)) is.begun p.updates
-    took = subst (λ (b : ℕ). TakesPart (Has log) b h.slice.from.at (length (entries_of log)) is.begun p.updates) same is.took
-
     births : BirthsRise (base_of q + h.slice.from.at) p.frozen.rows.items
     births = subst (BirthsRise (base_of q + h.slice.from.at)) (sym is.rows) ready.births
 
     born : BornBy p.cut p.frozen.rows.items
     born = subst (BornBy p.cut) (sym is.rows) (born_more (last_of h.seat) p.cut (born_rows h.rest) (omega (arith, cut, last)) ready.born)
 
-    by_order : (p.cut < base_of q + h.slice.from.at) ⊎ (base_of q + h.slice.from.at ≤ p.cut)
-        → TakesPart (Has log) (base_of q) h.slice.from.at (length (entries_of log)) is.begun p.updates
+    by_order : (begun : Updates) → as_operations begun ≡ [] → TakesPart (Has log) (base_of q) h.slice.from.at (length (entries_of log)) begun p.updates
+        → (p.cut < base_of q + h.slice.from.at) ⊎ (base_of q + h.slice.from.at ≤ p.cut)
         → StandsIn (base_of q) (numbered_from (base_of q) (seconds ts)) upto p
-    by_order (inl lt) took = let high = (log_long (base_of q) log list ts orders).1 in let ends = took.ends in record {
+    by_order begun nothing took (inl lt) = let high = (log_long (base_of q) log list ts orders).1 in let ends = took.ends in record {
       can = can_build p.frozen.rows.items p.frozen.postings is.inversion is.few;
       after = p.cut;
       up = omega arith;
       not_before = omega (arith, cut, top);
       stands =
           part_idle (base_of q) h.slice.from.at p.cut ts took.entries p.updates
-          (taken is.begun p.updates (operations_behind (base_of q) h.slice.from.at took.entries) is.nothing took.fates)
+          (taken begun p.updates (operations_behind (base_of q) h.slice.from.at took.entries) nothing took.fates)
           (nothing_taken (base_of q) h.slice.from.at took.entries (omega (arith, lt, cut, top, high, ends)));
       births = births_from p.cut (base_of q + h.slice.from.at) p.frozen.rows.items (omega (arith, lt)) births;
       born = born;
       within = omega (arith, cut);
     }
-    by_order (inr le) took = let low = (log_long (base_of q) log list ts orders).0 in record {
+    by_order begun nothing took (inr le) = let low = (log_long (base_of q) log list ts orders).0 in record {
       can = can_build p.frozen.rows.items p.frozen.postings is.inversion is.few;
       after = base_of q + h.slice.from.at;
       up = le;
       not_before = omega (arith, cut, top);
       stands =
           part_stands (base_of q) h.slice.from.at (length (entries_of log)) p.cut log list ts took.entries p.updates orders took.stand took.ends
-          (taken is.begun p.updates (operations_behind (base_of q) h.slice.from.at took.entries) is.nothing took.fates)
+          (taken begun p.updates (operations_behind (base_of q) h.slice.from.at took.entries) nothing took.fates)
           (omega (arith, cut, top, low)) (inl (omega (arith, cut, top)));
       births = births;
+      born = born;
+      within = omega (arith, cut);
+    }
+
+    by_updates : TakesAfter log h.slice.from.at p.updates ⊎ ((p.frozen.rows.items ≡ []) × (as_operations p.updates ≡ []))
+        → StandsIn (base_of q) (numbered_from (base_of q) (seconds ts)) upto p
+    by_updates (inl after) =
+        by_order after.begun after.nothing
+        (subst (λ (b : ℕ). TakesPart (Has log) b h.slice.from.at (length (entries_of log)) after.begun p.updates) same after.took)
+        (cases_lt p.cut (base_of q + h.slice.from.at))
+    by_updates (inr none) = record {
+      can = can_build p.frozen.rows.items p.frozen.postings is.inversion is.few;
+      after = p.cut;
+      up = omega arith;
+      not_before = omega (arith, cut, top);
+      stands = idle_stands (base_of q) p.cut ts p.updates none.1;
+      births = subst (BirthsRise p.cut) (sym none.0) tt;
       born = born;
       within = omega (arith, cut);
     }
@@ -188,10 +210,11 @@ last_stands q upto log list ts h p orders same top cut last ready is = by_order 
 pub packet_stands : (base : ℕ) (log : QueueLog) (list : List Logged) (ts : List Working) (packet : Packet) → Orders base log list ts
     → log.base ≡ base → IsPacketOf log packet → Stands packet.updates (numbered_from base (seconds ts))
 packet_stands base log list ts packet orders same is =
-    let took = subst (λ (b : ℕ). TakesPart (Has log) b 0 (length (entries_of log)) is.begun packet.updates) same is.took in
+    let begun = is.took.begun in
+    let took = subst (λ (b : ℕ). TakesPart (Has log) b 0 (length (entries_of log)) begun packet.updates) same is.took.took in
     let low = (log_long base log list ts orders).0 in
     let count : length (seconds ts) ≡ length ts = length-map ts (λ (t : Working). t.1) in
     let here : Stands packet.updates (within (base + 0) (base + length ts) (numbered_from base (seconds ts))) =
     part_stands base 0 (length (entries_of log)) (base + length ts) log list ts took.entries packet.updates orders took.stand took.ends
-    (taken is.begun packet.updates (operations_behind base 0 took.entries) is.nothing took.fates) (omega (arith, low)) (inl (omega arith)) in
+    (taken begun packet.updates (operations_behind base 0 took.entries) is.took.nothing took.fates) (omega (arith, low)) (inl (omega arith)) in
     subst (Stands packet.updates) (all_within (base + 0) (base + length ts) base (seconds ts) (omega arith) (omega (arith, count))) here

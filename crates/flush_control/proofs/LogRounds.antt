@@ -17,7 +17,8 @@ use Rattle.frozen_packet.specs.Updates.{NumberedUpTo}
 use Rattle.thread_writer.specs.Writing.{is_turn, numbered_own, Tells, IsReady, Did}
 use Rattle.thread_writer.specs.declared.piece.Piece.{Piece}
 use Rattle.flush_control.specs.Rounds.{StandsIn}
-use Rattle.flush_control.specs.Logs.{Left, IsLast, IsPacketOf, IsFinished, Working, EndBy, told_of, told_at, seconds, all_pieces, Ordered}
+use Rattle.flush_control.specs.Logs.{Left, IsLast, IsPacketOf, IsFinished, EndBy, told_at, all_pieces, Ordered}
+use Rattle.round_order.specs.Order.{Working, told_of, seconds}
 use Rattle.flush_control.specs.LogLaws.{LastHeads, RoundsAreOrdered}
 use Rattle.flush_control.proofs.LogLists.{closes_last, numbered_entries, stand_length, last_is, last_at}
 use Rattle.flush_control.proofs.LogOrders.{order_of, none_past, tells_at}

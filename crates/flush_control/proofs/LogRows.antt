@@ -13,7 +13,8 @@ use Rattle.delete_queue.specs.Log.{Logged}
 use Rattle.row_fates.specs.Fate.{Numbered, added, rows_added}
 use Rattle.thread_writer.specs.Writing.{piece_rows, Did}
 use Rattle.thread_writer.specs.declared.piece.Piece.{Piece}
-use Rattle.flush_control.specs.Logs.{Left, Working, IsLast, told_of, told_at, seconds, all_pieces}
+use Rattle.flush_control.specs.Logs.{Left, IsLast, told_at, all_pieces}
+use Rattle.round_order.specs.Order.{Working, told_of, seconds}
 use Rattle.flush_control.proofs.LogLists.{StandFor}
 
 module _ {X : Type 0} where

@@ -30,7 +30,7 @@ all_joined P (x ∷ xs) ys first second = (first.0, all_joined P xs ys first.1 s
 
 -- ---- what is made of pieces
 
-some_live : (s : Lived) → (live s ≡ [] → ⊥) → 1 ≤ length s.segment.rows
+pub some_live : (s : Lived) → (live s ≡ [] → ⊥) → 1 ≤ length s.segment.rows
 some_live s some = by s.segment.rows some
   where
     by : (rows : List Row) → (live_rows rows s.live.marks ≡ [] → ⊥) → 1 ≤ length rows

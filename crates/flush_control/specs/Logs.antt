@@ -1,12 +1,12 @@
 -- The workers of a finished queue, its log, and the one order of operations that they are.
-use Rattle.std.specs.Prelude.{◌≡◌, ◌≢◌, ◌⊎◌, ℕ, ◌+◌, ◌≤◌, ◌==◌, if◌then◌else◌, Bool, true, false, List, [], ◌∷◌, ◌++◌, map, length, slice_index_or}
+use Rattle.std.specs.Prelude.{◌≡◌, ◌≢◌, ◌⊎◌, ℕ, ◌+◌, ◌≤◌, List, [], ◌∷◌, ◌++◌, map, length, slice_index_or}
 use Rattle.std.specs.List.{flat_map, AllByRecursion}
 use Rattle.ix_base.specs.Inversion.{IsInversion}
 use Rattle.ix_base.specs.Steps.{numbered_from}
 use Rattle.ix_base.specs.Words.{head_kind}
 use Rattle.ix_base.specs.declared.document.Row.{Row}
 use Rattle.ix_base.specs.declared.document.Operation.{Operation}
-use Rattle.ix_base.specs.declared.document.Operation.TheVariants.{Add, Update, DeleteTerm, DeleteQuery, SetNumber, Commit}
+use Rattle.ix_base.specs.declared.document.Operation.TheVariants.{Commit}
 use Rattle.delete_queue.specs.declared.queue.DeleteQueue.{DeleteQueue}
 use Rattle.delete_queue.specs.declared.log.QueueLog.{QueueLog}
 use Rattle.delete_queue.specs.Seats.{base_of, seats_of, number_of}
@@ -14,6 +14,7 @@ use Rattle.delete_queue.specs.Log.{IsLogOf, entries_of, last_head_or, last_numbe
 use Rattle.delete_slice.specs.Entries.{Has}
 use Rattle.delete_slice.specs.Taken.{TakesPart}
 use Rattle.row_fates.specs.Fate.{Numbered}
+use Rattle.round_order.specs.Order.{NoCommit, Working, seconds, told_of}
 use Rattle.frozen_packet.specs.declared.packet.Packet.{Packet}
 use Rattle.frozen_packet.specs.declared.updates.Updates.{Updates}
 use Rattle.frozen_packet.specs.Updates.{as_operations}
@@ -33,24 +34,26 @@ pub record Left : Type 0 where
   pub gave : List Piece
   pub last : Piece
 
--- The last piece of a writer: it has the rows of the buffer, and its updates took the entries of the log after the
--- place where the slice begins. Its cut is the log's last number.
+-- Updates took the entries of the log after this place, and nothing before.
+pub record TakesAfter (log : QueueLog) (place : ℕ) (updates : Updates) : Type 0 where
+  pub begun : Updates
+  pub nothing : as_operations begun ≡ []
+  pub took : TakesPart (Has log) log.base place (length (entries_of log)) begun updates
+
+-- The last piece of a writer: it has the rows of the buffer, and its cut is the log's last number. Its updates took the
+-- entries after the place where the slice begins. Where it has no rows it needs no updates, and may have none.
 pub record IsLast (log : QueueLog) (h : HandedBack) (p : Piece) : Type 0 where
   pub rows : p.frozen.rows.items ≡ born_rows h.rest
   pub inversion : IsInversion (map (λ (row : Row). row.doc) p.frozen.rows.items) p.frozen.postings
   pub few : length p.frozen.rows.items ≤ 65536
-  pub begun : Updates
-  pub nothing : as_operations begun ≡ []
-  pub took : TakesPart (Has log) log.base h.slice.from.at (length (entries_of log)) begun p.updates
+  pub updates : TakesAfter log h.slice.from.at p.updates ⊎ ((p.frozen.rows.items ≡ []) × (as_operations p.updates ≡ []))
   pub cut : p.cut ≡ last_number log.base (entries_of log)
 
 -- The packet of the whole log: its updates took all entries.
 pub record IsPacketOf (log : QueueLog) (packet : Packet) : Type 0 where
   pub after : packet.after ≡ log.base
   pub upto : packet.upto ≡ last_number log.base (entries_of log)
-  pub begun : Updates
-  pub nothing : as_operations begun ≡ []
-  pub took : TakesPart (Has log) log.base 0 (length (entries_of log)) begun packet.updates
+  pub took : TakesAfter log 0 packet.updates
 
 -- The workers have the seats with the numbers from this one on, one after another.
 abbrev pub AreSeatedFrom : ℕ → List Left → Type 0
@@ -68,20 +71,6 @@ pub record IsFinished (q : DeleteQueue) (lefts : List Left) (log : QueueLog) : T
 
 -- ---- one order of operations
 
--- an operation with the number of the worker that it is of
-abbrev pub Working : Type 0
-Working = ℕ × Operation
-
--- The operations of worker i with their sequence numbers, among operations of all workers: the first of all has the
--- number after `last`, and each other the next one.
-abbrev pub told_of : ℕ → ℕ → List Working → List Numbered
-told_of i last [] = []
-told_of i last (t ∷ ts) = if t.0 == i then (last + 1, t.1) ∷ told_of i (last + 1) ts else told_of i (last + 1) ts
-
--- the operations without their workers
-abbrev pub seconds : List Working → List Operation
-seconds ts = map (λ (t : Working). t.1) ts
-
 -- what worker i was told; nothing past the last one
 abbrev pub told_at : List Left → ℕ → List Numbered
 told_at lefts i = slice_index_or (map (λ (l : Left). l.told) lefts) i []
@@ -89,19 +78,6 @@ told_at lefts i = slice_index_or (map (λ (l : Left). l.told) lefts) i []
 -- the pieces of all workers, one worker after another: those of each in their order, and then its last one
 abbrev pub all_pieces : List Left → List Piece
 all_pieces lefts = flat_map (λ (l : Left). l.gave ++ l.last ∷ []) lefts
-
--- whether an operation is a commit
-abbrev pub is_commit : Operation → Bool
-is_commit (Add doc) = false
-is_commit (Update term doc) = false
-is_commit (DeleteTerm term) = false
-is_commit (DeleteQuery query) = false
-is_commit (SetNumber term name value) = false
-is_commit Commit = true
-
--- no operation is a commit
-abbrev pub NoCommit : List Operation → Type 0
-NoCommit ops = AllByRecursion (λ (op : Operation). is_commit op ≡ false) ops
 
 -- Where the last entry is of a commit's kind, 6, a commit is the last operation, and there is no other. Otherwise there
 -- is none.

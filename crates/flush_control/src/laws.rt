@@ -1,4 +1,5 @@
-//! The laws of rounds. Each is the contract of a function that does nothing.
+//! The laws of rounds and of merges. Each is the contract of a function that does nothing.
+ghost use Rattle.flush_control.specs.Merging.{MergesStand};
 ghost use Rattle.flush_control.specs.Rounds.{RoundsMeet, RoundsStand};
 
 use packet_apply::two_stages;
@@ -17,4 +18,10 @@ pub fn rounds_stand()
 /// The packet of a round can be applied to the segments once its pieces are taken.
 pub fn rounds_meet()
     ensures { RoundsMeet }
+{}
+
+/// After a merge the segments can be listed again, and stand for the same rows. A merge takes an id at
+/// most.
+pub fn merges_stand()
+    ensures { MergesStand }
 {}

@@ -171,6 +171,8 @@ on_ready s ready some = record {
   pending = tt;
   some = ready.some;
   most = ready.most;
+  several = ready.several;
+  within = ready.within;
 }
 
 pub rows_on : (s : State) (rows : List Row) → HasRows s rows → HasRows (on_commit s) rows

@@ -170,7 +170,7 @@ are_stored files s (e ∷ es) (g ∷ gs) have =
 pub opened_go_on : OpenedGoOn
 opened_go_on files last = record {
   follows = can_follow files last;
-  goes_on = λ size is. record {
+  goes_on = λ size merge is. record {
     none_above = is.none_above;
     ids = is.ids;
     stored = are_stored files last.number last.entries last.segments is.spelled.each;

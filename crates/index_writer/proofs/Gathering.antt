@@ -20,7 +20,8 @@ use Rattle.thread_writer.specs.declared.piece.Piece.{Piece}
 use Rattle.thread_writer.specs.declared.writer.ThreadWriter.{ThreadWriter}
 use Rattle.thread_writer.specs.Writing.{Did, IsReady, parts_of}
 use Rattle.flush_control.specs.LogLaws.{RoundsAreOrdered}
-use Rattle.flush_control.specs.Logs.{AreSeatedFrom, EndBy, IsFinished, IsLast, IsPacketOf, Left, Ordered, all_pieces, seconds, told_of}
+use Rattle.flush_control.specs.Logs.{AreSeatedFrom, EndBy, IsFinished, IsLast, IsPacketOf, Left, Ordered, all_pieces}
+use Rattle.round_order.specs.Order.{seconds, told_of}
 use Rattle.flush_control.specs.Rounds.{IsRound}
 use Rattle.index_writer.specs.declared.ending.Gathered.{Gathered}
 use Rattle.index_writer.specs.declared.ending.Rest.{Rest}

@@ -3,6 +3,7 @@ mod Gathering
 mod Opening
 mod Taking
 mod Committing
+mod MergedState
 mod Following
 mod AtWork
 mod Opened

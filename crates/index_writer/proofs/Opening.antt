@@ -14,10 +14,10 @@ no_new since [] (g ∷ gs) = tt
 no_new since (e ∷ es) [] = tt
 no_new since (e ∷ es) (g ∷ gs) = no_new since es gs
 
-pub opened : (last : Opened) (size : ℕ) (ws : List (Option Written)) → CanFollow last → 1 ≤ size → size ≤ 65536
+pub opened : (last : Opened) (size merge : ℕ) (ws : List (Option Written)) → CanFollow last → 1 ≤ size → size ≤ 65536 → 2 ≤ merge → merge ≤ 64
     → ws ≡ written_of last.entries last.segments
-    → IsReady (record (opened_on last size) { written = ws })
-opened last size ws can some most is = record {
+    → IsReady (record (opened_on last size merge) { written = ws })
+opened last size merge ws can some most several within is = record {
   published = record { can = can.can.can; ids = can.can.ids; some_id = can.some_id; differ = can.can.differ };
   count = ap (λ (xs : List (Option Written)). length xs) is ∙ can.can.count;
   written = subst (AllByRecursion (WrittenUpTo last.number)) (sym is) can.can.written;
@@ -27,4 +27,6 @@ opened last size ws can some most is = record {
   pending = tt;
   some = some;
   most = most;
+  several = several;
+  within = within;
 }

@@ -18,7 +18,8 @@ use Rattle.commit_point.specs.declared.written.Written.{Written}
 use Rattle.commit_point.specs.Holds.{HasSegment}
 use Rattle.commit_point.specs.Writing.{AreWritten, IsWritten, WrittenUpTo, is_alive}
 use Rattle.thread_writer.specs.declared.piece.Piece.{Piece}
-use Rattle.flush_control.specs.Logs.{EndBy, Working, seconds}
+use Rattle.flush_control.specs.Logs.{EndBy}
+use Rattle.round_order.specs.Order.{Working, seconds}
 use Rattle.flush_control.specs.Published.{AppliesUp, AreApplied, AreBuilt, HasInversion, IsPublished, TakesPieces}
 use Rattle.flush_control.specs.Rounds.{EndsRound, RoundsStand, StandsIn}
 use Rattle.flush_control.specs.declared.published.Published.{Published}
@@ -150,6 +151,8 @@ pub record Core (s : State) : Type 0 where
   pub last : s.last ≤ s.published.upto
   pub some : 1 ≤ s.buffer
   pub most : s.buffer ≤ 65536
+  pub several : 2 ≤ s.merge
+  pub within : s.merge ≤ 64
 
 ready_for : (s : State) (p : Option ℕ) → Core s → IfSome p (CanBePending s) → IsReady (record s { out = false; pending = p })
 ready_for s p core pending = record {
@@ -162,6 +165,8 @@ ready_for s p core pending = record {
   pending = as_pending p pending;
   some = core.some;
   most = core.most;
+  several = core.several;
+  within = core.within;
 }
   where
     as_pending : (o : Option ℕ) → IfSome o (CanBePending s) → IfSome o (CanBePending (record s { out = false; pending = p }))
@@ -226,6 +231,7 @@ ends law told old g mid up ws ready gathered taken applied is =
       last = refl;
       since = refl;
       buffer = refl;
+      merge = refl;
       closed = refl;
     })
 
@@ -272,4 +278,6 @@ ready_again law told old g mid up ws ready gathered taken applied is =
       last = omega (arith, upto, ready.last);
       some = ready.some;
       most = ready.most;
+      several = ready.several;
+      within = ready.within;
     }

@@ -5,16 +5,13 @@ use Rattle.std.specs.Global.{Vec}
 use Rattle.ix_base.specs.Steps.{numbered_from}
 use Rattle.delete_queue.specs.declared.log.QueueLog.{QueueLog}
 use Rattle.delete_queue.specs.Log.{entries_of}
-use Rattle.delete_slice.specs.Entries.{Has}
-use Rattle.delete_slice.specs.Taken.{TakesPart}
-use Rattle.frozen_packet.specs.declared.updates.Updates.{Updates}
-use Rattle.frozen_packet.specs.Updates.{as_operations}
 use Rattle.row_fates.specs.Fate.{Numbered}
 use Rattle.thread_writer.specs.declared.piece.Piece.{Piece}
 use Rattle.thread_writer.specs.declared.piece.HandedBack.{HandedBack}
 use Rattle.thread_writer.specs.declared.writer.ThreadWriter.{ThreadWriter}
 use Rattle.commit_point.specs.declared.written.Written.{Written}
-use Rattle.flush_control.specs.Logs.{EndBy, IsLast, Working, seconds, told_of}
+use Rattle.flush_control.specs.Logs.{EndBy, IsLast}
+use Rattle.round_order.specs.Order.{Working, seconds, told_of}
 use Rattle.flush_control.specs.Rounds.{IsRound}
 use Rattle.index_writer.specs.declared.ending.Gathered.{Gathered}
 use Rattle.index_writer.specs.declared.ending.Rest.{Rest}
@@ -32,12 +29,6 @@ rests_of i (w ∷ ws) (p ∷ ps) = record { worker = i; rows = w.rows; slice = w
 pub record CanEnd (log : QueueLog) (r : Rest) : Type 0 where
   pub inside : r.slice.from.at ≤ length (entries_of log)
   pub few : length r.rows ≤ 65536
-
--- Updates took the entries of the log after this place, and nothing before.
-pub record TakesAfter (log : QueueLog) (place : ℕ) (updates : Updates) : Type 0 where
-  pub begun : Updates
-  pub nothing : as_operations begun ≡ []
-  pub took : TakesPart (Has log) log.base place (length (entries_of log)) begun updates
 
 -- the last piece of whoever left these rows and this slice
 abbrev pub IsLastOf : QueueLog → Rest → Piece → Type 0

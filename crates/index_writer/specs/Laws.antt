@@ -38,7 +38,7 @@ pub record IsLastOf (files : Files) (last : Opened) : Type 0 where
 -- A writer can begin on a commit that files spell, and where that is the last one, it can go on from the files.
 pub record CanBegin (files : Files) (last : Opened) : Type 0 where
   pub follows : HasSegments files last.number last.next_id last.entries last.segments → CanFollow last
-  pub goes_on : (size : ℕ) → IsLastOf files last → GoesOn files (opened_on last size)
+  pub goes_on : (size merge : ℕ) → IsLastOf files last → GoesOn files (opened_on last size merge)
 
 abbrev pub OpenedGoOn : Type 0
 OpenedGoOn = (files : Files) (last : Opened) → CanBegin files last

@@ -51,15 +51,18 @@ pub record IsReady (s : State) : Type 0 where
   pub pending : IfSome s.pending (CanBePending s)
   pub some : 1 ≤ s.buffer
   pub most : s.buffer ≤ 65536
+  pub several : 2 ≤ s.merge
+  pub within : s.merge ≤ 64
 
 -- the state of a writer on a commit, with nothing since
-abbrev pub opened_on : Opened → ℕ → State
-opened_on last size = record {
+abbrev pub opened_on : Opened → ℕ → ℕ → State
+opened_on last size merge = record {
   published = record { segments = last.segments; next_id = last.next_id; upto = last.number };
   written = written_of last.entries last.segments;
   last = last.number;
   since = last.next_id;
   buffer = size;
+  merge = merge;
   out = false;
   pending = None;
   closed = false;

@@ -12,7 +12,7 @@ use Rattle.row_fates.specs.Fate.{Numbered, rows_added}
 use Rattle.thread_writer.specs.declared.piece.Piece.{Piece}
 use Rattle.thread_writer.specs.declared.writer.ThreadWriter.{ThreadWriter}
 use Rattle.thread_writer.specs.Writing.{Did, IsWriter, parts_of}
-use Rattle.flush_control.specs.Logs.{NoCommit, Working, seconds, told_of}
+use Rattle.round_order.specs.Order.{NoCommit, Working, seconds, told_of}
 use Rattle.index_writer.specs.declared.round.Round.{Round}
 use Rattle.index_writer.specs.declared.round.RoundParts.{RoundParts}
 use Rattle.index_writer.specs.declared.round.RoundEnd.{RoundEnd}
@@ -92,4 +92,5 @@ pub record Ends (told : List (List Numbered)) (end : RoundEnd) (old new : State)
   pub last : new.last ≡ old.last
   pub since : new.since ≡ old.since
   pub buffer : new.buffer ≡ old.buffer
+  pub merge : new.merge ≡ old.merge
   pub closed : new.closed ≡ old.closed

@@ -7,9 +7,9 @@ ghost use Rattle.delete_queue.specs.Log.{entries_of, last_head_or, last_number};
 ghost use Rattle.delete_slice.specs.Laws.{IsInGrammar};
 ghost use Rattle.row_fates.specs.Fate.{Numbered};
 ghost use Rattle.thread_writer.specs.Writing.{parts_of};
-ghost use Rattle.flush_control.specs.Logs.{IsPacketOf};
+ghost use Rattle.flush_control.specs.Logs.{IsPacketOf, TakesAfter};
 ghost use Rattle.index_writer.specs.Rounds.{ArePartsOf};
-ghost use Rattle.index_writer.specs.Ending.{AreEnded, CanEnd, IsGathered, IsLastOf, TakesAfter, rests_of};
+ghost use Rattle.index_writer.specs.Ending.{AreEnded, CanEnd, IsGathered, IsLastOf, rests_of};
 ghost use Rattle.index_writer.specs.Working.{IsStuck};
 
 use crate::round::RoundParts;
@@ -137,15 +137,20 @@ fn updates_after(alloc: Global, log: &QueueLog, from: Place) -> Result<Updates, 
     Ok(updates)
 }
 
-/// The last piece of a writer, which is made of its rest.
+/// The last piece of a writer, which is made of its rest. Where it has no rows it has no updates: these
+/// would reach nothing.
 fn last_piece(alloc: Global, log: &QueueLog, cut: u64, rest: &Rest) -> Result<Piece, NoMemory>
     requires grammar { IsInGrammar log.now }
     requires can { CanEnd log.now rest.now }
     requires cut { cut ≡ last_number log.now.base (entries_of log.now) }
     ensures { IfOk result (IsLastOf log.now rest.now) }
 {
-    let updates = updates_after(alloc, log, rest.slice.from)?;
     let frozen = rest.rows.freeze(alloc)?;
+    let updates = if frozen.rows.is_empty() {
+        Updates::new(alloc)
+    } else {
+        updates_after(alloc, log, rest.slice.from)?
+    };
     Ok(Piece {
         worker: rest.worker,
         frozen,

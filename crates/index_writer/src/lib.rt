@@ -1,6 +1,6 @@
 //! The writer of an index over rounds: in each round several thread writers share one queue. The end
-//! of a round puts what they did into the segments, in memory; a commit puts the segments on the
-//! store.
+//! of a round puts what they did into the segments, in memory; a merge makes one of several of them;
+//! a commit puts the segments on the store.
 #![tactic(auto)]
 
 mod begin;
@@ -9,14 +9,20 @@ mod end;
 mod ending;
 mod fault;
 mod laws;
+mod merging;
 mod round;
 mod state;
 #[cfg(test)]
 mod tests;
+#[cfg(test)]
+mod tests_deletes;
+#[cfg(test)]
+mod tests_merging;
 mod working;
 mod writer;
 
 pub use fault::{EndRefused, OpenRefused, WriterFault};
+pub use flush_control::MergeTurn;
 pub use laws::{commits_go_on, commits_hold, opened_go_on};
 pub use round::{CommitInfo, Round, RoundEnd, RoundParts};
 pub use state::State;

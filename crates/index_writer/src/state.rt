@@ -19,6 +19,8 @@ pub struct State {
     pub since: u64,
     /// How many documents the buffer of a thread writer holds, 1 to 65,536.
     pub buffer: u32,
+    /// How many segments are merged into one, 2 to 64.
+    pub merge: u32,
     /// Whether a round was begun and hasn't ended.
     pub out: bool,
     /// The number of a commit that is still to be written: the last operation that is in the segments.

@@ -16,16 +16,16 @@ use thread_writer::Piece;
 
 /// What a line of a script does.
 #[derive(Clone, Copy)]
-enum Act {
+pub(crate) enum Act {
     Add,
     Delete,
     Commit,
 }
 
 /// A line of a script: the seat number of its writer, what it does, and a key.
-type Line<'a> = (usize, Act, &'a str);
+pub(crate) type Line<'a> = (usize, Act, &'a str);
 
-type Script<'a> = &'a [Line<'a>];
+pub(crate) type Script<'a> = &'a [Line<'a>];
 
 fn text_of(alloc: Global, text: &str) -> Result<Text, Fail> {
     Ok(Text::new(String::from_str(alloc, text)?).ok_or("long")?)
@@ -95,7 +95,7 @@ fn begun(
 }
 
 /// A round of two writers that do the lines of a script.
-fn round<R: Threads + Sync>(
+pub(crate) fn round<R: Threads + Sync>(
     rt: &R,
     alloc: Global,
     writer: &mut IndexWriter<MemoryStore>,
@@ -135,7 +135,7 @@ fn ended<R: Threads + Sync>(
 
 /// The live rows of the commit of this number, of each segment its id and then its rows with their
 /// births.
-fn shown(alloc: Global, store: &mut MemoryStore, number: u64) -> Result<String, Fail> {
+pub(crate) fn shown(alloc: Global, store: &mut MemoryStore, number: u64) -> Result<String, Fail> {
     let mut out = String::new(alloc);
     let opened = open_commit(alloc, store, number)?;
     write!(out, "{}:", opened.next_id)?;
@@ -159,7 +159,7 @@ fn show_row(out: &mut String, segment: &LiveSegment, at: u32) -> Result<(), Fail
 }
 
 /// Commits, and returns the number of the commit and how many rows it has.
-fn committed(writer: &mut IndexWriter<MemoryStore>) -> Result<(u64, u64), Fail>
+pub(crate) fn committed(writer: &mut IndexWriter<MemoryStore>) -> Result<(u64, u64), Fail>
     requires { IsSound writer.old.state }
     ensures { OnOk result (IsSound writer.new.state) }
 {
@@ -176,7 +176,7 @@ fn committed(writer: &mut IndexWriter<MemoryStore>) -> Result<(u64, u64), Fail>
 fn three_rounds(rt: HostRuntime) -> Result<(), Fail> {
     use Act::*;
     let alloc = rt.alloc();
-    let mut writer = IndexWriter::none(alloc, MemoryStore::new(alloc), 2);
+    let mut writer = IndexWriter::none(alloc, MemoryStore::new(alloc), 2, 8);
     let script = [
         (0, Add, "a"),
         (1, Add, "b"),
@@ -252,7 +252,7 @@ fn first_round(alloc: Global, writers: u32, buffer: u32) -> Result<RoundParts, F
     requires buffer { (1 ≤ buffer) × (buffer ≤ 65536) }
     ensures { IfOk result (λ parts. (base : ℕ) × IsUnderWay base parts) }
 {
-    let mut writer = IndexWriter::none(alloc, MemoryStore::new(alloc), buffer);
+    let mut writer = IndexWriter::none(alloc, MemoryStore::new(alloc), buffer, 8);
     begun(alloc, &mut writer, writers)
 }
 
@@ -303,7 +303,7 @@ fn fill(alloc: Global, parts: &mut RoundParts, count: u64) -> Result<bool, Fail>
 fn turned(rt: HostRuntime) -> Result<(), Fail> {
     use Act::*;
     let alloc = rt.alloc();
-    let mut writer = IndexWriter::none(alloc, MemoryStore::new(alloc), 2);
+    let mut writer = IndexWriter::none(alloc, MemoryStore::new(alloc), 2, 8);
     let mut parts = begun(alloc, &mut writer, 2)?;
     assert!(rt; fill(alloc, &mut parts, 4159)?);
     let told_first = told(alloc, &mut parts, (0, Delete, "abcdef"))?;
@@ -325,7 +325,7 @@ fn closed_after_a_fault(rt: HostRuntime) -> Result<(), Fail> {
     let mut calls = Vec::new(alloc);
     calls.push(1)?;
     let store = MemoryStore::new(alloc).failing(calls);
-    let mut writer = IndexWriter::none(alloc, store, 2);
+    let mut writer = IndexWriter::none(alloc, store, 2, 8);
     let script = [(0, Add, "a"), (1, Commit, "")];
     let end = round(&rt, alloc, &mut writer, &script)?;
     assert_eq!(rt; end, RoundEnd::Committed(2));
@@ -369,7 +369,7 @@ fn begin_fault(writer: &mut IndexWriter<MemoryStore>) -> Result<WriterFault, Fai
 fn reopened(rt: HostRuntime) -> Result<(), Fail> {
     use Act::*;
     let alloc = rt.alloc();
-    let mut writer = IndexWriter::none(alloc, MemoryStore::new(alloc), 65536);
+    let mut writer = IndexWriter::none(alloc, MemoryStore::new(alloc), 65536, 8);
     let script = [(0, Add, "a"), (1, Add, "b"), (1, Commit, "")];
     let end = round(&rt, alloc, &mut writer, &script)?;
     assert_eq!(rt; end, RoundEnd::Committed(3));
@@ -396,7 +396,7 @@ fn opened_on(
     opened_go_on();
     let mut store = store;
     let opened = open_commit(alloc, &mut store, number)?;
-    match IndexWriter::open(alloc, store, opened, 1) {
+    match IndexWriter::open(alloc, store, opened, 1, 8) {
         Ok(writer) => Ok(writer),
         Err(_) => Err("out of memory")?,
     }

@@ -20,13 +20,15 @@ pub struct IndexWriter<S> {
 
 impl<S> IndexWriter<S> {
     /// The writer of an index without a commit: no segment, the number 0, and 1 as the next id. The
-    /// buffers of its thread writers hold 1 to 65,536 documents. It takes no memory.
-    pub fn none(alloc: Global, store: S, buffer: u32) -> IndexWriter<S>
+    /// buffers of its thread writers hold 1 to 65,536 documents, and 2 to 64 segments are merged into
+    /// one. It takes no memory.
+    pub fn none(alloc: Global, store: S, buffer: u32, merge: u32) -> IndexWriter<S>
         requires buffer { (1 ≤ buffer) × (buffer ≤ 65536) }
+        requires merge { (2 ≤ merge) × (merge ≤ 64) }
         ensures store { result.store ≡ store }
         ensures ready { IsReady result.state }
         ensures state { result.state
-            ≡ opened_on (record { number = 0; next_id = 1; entries = []; segments = [] }) buffer }
+            ≡ opened_on (record { number = 0; next_id = 1; entries = []; segments = [] }) buffer merge }
     {
         IndexWriter {
             store,
@@ -40,6 +42,7 @@ impl<S> IndexWriter<S> {
                 last: 0,
                 since: 1,
                 buffer,
+                merge,
                 out: false,
                 pending: None,
                 closed: false,
@@ -49,18 +52,21 @@ impl<S> IndexWriter<S> {
     }
 
     /// The writer on a commit that was read back. The buffers of its thread writers hold 1 to 65,536
-    /// documents. The only error is out of memory, and the store is given back then.
+    /// documents, and 2 to 64 segments are merged into one. The only error is out of memory, and the
+    /// store is given back then.
     pub fn open(
         alloc: Global,
         store: S,
         last: Opened,
         buffer: u32,
+        merge: u32,
     ) -> Result<IndexWriter<S>, OpenRefused<S>>
         requires last { CanFollow last }
         requires buffer { (1 ≤ buffer) × (buffer ≤ 65536) }
+        requires merge { (2 ≤ merge) × (merge ≤ 64) }
         ensures store { IfOk result (λ writer. writer.store ≡ store) }
         ensures ready { IfOk result (λ writer. IsReady writer.state) }
-        ensures state { IfOk result (λ writer. writer.state ≡ opened_on last buffer) }
+        ensures state { IfOk result (λ writer. writer.state ≡ opened_on last buffer merge) }
         ensures err { IfErr result (λ refused. refused.store ≡ store) }
     {
         let entries = last.entries.as_slice();
@@ -79,6 +85,7 @@ impl<S> IndexWriter<S> {
                 last: last.number,
                 since: last.next_id,
                 buffer,
+                merge,
                 out: false,
                 pending: None,
                 closed: false,

@@ -8,7 +8,7 @@ use Rattle.op_script.specs.declared.script.Act.{Act}
 use Rattle.op_script.specs.declared.script.Act.TheVariants.{Do}
 use Rattle.run_log.specs.Lists.{each_pair, each_mapped, each_behind, each_in_second}
 use Rattle.run_log.specs.Headline.{commit_numbers, is_commit as commits, number_of, operations}
-use Rattle.flush_control.specs.Logs.{Working, seconds, is_commit, NoCommit}
+use Rattle.round_order.specs.Order.{Working, seconds, is_commit, NoCommit}
 use Rattle.run_log.specs.Telling.{Tell, IsTell, PlacesDiffer, IsOrder}
 use Rattle.run_log.specs.TellingLaws.{HasNumber, within_all, told_all}
 

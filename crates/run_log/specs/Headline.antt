@@ -1,13 +1,12 @@
 -- What a run promises: what it is given, how its lines are numbered, what its report is, and what it leaves.
 use Rattle.std.specs.Prelude.{◌≡◌, ◌≢◌, ◌⊎◌, ◌<◌, ◌≤◌, ◌+◌, ◌-◌, ◌*◌, ◌^◌, ℕ, Bool, true, false, ◌==◌, ◌&&◌, if◌then◌else◌}
-use Rattle.std.specs.Prelude.{List, [], ◌∷◌, ◌++◌, length, take, Option, Some, None, is_none, IsSome, IsSomeAnd, Ok}
+use Rattle.std.specs.Prelude.{List, [], ◌∷◌, ◌++◌, length, take, Option, Some, None, is_none, IsSome, IsSomeAnd}
 use Rattle.ix_base.specs.declared.document.Row.{Row}
 use Rattle.ix_base.specs.declared.file_name.FileName.TheVariants as file
 use Rattle.ix_outside.specs.Crash.{MayHold}
 use Rattle.ix_outside.specs.Disk.{Disk, told_files}
 use Rattle.ix_outside.specs.Files.{Files}
 use Rattle.commit_point.specs.Holds.{AreKept, Holds, IsLawful, HoldsInverted, IsAboveIds, KeepsCommits}
-use Rattle.op_script.specs.Language.{script}
 use Rattle.op_script.specs.declared.script.Line.{Line}
 use Rattle.std.specs.List.{filter, filter_map, AllByRecursion}
 use Rattle.ix_base.specs.declared.document.Operation.{Operation}
@@ -37,12 +36,9 @@ pub record Given : Type 0 where
   pub next : ℕ
   pub rows : List Row
 
--- The input spells the lines, and the store tells the files, of whose commits the last one is the
--- base.
-pub record IsGiven (g : Given) (input : Option (List ℕ)) (store : Option Disk) : Type 0 where
-  pub bytes : List ℕ
-  pub told : input ≡ Some bytes
-  pub spelled : script bytes ≡ Ok g.lines
+-- The lines are those of the script, and the store tells the files, of whose commits the last one is the base.
+pub record IsGiven (g : Given) (IsScript : List Line → Type 0) (store : Option Disk) : Type 0 where
+  pub script : IsScript g.lines
   pub stored : told_files store ≡ Some g.files
   pub last : IsLast g.files g.base
 
@@ -190,18 +186,17 @@ HasSome g log files = (count : ℕ) × HasFirst g log count files
 abbrev pub GivesBack : Option Disk → Type 0
 GivesBack store = (g : Given) × (told_files store ≡ Some g.files) × CanRun g × IsKept g store
 
--- A run that was done, for one order of its numbered lines, its log. What was written of the
--- report of that order is said by `wrote`. All of the log's commits are in the files that the
--- store tells, and in every image once the call has ended. A crash at any moment of the call
--- leaves the first ones. And the store is again such as a run asks for.
-pub record Runs (g : Given) (wrote : List ℕ → Type 0) (old new : Option Disk) : Type 0 where
+-- A run that was done, for one order of its numbered lines, its log. What was written of the text that tells of the log
+-- is said by `wrote`. All of the log's commits are in the files that the store tells, and in every image once the call has
+-- ended. A crash at any moment of the call leaves the first ones. And the store is again such as a run asks for.
+pub record Runs (g : Given) (text : List Line → List ℕ) (wrote : List ℕ → Type 0) (old new : Option Disk) : Type 0 where
   pub log : List Line
   pub numbering : Interleaves g.lines log
-  pub written : wrote (report g.base g.rows g.lines log)
+  pub written : wrote (text log)
   pub files : IsSomeAnd (told_files new) (HasAll g log)
   pub images : IsKept g old → (c : Files) → MayHold new c → HasAll g log c
   pub crash : IsKept g old → LeavesOnly old new (HasSome g log)
-  pub again : IsKept g old → g.next + length (numbered g.lines) ≤ 2 ^ 61 → GivesBack new
+  pub again : IsKept g old → g.next + 2 * length (numbered g.lines) ≤ 2 ^ 61 → GivesBack new
 
 -- A run that stopped, or was done: for one order of its numbered lines, the files have the first
 -- ones of its commits, and a crash at any moment of the call leaves the first ones.

@@ -2,7 +2,7 @@
 use Rattle.std.specs.Prelude.{◌≡◌, ℕ, ◌<◌, List, [], slice_index_or}
 use Rattle.std.specs.List.{AllByRecursion}
 use Rattle.op_script.specs.declared.script.Line.{Line}
-use Rattle.flush_control.specs.Logs.{Working, told_of}
+use Rattle.round_order.specs.Order.{Working, told_of}
 use Rattle.run_log.specs.Telling.{IsOrder, IsTell, Tell, TellsRise, told_lists}
 
 -- Where what n workers were told is one order of operations, their lines are one order too.

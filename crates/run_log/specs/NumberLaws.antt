@@ -11,7 +11,7 @@ use Rattle.ix_base.specs.Steps.{step, after}
 use Rattle.op_script.specs.declared.script.Line.{Line}
 use Rattle.run_log.specs.Lists.{Decided, each_says, each_pair, each_behind}
 use Rattle.run_log.specs.Headline.{act_operation, commit_numbers, is_commit, number_of, operations, rows_at}
-use Rattle.flush_control.specs.Logs.{Working}
+use Rattle.round_order.specs.Order.{Working}
 use Rattle.run_log.specs.Telling.{Tell, IsOrder}
 use Rattle.run_log.specs.TellingLaws.{HasNumber, told_all}
 

@@ -5,7 +5,7 @@ use Rattle.std.specs.List.{AllByRecursion}
 use Rattle.op_script.specs.declared.script.Line.{Line}
 use Rattle.run_log.specs.Lists.{each_mapped, filter_pushed, filter_passed}
 use Rattle.run_log.specs.Headline.{Interleaves, is_numbered, numbered}
-use Rattle.flush_control.specs.Logs.{Working}
+use Rattle.round_order.specs.Order.{Working}
 use Rattle.run_log.specs.PlaceLaws.{of_caller}
 use Rattle.run_log.specs.Telling.{Tell, lines_of, IsOrder}
 use Rattle.run_log.specs.TellingLaws.{within_all}

@@ -5,7 +5,7 @@ use Rattle.ix_base.specs.declared.document.Operation.{Operation}
 use Rattle.op_script.specs.declared.script.Line.{Line}
 use Rattle.op_script.specs.declared.script.Act.TheVariants.{Do}
 use Rattle.row_fates.specs.Fate.{Numbered}
-use Rattle.flush_control.specs.Logs.{Working, seconds}
+use Rattle.round_order.specs.Order.{Working, seconds}
 use Rattle.run_log.specs.Headline.{number_of, operations}
 
 -- A line that was told a number, with its operation.

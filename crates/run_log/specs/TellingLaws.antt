@@ -9,7 +9,7 @@ use Rattle.op_script.specs.declared.script.Line.{Line}
 use Rattle.row_fates.specs.Fate.{Numbered}
 use Rattle.run_log.specs.Lists.{Decided, each_pair, each_behind, each_passed, filter_twice, filter_mapped, each_by_keys}
 use Rattle.run_log.specs.Headline.{number_of, operations}
-use Rattle.flush_control.specs.Logs.{Working, told_of, seconds}
+use Rattle.round_order.specs.Order.{Working, told_of, seconds}
 use Rattle.run_log.specs.PlaceLaws.{lines_rise, of_caller, places_differ}
 use Rattle.run_log.specs.Telling.{Tell, IsTell, lines_of, TellsRise, told_lists, PlacesDiffer, IsOrder}
 use Rattle.run_log.specs.ToldLaws.{told_pair, tells_by, told_by_pairs, told_at}

@@ -9,4 +9,4 @@ returns-clause-ready g c =
     let b = c.as_slice.ensures in
     let e = c.in-Ok.ensures in
     let is : c.in-Ok.written ≡ written_of c.args.last.entries c.args.last.segments = cc in
-    opened c.args.last c.args.buffer c.in-Ok.written c.requires.last c.requires.buffer.0 c.requires.buffer.1 is
+    opened c.args.last c.args.buffer c.args.merge c.in-Ok.written c.requires.last c.requires.buffer.0 c.requires.buffer.1 c.requires.merge.0 c.requires.merge.1 is

@@ -1,0 +1,37 @@
+//! Rounds whose writers have no rows, against what was worked out by hand.
+
+use crate::tests::{Act, committed, round, shown};
+use crate::{IndexWriter, RoundEnd};
+use ix_memory::MemoryStore;
+use std::test::*;
+
+/// A round in which one writer adds and the other one only deletes; then two rounds whose writers only
+/// delete, the first without a commit. These take no id.
+#[test]
+fn deletes_alone(rt: HostRuntime) -> Result<(), Fail> {
+    use Act::*;
+    let alloc = rt.alloc();
+    let mut writer = IndexWriter::none(alloc, MemoryStore::new(alloc), 8, 8);
+    let script = [
+        (0, Add, "a"),
+        (0, Add, "b"),
+        (1, Delete, "a"),
+        (0, Add, "a"),
+        (0, Add, "c"),
+        (1, Commit, ""),
+    ];
+    let end = round(&rt, alloc, &mut writer, &script)?;
+    assert_eq!(rt; end, RoundEnd::Committed(6));
+    assert_eq!(rt; committed(&mut writer)?, (6, 3));
+    let end = round(&rt, alloc, &mut writer, &[(1, Delete, "b")])?;
+    assert_eq!(rt; end, RoundEnd::Ran);
+    let script = [(0, Delete, "c"), (1, Delete, "d"), (1, Commit, "")];
+    let end = round(&rt, alloc, &mut writer, &script)?;
+    assert_eq!(rt; end, RoundEnd::Committed(10));
+    assert_eq!(rt; committed(&mut writer)?, (10, 1));
+    assert_eq!(rt; (writer.last(), writer.next_id()), (10, 2));
+    let mut store = writer.into_store();
+    assert_eq!(rt; shown(alloc, &mut store, 6)?.as_str(), "2: 1 b2 a4 c5");
+    assert_eq!(rt; shown(alloc, &mut store, 10)?.as_str(), "2: 1 a4");
+    Ok(())
+}
