@@ -11,7 +11,8 @@ use Rattle.ix_base.specs.declared.document.Row.{Row}
 use Rattle.ix_base.specs.declared.document.Operation.{Operation}
 use Rattle.ix_base.specs.declared.document.Operation.TheVariants.{Add, Update, DeleteTerm, DeleteQuery, SetNumber, Commit}
 use Rattle.row_fates.specs.Fate.{BornBy}
-use Rattle.made_runs.specs.Born.{born_after, BornLater}
+use Rattle.report_text.specs.Born.{born_after}
+use Rattle.made_runs.specs.Born.{BornLater}
 use Rattle.made_runs.proofs.Chosen.{filters_commute, filter_changed, filter_none}
 
 -- a row of a later number is kept behind the others

@@ -1,6 +1,6 @@
 -- What a log leaves comes to what the lines leave in the order of the script.
-use Rattle.std.proofs.Common.{◌≡◌, ◌≢◌, ◌∙◌, ℕ, ℤ, pos, suc, ◌+◌, ◌-◌, ◌≤◌, Bool, true, false, cond, List, [], ◌∷◌, ◌++◌, length, map, take_all, refl, sym, ap, subst, arith}
-use Rattle.std.specs.Prelude.{◌+ℤ◌, fold, count_by}
+use Rattle.std.proofs.Common.{◌≡◌, ◌≢◌, ◌∙◌, ℕ, ℤ, pos, negsuc, suc, ◌+◌, ◌-◌, ◌≤◌, Bool, true, false, cond, List, [], ◌∷◌, ◌++◌, length, map, take_all, refl, sym, ap, subst, arith}
+use Rattle.std.specs.Prelude.{◌*◌, ◌+ℤ◌, ◌≤ℤ◌, fold, count_by}
 use Rattle.std.proofs.lemmas.Int.{ints}
 use Rattle.std.proofs.lemmas.List.{length-map}
 use Rattle.std.proofs.lemmas.List.Elements.{All-from_recursion}
@@ -13,14 +13,17 @@ use Rattle.ix_base.specs.Steps.{after}
 use Rattle.ix_base.specs.declared.document.Hit.{Hit}
 use Rattle.ix_base.specs.declared.document.Row.{Row}
 use Rattle.op_script.specs.declared.script.Line.{Line}
+use Rattle.report_text.specs.Sums.{n_of, sum_of}
+use Rattle.report_text.specs.Summaries.{summary_of}
 use Rattle.row_fates.specs.Fate.{BornBy}
 use Rattle.run_log.specs.Headline.{Interleaves, commit_numbers, is_commit, operations, rows_at}
 use Rattle.script_maker.specs.Made.{made_line, made_script, last_commit}
-use Rattle.made_runs.specs.Born.{born_after, documents}
+use Rattle.report_text.specs.Born.{born_after}
+use Rattle.made_runs.specs.Born.{documents}
 use Rattle.made_runs.specs.Apart.{SameCallers, WorkApart}
 use Rattle.made_runs.specs.Ends.{CallersCommit}
 use Rattle.made_runs.specs.Own.{IsOwn}
-use Rattle.made_runs.specs.Sums.{HasMadeNumber, n_of, sum_of}
+use Rattle.made_runs.specs.Sums.{HasMadeNumber}
 use Rattle.made_runs.specs.Summary.{left_rows, run_rows, ComesTo, MadeRuns, MadeNumbers}
 use Rattle.made_runs.proofs.Apart.{documents_apart}
 use Rattle.made_runs.proofs.ByKeys.{Reordered, done, next, each_reordered, reordered_map, permuted, reordered_by_keys}
@@ -85,6 +88,42 @@ as_many xs ys moved =
     ∙ length_permutation (documents xs) (documents ys) (permuted (documents xs) (documents ys) moved)
     ∙ length-map xs (λ (row : Row). row.doc)
 
+same_summary : (c1 c2 l1 l2 : ℕ) (xs ys : List Hit) → c1 ≡ c2 → l1 ≡ l2 → length xs ≡ length ys → sum_of xs ≡ sum_of ys
+    → summary_of c1 l1 xs ≡ summary_of c2 l2 ys
+same_summary c1 c2 l1 l2 xs ys commits lines docs sum = cc
+
+-- ---- a sum of small numbers is a natural number, and small
+
+record IsUpTo (most : ℕ) (z : ℤ) : Type 0 where
+  number : ℕ
+  small : number ≤ most
+  is : z ≡ pos number
+
+natural : (z : ℤ) → pos 0 ≤ℤ z → z ≤ℤ pos 4095 → IsUpTo 4095 z
+natural (pos n) low high = record { number = n; small = omega (arith, ints, high); is = refl }
+natural (negsuc n) low high = absurd (omega (arith, ints, low))
+
+added_up : (a b : ℕ) (x y : ℤ) → IsUpTo a x → IsUpTo b y → IsUpTo (a + b) (x +ℤ y)
+added_up a b x y p q = record {
+  number = p.number + q.number;
+  small = omega (arith, p.small, q.small);
+  is = omega (arith, ints, p.is, q.is);
+}
+
+total_small : (hits : List Hit) → AllByRecursion HasMadeNumber hits → IsUpTo (4095 * length hits) (total hits)
+total_small [] small = record { number = 0; small = omega arith; is = refl }
+total_small (hit ∷ hits) small =
+    let sum =
+    added_up 4095 (4095 * length hits) (n_of hit.num) (total hits) (natural (n_of hit.num) small.0.0 small.0.1)
+    (total_small hits small.1) in
+    record { number = sum.number; small = omega (arith, sum.small); is = sum.is }
+
+sum_small : (hits : List Hit) (most : ℕ) → length hits ≤ most → AllByRecursion HasMadeNumber hits
+    → (n : ℕ) × (n ≤ 4095 * most) × (sum_of hits ≡ pos n)
+sum_small hits most few small =
+    let sum = total_small hits small in
+    (sum.number, omega (arith, sum.small, few), sum_is (pos 0) hits ∙ omega (arith, ints, sum.is))
+
 -- ---- commits
 
 numbers_counted : (base : ℕ) (log : List Line) → length (commit_numbers base log) ≡ length (filter (λ (l : Line). is_commit l.act) log)
@@ -125,13 +164,22 @@ pub comes_to : (Owns : ℕ → Document → Type 0) (lines log : List Line) (bas
 comes_to Owns lines log base rows apart commits same some born =
     let moved = run_apart Owns lines log base rows apart same born in
     let ordered : Reordered lines log = reordered_by_keys (λ (l : Line). l.caller) lines log same in
+    let all : length log ≡ length lines = length_permutation lines log (permuted lines log ordered) in
+    let made : length (commit_numbers base log) ≡ count_by (λ (l : Line). is_commit l.act) lines = commits_counted base lines log ordered in
+    let docs : length (run_rows base rows log) ≡ length (left_rows lines) = as_many (left_rows lines) (run_rows base rows log) moved in
+    let sum : sum_of (map hit_of (run_rows base rows log)) ≡ sum_of (map hit_of (left_rows lines)) =
+    sym (same_hits (left_rows lines) (run_rows base rows log) moved) in
     record {
-      all = length_permutation lines log (permuted lines log ordered);
-      commits = commits_counted base lines log ordered;
+      all = all;
+      commits = made;
       last = last_is_commit lines log base commits same some;
       same = permuted (documents (left_rows lines)) (documents (run_rows base rows log)) moved;
-      docs = as_many (left_rows lines) (run_rows base rows log) moved;
-      sum = sym (same_hits (left_rows lines) (run_rows base rows log) moved);
+      docs = docs;
+      sum = sum;
+      summary =
+          same_summary (length (commit_numbers base log)) (count_by (λ (l : Line). is_commit l.act) lines) (length log) (length lines)
+          (map hit_of (run_rows base rows log)) (map hit_of (left_rows lines)) made all
+          (length-map (run_rows base rows log) hit_of ∙ docs ∙ sym (length-map (left_rows lines) hit_of)) sum;
     }
 
 -- ---- a made script
@@ -168,19 +216,23 @@ made_numbers seed lines callers base rows log some few born numbering =
     let left : documents (left_rows script) ≡ folded [] (operations script) = documents_after [] 0 (operations script) in
     let counted : AllByRecursion IsCounted (documents (left_rows script)) =
     subst (AllByRecursion IsCounted) (sym left) (folded_counted [] (operations script) tt (made_counts seed lines callers some few)) in
+    let at_most : length (run_rows base rows log) ≤ lines + callers =
+    omega (
+      arith,
+      as_many (left_rows script) (run_rows base rows log) moved,
+      length-map (left_rows script) (λ (row : Row). row.doc),
+      ap (λ (docs : List Document). length docs) left,
+      folded_few [] (operations script),
+      operations_few script,
+      made_length seed lines callers,
+    ) in
+    let small : AllByRecursion HasMadeNumber (map hit_of (run_rows base rows log)) =
+    hits_counted (run_rows base rows log)
+    (each_reordered IsCounted (documents (left_rows script)) (documents (run_rows base rows log)) moved counted) in
     record {
-      few =
-          omega (
-            arith,
-            as_many (left_rows script) (run_rows base rows log) moved,
-            length-map (left_rows script) (λ (row : Row). row.doc),
-            ap (λ (docs : List Document). length docs) left,
-            folded_few [] (operations script),
-            operations_few script,
-            made_length seed lines callers,
-          );
-      numbers =
-          All-from_recursion HasMadeNumber (map hit_of (run_rows base rows log))
-          (hits_counted (run_rows base rows log)
-          (each_reordered IsCounted (documents (left_rows script)) (documents (run_rows base rows log)) moved counted));
+      few = at_most;
+      numbers = All-from_recursion HasMadeNumber (map hit_of (run_rows base rows log)) small;
+      sum =
+          sum_small (map hit_of (run_rows base rows log)) (lines + callers)
+          (omega (arith, length-map (run_rows base rows log) hit_of, at_most)) small;
     }

@@ -1,15 +1,11 @@
--- The rows that a run adds.
-use Rattle.std.specs.Prelude.{◌≡◌, ℕ, List, [], map, nat_lt}
-use Rattle.std.specs.List.{filter}
+-- The rows that a run adds, and their documents.
+use Rattle.std.specs.Prelude.{◌≡◌, ℕ, List, [], map}
 use Rattle.ix_base.specs.Documents.{Document}
 use Rattle.ix_base.specs.Steps.{after}
 use Rattle.ix_base.specs.declared.document.Row.{Row}
 use Rattle.ix_base.specs.declared.document.Operation.{Operation}
+use Rattle.report_text.specs.Born.{born_after}
 use Rattle.row_fates.specs.Fate.{BornBy}
-
--- the rows that were added by operations numbered above this
-abbrev pub born_after : ℕ → List Row → List Row
-born_after base rows = filter (λ (row : Row). nat_lt base row.birth) rows
 
 -- the documents of rows, without the rows' births
 abbrev pub documents : List Row → List Document

@@ -29,13 +29,14 @@ pub fn last_is_commit()
 {}
 
 /// A run of a made script comes to what the script comes to where its lines are numbered in their
-/// order: as many lines, commits and documents, of the same sum, whatever its log is.
+/// order: as many lines, commits and documents, of the same sum, whatever its log is. So all runs
+/// of the script have one summary.
 pub fn made_runs()
     ensures { MadeRuns }
 {}
 
 /// The rows that a run of a made script adds are at most as many as the script has lines, and each
-/// has a number `n` from 0 to 4095: what a summary of the run asks for.
+/// has a number `n` from 0 to 4095. So their sum fits a summary, which has it exactly.
 pub fn made_numbers()
     ensures { MadeNumbers }
 {}

@@ -8,3 +8,6 @@ mod Scripts
 mod Examples
 mod Trees
 mod Checks
+mod QuestionLines
+mod QuestionShapes
+mod QuestionExamples

@@ -1,21 +1,29 @@
-//! Scripts: one JSON object a line, each an operation of a caller or a search.
+//! Scripts: one JSON object a line, each an operation of a caller or a search. Questions: one query
+//! a line.
 #![tactic(auto)]
 
 mod acts;
 mod arguments;
 mod document_check;
 mod documents;
+mod input_lines;
 mod line_fault;
 mod members;
 mod queries;
 mod query_check;
+mod questions;
 mod read;
+mod read_questions;
 mod requests;
 mod script;
 mod verbs;
 
+pub use questions::{Question, Questions};
 pub use read::{MOST_BYTES, read_script};
+pub use read_questions::read_queries;
 pub use script::{Act, BadLine, Line, Script, ScriptFault, Why};
 
 #[cfg(test)]
 mod tests;
+#[cfg(test)]
+mod tests_questions;

@@ -1,11 +1,12 @@
 //! Reading a script.
-ghost use Rattle.std.specs.Prelude.{◌≡◌, ◌<◌, ◌≤◌, ℕ, List, ◌==◌, [], ◌∷◌, length, position, MatchOption, IfSome, Result, IfOk, OnOk, Ok, Err};
+ghost use Rattle.std.specs.Prelude.{◌≡◌, ◌<◌, ◌≤◌, ℕ, List, length, Result, IfOk, OnOk, Ok, Err};
 ghost use Rattle.op_script.specs.Language.{script, lines_from, line_at, and_then, onto};
 ghost use Rattle.op_script.specs.Lines.{lines_of};
 ghost use Rattle.op_script.specs.Shape.{AreScriptLines};
 ghost use Rattle.op_script.specs.declared.script.BadLine.{BadLine};
 ghost use Rattle.op_script.specs.declared.script.Line.{Line};
 
+use crate::input_lines::cut_line;
 use crate::requests::read_line;
 use crate::script::{BadLine, Line, Script, ScriptFault, Why};
 use ix_base::List;
@@ -62,21 +63,4 @@ fn add_line(alloc: Global, at: u32, text: &[u8], lines: &mut Vec<Line>) -> Resul
         lines.push(line)?;
     }
     Ok(())
-}
-
-/// The first of several lines, and the text after it.
-fn cut_line(text: &[u8]) -> Option<(&[u8], &[u8])>
-    ensures cut { MatchOption result (lines_of text.now ≡ text.now ∷ [])
-        (λ cut. lines_of text.now ≡ cut.0.now ∷ lines_of cut.1.now) }
-    ensures shorter { IfSome result (λ cut. length cut.1.now < length text.now) }
-{
-    let end = line_end(text)?;
-    Some((&text[..end], &text[end + 1..]))
-}
-
-/// The place of the first byte that ends a line.
-fn line_end(text: &[u8]) -> Option<usize>
-    ensures { result ≡ position (λ b. b == 10) text.now }
-{
-    text.iter().position(|byte| *byte == b'\n')
 }

@@ -1,12 +1,12 @@
 //! Reading a line.
 ghost use Rattle.std.specs.Prelude.{◌≡◌, IfOk, IsOk, Ok, Err, option_map};
 ghost use Rattle.serde_json.specs.View.{view};
-ghost use Rattle.op_script.specs.Lines.{is_blank};
 ghost use Rattle.op_script.specs.Language.{caller_of, verb_of, act_of, line_of, request_of, line_at};
 ghost use Rattle.op_script.specs.declared.script.BadLine.{BadLine};
 ghost use Rattle.op_script.specs.declared.script.Why.{Why};
 
 use crate::acts::{add_in, delete_in, delete_query_in, search_in, set_in, update_in};
+use crate::input_lines::is_blank;
 use crate::line_fault::LineFault;
 use crate::members::read_value;
 use crate::script::{Act, BadLine, Line, ScriptFault, Why};
@@ -28,14 +28,6 @@ pub fn read_line(alloc: Global, at: u32, text: &[u8]) -> Result<Option<Line>, Sc
         Err(LineFault::Bad(why)) => Err(ScriptFault::Bad(BadLine { line: at, why })),
         Err(LineFault::NoMemory) => Err(ScriptFault::NoMemory),
     }
-}
-
-/// Whether a line is passed over.
-fn is_blank(text: &[u8]) -> bool
-    ensures { result ≡ is_blank text.now }
-{
-    text.iter()
-        .all(|byte| *byte == 32 || *byte == 9 || *byte == 13)
 }
 
 fn read_request(alloc: Global, at: u32, text: &[u8]) -> Result<Line, LineFault>

@@ -34,7 +34,7 @@ pub struct Script {
 pub enum Why {
     /// The input has more than 67,108,864 bytes.
     Long,
-    /// The line isn't a JSON object.
+    /// The line isn't a JSON value or, in a script, isn't an object.
     Json,
     /// `c` is missing, or isn't a whole number from 0 to 255.
     Caller,
@@ -61,7 +61,7 @@ pub struct BadLine {
     pub why: Why,
 }
 
-/// Why there is no script.
+/// Why there is no script, or why there are no questions.
 #[derive(Clone, Copy, Debug, PartialEq, Eq)]
 pub enum ScriptFault {
     /// The input has a bad line; this is the first.

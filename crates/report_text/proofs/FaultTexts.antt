@@ -33,6 +33,10 @@ eight : decimal 8 ≡ codes "8"
 unfolding digits
 eight = refl
 
+nine : decimal 9 ≡ codes "9"
+unfolding digits
+nine = refl
+
 ten : decimal 10 ≡ codes "10"
 unfolding digits
 ten = refl
@@ -68,6 +72,10 @@ bad_line_text bad = bad_line_by bad.line bad.why
 pub base_text : (base : ℕ) → codes "{\"base\":" ++ decimal base ++ codes ",\"status\":10}\n" ≡ fault_text (fault.Base base)
 unfolding serde_json_on_literals
 base_text base = simp (append_assoc, ten)
+
+pub missing_text : (number : ℕ) → codes "{\"commit\":" ++ decimal number ++ codes ",\"status\":9}\n" ≡ fault_text (fault.NoSuch number)
+unfolding serde_json_on_literals
+missing_text number = simp (append_assoc, nine)
 
 -- around what stands for the file's name
 damaged_by : (at : ℕ) (shown written : List ℕ) → written ≡ shown → codes "{\"at\":" ++ decimal at ++ codes ",\"file\":\"" ++ shown ++ codes "\",\"status\":8}\n"

@@ -9,8 +9,9 @@ use Rattle.serde_json.specs.Find.{is_float, of_integer}
 use Rattle.serde_json.specs.View.{items_of}
 use Rattle.serde_json.specs.Written.{has_float, items_have_float, members_have_float}
 use Rattle.ix_base.specs.declared.document.Hit.{Hit}
-use Rattle.report_text.specs.Lines.{hit_value, search_value, with_number, write_value, commit_value, refused_value}
+use Rattle.report_text.specs.Lines.{hit_value, search_value, with_number, write_value, commit_value, refused_value, listed_value, summary_value}
 use Rattle.ix_base.specs.declared.refusal.Refusal.{Refusal}
+use Rattle.report_text.specs.declared.summary.Summary.{Summary}
 use Rattle.ix_base.specs.declared.refusal.Refusal.TheVariants.{Term, Query}
 
 is_float-of_integer : (z : ℤ) → is_float (of_integer z) ≡ false
@@ -49,3 +50,9 @@ commit_plain docs line s = refl
 pub refusal_plain : (line : ℕ) (refusal : Refusal) → has_float (refused_value line refusal) ≡ false
 refusal_plain line (Term size) = refl
 refusal_plain line (Query size) = refl
+
+pub listed_plain : (commit docs : ℕ) → has_float (listed_value commit docs) ≡ false
+listed_plain commit docs = refl
+
+pub summary_plain : (summary : Summary) → has_float (summary_value summary) ≡ false
+summary_plain summary = refl

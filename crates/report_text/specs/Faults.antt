@@ -31,6 +31,7 @@ fault_value (fault.BadLine bad) = object (member (codes "line") (natural bad.lin
 fault_value fault.Source = plain_value 5 (codes "source")
 fault_value fault.Store = plain_value 7 (codes "store")
 fault_value (fault.Damaged damaged) = object (member (codes "at") (natural damaged.at) (member (codes "file") (string (name_text damaged.file)) (member (codes "status") (natural 8) no_members)))
+fault_value (fault.NoSuch commit) = object (member (codes "commit") (natural commit) (member (codes "status") (natural 9) no_members))
 fault_value (fault.Base base) = object (member (codes "base") (natural base) (member (codes "status") (natural 10) no_members))
 
 abbrev pub fault_text : Fault → List ℕ
@@ -42,4 +43,5 @@ status_of (fault.BadLine bad) = 3
 status_of fault.Source = 5
 status_of fault.Store = 7
 status_of (fault.Damaged damaged) = 8
+status_of (fault.NoSuch commit) = 9
 status_of (fault.Base base) = 10

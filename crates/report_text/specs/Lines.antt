@@ -7,6 +7,7 @@ use Rattle.serde_json.specs.Written.{compact_text}
 use Rattle.ix_base.specs.declared.document.Hit.{Hit}
 use Rattle.ix_base.specs.declared.refusal.Refusal.{Refusal}
 use Rattle.ix_base.specs.declared.refusal.Refusal.TheVariants.{Term, Query}
+use Rattle.report_text.specs.declared.summary.Summary.{Summary}
 
 abbrev pub natural : ℕ → Data
 natural n = number (unsigned n)
@@ -42,3 +43,11 @@ hit_value hit = object (member (codes "key") (string hit.key) (member (codes "nu
 -- {"commit":S,"hits":[..],"line":L}
 abbrev pub search_value : ℕ → List Hit → ℕ → Data
 search_value commit hits line = object (member (codes "commit") (natural commit) (member (codes "hits") (array (items_of (map hit_value hits))) (member (codes "line") (natural line) no_members)))
+
+-- {"commit":S,"docs":D}
+abbrev pub listed_value : ℕ → ℕ → Data
+listed_value commit docs = object (member (codes "commit") (natural commit) (member (codes "docs") (natural docs) no_members))
+
+-- {"commits":C,"docs":D,"lines":L,"sum":X}
+abbrev pub summary_value : Summary → Data
+summary_value of = object (member (codes "commits") (natural of.commits) (member (codes "docs") (natural of.docs) (member (codes "lines") (natural of.lines) (member (codes "sum") (natural of.sum) no_members))))

@@ -20,12 +20,15 @@ pub enum Fault {
     Store,
     /// A file of a commit is not in the grammar, or absent.
     Damaged(Damaged),
+    /// There is no commit of this number. It is 0 where no number was asked for, and the store has no
+    /// commit.
+    NoSuch(u64),
     /// The last commit's number is above 2^61.
     Base(u64),
 }
 
 impl Fault {
-    /// The exit status of a program that ends for it: 2, 3, 5, 7, 8 or 10.
+    /// The exit status of a program that ends for it: 2, 3, 5, 7, 8, 9 or 10.
     pub fn status(self) -> u8
         ensures { result ≡ status_of self }
     {
@@ -35,6 +38,7 @@ impl Fault {
             Fault::Source => 5,
             Fault::Store => 7,
             Fault::Damaged(_) => 8,
+            Fault::NoSuch(_) => 9,
             Fault::Base(_) => 10,
         }
     }
@@ -50,6 +54,7 @@ impl Fault {
             Fault::Source => plain("{\"status\":5,\"why\":\"source\"}\n"),
             Fault::Store => plain("{\"status\":7,\"why\":\"store\"}\n"),
             Fault::Damaged(damaged) => damaged_file(damaged),
+            Fault::NoSuch(number) => missing_commit(number),
             Fault::Base(base) => high_base(base),
         }
     }
@@ -110,6 +115,18 @@ fn damaged_file(damaged: Damaged) -> ArrayString<128>
     text.push_str(",\"file\":\"");
     text.push_str(name.as_str());
     text.push_str("\",\"status\":8}\n");
+    text
+}
+
+/// The line of a commit that isn't there.
+fn missing_commit(number: u64) -> ArrayString<128>
+    ensures { result.bytes ≡ fault_text (Fault.NoSuch number) }
+{
+    let mut digits = itoa::Buffer::new();
+    let mut text = ArrayString::<128>::new();
+    text.push_str("{\"commit\":");
+    text.push_str(digits.format(number));
+    text.push_str(",\"status\":9}\n");
     text
 }
 

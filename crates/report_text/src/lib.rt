@@ -3,10 +3,12 @@
 #![tactic(auto)]
 
 mod fault;
+mod summary;
 mod texts;
 
 pub use fault::Fault;
-pub use texts::{commit_text, refused_text, search_text, write_text};
+pub use summary::Summary;
+pub use texts::{commit_text, listed_text, refused_text, search_text, summary_text, write_text};
 
 #[cfg(test)]
 mod tests;

@@ -2,6 +2,7 @@ use super::*;
 use ix_base::{Damaged, FileName, Hit, Operation, Refusal};
 use op_script::{Act, BadLine, Why, read_script};
 use std::alloc::Global;
+use std::fmt::Write;
 use std::test::*;
 
 const MAILS: &str =
@@ -47,6 +48,8 @@ fn faults(rt: HostRuntime) {
             8,
             "{\"at\":18446744073709551615,\"file\":\"seg_18446744073709551615_18446744073709551615.val\",\"status\":8}\n",
         ),
+        (Fault::NoSuch(99), 9, "{\"commit\":99,\"status\":9}\n"),
+        (Fault::NoSuch(0), 9, "{\"commit\":0,\"status\":9}\n"),
         (
             Fault::Base(2_305_843_009_213_693_953),
             10,
@@ -124,6 +127,71 @@ fn numbered_and_refused(rt: HostRuntime) -> Result<(), Fail> {
         query.as_slice(),
         b"{\"line\":7,\"refused\":\"query\",\"size\":65536}\n".as_slice()
     );
+    Ok(())
+}
+
+#[test]
+fn commits_and_summaries(rt: HostRuntime) -> Result<(), Fail> {
+    let alloc = rt.alloc();
+    let listed = listed_text(alloc, 2, 1).ok().ok_or("memory")?;
+    assert_eq!(rt;
+        listed.as_slice(),
+        b"{\"commit\":2,\"docs\":1}\n".as_slice()
+    );
+    let most = listed_text(alloc, u64::MAX, 0).ok().ok_or("memory")?;
+    assert_eq!(rt;
+        most.as_slice(),
+        b"{\"commit\":18446744073709551615,\"docs\":0}\n".as_slice()
+    );
+    let summary = Summary {
+        commits: 1,
+        docs: 7,
+        lines: 11,
+        sum: 12_350,
+    };
+    let text = summary_text(alloc, summary).ok().ok_or("memory")?;
+    assert_eq!(rt;
+        text.as_slice(),
+        b"{\"commits\":1,\"docs\":7,\"lines\":11,\"sum\":12350}\n".as_slice()
+    );
+    Ok(())
+}
+
+/// What a run came to whose rows have these numbers `n`, but for one that has none.
+fn summary_of(alloc: Global, numbers: &[i64]) -> Result<Summary, Fail> {
+    let mut script = String::new(alloc);
+    for number in numbers {
+        let num = format!(in alloc; "\"m\":9,\"n\":{number},\"o\":9")?;
+        write!(
+            script,
+            "{{\"c\":0,\"op\":\"add\",\"doc\":{{\"key\":\"a\",\"num\":{{{num}}}}}}}\n"
+        )?;
+    }
+    script.push_str("{\"c\":0,\"op\":\"add\",\"doc\":{\"key\":\"n\",\"num\":{\"m\":9}}}")?;
+    let hits = hits_of(alloc, script.as_str())?;
+    Ok(Summary::of_run(2, 12, hits.as_slice()))
+}
+
+#[test]
+fn summaries_of_runs(rt: HostRuntime) -> Result<(), Fail> {
+    let alloc = rt.alloc();
+    let seven = [1264, 2189, 3881, 703, 2876, 927, 510];
+    let wanted = Summary {
+        commits: 2,
+        docs: 8,
+        lines: 12,
+        sum: 12_350,
+    };
+    assert_eq!(rt; summary_of(alloc, &seven)?, wanted);
+    assert_eq!(rt; Summary::of_run(3, 5, &[]).docs, 0);
+    assert_eq!(rt; summary_of(alloc, &[])?.sum, 0);
+    assert_eq!(rt; summary_of(alloc, &[7, -3])?.sum, 4);
+    assert_eq!(rt; summary_of(alloc, &[-1])?.sum, 0);
+    let most = i64::MAX;
+    assert_eq!(rt; summary_of(alloc, &[most, most, 1])?.sum, u64::MAX);
+    assert_eq!(rt; summary_of(alloc, &[most, most, 2])?.sum, u64::MAX);
+    let many = summary_of(alloc, &[most, most, most, i64::MIN, i64::MIN])?;
+    assert_eq!(rt; many.sum, 9_223_372_036_854_775_805);
     Ok(())
 }
 

@@ -4,8 +4,10 @@ ghost use Rattle.serde_json.specs.Data.{no_members};
 ghost use Rattle.serde_json.specs.View.{view, members_view};
 ghost use Rattle.serde_json.specs.Written.{has_float};
 ghost use Rattle.report_text.specs.Lines.{text_line, write_value, commit_value, refused_value, search_value, hit_value, with_number};
+ghost use Rattle.report_text.specs.Lines.{listed_value, summary_value};
 ghost use Rattle.report_text.specs.Lines.{shown_refusal};
 
+use crate::summary::Summary;
 use ix_base::{Hit, Name, NoMemory, Refusal};
 use serde_json::{Map, Value, json};
 use std::alloc::{AllocError, Global};
@@ -122,5 +124,41 @@ pub fn search_text(alloc: Global, commit: u64, hits: &[Hit], line: u32) -> Resul
     ensures { IfOk result (λ text. text.items ≡ text_line (search_value commit hits.now line)) }
 {
     let value = search_data(alloc, commit, hits, line)?;
+    text_of(alloc, &value)
+}
+
+/// The value of a commit in a list of commits.
+fn listed_data(alloc: Global, commit: u64, docs: u64) -> Result<Value, AllocError>
+    ensures { IfOk result (λ value. view value ≡ listed_value commit docs) }
+{
+    json!(in alloc; {"commit": commit, "docs": docs})
+}
+
+/// The text of a commit in a list of commits, as `{"commit":2,"docs":1}`, and a line feed: the commit
+/// of this number has so many documents.
+pub fn listed_text(alloc: Global, commit: u64, docs: u64) -> Result<Vec<u8>, NoMemory>
+    ensures { IfOk result (λ text. text.items ≡ text_line (listed_value commit docs)) }
+{
+    let value = listed_data(alloc, commit, docs)?;
+    text_of(alloc, &value)
+}
+
+/// The value of a summary.
+fn summary_data(alloc: Global, summary: Summary) -> Result<Value, AllocError>
+    ensures { IfOk result (λ value. view value ≡ summary_value summary) }
+{
+    json!(in alloc; {
+        "commits": summary.commits,
+        "docs": summary.docs,
+        "lines": summary.lines,
+        "sum": summary.sum
+    })
+}
+
+/// The text of a summary, as `{"commits":1,"docs":7,"lines":11,"sum":12350}`, and a line feed.
+pub fn summary_text(alloc: Global, summary: Summary) -> Result<Vec<u8>, NoMemory>
+    ensures { IfOk result (λ text. text.items ≡ text_line (summary_value summary)) }
+{
+    let value = summary_data(alloc, summary)?;
     text_of(alloc, &value)
 }

@@ -1,6 +1,6 @@
 use Rattle.std.proofs.Common.{◌≡◌, ◌==◌, position, Some, None, rules}
 use Rattle.op_script.proofs.Lines.{cut, uncut}
-use Rattle.op_script.proofs.read.cut_line.Goals as goal
+use Rattle.op_script.proofs.input_lines.cut_line.Goals as goal
 
 pub returns-in_err-end-clause-cut : goal.returns-in_err-end-clause-cut
 returns-in_err-end-clause-cut c =
