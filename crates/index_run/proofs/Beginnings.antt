@@ -161,23 +161,23 @@ pub follows : OpenedGoOn → (told : Option Files) (last : Opened)
     → (files : Files) × Was told files × IsSpelled files last → CanFollow last
 follows law told last found = (law found.0 last).follows found.2.spelled
 
-pub opened_begins : (g : Given) (last : Opened) (size : ℕ) (w : State) → IsOn g → IsGivenCommit g last
-    → w ≡ opened_on last size → BeginsOn g w
-opened_begins g last size w on given is =
+pub opened_begins : (g : Given) (last : Opened) (size merge : ℕ) (w : State) → IsOn g → IsGivenCommit g last
+    → w ≡ opened_on last size merge → BeginsOn g w
+opened_begins g last size merge w on given is =
     let held = held_given g on given.some in
     let stored : IsStored g.files (opened_on (record {
       number = g.base;
       next_id = g.next;
       entries = held.entries;
       segments = held.segments;
-    }) size) = are_stored g.files g.base held.entries held.segments held.spelled.each in
+    }) size merge) = are_stored g.files g.base held.entries held.segments held.spelled.each in
     let last_is = given.is held.entries held.segments held.spelled in
-    subst (BeginsOn g) (sym is) (subst (λ (x : Opened). BeginsOn g (opened_on x size)) (sym last_is)
+    subst (BeginsOn g) (sym is) (subst (λ (x : Opened). BeginsOn g (opened_on x size merge)) (sym last_is)
     (record { number = refl; next_id = refl; stored = stored }))
 
-pub opened_on_given : OpenedGoOn → (g : Given) (last : Opened) (size : ℕ) (w : State) → CanRun g
-    → IsGivenCommit g last → w ≡ opened_on last size → IsOnGiven g w
-opened_on_given law g last size w can given is =
+pub opened_on_given : OpenedGoOn → (g : Given) (last : Opened) (size merge : ℕ) (w : State) → CanRun g
+    → IsGivenCommit g last → w ≡ opened_on last size merge → IsOnGiven g w
+opened_on_given law g last size merge w can given is =
     let lawful = lawful_given g can given.some in
     let holds = lawful.holds.holds in
-    begins_lawful law g last size w can lawful (given.is holds.entries holds.segments holds.spelled) is
+    begins_lawful law g last size merge w can lawful (given.is holds.entries holds.segments holds.spelled) is

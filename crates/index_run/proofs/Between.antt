@@ -5,7 +5,7 @@ use Rattle.std.specs.List.{AllByRecursion, filter}
 use Rattle.ix_outside.specs.Disk.{Disk}
 use Rattle.op_script.specs.Shape.{LinesRise}
 use Rattle.op_script.specs.declared.script.Line.{Line}
-use Rattle.flush_control.specs.Logs.{Working, told_of}
+use Rattle.round_order.specs.Order.{Working, told_of}
 use Rattle.index_writer.specs.declared.round.RoundParts.{RoundParts}
 use Rattle.index_writer.specs.declared.state.State.{State}
 use Rattle.run_log.specs.CountLaws.{same_count}

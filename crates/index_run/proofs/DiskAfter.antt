@@ -1,5 +1,5 @@
 -- The disk of a run, from round to round and over a commit.
-use Rattle.std.proofs.Common.{◌≡◌, ◌⊎◌, inl, inr, ℕ, ◌+◌, ◌≤◌, ◌^◌, List, [], ◌∷◌, ◌++◌, length, take, Some}
+use Rattle.std.proofs.Common.{◌≡◌, ◌⊎◌, inl, inr, ℕ, ◌+◌, ◌*◌, ◌≤◌, ◌^◌, List, [], ◌∷◌, ◌++◌, length, take, Some}
 use Rattle.std.proofs.Common.{None, refl, sym, ap, subst, ◌∙◌, arith}
 use Rattle.std.specs.Prelude.{Option, IsSomeAnd}
 use Rattle.std.proofs.lemmas.List.{length-append}
@@ -18,7 +18,7 @@ use Rattle.row_fates.specs.Fate.{Numbered}
 use Rattle.index_writer.specs.declared.round.RoundEnd.{RoundEnd}
 use Rattle.index_writer.specs.declared.state.State.{State}
 use Rattle.index_writer.specs.Ready.{IsStored}
-use Rattle.index_writer.specs.Rounds.{Ends}
+use Rattle.index_run.specs.Merged.{EndsMerged}
 use Rattle.index_writer.specs.Storing.{Commits, GoesOn, MayCommit, Settles, on_commit}
 use Rattle.run_log.specs.Headline.{commit_numbers}
 use Rattle.index_run.specs.Doing.{CanBegin, IsWriterOn}
@@ -60,7 +60,7 @@ disk_start first disk can = record {
   files = stays (Stands first [] [] first) (told_files disk) (told_files disk) (stands_none first []) refl;
   images = λ c image. (c, image, stands_none first [] c);
   crash = leaves_none disk (Reaches (HasSomeFront first []) (MayHold disk))
-      (λ c image. (c, image, (0, omega arith, front_none first [] (first.published.next_id + 0) c)));
+      (λ c image. (c, image, (0, omega arith, front_none first [] (first.published.next_id + 2 * 0) c)));
   settled = λ was is told_was told_is goes images kept.
       let same : was ≡ is = cc in subst (λ (f : Files). AreKept f (MayHold disk)) same kept;
 }
@@ -134,9 +134,9 @@ some_longer first log more old new some =
     numbers_front first.published.upto some.0 log more some.1 in (
       some.0,
       omega (arith, some.1, length-append log more),
-      subst (λ (ns : List ℕ). HasFront first (log ++ more) ns (next + length (log ++ more)) old new) (sym numbers)
-          (front_longer first log more (first_numbers first log some.0) (next + length log)
-          (next + length (log ++ more)) old new (omega (arith, length-append log more)) some.2),
+      subst (λ (ns : List ℕ). HasFront first (log ++ more) ns (next + 2 * length (log ++ more)) old new) (sym numbers)
+          (front_longer first log more (first_numbers first log some.0) (next + 2 * length log)
+          (next + 2 * length (log ++ more)) old new (omega (arith, length-append log more)) some.2),
     )
 
 pub disk_longer : (first : State) (log more : List Line) (count : ℕ) (w : State) (start now : Option Disk)
@@ -159,7 +159,7 @@ disk_longer first log more count w start now le disk =
     }
 
 pub disk_round : (first old new : State) (log more : List Line) (told : List (List Numbered)) (end : RoundEnd)
-    (count : ℕ) (start now : Option Disk) → Ends told end old new → count ≤ length log
+    (count : ℕ) (start now : Option Disk) → EndsMerged told end old new → count ≤ length log
     → IsDiskAfter first log count old start now → IsDiskAfter first (log ++ more) count new start now
 disk_round first old new log more told end count start now e le disk =
     disk_other first (log ++ more) count old new start now e.stored e.last e.since
@@ -202,7 +202,7 @@ all_numbers first log count s numbers = sym (numbers_whole first.published.upto 
 
 -- a crash while the commit is made
 some_crash : (first w : State) (log : List Line) (count : ℕ) (old mid new : Files) → count ≤ length log
-    → w.since ≤ first.published.next_id + length log
+    → w.since ≤ first.published.next_id + 2 * length log
     → IsNextCommit first log count w.published.upto
     → ComesNext first log (first_numbers first log count) w → Stands first log (first_numbers first log count) w old mid
     → MayCommit w mid new → HasSomeFront first log old new
@@ -210,7 +210,7 @@ some_crash first w log count old mid new le high numbers next stands may =
     by (front_crash first log (first_numbers first log count) w old mid new next stands may)
   where
     limit : ℕ
-    limit = first.published.next_id + length log
+    limit = first.published.next_id + 2 * length log
 
     by : HasFront first log (first_numbers first log count) w.since old new
         ⊎ HasFront first log (first_numbers first log count ++ w.published.upto ∷ []) w.published.next_id old new
@@ -218,14 +218,14 @@ some_crash first w log count old mid new le high numbers next stands may =
     by (inl before) = (
       count,
       le,
-      front_higher first log (first_numbers first log count) w.since (first.published.next_id + length log) old new
+      front_higher first log (first_numbers first log count) w.since (first.published.next_id + 2 * length log) old new
           high before,
     )
     by (inr whole) = (
       length log,
       omega arith,
       front_higher first log (first_numbers first log (length log)) w.published.next_id
-          (first.published.next_id + length log) old new next.on.high
+          (first.published.next_id + 2 * length log) old new next.on.high
           (subst (λ (ns : List ℕ). HasFront first log ns w.published.next_id old new)
           (all_numbers first log count w.published.upto numbers) whole),
     )

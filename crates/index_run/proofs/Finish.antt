@@ -1,46 +1,51 @@
 -- A script that was done, and one that stopped.
-use Rattle.std.proofs.Common.{◌≡◌, ◌∙◌, ◌⊎◌, inl, inr, ℕ, ◌≤◌, Bool, true, false, ◌||◌, eqb, List, [], ◌∷◌, ◌++◌}
-use Rattle.std.proofs.Common.{length, Some, Ok, Err, Result, refl, sym, ap, subst, Vec, arith}
-use Rattle.std.specs.Prelude.{Option, IfOk, IfErr, IsErrAnd, IsSomeAnd}
-use Rattle.std.specs.List.{AllByRecursion, list_any}
+use Rattle.std.proofs.Common.{◌≡◌, ◌∙◌, ◌⊎◌, inl, inr, ℕ, ◌+◌, ◌-◌, ◌≤◌, List, [], ◌∷◌}
+use Rattle.std.proofs.Common.{length, map, Some, Ok, Err, Result, refl, sym, ap, subst, Vec, arith}
+use Rattle.std.specs.Prelude.{Option, IfOk, IfErr, IsSomeAnd, count_by}
+use Rattle.std.specs.List.{AllByRecursion}
 use Rattle.std.specs.declared.alloc.Global.{Global}
 use Rattle.std.proofs.lemmas.List.{append-nil}
+use Rattle.ix_base.specs.Hits.{hit_of}
 use Rattle.ix_base.specs.declared.damaged.Damaged.{Damaged}
 use Rattle.ix_base.specs.declared.document.Row.{Row}
 use Rattle.ix_outside.specs.Calls.{LeavesOnly}
 use Rattle.ix_outside.specs.CallLaws.{leaves_none}
-use Rattle.ix_outside.specs.Causes.{Rose}
 use Rattle.ix_outside.specs.Crash.{MayHold}
 use Rattle.ix_outside.specs.Disk.{Disk, told_files}
 use Rattle.ix_outside.specs.Files.{Files}
-use Rattle.commit_point.specs.Holds.{KeepsCommits}
+use Rattle.commit_point.specs.Holds.{HoldsInverted, KeepsCommits}
 use Rattle.index_writer.specs.declared.state.State.{State}
+use Rattle.made_runs.specs.Summary.{MadeRuns, script_summary}
 use Rattle.op_script.specs.Shape.{LinesRise}
-use Rattle.op_script.specs.declared.script.BadLine.{BadLine}
 use Rattle.op_script.specs.declared.script.Line.{Line}
-use Rattle.report_text.specs.declared.fault.Fault.{Fault}
+use Rattle.report_text.specs.Born.{born_after}
+use Rattle.report_text.specs.Lines.{summary_value, text_line}
+use Rattle.report_text.specs.Summaries.{summary_of}
 use Rattle.report_text.specs.declared.fault.Fault.TheVariants as fault
-use Rattle.report_text.specs.Faults.{status_of}
 use Rattle.run_report.specs.declared.outcome.Outcome.{Outcome}
-use Rattle.run_report.specs.Searching.{CanRead, CanSearch, ReadsCommit}
+use Rattle.run_report.specs.Searching.{CanSearch, ReadsCommit}
 use Rattle.run_report.specs.Texts.{texts}
-use Rattle.run_log.specs.Headline.{CanRun, Given, HasAll, HasSome, Interleaves, IsIn, IsKept, IsOn, Keeps, Runs, Stops, commit_numbers, numbered, report, rows_at}
+use Rattle.run_log.specs.Headline.{CanRun, Given, HasAll, HasSome, Interleaves, IsIn, IsKept, IsOn, Keeps, Runs, Stops}
+use Rattle.run_log.specs.Headline.{commit_numbers, is_commit, numbered, report, rows_at}
 use Rattle.index_run.specs.declared.stop.Stop.{Stop}
 use Rattle.index_run.specs.declared.stop.Stop.TheVariants as stop
-use Rattle.index_run.specs.Beginning.{BeginsOn, IsHighBase}
-use Rattle.index_run.specs.Causes.{IsBadIn, IsOneOf, stop_status}
-use Rattle.index_run.specs.Damage.{FindsDamage}
+use Rattle.index_run.specs.declared.telling.Form.{Form}
+use Rattle.index_run.specs.declared.telling.Form.TheVariants.{Report, Summary}
+use Rattle.index_run.specs.Beginning.{BeginsOn, IsBase}
+use Rattle.index_run.specs.Causes.{IsOneOf, stop_status}
+use Rattle.index_run.specs.Commands.{IsMade, form_text}
+use Rattle.index_run.specs.Damage.{ReadsDamaged}
 use Rattle.index_run.specs.Doing.{IsOnGiven}
 use Rattle.index_run.specs.Driving.{IsCut, IsDocs, IsOver, Run, base_of}
-use Rattle.index_run.specs.Endings.{Caused, Met}
 use Rattle.index_run.specs.Leaving.{HasOnly}
 use Rattle.index_run.specs.OutcomeLaws.{asked_by, outcomes_weaker, texts_with_none}
 use Rattle.index_run.specs.Outcomes.{AreOutcomes, IsAskedBy, rows_of}
-use Rattle.index_run.specs.Words.{IsAccepted}
+use Rattle.index_run.specs.Telling.{CanTell, TellsDamaged, is_committed}
 use Rattle.index_run.proofs.DiskAfter.{some_onto, the_files}
 use Rattle.index_run.proofs.KeptThere.{only_image, only_itself}
 use Rattle.index_run.proofs.RunEnds.{ends_again, ends_files, ends_images, keeps, keeps_some, reads, stops}
-use Rattle.index_run.proofs.Searchable.{can_read, can_search, no_rows}
+use Rattle.index_run.proofs.Searchable.{can_read, can_search, is_asked, no_rows}
+use Rattle.index_run.proofs.Summarised.{commits_counted, last_above, last_in, summarised}
 
 abbrev Bytes : Type 0
 Bytes = Vec ℕ Global
@@ -168,10 +173,10 @@ over_report g r lines outcomes w now f text same rise can on o has told =
     ∙ ap (λ (ls : List Line). report g.base g.rows ls o.log) (sym same)
 
 over_runs : (g : Given) (r : Run) (lines : List Line) (outcomes : List Outcome) (w : State) (now : Option Disk)
-    (wrote : List ℕ → Type 0) → g.lines ≡ lines → CanRun g → told_files r.start ≡ Some g.files
-    → IsOnGiven g r.first → (o : IsOver r lines outcomes w now) → wrote (report g.base g.rows g.lines o.log)
-    → Runs g wrote r.start now
-over_runs g r lines outcomes w now wrote same can told on o written = record {
+    (text : List Line → List ℕ) (wrote : List ℕ → Type 0) → g.lines ≡ lines → CanRun g → told_files r.start ≡ Some g.files
+    → IsOnGiven g r.first → (o : IsOver r lines outcomes w now) → wrote (text o.log)
+    → Runs g text wrote r.start now
+over_runs g r lines outcomes w now text wrote same can told on o written = record {
   log = o.log;
   numbering = numbering_of g.lines lines o.log same o.over.lines;
   written = written;
@@ -185,22 +190,89 @@ over_runs g r lines outcomes w now wrote same can told on o written = record {
       (omega (arith, room, count)) o.over.disk;
 }
 
+-- What is said of the text that was made, by the files that have all of the log's commits.
+over_told : (g : Given) (r : Run) (lines : List Line) (outcomes : List Outcome) (w : State) (now : Option Disk)
+    (form : Form) (result : Result Bytes Stop) → g.lines ≡ lines → CanRun g → told_files r.start ≡ Some g.files
+    → IsOnGiven g r.first → (o : IsOver r lines outcomes w now)
+    → ((f : Files) → told_files now ≡ Some f → HasAll g o.log f
+    → IfOk result (λ bytes. bytes.items ≡ form_text form g o.log))
+    → IfOk result (λ bytes. Runs g (form_text form g) (λ told. bytes.items ≡ told) r.start now)
+over_told g r lines outcomes w now form (Err s) same can told on o text = tt
+over_told g r lines outcomes w now form (Ok bytes) same can told on o text =
+    let found = the_files (told_files now) (HasAll g o.log)
+    (ends_files g r.first w o.log r.start now on told o.over.disk) in
+    over_runs g r lines outcomes w now (form_text form g) (λ (told : List ℕ). bytes.items ≡ told) same can told on o
+    (text found.0 found.1 found.2)
+
 -- the lines were done, and then their report was made
 pub runs_of : (g : Given) (r : Run) (lines : List Line) (outcomes : List Outcome) (w : State) (now : Option Disk)
     (result : Result Bytes Stop) → g.lines ≡ lines → LinesRise 1 lines → CanRun g
     → told_files r.start ≡ Some g.files → IsOnGiven g r.first → IsOver r lines outcomes w now
     → ((f : Files) (by : ℕ → List Row) → told_files now ≡ Some f → CanSearch f by outcomes
     → IfOk result (λ bytes. bytes.items ≡ texts by outcomes))
-    → IfOk result (λ bytes. Runs g (λ report. bytes.items ≡ report) r.start now)
-runs_of g r lines outcomes w now (Err s) same rise can told on o text = tt
-runs_of g r lines outcomes w now (Ok bytes) same rise can told on o text =
-    let found = the_files (told_files now) (HasAll g o.log)
-    (ends_files g r.first w o.log r.start now on told o.over.disk) in
-    over_runs g r lines outcomes w now (λ (report : List ℕ). bytes.items ≡ report) same can told on o
-    (over_report g r lines outcomes w now found.0 bytes.items same rise can on o found.2
-    (λ by search. text found.0 by found.1 search))
+    → IfOk result (λ bytes. Runs g (form_text Report g) (λ told. bytes.items ≡ told) r.start now)
+runs_of g r lines outcomes w now result same rise can told on o text =
+    over_told g r lines outcomes w now Report result same can told on o (λ f is all. by result f is all (text f))
+  where
+    by : (result : Result Bytes Stop) (f : Files) → told_files now ≡ Some f → HasAll g o.log f
+        → ((by : ℕ → List Row) → told_files now ≡ Some f → CanSearch f by outcomes
+        → IfOk result (λ bytes. bytes.items ≡ texts by outcomes))
+        → IfOk result (λ bytes. bytes.items ≡ report g.base g.rows g.lines o.log)
+    by (Err s) f is all text = tt
+    by (Ok bytes) f is all text =
+        over_report g r lines outcomes w now f bytes.items same rise can on o all (λ rows search. text rows is search)
 
--- ---- a report of which nothing is damaged
+-- the lines of a made script were done, and then their summary was made
+pub sums_of : MadeRuns → (g : Given) (r : Run) (lines : List Line) (outcomes : List Outcome) (w : State)
+    (now : Option Disk) (base upto : ℕ) (result : Result Bytes Stop) → g.lines ≡ lines → IsMade lines → CanRun g
+    → told_files r.start ≡ Some g.files → IsOnGiven g r.first → IsOver r lines outcomes w now
+    → base ≡ r.first.published.upto → upto ≡ w.published.upto
+    → ((f : Files) (next : ℕ) (rows : List Row) → told_files now ≡ Some f → HoldsInverted f upto next rows
+    → IfOk result (λ bytes. bytes.items ≡ text_line (summary_value (summary_of (count_by is_committed outcomes)
+    (upto - base) (map hit_of (born_after base rows))))))
+    → IfOk result (λ bytes. Runs g (form_text Summary g) (λ told. bytes.items ≡ told) r.start now)
+sums_of law g r lines outcomes w now base upto result same made can told on o from_is last_is text =
+    over_told g r lines outcomes w now Summary result same can told on o (λ f is all. by result f all (λ next rows holds. text f next rows is holds))
+  where
+    first : base ≡ g.base
+    first = from_is ∙ on.number
+
+    last : upto ≡ g.base + length o.log
+    last = let end = o.over.writer.upto in let number = on.number in omega (arith, last_is, end, number)
+
+    count : count_by is_committed outcomes ≡ count_by (λ (l : Line). is_commit l.act) lines
+    count = commits_counted (IsDocs r.first o.log) (base_of r) o.log [] lines outcomes o.outcomes
+
+    by : (result : Result Bytes Stop) (f : Files) → HasAll g o.log f
+        → ((next : ℕ) (rows : List Row) → HoldsInverted f upto next rows
+        → IfOk result (λ bytes. bytes.items ≡ text_line (summary_value (summary_of (count_by is_committed outcomes)
+        (upto - base) (map hit_of (born_after base rows))))))
+        → IfOk result (λ bytes. bytes.items ≡ text_line (summary_value (script_summary g.lines)))
+    by (Err s) f all text = tt
+    by (Ok bytes) f all text =
+        summarised law g lines o.log f (count_by is_committed outcomes) upto bytes.items same made can o.over.lines all last count
+        (λ next rows holds.
+        text next rows holds
+        ∙ ap (λ (n : ℕ). text_line (summary_value (summary_of (count_by is_committed outcomes) (upto - n) (map hit_of (born_after n rows))))) first)
+
+-- the lines were done, and then the text of this form was made
+pub told_by : MadeRuns → (g : Given) (r : Run) (form : Form) (lines : List Line) (outcomes : List Outcome) (w : State)
+    (now : Option Disk) (base upto : ℕ) (result : Result Bytes Stop) → g.lines ≡ lines → LinesRise 1 lines
+    → (form ≡ Summary → IsMade lines) → CanRun g → told_files r.start ≡ Some g.files → IsOnGiven g r.first
+    → IsOver r lines outcomes w now → base ≡ r.first.published.upto → upto ≡ w.published.upto
+    → ((f : Files) (by : ℕ → List Row) → form ≡ Report → told_files now ≡ Some f → CanSearch f by outcomes
+    → IfOk result (λ bytes. bytes.items ≡ texts by outcomes))
+    → ((f : Files) (next : ℕ) (rows : List Row) → form ≡ Summary → told_files now ≡ Some f → HoldsInverted f upto next rows
+    → IfOk result (λ bytes. bytes.items ≡ text_line (summary_value (summary_of (count_by is_committed outcomes)
+    (upto - base) (map hit_of (born_after base rows))))))
+    → IfOk result (λ bytes. Runs g (form_text form g) (λ told. bytes.items ≡ told) r.start now)
+told_by law g r Report lines outcomes w now base upto result same rise made can told on o first last reported summed =
+    runs_of g r lines outcomes w now result same rise can told on o (λ f by is search. reported f by refl is search)
+told_by law g r Summary lines outcomes w now base upto result same rise made can told on o first last reported summed =
+    sums_of law g r lines outcomes w now base upto result same (made refl) can told on o first last
+    (λ f next rows is holds. summed f next rows refl is holds)
+
+-- ---- a text of which nothing is damaged
 
 -- each search has its line, by the number that a run began on
 pub over_asked : (r : Run) (lines : List Line) (outcomes : List Outcome) (w : State) (now : Option Disk)
@@ -213,89 +285,57 @@ listed_outside s (inl e) = subst (λ (x : Stop). IsOneOf (stop_status x) (4 ∷ 
 listed_outside s (inr e) = subst (λ (x : Stop). IsOneOf (stop_status x) (4 ∷ 7 ∷ [])) (sym e) refl
 
 -- what is read after the lines were done is there
-pub whole_in : (g : Given) (r : Run) (lines : List Line) (outcomes : List Outcome) (w : State) (now : Option Disk)
-    (result : Result Bytes Stop) → LinesRise 1 lines → IsOn g → told_files r.start ≡ Some g.files → BeginsOn g r.first
+pub whole_in : MadeRuns → (g : Given) (r : Run) (form : Form) (lines : List Line) (outcomes : List Outcome) (w : State)
+    (now : Option Disk) (upto : ℕ) (result : Result Bytes Stop) → LinesRise 1 lines → (form ≡ Summary → IsMade lines)
+    → IsOn g → told_files r.start ≡ Some g.files → BeginsOn g r.first → upto ≡ w.published.upto
     → IsOver r lines outcomes w now
-    → ((f : Files) → told_files now ≡ Some f → CanRead f outcomes
+    → ((f : Files) → told_files now ≡ Some f → CanTell form upto f outcomes
     → IfErr result (λ s. (s ≡ stop.Fault fault.Store) ⊎ (s ≡ stop.NoMemory)))
     → IfErr result (λ s. IsOneOf (stop_status s) (4 ∷ 7 ∷ []))
-whole_in g r lines outcomes w now (Ok bytes) rise on told here o whole = tt
-whole_in g r lines outcomes w now (Err s) rise on told here o whole =
-    let CanBeRead : Files → Type 0 =
-    λ f. (n : ℕ) → ((1 ≤ n) × (n ≡ g.base)) ⊎ IsIn (commit_numbers g.base o.log) n → ReadsCommit f n in
-    let found = the_files (told_files now) CanBeRead
-    (reads g r.first w o.log r.start now told on here.number here.next_id here.stored o.over.disk) in
-    let asked = subst (λ (n : ℕ). AllByRecursion (IsAskedBy n o.log lines) outcomes) here.number
-    (over_asked r lines outcomes w now o) in
-    listed_outside s
-    (whole found.0 found.1 (can_read g o.log lines found.0 outcomes o.over.lines rise found.2 asked))
-
--- a status of some is one of more
-pub listed_front : (status : ℕ) (some more : List ℕ) → IsOneOf status some → IsOneOf status (some ++ more)
-listed_front status [] more h = absurd cc
-listed_front status (x ∷ some) more h = by (eqb x status) (listed_front status some more) h
+whole_in law g r form lines outcomes w now upto (Ok bytes) rise made on told here last_is o whole = tt
+whole_in law g r form lines outcomes w now upto (Err s) rise made on told here last_is o whole =
+    listed_outside s (whole found.0 found.1 (can form made))
   where
-    by : (b : Bool) → (IsOneOf status some → IsOneOf status (some ++ more))
-        → (b || list_any (λ (s : ℕ). eqb s status) some) ≡ true
-        → (b || list_any (λ (s : ℕ). eqb s status) (some ++ more)) ≡ true
-    by true rest listed = refl
-    by false rest listed = rest listed
+    CanBeRead : Files → Type 0
+    CanBeRead f = (n : ℕ) → ((1 ≤ n) × (n ≡ g.base)) ⊎ IsIn (commit_numbers g.base o.log) n → ReadsCommit f n
 
-listed_more : (a f s : Bool) → (a || (s || false)) ≡ true → (a || (f || (s || false))) ≡ true
-listed_more true f s h = refl
-listed_more false true s h = refl
-listed_more false false s h = h
+    found : (f : Files) × (told_files now ≡ Some f) × CanBeRead f
+    found = the_files (told_files now) CanBeRead
+        (reads g r.first w o.log r.start now told on here.number here.next_id here.stored o.over.disk)
 
-pub listed_wider : (status : ℕ) → IsOneOf status (4 ∷ 7 ∷ []) → IsOneOf status (4 ∷ 5 ∷ 7 ∷ [])
-listed_wider status h = listed_more (eqb 4 status) (eqb 5 status) (eqb 7 status) h
+    last : upto ≡ g.base + length o.log
+    last = let end = o.over.writer.upto in let number = here.number in omega (arith, last_is, end, number)
 
--- a fault where nothing is wrong with the words, the script and the commits is one of the source or the store
-pub no_fault : (met : Met) (f : Fault) → IsOneOf (status_of f) (4 ∷ 5 ∷ 7 ∷ []) → Caused met f
-    → (Rose met.source_before met.source_after → ⊥) → (Rose met.store_before met.store_after → ⊥) → ⊥
-no_fault met fault.Words h cause a b = cc
-no_fault met (fault.BadLine bad) h cause a b = cc
-no_fault met fault.Source h cause a b = a cause
-no_fault met fault.Store h cause a b = b cause
-no_fault met (fault.Damaged damaged) h cause a b = cc
-no_fault met (fault.Base base) h cause a b = cc
+    can : (form : Form) → (form ≡ Summary → IsMade lines) → CanTell form upto found.0 outcomes
+    can Report made =
+        can_read g o.log lines found.0 outcomes o.over.lines rise found.2
+        (subst (λ (n : ℕ). AllByRecursion (IsAskedBy n o.log lines) outcomes) here.number (over_asked r lines outcomes w now o))
+    can Summary made =
+        subst (ReadsCommit found.0) (sym last)
+        (found.2 (g.base + length o.log) (inr (last_in law lines o.log g.base (made refl) o.over.lines)))
 
--- ---- the cause of a fault
-
-pub at_err : {T : Type 0} (result : Result T Stop) (s : Stop) (P : Stop → Type 0) → result ≡ Err s
-    → IfErr result P → P s
-at_err (Ok x) s P is h = absurd cc
-at_err (Err r) s P is h = let same : r ≡ s = cc in subst P same h
-
-pub at_err_and : {T : Type 0} (result : Result T Stop) (s : Stop) (P : Stop → Type 0) → result ≡ Err s
-    → IsErrAnd result P → P s
-at_err_and result s P is h = subst (λ r. IsErrAnd r P) is h
-
-pub no_err : {T : Type 0} (result : Result T Stop) (x : T) (P : Stop → Type 0) → result ≡ Ok x → IsErrAnd result P → ⊥
-no_err result x P is h = subst (λ r. IsErrAnd r P) is h
-
-pub err_onto : {T : Type 0} (result : Result T Stop) (P Q : Stop → Type 0) → ((s : Stop) → P s → Q s)
-    → IfErr result P → IfErr result Q
-err_onto (Ok x) P Q implies h = tt
-err_onto (Err s) P Q implies h = implies s h
-
-pub caused_reading : (met : Met) (f : Fault) → IsOneOf (status_of f) (2 ∷ 3 ∷ 4 ∷ 5 ∷ [])
-    → (f ≡ fault.Words → IsAccepted met.words → ⊥)
-    → ((bad : BadLine) → f ≡ fault.BadLine bad → IsBadIn met.input bad)
-    → (f ≡ fault.Source → Rose met.source_before met.source_after) → Caused met f
-caused_reading met fault.Words h words bad source = words refl
-caused_reading met (fault.BadLine line) h words bad source = bad line refl
-caused_reading met fault.Source h words bad source = source refl
-caused_reading met fault.Store h words bad source = absurd cc
-caused_reading met (fault.Damaged damaged) h words bad source = absurd cc
-caused_reading met (fault.Base base) h words bad source = absurd cc
-
-pub caused_doing : (met : Met) (f : Fault) → IsOneOf (status_of f) (4 ∷ 7 ∷ 8 ∷ 10 ∷ [])
-    → (f ≡ fault.Store → Rose met.store_before met.store_after)
-    → ((d : Damaged) → f ≡ fault.Damaged d → FindsDamage met.input (told_files met.store) (told_files met.left) d)
-    → ((b : ℕ) → f ≡ fault.Base b → IsHighBase (told_files met.store) b) → Caused met f
-caused_doing met fault.Words h store damaged base = absurd cc
-caused_doing met (fault.BadLine bad) h store damaged base = absurd cc
-caused_doing met fault.Source h store damaged base = absurd cc
-caused_doing met fault.Store h store damaged base = store refl
-caused_doing met (fault.Damaged d) h store damaged base = damaged d refl
-caused_doing met (fault.Base b) h store damaged base = base b refl
+-- what is damaged after the lines were done was to be read
+pub damaged_in : MadeRuns → (r : Run) (form : Form) (lines : List Line) (outcomes : List Outcome) (w : State)
+    (old now : Option Disk) (base upto : ℕ) (damaged : Damaged) → (form ≡ Summary → IsMade lines)
+    → IsBase (told_files old) (base_of r) → upto ≡ w.published.upto → IsOver r lines outcomes w now
+    → TellsDamaged form upto outcomes (told_files now) damaged
+    → ReadsDamaged form lines (told_files old) (told_files now) damaged
+damaged_in law r Report lines outcomes w old now base upto damaged made is_base last_is o found = record {
+  base = base_of r;
+  last = is_base;
+  number = found.2.number;
+  some = found.2.some;
+  reads = inr (is_asked (base_of r) o.log lines outcomes found.0 found.2.number found.2.query o.over.lines
+      (over_asked r lines outcomes w now o) found.1 found.2.searches);
+  broken = found.2.broken;
+}
+damaged_in law r Summary lines outcomes w old now base upto damaged made is_base last_is o found =
+    let last : upto ≡ base_of r + length o.log = (let end = o.over.writer.upto in omega (arith, last_is, end)) in
+    record {
+      base = base_of r;
+      last = is_base;
+      number = upto;
+      some = (let above = last_above law lines o.log (base_of r) (made refl) o.over.lines in omega (arith, last, above));
+      reads = inr (record { log = o.log; numbering = o.over.lines; is = last });
+      broken = found;
+    }

@@ -5,12 +5,11 @@ use Rattle.std.specs.Prelude.{Option, Some, None}
 use Rattle.std.specs.Io.KnownBytes.{Consumes, IsAtEnd, Keeps}
 use Rattle.std.proofs.lemmas.List.{length-append, length-take}
 use Rattle.ix_outside.specs.Files.{Was}
-use Rattle.op_script.specs.declared.script.Line.{Line}
 use Rattle.op_script.specs.declared.script.BadLine.{BadLine}
 use Rattle.index_run.specs.Causes.{TakesUpTo}
 
 -- what is told to be bad is the input that was read, or one that is too long like it
-pub bad_in : (script : List ℕ → Result (List Line) BadLine) (most : ℕ) (long bad : BadLine)
+pub bad_in : {T : Type 0} (script : List ℕ → Result (List T) BadLine) (most : ℕ) (long bad : BadLine)
     (old new : Option (List ℕ)) (read : List ℕ)
     → ((input : List ℕ) → most < length input → script input ≡ Err long) → Consumes old new read
     → (IsAtEnd new) ⊎ (most < length read) → script read ≡ Err bad

@@ -147,8 +147,8 @@ last_there files d last is has = record {
 }
 
 -- the writer is on the last commit of the files
-pub opened_of_commits : OpenedGoOn → (files : Files) (last : Opened) (size : ℕ) (w : State) → w ≡ opened_on last size
+pub opened_of_commits : OpenedGoOn → (files : Files) (last : Opened) (size merge : ℕ) (w : State) → w ≡ opened_on last size merge
     → IsLastOf files last → IsOfCommits files w
-opened_of_commits law files last size w is last_is d has =
+opened_of_commits law files last size merge w is last_is d has =
     subst (λ (s : State). IsStored d s) (sym is)
-    ((law d last).goes_on size (last_there files d last last_is has)).stored
+    ((law d last).goes_on size merge (last_there files d last last_is has)).stored

@@ -1,5 +1,6 @@
 pub mod Pieces
 pub mod LogNumbers
+pub mod EndsMerged
 pub mod WriterOn
 pub mod KeptThere
 pub mod MadeCommits
@@ -14,5 +15,9 @@ pub mod Driven
 pub mod Beginnings
 pub mod Inputs
 pub mod Searchable
+pub mod Summarised
+pub mod Listed
 pub mod Finish
+pub mod Commanded
+pub mod Promised
 pub mod Ended

@@ -14,13 +14,13 @@ use Rattle.ix_outside.specs.Files.{Changes}
 use Rattle.ix_outside.specs.Images.{Follows, Reaches}
 use Rattle.op_script.specs.Shape.{LinesRise}
 use Rattle.op_script.specs.declared.script.Line.{Line}
-use Rattle.flush_control.specs.Logs.{NoCommit, seconds}
+use Rattle.round_order.specs.Order.{NoCommit, seconds}
 use Rattle.index_writer.specs.declared.round.RoundEnd.{RoundEnd}
 use Rattle.index_writer.specs.declared.round.RoundParts.{RoundParts}
 use Rattle.index_writer.specs.declared.state.State.{State}
 use Rattle.flush_control.specs.declared.published.Published.{Published}
 use Rattle.index_writer.specs.Ready.{HasRows, IsReady, IsSound}
-use Rattle.index_writer.specs.Rounds.{ArePartsOf, Ends}
+use Rattle.index_writer.specs.Rounds.{ArePartsOf}
 use Rattle.index_writer.specs.Storing.{Commits, MayCommit, SameBelow, Settles, on_commit}
 use Rattle.run_log.specs.CommitLaws.{IsDoing, commit_is_told, each_doing, last_committed, none_committed, one_commit, plain_lines}
 use Rattle.run_log.specs.NumberLaws.{HasLine, commits_append, has_line_behind, lines_told, rows_at_all}
@@ -32,6 +32,7 @@ use Rattle.run_log.specs.ToldLaws.{told_none}
 use Rattle.index_run.specs.Doing.{IsWriterOn}
 use Rattle.index_run.specs.Driving.{EndsRound, IsAt, IsCut, IsRound, Run, base_of}
 use Rattle.index_run.specs.Leaving.{CommitLaws, IsDiskAfter, IsNextCommit}
+use Rattle.index_run.specs.Merged.{EndsMerged}
 use Rattle.index_run.proofs.Between.{all_count, all_lines, all_numbers, front_lines, with_rest}
 use Rattle.index_run.proofs.DiskAfter.{disk_commit, disk_count, disk_round, disk_same}
 use Rattle.index_run.proofs.LogNumbers.{numbers_front, numbers_whole}
@@ -138,7 +139,7 @@ no_more_commits base log more none =
     ∙ sym (numbers_whole base (log ++ more))
 
 module _ (r : Run) (done log : List Line) (tells : List Tell) (w v : State) (parts : RoundParts) (end : RoundEnd) (mid : Option Disk)
-    (h : IsRound r done log tells w parts mid) (e : Ends (told_lists r.workers tells) end w v) (ready : IsReady v)
+    (h : IsRound r done log tells w parts mid) (e : EndsMerged (told_lists r.workers tells) end w v) (ready : IsReady v)
     (more : List Line) (order : IsOrder w.published.upto tells e.ts more) where
   pub writer_on : IsWriterOn r.first (log ++ more) v
   writer_on = writer_round r.first w v log more (told_lists r.workers tells) end h.before.writer e ready order.ops order.count

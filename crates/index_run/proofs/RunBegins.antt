@@ -64,29 +64,29 @@ last_of_given g last can lawful is = subst (IsLastOf g.files) (sym is) (record {
 })
 
 -- the writer is on the lawful commit
-pub begins_lawful : OpenedGoOn → (g : Given) (last : Opened) (size : ℕ) (w : State) → CanRun g
+pub begins_lawful : OpenedGoOn → (g : Given) (last : Opened) (size merge : ℕ) (w : State) → CanRun g
     → (lawful : IsLawful g.files g.base g.next g.rows)
     → last ≡ record {
       number = g.base;
       next_id = g.next;
       entries = lawful.holds.holds.entries;
       segments = lawful.holds.holds.segments;
-    } → w ≡ opened_on last size → IsOnGiven g w
-begins_lawful law g last size w can lawful is on = subst (IsOnGiven g) (sym on) here
+    } → w ≡ opened_on last size merge → IsOnGiven g w
+begins_lawful law g last size merge w can lawful is on = subst (IsOnGiven g) (sym on) here
   where
     last_is : IsLastOf g.files last
     last_is = last_of_given g last can lawful is
 
-    rows : HasRows (opened_on last size) g.rows
-    rows = subst (λ (x : Opened). HasRows (opened_on x size) g.rows) (sym is)
+    rows : HasRows (opened_on last size merge) g.rows
+    rows = subst (λ (x : Opened). HasRows (opened_on x size merge) g.rows) (sym is)
         (record { rows_are = lawful.holds.holds.rows_are; inverted = lawful.holds.inverted })
 
-    here : IsOnGiven g (opened_on last size)
+    here : IsOnGiven g (opened_on last size merge)
     here = record {
       number = ap (λ (x : Opened). x.number) is;
       next_id = ap (λ (x : Opened). x.next_id) is;
       rows = rows;
-      goes_on = (law g.files last).goes_on size last_is;
-      of_commits = opened_of_commits law g.files last size (opened_on last size) refl last_is;
+      goes_on = (law g.files last).goes_on size merge last_is;
+      of_commits = opened_of_commits law g.files last size merge (opened_on last size merge) refl last_is;
       room = lawful.room;
     }

@@ -1,5 +1,5 @@
 -- What is promised of a run's files and images, at its end and where it stops.
-use Rattle.std.proofs.Common.{◌≡◌, ◌⊎◌, inl, inr, ℕ, ◌+◌, ◌<◌, ◌≤◌, ◌^◌, List, [], ◌∷◌, ◌++◌, length}
+use Rattle.std.proofs.Common.{◌≡◌, ◌⊎◌, inl, inr, ℕ, ◌+◌, ◌*◌, ◌<◌, ◌≤◌, ◌^◌, List, [], ◌∷◌, ◌++◌, length}
 use Rattle.std.proofs.Common.{take, Some, None, refl, sym, ap, subst, ◌∙◌, arith}
 use Rattle.std.specs.Prelude.{Option, IsSome, IsSomeAnd}
 use Rattle.std.specs.List.{AllByRecursion}
@@ -33,7 +33,7 @@ use Rattle.index_run.proofs.SomeRows.{some_rows}
 -- ---- the first of a log's commits
 
 new_commit : (g : Given) (first : State) (log rest : List Line) (limit : ℕ) (old new : Files) (s : ℕ)
-    → IsOnGiven g first → limit ≤ first.published.next_id + length log → GoesOn old first
+    → IsOnGiven g first → limit ≤ first.published.next_id + 2 * length log → GoesOn old first
     → IsMade first log limit old new s → IsNewCommit g (log ++ rest) new s
 new_commit g first log rest limit old new s on le goes made =
     let here : rows_at first.published.upto g.rows log s ≡ rows_at g.base g.rows (log ++ rest) s =
@@ -48,7 +48,7 @@ new_commit g first log rest limit old new s on le goes made =
     }
 
 each_new : (g : Given) (first : State) (log rest : List Line) (limit : ℕ) (old new : Files) (ns : List ℕ)
-    → IsOnGiven g first → limit ≤ first.published.next_id + length log → GoesOn old first
+    → IsOnGiven g first → limit ≤ first.published.next_id + 2 * length log → GoesOn old first
     → AllByRecursion (IsMade first log limit old new) ns → AllByRecursion (IsNewCommit g (log ++ rest) new) ns
 each_new g first log rest limit old new [] on le goes each = tt
 each_new g first log rest limit old new (n ∷ ns) on le goes each = (
@@ -58,7 +58,7 @@ each_new g first log rest limit old new (n ∷ ns) on le goes each = (
 
 -- commits that were made over files with the given ones are the first of the log's
 has_first : (g : Given) (first : State) (log rest : List Line) (count limit : ℕ) (old new : Files) → IsOnGiven g first
-    → count ≤ length log → limit ≤ first.published.next_id + length log → HasOnly g.files old → GoesOn old first
+    → count ≤ length log → limit ≤ first.published.next_id + 2 * length log → HasOnly g.files old → GoesOn old first
     → HasFront first log (first_numbers first log count) limit old new → HasFirst g (log ++ rest) count new
 has_first g first log rest count limit old new on few le has goes front =
     let is : first_numbers first log count ≡ commit_numbers g.base (take count (log ++ rest)) =
@@ -75,7 +75,7 @@ has_first g first log rest count limit old new on few le has goes front =
 
 -- all of the log's
 has_all : (g : Given) (first w : State) (log : List Line) (old new : Files) → IsOnGiven g first
-    → w.since ≤ first.published.next_id + length log → HasOnly g.files old → GoesOn old first
+    → w.since ≤ first.published.next_id + 2 * length log → HasOnly g.files old → GoesOn old first
     → Stands first log (first_numbers first log (length log)) w old new → HasAll g log new
 has_all g first w log old new on high has goes stands =
     subst (λ (ls : List Line). HasFirst g ls (length log) new) (append-nil log)
@@ -189,7 +189,7 @@ again_some g first log limit front s f begun on room is made =
 
 pub ends_again : (g : Given) (first w : State) (log : List Line) (start now : Option Disk) → CanBegin first
     → IsOnGiven g first → IsOfCommits g.files first → CanRun g → told_files start ≡ Some g.files → IsKept g start
-    → g.next + length log ≤ 2 ^ 61 → IsDiskAfter first log (length log) w start now → GivesBack now
+    → g.next + 2 * length log ≤ 2 ^ 61 → IsDiskAfter first log (length log) w start now → GivesBack now
 ends_again g first w log start now begun on stays can told are room disk =
     by (split_last (first_numbers first log (length log)))
   where
@@ -231,7 +231,7 @@ crash_some g first log rest start now on stays are crash =
     leaves_less start now (Reaches (HasSomeFront first log) (MayHold start)) (HasSome g (log ++ rest)) crash
     (λ c left. (
       left.2.0,
-      has_first g first log rest left.2.0 (first.published.next_id + length log) left.0 c on left.2.1 (omega arith)
+      has_first g first log rest left.2.0 (first.published.next_id + 2 * length log) left.0 c on left.2.1 (omega arith)
           (only_image g.files (MayHold start) are left.0 left.1) (begins_image g first start on stays are left.0 left.1)
           left.2.2,
     ))

@@ -1,23 +1,23 @@
 -- The writer of a run, from round to round.
-use Rattle.std.proofs.Common.{◌≡◌, ℕ, ◌+◌, ◌≤◌, ◌^◌, List, [], ◌++◌, length, refl, sym, ap, subst, ◌∙◌}
+use Rattle.std.proofs.Common.{◌≡◌, ℕ, ◌+◌, ◌*◌, ◌≤◌, ◌^◌, List, [], ◌++◌, length, refl, sym, ap, subst, ◌∙◌}
 use Rattle.std.proofs.Common.{arith}
 use Rattle.std.proofs.lemmas.List.{length-append, length-map}
 use Rattle.ix_base.specs.declared.document.Operation.{Operation}
 use Rattle.ix_base.specs.declared.document.Row.{Row}
 use Rattle.ix_base.specs.Steps.{after}
 use Rattle.flush_control.specs.declared.published.Published.{Published}
-use Rattle.flush_control.specs.Logs.{Working, seconds}
+use Rattle.round_order.specs.Order.{Working, seconds}
 use Rattle.flush_control.specs.Published.{StandsFor}
 use Rattle.op_script.specs.declared.script.Line.{Line}
 use Rattle.row_fates.specs.Fate.{Numbered}
 use Rattle.index_writer.specs.declared.round.RoundEnd.{RoundEnd}
 use Rattle.index_writer.specs.declared.state.State.{State}
 use Rattle.index_writer.specs.Ready.{HasRows, IsReady}
-use Rattle.index_writer.specs.Rounds.{Ends}
 use Rattle.index_writer.specs.Storing.{on_commit}
 use Rattle.run_log.specs.Headline.{operations}
 use Rattle.index_run.specs.Doing.{CanBegin, IsWriterOn}
-use Rattle.index_run.proofs.LogNumbers.{after_append, few_added, operations_append}
+use Rattle.index_run.specs.Merged.{EndsMerged}
+use Rattle.index_run.proofs.LogNumbers.{after_append, operations_append}
 
 pub writer_start : (first : State) → CanBegin first → IsWriterOn first [] first
 writer_start first can = record {
@@ -42,7 +42,7 @@ rows_more base upto rows log more ops same is =
     ∙ ap (λ (xs : List Operation). after rows base xs) (sym (operations_append log more))
 
 pub writer_round : (first old new : State) (log more : List Line) (told : List (List Numbered)) (end : RoundEnd)
-    → IsWriterOn first log old → (e : Ends told end old new) → IsReady new → operations more ≡ seconds e.ts
+    → IsWriterOn first log old → (e : EndsMerged told end old new) → IsReady new → operations more ≡ seconds e.ts
     → length more ≡ length e.ts → IsWriterOn first (log ++ more) new
 writer_round first old new log more told end on e ready ops count =
     let base = first.published.upto in
@@ -65,8 +65,6 @@ writer_round first old new log more told end on e ready ops count =
         arith,
         on.high,
         e.few,
-        few_added old.published.upto (seconds e.ts),
-        many,
         count,
         length-append log more,
       );
@@ -105,5 +103,5 @@ writer_same first w v log on same closed ready =
 
 -- the ids stay small, where the log is short
 pub room_left : (first w : State) (log : List Line) → IsWriterOn first log w → first.published.next_id ≤ 2 ^ 61
-    → length log ≤ 2 ^ 61 → w.published.next_id ≤ 2 ^ 62
+    → 2 * length log ≤ 2 ^ 61 → w.published.next_id ≤ 2 ^ 62
 room_left first w log on low few = omega (arith, on.high, low, few)

@@ -1,14 +1,22 @@
--- Where a run finds a broken file.
-use Rattle.std.specs.Prelude.{◌≡◌, ◌⊎◌, ℕ, ◌≤◌, List, ◌∷◌, ◌++◌, Option}
+-- Where a command finds a broken file.
+use Rattle.std.specs.Prelude.{◌≡◌, ◌⊎◌, ℕ, ◌+◌, ◌≤◌, List, ◌∷◌, ◌++◌, length, Option, Ok}
+use Rattle.command_words.specs.declared.command.Command.{Command}
+use Rattle.command_words.specs.declared.command.Command.TheVariants.{Ask, Make, Run}
+use Rattle.command_words.specs.declared.command.Command.TheVariants as command
 use Rattle.ix_base.specs.declared.damaged.Damaged.{Damaged}
 use Rattle.ix_base.specs.declared.query.Query.{Query}
-use Rattle.ix_outside.specs.Files.{Files}
+use Rattle.ix_outside.specs.Files.{Files, Was}
+use Rattle.op_script.specs.Language.{script}
 use Rattle.op_script.specs.declared.script.Act.TheVariants.{Search}
 use Rattle.op_script.specs.declared.script.Line.{Line}
-use Rattle.searcher.specs.Searching.{IsDamagedIn}
-use Rattle.index_run.specs.Beginning.{IsBase}
-use Rattle.index_run.specs.Causes.{IsScript}
 use Rattle.run_log.specs.Headline.{Interleaves, last_commit}
+use Rattle.script_maker.specs.Made.{made_script}
+use Rattle.searcher.specs.Searching.{IsDamagedIn}
+use Rattle.store_answers.specs.Asking.{IsDamagedAsked}
+use Rattle.store_answers.specs.Listing.{IsBrokenCommit}
+use Rattle.index_run.specs.Beginning.{IsBase}
+use Rattle.index_run.specs.declared.telling.Form.{Form}
+use Rattle.index_run.specs.declared.telling.Form.TheVariants.{Report, Summary}
 
 -- A search line asks for the commit of this number, for one order of the numbered lines: for that
 -- of its caller's last commit line before it, or else for the one that the run began on.
@@ -23,19 +31,36 @@ pub record IsAsked (base : ℕ) (lines : List Line) (number : ℕ) : Type 0 wher
   pub search : line.act ≡ Search query
   pub is : number ≡ last_commit base log line.caller base before
 
+-- the number is that of the run's last line, for one order of the numbered lines
+pub record IsEnd (base : ℕ) (lines : List Line) (number : ℕ) : Type 0 where
+  pub log : List Line
+  pub numbering : Interleaves lines log
+  pub is : number ≡ base + length log
+
+-- What a run reads once its lines are done: for its report the commits that search lines ask for, and for its summary the
+-- last one.
+abbrev pub IsRead : Form → ℕ → List Line → ℕ → Type 0
+IsRead Report base lines number = IsAsked base lines number
+IsRead Summary base lines number = IsEnd base lines number
+
 -- A commit that a run over these lines reads is first broken at this place: the last one, on which
--- the run begins, while the files are as they were, or one that a search line asks for. The number
+-- the run begins, while the files are as they were, or one that it reads once the lines are done. The number
 -- 0 stands for no commit.
-pub record ReadsDamaged (lines : List Line) (old new : Option Files) (damaged : Damaged)
+pub record ReadsDamaged (form : Form) (lines : List Line) (old new : Option Files) (damaged : Damaged)
     : Type 0 where
   pub base : ℕ
   pub last : IsBase old base
   pub number : ℕ
   pub some : 1 ≤ number
-  pub reads : ((number ≡ base) × (new ≡ old)) ⊎ IsAsked base lines number
+  pub reads : ((number ≡ base) × (new ≡ old)) ⊎ IsRead form base lines number
   pub broken : IsDamagedIn new number damaged
 
--- the same of a run over the script that the input is
-abbrev pub FindsDamage : Option (List ℕ) → Option Files → Option Files → Damaged → Type 0
-FindsDamage input old new damaged =
-    (lines : List Line) × IsScript input lines × ReadsDamaged lines old new damaged
+-- A command finds a file first broken at this place: of a commit that its run reads, of the commit that is asked for, or
+-- of those that are listed.
+abbrev pub FindsDamage : Command → Option (List ℕ) → Option Files → Option Files → Damaged → Type 0
+FindsDamage (Run threads buffer merge) input old new damaged = (lines : List Line) × ((bytes : List ℕ) × Was input bytes
+    × (script bytes ≡ Ok lines)) × ReadsDamaged Report lines old new damaged
+FindsDamage (Make seed count callers) input old new damaged =
+    ReadsDamaged Summary (made_script seed count callers) old new damaged
+FindsDamage (Ask commit) input old new damaged = IsDamagedAsked old commit damaged
+FindsDamage command.List input old new damaged = (s : ℕ) × IsBrokenCommit old s damaged

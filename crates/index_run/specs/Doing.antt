@@ -1,5 +1,5 @@
 -- What a run does to its writer, and what it begins on.
-use Rattle.std.specs.Prelude.{◌≡◌, ◌+◌, ◌≤◌, ◌^◌, List, length, None, false}
+use Rattle.std.specs.Prelude.{◌≡◌, ◌+◌, ◌*◌, ◌≤◌, ◌^◌, List, length, None, false}
 use Rattle.ix_base.specs.Steps.{after}
 use Rattle.ix_base.specs.declared.document.Row.{Row}
 use Rattle.op_script.specs.declared.script.Line.{Line}
@@ -37,4 +37,4 @@ pub record IsWriterOn (first : State) (log : List Line) (w : State) : Type 0 whe
   pub rows : (rows : List Row) → HasRows first rows
       → HasRows w (after rows first.published.upto (operations log))
   pub low : first.published.next_id ≤ w.published.next_id
-  pub high : w.published.next_id ≤ first.published.next_id + length log
+  pub high : w.published.next_id ≤ first.published.next_id + 2 * length log

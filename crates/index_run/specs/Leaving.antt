@@ -1,5 +1,5 @@
 -- What a run leaves on the disk, round after round.
-use Rattle.std.specs.Prelude.{◌≡◌, ◌⊎◌, ℕ, ◌+◌, ◌≤◌, List, [], ◌∷◌, ◌++◌, length, take, Option, Some, IsSome}
+use Rattle.std.specs.Prelude.{◌≡◌, ◌⊎◌, ℕ, ◌+◌, ◌*◌, ◌≤◌, List, [], ◌∷◌, ◌++◌, length, take, Option, Some, IsSome}
 use Rattle.std.specs.List.{AllByRecursion}
 use Rattle.ix_base.specs.declared.document.Row.{Row}
 use Rattle.ix_base.specs.declared.file_name.FileName.TheVariants.{Commit}
@@ -83,7 +83,7 @@ IsNextCommit first log count s =
 -- the commits of the log's first lines were made, up to some line
 abbrev pub HasSomeFront : State → List Line → Files → Files → Type 0
 HasSomeFront first log old new = (count : ℕ) × (count ≤ length log)
-    × HasFront first log (first_numbers first log count) (first.published.next_id + length log) old new
+    × HasFront first log (first_numbers first log count) (first.published.next_id + 2 * length log) old new
 
 -- ---- the disk
 
@@ -93,7 +93,7 @@ HasSomeFront first log old new = (count : ℕ) × (count ≤ length log)
 pub record IsDiskAfter (first : State) (log : List Line) (count : ℕ) (w : State) (start now : Option Disk)
     : Type 0 where
   pub low : first.published.next_id ≤ w.since
-  pub high : w.since ≤ first.published.next_id + length log
+  pub high : w.since ≤ first.published.next_id + 2 * length log
   pub files : Changes (Stands first log (first_numbers first log count) w) (told_files start) (told_files now)
   pub images : Follows (Stands first log (first_numbers first log count) w) (MayHold start) (MayHold now)
   pub crash : LeavesOnly start now (Reaches (HasSomeFront first log) (MayHold start))

@@ -1,10 +1,13 @@
-pub mod Words
+pub mod Commands
 pub mod Causes
 pub mod Outcomes
 pub mod OutcomeLaws
 pub mod Leaving
 pub mod Doing
+pub mod Merged
 pub mod Driving
 pub mod Beginning
+pub mod Telling
 pub mod Damage
 pub mod Endings
+pub mod Promises

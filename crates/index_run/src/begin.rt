@@ -89,10 +89,17 @@ pub struct Unbegun<S> {
     pub stop: Stop,
 }
 
-/// The writer on the store's last commit, with buffers of so many documents. Without a commit it has
-/// no row, the number 0, and 1 as the next id. The store is read alone; after an error it is given back.
-pub fn begin<S: Store>(alloc: Global, store: S, buffer: u32) -> Result<IndexWriter<S>, Unbegun<S>>
+/// The writer on the store's last commit, with buffers of so many documents, which merges so many
+/// segments into one. Without a commit it has no row, the number 0, and 1 as the next id. The store is
+/// read alone; after an error it is given back.
+pub fn begin<S: Store>(
+    alloc: Global,
+    store: S,
+    buffer: u32,
+    merge: u32,
+) -> Result<IndexWriter<S>, Unbegun<S>>
     requires buffer { (1 ≤ buffer) × (buffer ≤ 65536) }
+    requires merge { (2 ≤ merge) × (merge ≤ 64) }
     ensures ready { IfOk result (λ writer. CanBegin writer.state) }
     ensures out { IfOk result (λ writer. writer.state.out ≡ false) }
     ensures last { IfOk result (λ writer.
@@ -129,9 +136,9 @@ pub fn begin<S: Store>(alloc: Global, store: S, buffer: u32) -> Result<IndexWrit
         Err(stop) => return Err(Unbegun { store, stop }),
     };
     let Some(opened) = last else {
-        return Ok(IndexWriter::none(alloc, store, buffer));
+        return Ok(IndexWriter::none(alloc, store, buffer, merge));
     };
-    match IndexWriter::open(alloc, store, opened, buffer) {
+    match IndexWriter::open(alloc, store, opened, buffer, merge) {
         Ok(writer) => Ok(writer),
         Err(refused) => Err(Unbegun {
             store: refused.store,

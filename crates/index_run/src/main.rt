@@ -1,5 +1,6 @@
-//! `index_run DIR run`: reads a script from standard input, does it over the index in the directory,
-//! and writes its report.
+//! `index_run DIR COMMAND`: `run` does the script that standard input is over the index in the directory,
+//! and writes its report; `ask` answers questions about one of its commits, `list` lists these, and
+//! `make` runs a script that is made from a seed.
 #![tactic(auto)]
 
 use ix_outside::{DirStore, EmptyGate, ReadSource, WriteSink};
@@ -8,8 +9,10 @@ use std::process::ExitCode;
 use std::rt::Env;
 use std::{env, io};
 
+mod answering;
 mod begin;
 mod call;
+mod commands;
 mod doing;
 mod input;
 mod lines;
@@ -17,8 +20,11 @@ mod output;
 mod reading;
 mod rounds;
 mod stop;
+mod telling;
 #[cfg(test)]
 mod tests;
+#[cfg(test)]
+mod tests_commands;
 #[cfg(test)]
 mod tests_crash;
 #[cfg(test)]

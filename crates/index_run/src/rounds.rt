@@ -1,10 +1,13 @@
 //! The rounds of a run: where one ends, its commit is written and the next one is begun.
-ghost use Rattle.std.specs.Prelude.{◌≡◌, ◌≤◌, ◌<◌, ◌++◌, ℕ, [], List, length, IfOk, OnOk, OnErr, Err, true, false};
+ghost use Rattle.std.specs.Prelude.{◌≡◌, ◌≤◌, ◌<◌, ◌++◌, ℕ, [], List, length, IfOk, OnOk, OnErr, Err, None, true, false};
 ghost use Rattle.ix_outside.specs.Causes.{Rose};
 ghost use Rattle.op_script.specs.Shape.{LinesRise};
 ghost use Rattle.op_script.specs.declared.script.Line.{Line};
 ghost use Rattle.index_writer.specs.Ready.{IsSound};
+ghost use Rattle.index_writer.specs.Rounds.{ArePartsOf};
 ghost use Rattle.index_writer.specs.Working.{IsStuck, links_of};
+ghost use Rattle.row_fates.specs.Fate.{Numbered};
+ghost use Rattle.index_run.specs.Merged.{EndsMerged};
 ghost use Rattle.run_log.specs.Telling.{Tell};
 ghost use Rattle.run_report.specs.declared.outcome.Outcome.{Outcome};
 ghost use Rattle.index_run.specs.Driving.{EndsRound, HasCome, IsAt, IsCut, IsFar, IsOver, IsRound, NextRound, Run};
@@ -15,7 +18,7 @@ use std::alloc::Global;
 use std::thread::Threads;
 
 /// No round is begun after a number above this, and no commit written or round begun where the next
-/// segment's id is above it: 2^62. No script leads there.
+/// segment's id is above it: 2^62. Over a store that this program made no script leads there.
 const MOST: u64 = 4_611_686_018_427_387_904;
 
 /// Begins the next round, of so many writers.
@@ -68,6 +71,40 @@ pub fn round_of<S: Store>(
     }
 }
 
+/// Ends the round that is out, and then merges segments where there are many. This is done only where
+/// a line got a number in the round: a merge may take an id, and so the ids stay few.
+fn end_round<R: Threads + Sync, S: Store>(
+    rt: &R,
+    writer: &mut IndexWriter<S>,
+    parts: RoundParts,
+) -> Result<RoundEnd, WriterFault>
+    requires sound { IsSound writer.old.state }
+    requires on { writer.old.state.closed ≡ false }
+    requires out { writer.old.state.out ≡ true }
+    requires pending { writer.old.state.pending ≡ None }
+    requires parts { (told : List (List Numbered)) × ArePartsOf writer.old.state.published.upto told parts }
+    ensures ended { (told : List (List Numbered)) → ArePartsOf writer.old.state.published.upto told parts
+        → IfOk result (λ end. EndsMerged told end writer.old.state writer.new.state) }
+    ensures sound { IsSound writer.new.state }
+    ensures store { writer.new.store ≡ writer.old.store }
+    ensures outside { result ≡ Err WriterFault.Store → ⊥ }
+    // What closes a queue was linked by one of its writers.
+    ensures open { OnOk result (IsStuck parts → ⊥) }
+{
+    let before = writer.upto();
+    let end = match writer.end_round(rt, parts) {
+        Ok(end) => end,
+        Err(refused) => return Err(refused.fault),
+    };
+    if writer.upto() > before {
+        if writer.next_id() > MOST {
+            return Err(WriterFault::NoMemory);
+        }
+        writer.merge_step()?;
+    }
+    Ok(end)
+}
+
 /// Ends the round that is out, and writes its commit where it ended with one. It returns how many
 /// rows that has, or 0 without one.
 pub fn finish_round<R: Threads + Sync, S: Store>(
@@ -92,7 +129,7 @@ pub fn finish_round<R: Threads + Sync, S: Store>(
 {
     commits_go_on();
     commits_hold();
-    match writer.end_round(rt, parts) {
+    match end_round(rt, writer, parts) {
         Ok(RoundEnd::Committed(_)) => {
             if writer.next_id() > MOST {
                 return Err(WriterFault::NoMemory);
@@ -101,7 +138,7 @@ pub fn finish_round<R: Threads + Sync, S: Store>(
         }
         Ok(RoundEnd::Turned) => Ok(0),
         Ok(RoundEnd::Ran) => Ok(0),
-        Err(refused) => Err(refused.fault),
+        Err(fault) => Err(fault),
     }
 }
 

@@ -14,10 +14,10 @@ open-requires-clause-last g c =
 pub returns-in-Ok-open-clause-on : goal.returns-in-Ok-open-clause-on
 returns-in-Ok-open-clause-on g c = λ given told last on.
     let opens = subst (OpensOn given) c.in-Some.is (c.in-Ok.ensures.on given told last on) in
-    opened_begins given c.in-Some.opened c.args.buffer c.in-Ok-open.writer.state on opens c.in-Ok-open.ensures.state
+    opened_begins given c.in-Some.opened c.args.buffer c.args.merge c.in-Ok-open.writer.state on opens c.in-Ok-open.ensures.state
 
 pub returns-in-Ok-open-clause-given : goal.returns-in-Ok-open-clause-given
 returns-in-Ok-open-clause-given g c = λ given told can.
     let opens = subst (OpensOn given) c.in-Some.is (c.in-Ok.ensures.on given told can.0 (begins_on given can)) in
-    opened_on_given c.opened_go_on.ensures given c.in-Some.opened c.args.buffer c.in-Ok-open.writer.state can opens
+    opened_on_given c.opened_go_on.ensures given c.in-Some.opened c.args.buffer c.args.merge c.in-Ok-open.writer.state can opens
     c.in-Ok-open.ensures.state

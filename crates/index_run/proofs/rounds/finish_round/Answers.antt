@@ -1,6 +1,6 @@
 use Rattle.std.proofs.Common.{◌≡◌, ◌∙◌, ◌≤◌, ◌^◌, ◌++◌, false, sym, ap, subst, arith}
 use Rattle.index_writer.specs.declared.state.State.{State}
-use Rattle.flush_control.specs.Logs.{seconds}
+use Rattle.round_order.specs.Order.{seconds}
 use Rattle.index_writer.specs.declared.round.RoundEnd.{RoundEnd}
 use Rattle.index_writer.specs.Rounds.{EndsBy}
 use Rattle.run_log.specs.Telling.{told_lists}
@@ -23,8 +23,8 @@ returns-in-Err-clause-cut g c = λ r done log tells rest h.
 pub returns-in-Ok-Turned-clause-ends : goal.returns-in-Ok-Turned-clause-ends
 returns-in-Ok-Turned-clause-ends g c = λ r done log tells h.
     let w = c.args.writer.now.state in
-    let v = c.end_round.new.self.state in
-    let e = c.in-Ok-Turned.ensures.ended h.before.writer.is_open (told_lists r.workers tells) h.parts_are in
+    let v = c.end_round.new.writer.state in
+    let e = c.in-Ok-Turned.ensures.ended (told_lists r.workers tells) h.parts_are in
     let ends = subst (λ (x : RoundEnd). EndsBy x (seconds e.ts) v) c.in-Ok-Turned.field-0-is e.by_end in
     let o = order_in r done log tells w c.args.parts (g.S.Store.disk c.args.writer.now.store) h e.ts e.order in
     subst (EndsRound r done log tells 0 v) (sym (ap (λ s. g.S.Store.disk s) c.end_round.ensures.store))
@@ -34,8 +34,8 @@ returns-in-Ok-Turned-clause-ends g c = λ r done log tells h.
 pub returns-in-Ok-Ran-clause-ends : goal.returns-in-Ok-Ran-clause-ends
 returns-in-Ok-Ran-clause-ends g c = λ r done log tells h.
     let w = c.args.writer.now.state in
-    let v = c.end_round.new.self.state in
-    let e = c.in-Ok-Ran.ensures.ended h.before.writer.is_open (told_lists r.workers tells) h.parts_are in
+    let v = c.end_round.new.writer.state in
+    let e = c.in-Ok-Ran.ensures.ended (told_lists r.workers tells) h.parts_are in
     let ends = subst (λ (x : RoundEnd). EndsBy x (seconds e.ts) v) c.in-Ok-Ran.field-0-is e.by_end in
     let o = order_in r done log tells w c.args.parts (g.S.Store.disk c.args.writer.now.store) h e.ts e.order in
     subst (EndsRound r done log tells 0 v) (sym (ap (λ s. g.S.Store.disk s) c.end_round.ensures.store))
@@ -45,9 +45,9 @@ returns-in-Ok-Ran-clause-ends g c = λ r done log tells h.
 pub returns-in_err-commit-in-Ok-Committed-clause-cut : goal.returns-in_err-commit-in-Ok-Committed-clause-cut
 returns-in_err-commit-in-Ok-Committed-clause-cut g c = λ r done log tells rest h.
     let w = c.args.writer.now.state in
-    let v = c.end_round.new.self.state in
-    let mid = g.S.Store.disk c.end_round.new.self.store in
-    let e = c.in-Ok-Committed.ensures.ended h.before.writer.is_open (told_lists r.workers tells) h.parts_are in
+    let v = c.end_round.new.writer.state in
+    let mid = g.S.Store.disk c.end_round.new.writer.store in
+    let e = c.in-Ok-Committed.ensures.ended (told_lists r.workers tells) h.parts_are in
     let ends = subst (λ (x : RoundEnd). EndsBy x (seconds e.ts) v) c.in-Ok-Committed.field-0-is e.by_end in
     let here : IsRound r done log tells w c.args.parts mid = subst (IsRound r done log tells w c.args.parts) (sym (ap (λ s. g.S.Store.disk s) c.end_round.ensures.store)) h in
     let low : v.published.next_id ≤ 2 ^ 62 = (let small = c.if-next_id-gt-MOST.false in let id = c.next_id.ensures in omega (arith, small, id)) in
@@ -60,9 +60,9 @@ returns-in_err-commit-in-Ok-Committed-clause-cut g c = λ r done log tells rest 
 pub returns-in_ok-commit-in-Ok-Committed-clause-ends : goal.returns-in_ok-commit-in-Ok-Committed-clause-ends
 returns-in_ok-commit-in-Ok-Committed-clause-ends g c = λ r done log tells h.
     let w = c.args.writer.now.state in
-    let v = c.end_round.new.self.state in
-    let mid = g.S.Store.disk c.end_round.new.self.store in
-    let e = c.in-Ok-Committed.ensures.ended h.before.writer.is_open (told_lists r.workers tells) h.parts_are in
+    let v = c.end_round.new.writer.state in
+    let mid = g.S.Store.disk c.end_round.new.writer.store in
+    let e = c.in-Ok-Committed.ensures.ended (told_lists r.workers tells) h.parts_are in
     let ends = subst (λ (x : RoundEnd). EndsBy x (seconds e.ts) v) c.in-Ok-Committed.field-0-is e.by_end in
     let here : IsRound r done log tells w c.args.parts mid = subst (IsRound r done log tells w c.args.parts) (sym (ap (λ s. g.S.Store.disk s) c.end_round.ensures.store)) h in
     let low : v.published.next_id ≤ 2 ^ 62 = (let small = c.if-next_id-gt-MOST.false in let id = c.next_id.ensures in omega (arith, small, id)) in
@@ -74,3 +74,17 @@ returns-in_ok-commit-in-Ok-Committed-clause-ends g c = λ r done log tells h.
     ended_with r done log tells w v c.args.parts _ mid here e (c.end_round.ensures.sound (e.closed ∙ h.before.writer.is_open)) o.0 o.1
     x c.in_ok-commit-in-Ok-Committed.field-0.docs (g.S.Store.disk c.commit.new.self.store) laws ends.2.0 ends.2.1 ends.2.2
     done_well.on (done_well.sound closed) low done_well.docs done_well.stands done_well.made done_well.acknowledged done_well.settled c.commit.ensures.crash
+
+pub returns-in-Ok-Turned-clause-out : goal.returns-in-Ok-Turned-clause-out
+returns-in-Ok-Turned-clause-out g c =
+    let r = c.requires.round in (c.in-Ok-Turned.ensures.ended (told_lists r.0.workers r.3) r.4.parts_are).out
+
+pub returns-in-Ok-Ran-clause-out : goal.returns-in-Ok-Ran-clause-out
+returns-in-Ok-Ran-clause-out g c =
+    let r = c.requires.round in (c.in-Ok-Ran.ensures.ended (told_lists r.0.workers r.3) r.4.parts_are).out
+
+pub returns-in_ok-commit-in-Ok-Committed-clause-out : goal.returns-in_ok-commit-in-Ok-Committed-clause-out
+returns-in_ok-commit-in-Ok-Committed-clause-out g c =
+    let r = c.requires.round in
+    ap (λ (s : State). s.out) c.in_ok-commit-in-Ok-Committed.ensures.on
+    ∙ (c.in-Ok-Committed.ensures.ended (told_lists r.0.workers r.3) r.4.parts_are).out

@@ -1,6 +1,6 @@
 use Rattle.std.proofs.Common.{◌∙◌, ap, inl, inr}
 use Rattle.index_run.specs.Causes.{stop_of}
-use Rattle.index_run.proofs.doing.report_of.Goals as goal
+use Rattle.index_run.proofs.telling.report_of.Goals as goal
 
 pub returns-in-Err-clause-whole : goal.returns-in-Err-clause-whole
 returns-in-Err-clause-whole g c = λ files told can.

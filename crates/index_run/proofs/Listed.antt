@@ -1,0 +1,62 @@
+-- Statuses that are among some, and among more.
+use Rattle.std.proofs.Common.{◌≡◌, ◌∙◌, inl, inr, ℕ, Bool, true, false, ◌||◌, eqb, ne_eqb, List, [], ◌∷◌, Result, Ok, Err, refl, sym, ap, subst}
+use Rattle.std.specs.Prelude.{IfErr, IsErrAnd}
+use Rattle.std.specs.List.{AllByRecursion, list_any}
+use Rattle.commit_point.specs.Loading.{IsOutside as AskedOutside}
+use Rattle.commit_point.specs.declared.fault.OpenFault.{OpenFault}
+use Rattle.store_answers.specs.Listing.{IsOutside as ListedOutside}
+use Rattle.store_answers.specs.declared.listing.ListFault.{ListFault}
+use Rattle.index_run.specs.Causes.{IsOneOf, stop_by_list, stop_status, stop_to_ask}
+use Rattle.index_run.specs.declared.stop.Stop.{Stop}
+use Rattle.index_run.proofs.LogNumbers.{nat_or}
+
+-- what is among some is among others that have all of these
+pub listed_onto : (n : ℕ) (some more : List ℕ) → AllByRecursion (λ (x : ℕ). IsOneOf x more) some → IsOneOf n some
+    → IsOneOf n more
+listed_onto n [] more all listed = absurd cc
+listed_onto n (x ∷ some) more all listed = elim (nat_or x n) [
+  | inl same ↦ subst (λ (m : ℕ). IsOneOf m more) same all.0
+  | inr other ↦ listed_onto n some more all.1 (rest (eqb x n) (ne_eqb x n other) listed)
+]
+  where
+    rest : (b : Bool) → b ≡ false → (b || list_any (λ (s : ℕ). eqb s n) some) ≡ true → IsOneOf n some
+    rest true is h = absurd cc
+    rest false is h = h
+
+-- the same of a result's stop
+pub err_listed : {T : Type 0} (result : Result T Stop) (some more : List ℕ) → AllByRecursion (λ (x : ℕ). IsOneOf x more) some
+    → IfErr result (λ s. IsOneOf (stop_status s) some) → IfErr result (λ s. IsOneOf (stop_status s) more)
+err_listed (Ok x) some more all h = tt
+err_listed (Err s) some more all h = listed_onto (stop_status s) some more all h
+
+pub err_and_listed : {T : Type 0} (result : Result T Stop) (some more : List ℕ) → AllByRecursion (λ (x : ℕ). IsOneOf x more) some
+    → IsErrAnd result (λ s. IsOneOf (stop_status s) some) → IsErrAnd result (λ s. IsOneOf (stop_status s) more)
+err_and_listed (Ok x) some more all h = absurd h
+err_and_listed (Err s) some more all h = listed_onto (stop_status s) some more all h
+
+-- ---- a stop
+
+pub at_err : {T : Type 0} (result : Result T Stop) (s : Stop) (P : Stop → Type 0) → result ≡ Err s
+    → IfErr result P → P s
+at_err (Ok x) s P is h = absurd cc
+at_err (Err r) s P is h = let same : r ≡ s = cc in subst P same h
+
+pub at_err_and : {T : Type 0} (result : Result T Stop) (s : Stop) (P : Stop → Type 0) → result ≡ Err s
+    → IsErrAnd result P → P s
+at_err_and result s P is h = subst (λ r. IsErrAnd r P) is h
+
+pub no_err : {T : Type 0} (result : Result T Stop) (x : T) (P : Stop → Type 0) → result ≡ Ok x → IsErrAnd result P → ⊥
+no_err result x P is h = subst (λ r. IsErrAnd r P) is h
+
+-- ---- the outside
+
+-- only the store or memory stops what is said to be whole
+pub outside_asked : (fault : OpenFault) (s : Stop) → s ≡ stop_to_ask fault → AskedOutside fault
+    → IsOneOf (stop_status s) (4 ∷ 7 ∷ [])
+outside_asked fault s is (inl e) = subst (λ (x : Stop). IsOneOf (stop_status x) (4 ∷ 7 ∷ [])) (sym (is ∙ ap stop_to_ask e)) refl
+outside_asked fault s is (inr e) = subst (λ (x : Stop). IsOneOf (stop_status x) (4 ∷ 7 ∷ [])) (sym (is ∙ ap stop_to_ask e)) refl
+
+pub outside_listed : (fault : ListFault) (s : Stop) → s ≡ stop_by_list fault → ListedOutside fault
+    → IsOneOf (stop_status s) (4 ∷ 7 ∷ [])
+outside_listed fault s is (inl e) = subst (λ (x : Stop). IsOneOf (stop_status x) (4 ∷ 7 ∷ [])) (sym (is ∙ ap stop_by_list e)) refl
+outside_listed fault s is (inr e) = subst (λ (x : Stop). IsOneOf (stop_status x) (4 ∷ 7 ∷ [])) (sym (is ∙ ap stop_by_list e)) refl

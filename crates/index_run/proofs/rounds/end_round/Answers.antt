@@ -1,0 +1,13 @@
+use Rattle.std.proofs.Common.{◌∙◌, ◌<◌, arith}
+use Rattle.index_run.proofs.EndsMerged.{ends_merged}
+use Rattle.index_run.proofs.rounds.end_round.Goals as goal
+
+pub returns-in_ok-merge_step-clause-ended : goal.returns-in_ok-merge_step-clause-ended
+returns-in_ok-merge_step-clause-ended g c = λ told parts.
+    let old = c.args.writer.now.state in
+    let mid = c.end_round.new.self.state in
+    let e = c.in-Ok.ensures.ended c.requires.on told parts in
+    let some : old.published.upto < mid.published.upto =
+    (let more = c.if-upto-before.true in let was = c.upto-before.ensures in let is = c.upto.ensures in omega (arith, more, was, is)) in
+    ends_merged told c.in-Ok.end c.in_ok-merge_step.field-0 old mid c.merge_step.new.self.state e
+    (c.in_ok-merge_step.ensures.merged (e.closed ∙ c.requires.on)) some

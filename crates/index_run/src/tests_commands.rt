@@ -1,0 +1,289 @@
+//! The commands that answer from a store, and the one that makes its script.
+use crate::tests::{ADD_A1, ADD_A2, COMMIT, Done, run_words};
+use commit_point::head;
+use ix_base::{FileName, NoMemory};
+use ix_memory::MemoryStore;
+use ix_outside::Store;
+use std::alloc::Global;
+use std::sync::Wait;
+use std::test::*;
+use std::thread::Threads;
+
+const DELETE_A1: &str = "{\"c\":0,\"op\":\"delete\",\"field\":\"key\",\"term\":\"a1\"}\n";
+
+/// A call with these words and this input over the store, in which nothing fails but the store.
+fn call<R: Threads + Wait + Sync, S: Store + Drop>(
+    rt: &R,
+    alloc: Global,
+    words: &[&str],
+    input: &[&str],
+    store: S,
+) -> Result<Done<S>, Fail> {
+    let none = Vec::new(alloc);
+    let done = run_words(rt, alloc, words, input, store, none, Vec::new(alloc));
+    Ok(done.ok().ok_or("memory")?)
+}
+
+/// A call that ends with this status and has written this. It returns the store.
+fn expect<R: Threads + Wait + Sync>(
+    rt: &R,
+    alloc: Global,
+    words: &[&str],
+    input: &[&str],
+    status: u8,
+    written: &str,
+    store: MemoryStore,
+) -> Result<MemoryStore, Fail> {
+    let done = call(rt, alloc, words, input, store)?;
+    if done.status != status || done.written.as_slice() != written.as_bytes() {
+        return Err(Fail::new("another answer"));
+    }
+    Ok(done.store)
+}
+
+/// A store with the commit 2, which has one document.
+fn one_document<R: Threads + Wait + Sync>(rt: &R, alloc: Global) -> Result<MemoryStore, Fail> {
+    let done = call(
+        rt,
+        alloc,
+        &["run"],
+        &[ADD_A1, COMMIT],
+        MemoryStore::new(alloc),
+    )?;
+    Ok(done.store)
+}
+
+const ONE_HIT: &str = "{\"commit\":2,\"hits\":[{\"key\":\"a1\",\"num\":{}}],\"line\":1}\n";
+
+/// Questions about the last commit and about named ones, and what is asked of a commit that isn't there.
+#[test]
+fn questions(rt: HostRuntime) -> Result<(), Fail> {
+    let alloc = rt.alloc();
+    let all: &[&str] = &["\"all\"\n"];
+    let mut store = one_document(&rt, alloc)?;
+    store = expect(&rt, alloc, &["ask"], all, 0, ONE_HIT, store)?;
+    let missing = "{\"commit\":99,\"status\":9}\n";
+    store = expect(
+        &rt,
+        alloc,
+        &["ask", "--commit", "99"],
+        all,
+        9,
+        missing,
+        store,
+    )?;
+    let none = "{\"commit\":0,\"status\":9}\n";
+    store = expect(&rt, alloc, &["ask", "--commit", "0"], all, 9, none, store)?;
+    let nothing =
+        "{\"commit\":2,\"hits\":[],\"line\":1}\n{\"commit\":2,\"hits\":[],\"line\":3}\n{\"commit\":2,\"hits\":[],\"line\":4}\n";
+    let without: &[&str] = &[
+        "{\"bool\":{\"not\":[{\"term\":[\"key\",\"zz\"]}]}}\n",
+        "\n",
+        "{\"bool\":{}}\n",
+        "{\"phrase\":[\"body\",\" \"]}",
+    ];
+    store = expect(&rt, alloc, &["ask"], without, 0, nothing, store)?;
+    store = call(&rt, alloc, &["run"], &[ADD_A2, COMMIT], store)?.store;
+    store = expect(
+        &rt,
+        alloc,
+        &["ask", "--commit", "2"],
+        all,
+        0,
+        ONE_HIT,
+        store,
+    )?;
+    let two =
+        "{\"commit\":4,\"hits\":[{\"key\":\"a1\",\"num\":{}},{\"key\":\"a2\",\"num\":{}}],\"line\":1}\n";
+    store = expect(&rt, alloc, &["ask"], all, 0, two, store)?;
+    store = expect(&rt, alloc, &["ask"], &[], 0, "", store)?;
+    let bad = "{\"line\":2,\"status\":3,\"why\":\"query\"}\n";
+    let wrong: &[&str] = &["\"all\"\n", "{\"term\":[\"key\"]}\n", "nothing\n"];
+    store = expect(&rt, alloc, &["ask", "--commit", "99"], wrong, 3, bad, store)?;
+    let _store = expect(
+        &rt,
+        alloc,
+        &["ask", "--commit", "2", "2"],
+        all,
+        2,
+        WORDS,
+        store,
+    )?;
+    Ok(())
+}
+
+const WORDS: &str = "{\"status\":2,\"why\":\"words\"}\n";
+
+/// A commit is listed from its commit file alone, and asked for only whole.
+#[test]
+fn a_commit_with_a_damaged_segment(rt: HostRuntime) -> Result<(), Fail> {
+    let alloc = rt.alloc();
+    let mut store = one_document(&rt, alloc)?;
+    let posts = FileName::Posts(1);
+    let bytes = store.read(alloc, posts).ok().ok_or("a read that fails")?;
+    let bytes = bytes.ok_or("no file")?;
+    let cut = bytes.as_slice().get(..52).ok_or("short")?;
+    store.write(posts, cut).ok().ok_or("a write that fails")?;
+    let damaged = "{\"at\":49,\"file\":\"seg_1.pst\",\"status\":8}\n";
+    store = expect(&rt, alloc, &["ask"], &["\"all\"\n"], 8, damaged, store)?;
+    let list = "{\"commit\":2,\"docs\":1}\n";
+    let _store = expect(&rt, alloc, &["list"], &[], 0, list, store)?;
+    Ok(())
+}
+
+/// Lists of no commit, of two, and after a run whose second sync failed.
+#[test]
+fn lists(rt: HostRuntime) -> Result<(), Fail> {
+    let alloc = rt.alloc();
+    let empty = expect(&rt, alloc, &["list"], &[], 0, "", MemoryStore::new(alloc))?;
+    let _empty = expect(
+        &rt,
+        alloc,
+        &["ask"],
+        &[],
+        9,
+        "{\"commit\":0,\"status\":9}\n",
+        empty,
+    )?;
+    let store = one_document(&rt, alloc)?;
+    // The run lists the store, reads the five files of its commit, and then writes and syncs.
+    let mut calls = Vec::new(alloc);
+    calls.push(10)?;
+    let failing = store.failing(calls);
+    let done = call(&rt, alloc, &["run"], &[ADD_A2, COMMIT], failing)?;
+    assert_eq!(rt; done.status, 7);
+    let one = "{\"commit\":2,\"docs\":1}\n";
+    let store = expect(&rt, alloc, &["list"], &["no query\n"], 0, one, done.store)?;
+    let store = call(&rt, alloc, &["run"], &[ADD_A2, COMMIT], store)?.store;
+    let two = "{\"commit\":2,\"docs\":1}\n{\"commit\":4,\"docs\":2}\n";
+    let _store = expect(&rt, alloc, &["list"], &[], 0, two, store)?;
+    Ok(())
+}
+
+/// The report of a run that merges each two segments into one.
+const MERGED: &str =
+    "{\"line\":1,\"seq\":1}\n{\"line\":2,\"seq\":2}\n{\"docs\":2,\"line\":3,\"seq\":3}\n{\"line\":4,\"seq\":4}\n{\"docs\":1,\"line\":5,\"seq\":5}\n{\"commit\":5,\"hits\":[{\"key\":\"a2\",\"num\":{}}],\"line\":6}\n";
+
+/// Two segments of one document each are merged before the commit that they are in is written.
+#[test]
+fn merges_of_two(rt: HostRuntime) -> Result<(), Fail> {
+    let alloc = rt.alloc();
+    let words: &[&str] = &["run", "--threads", "1", "--buffer", "1", "--merge", "2"];
+    let all = "{\"c\":0,\"op\":\"search\",\"query\":\"all\"}\n";
+    let script = [ADD_A1, ADD_A2, COMMIT, DELETE_A1, COMMIT, all];
+    let mut store = expect(
+        &rt,
+        alloc,
+        words,
+        &script,
+        0,
+        MERGED,
+        MemoryStore::new(alloc),
+    )?;
+    let first = head(alloc, &mut store, 3).ok().ok_or("no commit 3")?;
+    assert_eq!(rt; first.next_id, 4);
+    assert_eq!(rt; first.segments.len(), 1);
+    assert_eq!(rt; first.segments.as_slice()[0].id, 3);
+    let second = head(alloc, &mut store, 5).ok().ok_or("no commit 5")?;
+    assert_eq!(rt; second.next_id, 4);
+    assert_eq!(rt; second.segments.len(), 1);
+    Ok(())
+}
+
+/// Made scripts, with summaries that were worked out by hand.
+#[test]
+fn made(rt: HostRuntime) -> Result<(), Fail> {
+    let alloc = rt.alloc();
+    let cases: [(&[&str], &str); 3] = [
+        (
+            &["make", "--seed", "1", "--lines", "10", "--callers", "1"],
+            "{\"commits\":1,\"docs\":7,\"lines\":11,\"sum\":12350}\n",
+        ),
+        (
+            &["make", "--seed", "1", "--lines", "10", "--callers", "2"],
+            "{\"commits\":2,\"docs\":7,\"lines\":12,\"sum\":13866}\n",
+        ),
+        (
+            &["make", "--callers=1", "--seed=1", "--lines=1"],
+            "{\"commits\":1,\"docs\":0,\"lines\":2,\"sum\":0}\n",
+        ),
+    ];
+    for (words, summary) in cases {
+        let empty = MemoryStore::new(alloc);
+        let store = expect(&rt, alloc, words, &["no script"], 0, summary, empty)?;
+        // The same over a store that has such documents already.
+        let _store = expect(&rt, alloc, words, &[], 0, summary, store)?;
+    }
+    Ok(())
+}
+
+/// A document of the generator: its caller, the numbers in its key and its tag, and its number.
+#[derive(Clone, Copy)]
+struct Plain {
+    caller: u64,
+    key: u64,
+    tag: u64,
+    number: u64,
+}
+
+/// Does what a drawn number says, on a plain list of documents.
+fn fold_draw(rows: &mut Vec<Plain>, caller: u64, draw: u64) -> Result<(), NoMemory> {
+    let number = draw / 8;
+    let one = Plain {
+        caller,
+        key: number % 16,
+        tag: number % 4,
+        number,
+    };
+    match draw % 8 {
+        0..4 => rows.push(one)?,
+        4 => {
+            rows.retain(|row| row.caller != one.caller || row.key != one.key);
+            rows.push(one)?;
+        }
+        5 => rows.retain(|row| row.caller != one.caller || row.tag != one.tag),
+        6 => {
+            for row in rows.iter_mut() {
+                if row.caller == one.caller && row.tag == one.tag {
+                    row.number = one.number;
+                }
+            }
+        }
+        _ => rows.retain(|row| {
+            row.caller != one.caller || row.tag != one.tag || row.key == one.key
+        }),
+    }
+    Ok(())
+}
+
+/// What the script of seed 7 with 20,000 lines by 8 callers makes of a plain list of documents: how
+/// many there are, and the sum of their numbers.
+fn plain_sum(alloc: Global) -> Result<(u64, u64), NoMemory> {
+    let mut rows = Vec::new(alloc);
+    let mut state = 7u64;
+    for before in 0..20_000u64 {
+        state = state.wrapping_mul(1_103_515_245).wrapping_add(12_345) % 2_147_483_648;
+        if before % 64 != 63 {
+            fold_draw(&mut rows, before % 8, state / 65_536)?;
+        }
+    }
+    let mut sum = 0u64;
+    for row in rows.iter() {
+        sum = sum.wrapping_add(row.number);
+    }
+    Ok((rows.len() as u64, sum))
+}
+
+/// A made script of 20,000 lines against a plain list of documents.
+#[test]
+fn made_and_folded(rt: HostRuntime) -> Result<(), Fail> {
+    let alloc = rt.alloc();
+    let (docs, sum) = plain_sum(alloc).ok().ok_or("memory")?;
+    let summary = format!(in alloc;
+        "{{\"commits\":320,\"docs\":{docs},\"lines\":20008,\"sum\":{sum}}}\n"
+    )?;
+    let words: &[&str] = &["make", "--seed", "7", "--lines", "20000", "--callers", "8"];
+    let empty = MemoryStore::new(alloc);
+    let _store = expect(&rt, alloc, words, &[], 0, summary.as_str(), empty)?;
+    Ok(())
+}
