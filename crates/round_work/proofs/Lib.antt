@@ -1,0 +1,5 @@
+mod Seeing
+mod AtWork
+mod Tasks
+mod Workers
+mod Sending

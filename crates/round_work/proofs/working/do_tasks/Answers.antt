@@ -1,0 +1,54 @@
+use Rattle.std.proofs.Common.{◌≡◌, ◌∙◌, ℕ, ◌<◌, length, sym, subst, arith}
+use Rattle.std.specs.Prelude.{slice_index_or}
+use Rattle.round_work.specs.Shares.{share_of}
+use Rattle.round_work.proofs.AtWork.{works_not}
+use Rattle.round_work.proofs.Tasks.{does_next, does_start, going_next}
+use Rattle.round_work.proofs.working.do_tasks.Goals as goal
+
+pub loop-replies-init : goal.loop-replies-init
+loop-replies-init g c =
+    let q = c.args.queue.now in
+    let w = c.args.writer.now in
+    let gave = c.args.gave.now.items in
+    does_start q w (share_of c.args.tasks.now c.args.replies.now.items gave) c.requires.worker.few (works_not q w gave c.requires.worker.is)
+
+pub returns-then-is_commit-clause-does : goal.returns-then-is_commit-clause-does
+returns-then-is_commit-clause-does g c =
+    let start = share_of c.args.tasks.now c.args.replies.now.items c.args.gave.now.items in
+    let at = c.loop-replies in
+    let t = c.index-tasks-len.result in
+    let after = c.do_task.new in
+    let done = c.in-Ok.ensures in
+    let more = c.loop-replies-test.true in
+    let first = c.len.ensures in
+    let second = c.len-in-loop-replies.ensures in
+    let long = at.replies.ok in
+    let inside : length at.replies.items < length c.args.tasks.now = omega arith in
+    let same : c.len-in-loop-replies.result ≡ length at.replies.items = omega arith in
+    does_next c.args.queue.now c.args.writer.now at.writer after.writer start at.replies.items after.replies.items at.gave.items after.gave.items t c.in-Ok.field-0 at.invariant
+    inside (subst (λ (i : ℕ). slice_index_or c.args.tasks.now i t ≡ t) same (sym c.index-tasks-len.is)) done.reply done.noted done.works
+
+pub returns-then-is_commit-clause-done : goal.returns-then-is_commit-clause-done
+returns-then-is_commit-clause-done g c =
+    let few = (returns-then-is_commit-clause-does g c).few in
+    let stop = c.stop_after_commit.ensures in
+    let count = c.len-then-is_commit.ensures in
+    let long = c.do_task.new.replies.ok in
+    (λ done. let all = stop.0 done in omega arith, λ all. stop.1 (omega arith))
+
+pub loop-replies-preserved : goal.loop-replies-preserved
+loop-replies-preserved g c =
+    let start = share_of c.args.tasks.now c.args.replies.now.items c.args.gave.now.items in
+    let at = c.loop-replies in
+    let t = c.index-tasks-len.result in
+    let after = c.do_task.new in
+    let done = c.in-Ok.ensures in
+    let more = c.loop-replies-test.true in
+    let first = c.len.ensures in
+    let second = c.len-in-loop-replies.ensures in
+    let long = at.replies.ok in
+    let inside : length at.replies.items < length c.args.tasks.now = omega arith in
+    let same : c.len-in-loop-replies.result ≡ length at.replies.items = omega arith in
+    going_next c.args.queue.now c.args.writer.now at.writer after.writer start at.replies.items after.replies.items at.gave.items after.gave.items t c.in-Ok.field-0 at.invariant
+    inside (subst (λ (i : ℕ). slice_index_or c.args.tasks.now i t ≡ t) same (sym c.index-tasks-len.is)) done.reply done.noted done.works
+    (sym c.is_commit.ensures ∙ c.if-is_commit.false)

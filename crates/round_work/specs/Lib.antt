@@ -1,0 +1,4 @@
+pub mod Shares
+pub mod Working
+pub mod Lines
+pub mod Rounds

@@ -1,0 +1,98 @@
+-- What a worker does in a round.
+use Rattle.std.specs.Prelude.{◌≡◌, ◌↔◌, ◌<◌, ◌≤◌, List, [], ◌∷◌, ◌++◌, length, Some, None, true}
+use Rattle.std.specs.List.{AllByRecursion}
+use Rattle.ix_base.specs.Refusals.{refusal}
+use Rattle.ix_base.specs.declared.document.Operation.{Operation}
+use Rattle.delete_queue.specs.declared.queue.DeleteQueue.{DeleteQueue}
+use Rattle.delete_queue.specs.Seats.{SawClosed, base_of, number_of, own_of, the_view}
+use Rattle.row_fates.specs.Fate.{Numbered as NumberedOperation}
+use Rattle.thread_writer.specs.declared.piece.Piece.{Piece}
+use Rattle.thread_writer.specs.declared.writer.ThreadWriter.{ThreadWriter}
+use Rattle.thread_writer.specs.Writing.{Did, IsWriter, parts_of}
+use Rattle.round_order.specs.Order.{is_commit}
+use Rattle.round_work.specs.declared.task.Reply.{Reply}
+use Rattle.round_work.specs.declared.task.Reply.TheVariants.{Numbered, Refused}
+use Rattle.round_work.specs.declared.task.Task.{Task}
+use Rattle.round_work.specs.declared.worked.Stop.TheVariants.{Done, Closed}
+use Rattle.round_work.specs.declared.worked.Worked.{Worked}
+use Rattle.round_work.specs.declared.share.Share.{Share}
+use Rattle.round_work.specs.Shares.{open_tasks}
+
+-- ---- replies
+
+-- An operation gets a number exactly where it isn't refused, and is told its refusal exactly where it is.
+abbrev pub IsReplyTo : Operation → Reply → Type 0
+IsReplyTo op (Numbered n) = refusal op ≡ None
+IsReplyTo op (Refused r) = refusal op ≡ Some r
+
+-- These are the replies to the first of the tasks, in order.
+abbrev pub AreReplies : List Task → List Reply → Type 0
+AreReplies ts [] = Unit {0}
+AreReplies [] (r ∷ rs) = ⊥
+AreReplies (t ∷ ts) (r ∷ rs) = IsReplyTo t.operation r × AreReplies ts rs
+
+-- A commit is the last of the tasks that have one of these replies.
+abbrev pub EndsAtCommit : List Task → List Reply → Type 0
+EndsAtCommit ts [] = Unit {0}
+EndsAtCommit [] (r ∷ rs) = Unit {0}
+EndsAtCommit (t ∷ ts) (r ∷ rs) = (is_commit t.operation ≡ true → rs ≡ []) × EndsAtCommit ts rs
+
+-- the operation with its number, where it got one
+abbrev pub told_by : Operation → Reply → List NumberedOperation
+told_by op (Numbered n) = (n, op) ∷ []
+told_by op (Refused r) = []
+
+-- what the first of the tasks were told by these replies: the operations that got a number, in order
+abbrev pub told_in : List Task → List Reply → List NumberedOperation
+told_in ts [] = []
+told_in [] (r ∷ rs) = []
+told_in (t ∷ ts) (r ∷ rs) = told_by t.operation r ++ told_in ts rs
+
+-- ---- a writer
+
+-- Whatever the writer of the queue had been told, it was told these operations besides, all of them numbered above the
+-- base of the queue; and it gave the new pieces off. Where it had linked nothing and was told nothing, it has linked
+-- nothing.
+pub record WorksOn (q : DeleteQueue) (more : List NumberedOperation) (old : ThreadWriter) (gave : List Piece)
+    (new : ThreadWriter) (given : List Piece) : Type 0 where
+  pub writer : IsWriter q new
+  pub number_is : number_of new.seat ≡ number_of old.seat
+  pub size_is : new.size ≡ old.size
+  pub history : (before : List NumberedOperation) → Did q (parts_of old) before gave
+      → Did q (parts_of new) (before ++ more) given
+  pub above : AllByRecursion (λ (t : NumberedOperation). base_of q < t.0) more
+  pub still : own_of old.seat ≡ [] → more ≡ [] → own_of new.seat ≡ []
+
+-- ---- a worker
+
+-- A writer of the queue can go on with this share: no more tasks were told something than there are, and the share has the
+-- pieces that the writer gave off.
+pub record IsAtWork (q : DeleteQueue) (writer : ThreadWriter) (share : Share) : Type 0 where
+  pub is : IsWriter q writer
+  pub few : length share.replies ≤ length share.tasks
+  pub so_far : List NumberedOperation
+  pub did : Did q (parts_of writer) so_far share.gave
+
+-- Of the tasks that were told nothing yet, the first ones were told something; none behind a commit. The writer was told
+-- the same.
+pub record Does (q : DeleteQueue) (old : ThreadWriter) (share : Share) (new : ThreadWriter) (after : Share) : Type 0 where
+  pub tasks : after.tasks ≡ share.tasks
+  pub more : List Reply
+  pub replies : after.replies ≡ share.replies ++ more
+  pub few : length after.replies ≤ length after.tasks
+  pub fits : AreReplies (open_tasks share) more
+  pub commit : EndsAtCommit (open_tasks share) more
+  pub works : WorksOn q (told_in (open_tasks share) more) old share.gave new after.gave
+
+-- A worker did tasks of its share and stopped: by `Done` exactly where each task was told something, and by `Closed`
+-- only where its seat has seen that the queue is closed.
+pub record Works (q : DeleteQueue) (writer : ThreadWriter) (share : Share) (worked : Worked) : Type 0 where
+  pub does : Does q writer share worked.writer worked.share
+  pub done : (worked.stop ≡ Done) ↔ (length worked.share.replies ≡ length worked.share.tasks)
+  pub closed : worked.stop ≡ Closed → SawClosed (the_view worked.writer.seat)
+
+-- each worker did so, in their order
+abbrev pub AreWorked : DeleteQueue → List ThreadWriter → List Share → List Worked → Type 0
+AreWorked q [] [] [] = Unit {0}
+AreWorked q (w ∷ ws) (s ∷ ss) (x ∷ xs) = Works q w s x × AreWorked q ws ss xs
+AreWorked q ws ss xs = ⊥

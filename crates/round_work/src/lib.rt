@@ -1,0 +1,21 @@
+//! The workers of a round: each does its tasks by a writer of its own, in a thread of its own.
+//!
+//! A round has one delete queue, and a writer of it for each worker. A worker does its tasks in
+//! order, and stops where they are done, where it has committed, where the queue takes no more, or
+//! where memory runs out. What it has not done it does in a later round, by a writer of a later queue.
+#![tactic(auto)]
+
+mod line;
+mod round;
+mod share;
+mod task;
+#[cfg(test)]
+mod tests;
+mod worked;
+mod working;
+
+pub use round::run_round;
+pub use share::Share;
+pub use task::{Reply, Task};
+pub use worked::{Stop, Worked};
+pub use working::work;

@@ -1,0 +1,149 @@
+//! All workers of a round, each in a thread of its own.
+ghost use Rattle.std.specs.Prelude.{◌≡◌, ◌≤◌, [], length, IfOk, vec_capacity};
+ghost use Rattle.std.specs.List.{AllZip};
+ghost use Rattle.delete_queue.specs.declared.queue.DeleteQueue.{DeleteQueue};
+ghost use Rattle.thread_writer.specs.declared.writer.ThreadWriter.{ThreadWriter};
+ghost use Rattle.round_work.specs.Rounds.{AreStarted, ComesBack, Starts};
+ghost use Rattle.round_work.specs.declared.share.Share.{Share};
+ghost use Rattle.round_work.specs.Working.{AreWorked, IsAtWork, Works};
+
+use crate::share::Share;
+use crate::worked::Worked;
+use crate::working::work;
+use delete_queue::DeleteQueue;
+use ix_base::NoMemory;
+use ix_outside::Gate;
+use std::alloc::Global;
+use std::snapshot::Snapshot;
+use std::sync::Wait;
+use std::thread;
+use std::thread::{Promise, PromisedHandle, Scope, Threads};
+use thread_writer::ThreadWriter;
+
+/// What a worker that was started will have done: what `work` promises of what it was given.
+#[derive(Drop)]
+pub(crate) struct WorkPromise {
+    queue: Snapshot<DeleteQueue>,
+    writer: Snapshot<ThreadWriter>,
+    share: Snapshot<Share>,
+}
+
+impl Promise<Worked> for WorkPromise {
+    ghost use Rattle.round_work.specs.Working.{Works};
+
+    ghost kept_by = { λ p worked. Works p.queue.value p.writer.value p.share.value worked };
+}
+
+/// A worker that was started: one in a thread, or one whose thread couldn't be started, and which
+/// was done here.
+#[derive(Drop)]
+pub(crate) enum Started {
+    Thread(PromisedHandle<Worked, WorkPromise>),
+    Here(Worked),
+}
+
+/// Does the shares of a round, each by its writer in a thread of its own, and waits for all. A
+/// worker whose thread can't be started is done by the caller. What comes back is in the order of the
+/// workers. It asks for as many shares as writers, each with the pieces that its writer gave off.
+///
+/// The only error is out of memory: nothing was begun.
+pub fn run_round<R: Threads + Wait, G: Gate>(
+    rt: &R,
+    alloc: Global,
+    queue: &DeleteQueue,
+    writers: Vec<ThreadWriter>,
+    shares: Vec<Share>,
+    gate: &G,
+) -> Result<Vec<Worked>, NoMemory>
+    requires workers { AllZip (IsAtWork queue.now) writers.items shares.items }
+    ensures works { IfOk result (λ all. AreWorked queue.now writers.items shares.items all.items) }
+{
+    let started = Vec::with_capacity(alloc, writers.len())?;
+    let all = Vec::with_capacity(alloc, writers.len())?;
+    Ok(thread::scope(
+        thread::scope_env(),
+        rt,
+        move |scope| -> Vec<Worked>
+            requires workers { AllZip (IsAtWork queue.now) writers.items shares.items }
+            requires empty { (started.items ≡ []) × (all.items ≡ []) }
+            requires started { length writers.items ≤ vec_capacity started }
+            requires all { length writers.items ≤ vec_capacity all }
+            ensures { AreWorked queue.entry.now writers.items shares.items result.items }
+        {
+            let started = start_all(scope, queue, writers, shares, gate, started);
+            come_all(rt, started, all)
+        },
+    ))
+}
+
+/// Starts each worker, in order.
+fn start_all<'s, E, G: Gate>(
+    scope: &Scope<'s, E>,
+    queue: &'s DeleteQueue,
+    writers: Vec<ThreadWriter>,
+    shares: Vec<Share>,
+    gate: &'s G,
+    mut started: Vec<Started>,
+) -> Vec<Started>
+    requires workers { AllZip (IsAtWork queue.now) writers.items shares.items }
+    requires room { (started.items ≡ []) × (length writers.items ≤ vec_capacity started) }
+    ensures { AreStarted queue.now writers.items shares.items result.items }
+{
+    let mut shares = shares.into_iter();
+    for writer in writers {
+        let Some(share) = shares.next() else {
+            unreachable!()
+        };
+        started.push_reserved(start_one(scope, queue, writer, share, gate));
+    }
+    started
+}
+
+/// Starts a worker in a thread, or does its work where none can be started.
+fn start_one<'s, E, G: Gate>(
+    scope: &Scope<'s, E>,
+    queue: &'s DeleteQueue,
+    writer: ThreadWriter,
+    share: Share,
+    gate: &'s G,
+) -> Started
+    requires { IsAtWork queue.now writer share }
+    ensures { Starts queue.now writer share result }
+{
+    let promise = WorkPromise {
+        queue: Snapshot::of(queue),
+        writer: Snapshot::of(&writer),
+        share: Snapshot::of(&share),
+    };
+    match scope.spawn_with(
+        promise,
+        move || -> Worked
+            requires { IsAtWork queue.now writer share }
+            ensures { Works queue.entry.now writer share result }
+        { work(queue, writer, share, gate) },
+    ) {
+        Ok(child) => Started::Thread(child),
+        Err(refused) => Started::Here((refused.value)()),
+    }
+}
+
+/// Waits for each worker, in order.
+fn come_all<R: Threads>(rt: &R, started: Vec<Started>, mut all: Vec<Worked>) -> Vec<Worked>
+    requires room { (all.items ≡ []) × (length started.items ≤ vec_capacity all) }
+    ensures { AllZip ComesBack started.items result.items }
+{
+    for one in started {
+        all.push_reserved(come_back(rt, one));
+    }
+    all
+}
+
+/// Waits for a worker.
+fn come_back<R: Threads>(rt: &R, started: Started) -> Worked
+    ensures { ComesBack started result }
+{
+    match started {
+        Started::Thread(child) => child.join(rt),
+        Started::Here(worked) => worked,
+    }
+}
