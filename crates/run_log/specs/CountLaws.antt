@@ -4,7 +4,7 @@ use Rattle.std.proofs.lemmas.Bool.Decides.{eqb_tells}
 use Rattle.std.proofs.lemmas.List.{length-append}
 use Rattle.std.proofs.lemmas.List.Elements.{filter-append}
 use Rattle.op_script.specs.declared.script.Line.{Line}
-use Rattle.run_log.specs.PlaceLaws.{of_caller}
+use Rattle.run_log.specs.Telling.{of_caller}
 
 -- the first line of a caller, with the lines before it, of which none is the caller's, and those behind it
 record FirstOf (caller : ℕ) (x : Line) (ys : List Line) : Type 0 where

@@ -2,11 +2,9 @@ pub mod Headline
 pub mod Telling
 pub mod Lists
 pub mod PlaceLaws
-pub mod ToldLaws
 pub mod TellingLaws
 pub mod NumberLaws
 pub mod CommitLaws
-pub mod RoundLaws
 pub mod LogLaws
 pub mod CountLaws
 pub mod Laws

@@ -31,6 +31,10 @@ module _ {X : Type 0} where
   each_in_second P [] ys h = h
   each_in_second P (x ∷ xs) ys h = each_in_second P xs ys h.1
 
+  pub each_in_part : (P : X → Type 0) (front part back : List X) → AllByRecursion P (front ++ (part ++ back))
+      → AllByRecursion P part
+  each_in_part P front part back h = each_in_first P part back (each_in_second P front (part ++ back) h)
+
   pub each_mapped : {Y : Type 0} (f : Y → X) (P : X → Type 0) (ys : List Y) → AllByRecursion (λ (y : Y). P (f y)) ys
       → AllByRecursion P (map f ys)
   each_mapped f P [] h = tt

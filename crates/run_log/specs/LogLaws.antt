@@ -9,6 +9,7 @@ use Rattle.op_script.specs.declared.script.Act.{Act}
 use Rattle.op_script.specs.declared.script.Act.TheVariants.{Do, Search}
 use Rattle.op_script.specs.declared.script.Line.{Line}
 use Rattle.run_log.specs.Headline.{Interleaves, IsIn, commit_numbers, is_commit, is_numbered, last_commit, number_of, numbered}
+use Rattle.run_log.specs.Telling.{of_caller}
 
 -- ---- numbers
 
@@ -101,9 +102,6 @@ each_passing p P (l ∷ ls) h = by_test (p l) refl h (each_passing p P ls)
       where
         is_not : p l ≡ true → ⊥
         is_not is = cc
-
-abbrev pub of_caller : ℕ → List Line → List Line
-of_caller caller = filter (λ (l : Line). eqb l.caller caller)
 
 -- what is true of each caller's lines is true of each line
 pub each_caller : (P : Line → Type 0) (ls : List Line)

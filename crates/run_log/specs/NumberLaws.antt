@@ -1,18 +1,20 @@
 -- The numbers, commits and rows of a log that grows at its end.
 use Rattle.std.proofs.Common.{◌≡◌, ◌≢◌, ◌⊎◌, ◌∙◌, ℕ, suc, ◌+◌, ◌-◌, ◌<◌, ◌≤◌, Bool, true, false, cond, ne_eqb, List, [], ◌∷◌, ◌++◌}
-use Rattle.std.proofs.Common.{length, refl, ap, inl, inr, arith, take_all}
+use Rattle.std.proofs.Common.{length, refl, sym, ap, subst, inl, inr, arith, take_all}
 use Rattle.std.proofs.lemmas.Bool.Decides.{eqb_tells}
 use Rattle.std.proofs.lemmas.List.{take-append-le}
-use Rattle.std.proofs.lemmas.List.Elements.{filter_map-append}
+use Rattle.std.proofs.lemmas.List.Elements.{filter-append, filter_map-append}
 use Rattle.std.specs.List.{AllByRecursion}
 use Rattle.ix_base.specs.declared.document.Operation.{Operation}
 use Rattle.ix_base.specs.declared.document.Row.{Row}
 use Rattle.ix_base.specs.Steps.{step, after}
+use Rattle.op_script.specs.Shape.{LinesRise}
 use Rattle.op_script.specs.declared.script.Line.{Line}
-use Rattle.run_log.specs.Lists.{Decided, each_says, each_pair, each_behind}
-use Rattle.run_log.specs.Headline.{act_operation, commit_numbers, is_commit, number_of, operations, rows_at}
+use Rattle.run_log.specs.Lists.{Decided, each_says, each_pair, each_behind, each_in_second}
+use Rattle.run_log.specs.Headline.{act_operation, commit_numbers, is_commit, is_numbered, number_of, numbered, operations, rows_at}
+use Rattle.run_log.specs.PlaceLaws.{places_differ}
 use Rattle.round_order.specs.Order.{Working}
-use Rattle.run_log.specs.Telling.{Tell, IsOrder}
+use Rattle.run_log.specs.Telling.{Tell, of_caller, IsPartOf, AreTells, PlacesDiffer, IsOrder}
 use Rattle.run_log.specs.TellingLaws.{HasNumber, told_all}
 
 -- ---- the number of a line
@@ -63,21 +65,33 @@ number_past base (l ∷ log) more line none =
     rw (ne_eqb l.line line none.0)
     (number_past (base + 1) log more line none.1 ∙ ap (λ (n : ℕ). number_of n more line) at)
 
-pub number_behind : (base : ℕ) (log more : List Line) (low line : ℕ) → AllByRecursion (λ (l : Line). l.line < low) log
-    → low ≤ line → number_of base (log ++ more) line ≡ number_of (base + length log) more line
-number_behind base log more low line below le =
-    number_past base log more line
-    (each_says (λ (l : Line). l.line < low) (λ (l : Line). l.line ≢ line) log
-    (λ l lt same. absurd (omega (arith, lt, le, same))) below)
+-- what is true of each line's place is true of a place that some line has
+has_line_says : (P : ℕ → Type 0) (ls : List Line) (place : ℕ) → AllByRecursion (λ (l : Line). P l.line) ls
+    → HasLine ls place → P place
+has_line_says P [] place h has = absurd has
+has_line_says P (l ∷ ls) place h (inl e) = subst P e h.0
+has_line_says P (l ∷ ls) place h (inr has) = has_line_says P ls place h.1 has
+
+-- where places differ no line in front stands at the place of a line behind
+pub differs_from_front : (log more : List Line) (place : ℕ) → PlacesDiffer (log ++ more) → HasLine more place
+    → AllByRecursion (λ (l : Line). l.line ≢ place) log
+differs_from_front [] more place apart has = tt
+differs_from_front (l ∷ log) more place apart has =
+    let behind : AllByRecursion (λ (y : Line). y.line ≢ l.line) more =
+    each_in_second (λ (y : Line). y.line ≢ l.line) log more apart.0 in (
+      (λ same. has_line_says (λ (p : ℕ). p ≢ l.line) more place behind has (sym same)),
+      differs_from_front log more place apart.1 has,
+    )
 
 -- ---- the numbers that were told
 
--- the log has each tell's line
-pub lines_told : (base : ℕ) (tells : List Tell) (ts : List Working) (more : List Line) → IsOrder base tells ts more
-    → AllByRecursion (λ (t : Tell). HasLine more t.line.line) tells
-lines_told base tells ts more o =
-    each_behind (λ (t : Tell). t.line) (λ (l : Line). HasLine more l.line) tells
-    (told_all base tells ts more o (λ (l : Line). HasLine more l.line) (has_own_lines more))
+-- the order has each tell's line
+pub lines_told : (n base : ℕ) (script : List Line) (told : ℕ → List Tell) (ts : List Working) (more : List Line)
+    → AreTells n script told → IsOrder n base told ts more
+    → (worker : ℕ) → AllByRecursion (λ (t : Tell). HasLine more t.line.line) (told worker)
+lines_told n base script told ts more tells o worker =
+    each_behind (λ (t : Tell). t.line) (λ (l : Line). HasLine more l.line) (told worker)
+    (told_all n base script told ts more tells o (λ (l : Line). HasLine more l.line) (has_own_lines more) worker)
 
 -- numbers that were told stay the lines' numbers when the log grows
 pub numbers_stay : (base : ℕ) (tells : List Tell) (log rest : List Line)
@@ -88,14 +102,24 @@ numbers_stay base tells log rest has are =
     (λ t here is. number_in_front base log rest t.line.line here ∙ is) has are
 
 -- the numbers that were told in a round are the lines' numbers in the log, which has the round's lines at its end
-pub numbers_behind : (base low : ℕ) (tells : List Tell) (ts : List Working) (log more : List Line)
-    → AllByRecursion (λ (l : Line). l.line < low) log
-    → AllByRecursion (λ (t : Tell). low ≤ t.line.line) tells → IsOrder (base + length log) tells ts more
-    → AllByRecursion (HasNumber base (log ++ more)) tells
-numbers_behind base low tells ts log more below above o =
-    each_pair (λ (t : Tell). low ≤ t.line.line) (HasNumber (base + length log) more)
-    (HasNumber base (log ++ more)) tells
-    (λ t le is. number_behind base log more low t.line.line below le ∙ is) above o.numbers
+pub numbers_behind : (n base low : ℕ) (script : List Line) (told : ℕ → List Tell) (ts : List Working)
+    (log more : List Line) → LinesRise low script → AreTells n script told
+    → ((caller : ℕ) → IsPartOf (of_caller caller (log ++ more)) (of_caller caller script))
+    → IsOrder n (base + length log) told ts more
+    → (worker : ℕ) → AllByRecursion (HasNumber base (log ++ more)) (told worker)
+numbers_behind n base low script told ts log more rise tells part o worker =
+    each_pair (λ (t : Tell). HasLine more t.line.line) (HasNumber (base + length log) more)
+    (HasNumber base (log ++ more)) (told worker)
+    (λ t has is. number_past base log more t.line.line (differs_from_front log more t.line.line apart has) ∙ is)
+    (lines_told n (base + length log) script told ts more tells o worker) (o.numbers worker)
+  where
+    apart : PlacesDiffer (log ++ more)
+    apart = places_differ low script (log ++ more) rise part
+
+-- ---- lines that are read one after another
+
+pub numbered_append : (done more : List Line) → numbered (done ++ more) ≡ numbered done ++ numbered more
+numbered_append done more = filter-append (λ (l : Line). is_numbered l.act) done more
 
 -- ---- commits
 

@@ -1,15 +1,12 @@
 -- The places of lines in the script, and the numbers of lines by them.
-use Rattle.std.proofs.Common.{◌≡◌, ◌≢◌, ◌∙◌, ℕ, ◌+◌, ◌≤◌, Bool, true, false, cond, eqb, eq-eqb, eqb-true, ne_eqb, List, [], ◌∷◌, refl, sym, ap, subst, inl, inr, arith}
+use Rattle.std.proofs.Common.{◌≡◌, ◌≢◌, ◌∙◌, ℕ, ◌+◌, ◌≤◌, Bool, true, false, cond, eqb, eq-eqb, eqb-true, ne_eqb, List, [], ◌∷◌, ◌++◌, refl, sym, ap, subst, inl, inr, arith}
 use Rattle.std.proofs.lemmas.Bool.Decides.{eqb_tells}
 use Rattle.std.specs.List.{AllByRecursion, filter}
 use Rattle.op_script.specs.Shape.{LinesRise}
 use Rattle.op_script.specs.declared.script.Line.{Line}
-use Rattle.run_log.specs.Lists.{Decided, each_says, each_pair, each_passed, each_of_filter, of_key, each_by_key, each_by_keys}
-use Rattle.run_log.specs.Telling.{Tell, TellsRise, lines_of, PlacesDiffer}
-
-pub lines_rise : (low : ℕ) (tells : List Tell) → TellsRise low tells → LinesRise low (lines_of tells)
-lines_rise low [] h = tt
-lines_rise low (t ∷ tells) h = (h.0, lines_rise (t.line.line + 1) tells h.1)
+use Rattle.run_log.specs.Lists.{Decided, each_says, each_pair, each_in_part, each_passed, each_of_filter, each_by_key}
+use Rattle.run_log.specs.Telling.{IsPartOf, PlacesDiffer}
+pub use Rattle.run_log.specs.Telling.{of_caller}
 
 pub rise_from_lower : (low high : ℕ) (ls : List Line) → low ≤ high → LinesRise high ls → LinesRise low ls
 rise_from_lower low high [] le h = tt
@@ -23,7 +20,21 @@ none_below low (l ∷ ls) h = (
       (λ y le. omega (arith, le, h.0)) (none_below (l.line + 1) ls h.1),
 )
 
-filter_rises : (p : Line → Bool) (low : ℕ) (ls : List Line) → LinesRise low ls → LinesRise low (filter p ls)
+-- a part of lines that rise does so
+rises_behind : (low : ℕ) (front ls : List Line) → LinesRise low (front ++ ls) → LinesRise low ls
+rises_behind low [] ls h = h
+rises_behind low (l ∷ front) ls h =
+    rise_from_lower low (l.line + 1) ls (omega (arith, h.0)) (rises_behind (l.line + 1) front ls h.1)
+
+rises_in_front : (low : ℕ) (ls back : List Line) → LinesRise low (ls ++ back) → LinesRise low ls
+rises_in_front low [] back h = tt
+rises_in_front low (l ∷ ls) back h = (h.0, rises_in_front (l.line + 1) ls back h.1)
+
+pub part_rises : (low : ℕ) (part whole : List Line) → IsPartOf part whole → LinesRise low whole → LinesRise low part
+part_rises low part whole p h =
+    rises_in_front low part p.back (rises_behind low p.front (part ++ p.back) (subst (LinesRise low) p.is h))
+
+pub filter_rises : (p : Line → Bool) (low : ℕ) (ls : List Line) → LinesRise low ls → LinesRise low (filter p ls)
 filter_rises p low [] h = tt
 filter_rises p low (l ∷ ls) h = by_test (p l) (filter_rises p (l.line + 1) ls h.1)
   where
@@ -52,9 +63,6 @@ callers_lines low (l ∷ ls) h = (
   where
     passed : (y : Line) → l.line + 1 ≤ y.line → IsCallersLine ls y → IsCallersLine (l ∷ ls) y
     passed y le is = rw (ne_eqb l.line y.line (λ same. absurd (omega (arith, le, same)))) is
-
-abbrev pub of_caller : ℕ → List Line → List Line
-of_caller c ls = of_key (λ (l : Line). l.caller) c ls
 
 differ : (at : ℕ → ℕ) (low : ℕ) (ls : List Line) → AllByRecursion (λ (l : Line). l.caller ≡ at l.line) ls
     → ((c : ℕ) → LinesRise low (of_caller c ls)) → PlacesDiffer ls
@@ -92,10 +100,17 @@ differ at low (l ∷ ls) is rise = (
     elsewhere : (c : ℕ) → AllByRecursion IsElsewhere (of_caller c ls)
     elsewhere c = by c (eqb_tells l.caller c)
 
--- The lines of a script in another order, in which those of each caller rise, stand at different places.
-pub places_differ : (low : ℕ) (ls more : List Line) → LinesRise low ls → ((c : ℕ) → of_caller c more ≡ of_caller c ls)
-    → PlacesDiffer more
-places_differ low ls more rise same =
-    differ (caller_at ls) low more
-    (each_by_keys (λ (l : Line). l.caller) (IsCallersLine ls) more ls same (callers_lines low ls rise))
-    (λ c. subst (LinesRise low) (sym (same c)) (filter_rises (λ (l : Line). eqb l.caller c) low ls rise))
+-- Lines of which those of each caller are a part of its lines in a script stand at different places.
+pub places_differ : (low : ℕ) (script xs : List Line) → LinesRise low script
+    → ((caller : ℕ) → IsPartOf (of_caller caller xs) (of_caller caller script)) → PlacesDiffer xs
+places_differ low script xs rise part =
+    differ (caller_at script) low xs (each_by_key (λ (l : Line). l.caller) (IsCallersLine script) xs callers)
+    (λ c. part_rises low (of_caller c xs) (of_caller c script) (part c)
+    (filter_rises (λ (l : Line). eqb l.caller c) low script rise))
+  where
+    callers : (c : ℕ) → AllByRecursion (IsCallersLine script) (of_caller c xs)
+    callers c =
+        let whole : AllByRecursion (IsCallersLine script) (of_caller c script) =
+        each_of_filter (λ (l : Line). eqb l.caller c) (IsCallersLine script) script (callers_lines low script rise) in
+        each_in_part (IsCallersLine script) (part c).front (of_caller c xs) (part c).back
+        (subst (AllByRecursion (IsCallersLine script)) (part c).is whole)

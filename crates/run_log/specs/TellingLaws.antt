@@ -1,31 +1,32 @@
 -- What the workers of a round were told is an order of the round's lines.
-use Rattle.std.proofs.Common.{◌≡◌, ◌≢◌, ◌∙◌, ℕ, ◌+◌, ◌%◌, ◌<◌, Bool, true, false, cond, eqb, eq-eqb, eqb-true, ne_eqb, List, [], ◌∷◌, map, length}
-use Rattle.std.proofs.Common.{slice_index_or, refl, sym, ap, subst, inl, inr}
+use Rattle.std.proofs.Common.{◌≡◌, ◌≢◌, ◌∙◌, ℕ, ◌+◌, ◌%◌, Bool, true, false, cond, eqb, eq-eqb, eqb-true, ne_eqb, List, [], ◌∷◌, map, length}
+use Rattle.std.proofs.Common.{refl, sym, ap, subst, inl, inr}
 use Rattle.std.proofs.lemmas.Bool.Decides.{eqb_tells}
 use Rattle.std.proofs.lemmas.List.{length-map}
 use Rattle.std.specs.List.{AllByRecursion, filter}
 use Rattle.ix_base.specs.declared.document.Operation.{Operation}
+use Rattle.op_script.specs.Shape.{LinesRise}
 use Rattle.op_script.specs.declared.script.Line.{Line}
 use Rattle.row_fates.specs.Fate.{Numbered}
-use Rattle.run_log.specs.Lists.{Decided, each_pair, each_behind, each_passed, filter_twice, filter_mapped, each_by_keys}
+use Rattle.run_log.specs.Lists.{Decided, each_pair, each_mapped, each_behind, each_passed, each_of_filter, filter_twice, filter_mapped, each_by_key}
 use Rattle.run_log.specs.Headline.{number_of, operations}
 use Rattle.round_order.specs.Order.{Working, told_of, seconds}
-use Rattle.run_log.specs.PlaceLaws.{lines_rise, of_caller, places_differ}
-use Rattle.run_log.specs.Telling.{Tell, IsTell, lines_of, TellsRise, told_lists, PlacesDiffer, IsOrder}
-use Rattle.run_log.specs.ToldLaws.{told_pair, tells_by, told_by_pairs, told_at}
+use Rattle.run_log.specs.PlaceLaws.{places_differ}
+use Rattle.run_log.specs.Telling.{Tell, IsTell, lines_of, pairs_of, of_caller, IsPartOf, AreTells, PlacesDiffer, IsOrder}
 
 -- ---- the tells in the order of their numbers
 
+-- the tells of worker i of n
+abbrev pub tells_by : ℕ → ℕ → List Tell → List Tell
+tells_by n i tells = filter (λ (t : Tell). eqb (t.line.caller % n) i) tells
+
 -- the numbers are consecutive, and the first is the one after `base`
-abbrev pub NumbersFollow : ℕ → List Tell → Type 0
+abbrev NumbersFollow : ℕ → List Tell → Type 0
 NumbersFollow base [] = Unit {0}
 NumbersFollow base (t ∷ us) = (t.number ≡ base + 1) × NumbersFollow (base + 1) us
 
 abbrev ops_of : List Tell → List Operation
 ops_of us = map (λ (t : Tell). t.op) us
-
-abbrev pairs_of : List Tell → List Numbered
-pairs_of us = map told_pair us
 
 -- a worker's first tell, and what it was told after it
 record First (number : ℕ) (op : Operation) (rest : List Numbered) (tells : List Tell) : Type 0 where
@@ -166,15 +167,14 @@ numbers_found base (t ∷ us) follow apart = (
         → HasNumber base (lines_of (t ∷ us)) u
     passed u ne is = rw (ne_eqb t.line.line u.line.line (λ same. ne (sym same))) is
 
--- a caller's lines are those of its worker's lines that it has
-callers_same : (n : ℕ) (us tells : List Tell) → ((i : ℕ) → tells_by n i us ≡ tells_by n i tells)
-    → (c : ℕ) → of_caller c (lines_of us) ≡ of_caller c (lines_of tells)
-callers_same n us tells same c =
+-- a caller's lines among all tells are those among its worker's tells
+callers_same : (n : ℕ) (us : List Tell) (told : ℕ → List Tell) → ((i : ℕ) → tells_by n i us ≡ told i)
+    → (c : ℕ) → of_caller c (lines_of us) ≡ of_caller c (lines_of (told (c % n)))
+callers_same n us told by c =
     filter_mapped (λ (t : Tell). t.line) (λ (l : Line). eqb l.caller c) us
     ∙ ap lines_of (sym (filter_twice is_callers is_workers us within)
-    ∙ ap (λ (l : List Tell). filter is_callers l) (same (c % n))
-    ∙ filter_twice is_callers is_workers tells within)
-    ∙ sym (filter_mapped (λ (t : Tell). t.line) (λ (l : Line). eqb l.caller c) tells)
+    ∙ ap (λ (l : List Tell). filter is_callers l) (by (c % n)))
+    ∙ sym (filter_mapped (λ (t : Tell). t.line) (λ (l : Line). eqb l.caller c) (told (c % n)))
   where
     is_callers : Tell → Bool
     is_callers t = eqb t.line.caller c
@@ -185,52 +185,76 @@ callers_same n us tells same c =
     within : (t : Tell) → is_callers t ≡ true → is_workers t ≡ true
     within t e = eq-eqb (t.line.caller % n) (c % n) (ap (λ (k : ℕ). k % n) (eqb-true t.line.caller c e))
 
+-- what is true of each worker's tells is true of each tell, and the other way round
+each_told : (n : ℕ) (P : Tell → Type 0) (us : List Tell) (told : ℕ → List Tell)
+    → ((i : ℕ) → tells_by n i us ≡ told i) → ((i : ℕ) → AllByRecursion P (told i)) → AllByRecursion P us
+each_told n P us told by h =
+    each_by_key (λ (t : Tell). t.line.caller % n) P us (λ i. subst (AllByRecursion P) (sym (by i)) (h i))
+
+told_each : (n : ℕ) (P : Tell → Type 0) (us : List Tell) (told : ℕ → List Tell)
+    → ((i : ℕ) → tells_by n i us ≡ told i) → AllByRecursion P us → (i : ℕ) → AllByRecursion P (told i)
+told_each n P us told by h i =
+    subst (AllByRecursion P) (by i) (each_of_filter (λ (t : Tell). eqb (t.line.caller % n) i) P us h)
+
 -- ---- the order
 
 -- The lines of a round whose workers were told these operations, in the order of their numbers.
-pub order_of : (n base low : ℕ) (tells : List Tell) (ts : List Working) → 0 < n → AllByRecursion IsTell tells
-    → TellsRise low tells → ((i : ℕ) → told_of i base ts ≡ slice_index_or (told_lists n tells) i [])
-    → (more : List Line) × IsOrder base tells ts more
-order_of n base low tells ts some good rise order =
-    let m =
-    merge n base ts (λ i. tells_by n i tells)
-    (λ i. order i ∙ told_at n i tells some ∙ told_by_pairs n i tells) own in
-    let callers : (c : ℕ) → of_caller c (lines_of m.us) ≡ of_caller c (lines_of tells) =
-    callers_same n m.us tells m.by in
-    let apart : PlacesDiffer (lines_of m.us) =
-    places_differ low (lines_of tells) (lines_of m.us) (lines_rise low tells rise) callers in
-    let good_too : AllByRecursion IsTell m.us = each_by_keys worker IsTell m.us tells m.by good in (
+pub order_of : (n base low : ℕ) (script : List Line) (told : ℕ → List Tell) (ts : List Working)
+    → LinesRise low script → AreTells n script told
+    → ((worker : ℕ) → told_of worker base ts ≡ pairs_of (told worker))
+    → (more : List Line) × IsOrder n base told ts more
+order_of n base low script told ts rise tells order =
+    let m = merge n base ts told order tells.own in
+    let callers : (c : ℕ) → of_caller c (lines_of m.us) ≡ of_caller c (lines_of (told (c % n))) =
+    callers_same n m.us told m.by in
+    let apart : PlacesDiffer (lines_of m.us) = places_differ low script (lines_of m.us) rise
+    (λ c. subst (λ (ls : List Line). IsPartOf ls (of_caller c script)) (sym (callers c)) (tells.part c)) in (
       lines_of m.us,
       record {
-        ops = operations_of m.us good_too ∙ m.ops;
+        ops = operations_of m.us (each_told n IsTell m.us told m.by tells.good) ∙ m.ops;
         count =
             length-map m.us (λ (t : Tell). t.line) ∙ sym (length-map m.us (λ (t : Tell). t.op))
             ∙ ap (λ (ops : List Operation). length ops) m.ops
             ∙ length-map ts (λ (t : Working). t.1);
         callers = callers;
         numbers =
-            each_by_keys worker (HasNumber base (lines_of m.us)) tells m.us (λ i. sym (m.by i))
-            (numbers_found base m.us m.follow apart);
+            told_each n (HasNumber base (lines_of m.us)) m.us told m.by (numbers_found base m.us m.follow apart);
         apart = apart;
       },
     )
-  where
-    worker : Tell → ℕ
-    worker t = t.line.caller % n
-
-    own : AreOwn n (λ i. tells_by n i tells)
-    own i =
-        each_passed (λ (t : Tell). eqb (t.line.caller % n) i) (λ (t : Tell). t.line.caller % n ≡ i) tells
-        (λ t e. eqb-true (t.line.caller % n) i e)
 
 -- ---- the lines of an order are those of the tells
 
 -- What is true of each tell's line is true of each line of the order, and the other way round.
-pub within_all : (base : ℕ) (tells : List Tell) (ts : List Working) (more : List Line) → IsOrder base tells ts more
-    → (P : Line → Type 0) → AllByRecursion P (lines_of tells) → AllByRecursion P more
-within_all base tells ts more o P h = each_by_keys (λ (l : Line). l.caller) P more (lines_of tells) o.callers h
+pub within_all : (n base : ℕ) (told : ℕ → List Tell) (ts : List Working) (more : List Line)
+    → IsOrder n base told ts more → (P : Line → Type 0)
+    → ((worker : ℕ) → AllByRecursion P (lines_of (told worker))) → AllByRecursion P more
+within_all n base told ts more o P h = each_by_key (λ (l : Line). l.caller) P more callers
+  where
+    callers : (c : ℕ) → AllByRecursion P (of_caller c more)
+    callers c =
+        subst (AllByRecursion P) (sym (o.callers c))
+        (each_of_filter (λ (l : Line). eqb l.caller c) P (lines_of (told (c % n))) (h (c % n)))
 
-pub told_all : (base : ℕ) (tells : List Tell) (ts : List Working) (more : List Line) → IsOrder base tells ts more
-    → (P : Line → Type 0) → AllByRecursion P more → AllByRecursion P (lines_of tells)
-told_all base tells ts more o P h =
-    each_by_keys (λ (l : Line). l.caller) P (lines_of tells) more (λ c. sym (o.callers c)) h
+pub told_all : (n base : ℕ) (script : List Line) (told : ℕ → List Tell) (ts : List Working) (more : List Line)
+    → AreTells n script told → IsOrder n base told ts more → (P : Line → Type 0) → AllByRecursion P more
+    → (worker : ℕ) → AllByRecursion P (lines_of (told worker))
+told_all n base script told ts more tells o P h worker =
+    each_by_key (λ (l : Line). l.caller) P (lines_of (told worker)) (λ c. by c (eqb_tells (c % n) worker))
+  where
+    IsOwn : Line → Type 0
+    IsOwn l = l.caller % n ≡ worker
+
+    own : AllByRecursion IsOwn (lines_of (told worker))
+    own = each_mapped (λ (t : Tell). t.line) IsOwn (told worker) (tells.own worker)
+
+    by : (c : ℕ) → Decided (c % n) worker → AllByRecursion P (of_caller c (lines_of (told worker)))
+    by c (inl k) =
+        subst (λ (i : ℕ). AllByRecursion P (of_caller c (lines_of (told i)))) k.1
+        (subst (AllByRecursion P) (o.callers c) (each_of_filter (λ (l : Line). eqb l.caller c) P more h))
+    by c (inr k) =
+        each_pair (λ (l : Line). l.caller ≡ c) IsOwn P (of_caller c (lines_of (told worker)))
+        (λ l is of. absurd (k.1 (sym (ap (λ (i : ℕ). i % n) is) ∙ of)))
+        (each_passed (λ (l : Line). eqb l.caller c) (λ (l : Line). l.caller ≡ c) (lines_of (told worker))
+        (λ l e. eqb-true l.caller c e))
+        (each_of_filter (λ (l : Line). eqb l.caller c) IsOwn (lines_of (told worker)) own)
