@@ -3,3 +3,4 @@ mod AtWork
 mod Tasks
 mod Workers
 mod Sending
+mod Turning

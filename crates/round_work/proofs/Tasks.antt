@@ -14,7 +14,7 @@ use Rattle.round_work.specs.declared.task.Task.{Task}
 use Rattle.round_work.specs.Lines.{Closes}
 use Rattle.round_work.specs.declared.share.Share.{Share}
 use Rattle.round_work.specs.Shares.{open_tasks, share_of}
-use Rattle.round_work.specs.Working.{AreReplies, Does, EndsAtCommit, IsAtWork, IsReplyTo, WorksOn, told_by, told_in}
+use Rattle.round_work.specs.Working.{AreReplies, Does, EndsAtCommit, IsAtWork, IsReplyTo, WorksOn, told_by, told_in, turns_of}
 use Rattle.round_work.proofs.AtWork.{works_on, works_then}
 
 -- None of the tasks that have these replies is a commit.
@@ -23,10 +23,11 @@ NoCommits ts [] = Unit {0}
 NoCommits [] (r ∷ rs) = Unit {0}
 NoCommits (t ∷ ts) (r ∷ rs) = (is_commit t.operation ≡ false) × NoCommits ts rs
 
--- Tasks were done, none of them a commit.
+-- Tasks were done, none of them a commit, and no turn was linked.
 pub record Going (q : DeleteQueue) (old : ThreadWriter) (share : Share) (new : ThreadWriter) (after : Share) : Type 0 where
   pub does : Does q old share new after
   pub none : NoCommits (open_tasks share) does.more
+  pub turns : turns_of new ≡ turns_of old
 
 -- ---- one reply more
 
@@ -79,6 +80,7 @@ pub does_start : (q : DeleteQueue) (writer : ThreadWriter) (share : Share) → l
 does_start q writer share few works = record {
   does = record { tasks = refl; more = []; replies = sym (append-nil share.replies); few = few; fits = tt; commit = tt; works = works };
   none = tt;
+  turns = refl;
 }
 
 -- one task more was told something
@@ -104,16 +106,17 @@ does_next q a b c share replies noted two three t r going inside at fits noted_i
           (works_then q (told_in ts more) (told_by t.operation r) a b c share.gave two three does.works works);
     }
 
--- and it was no commit
+-- and it was no commit, and linked no turn
 pub going_next : (q : DeleteQueue) (a b c : ThreadWriter) (share : Share) (replies noted : List Reply) (two three : List Piece) (t : Task) (r : Reply)
     → Going q a share b (share_of share.tasks replies two) → length replies < length share.tasks → slice_index_or share.tasks (length replies) t ≡ t
     → IsReplyTo t.operation r → noted ≡ replies ++ r ∷ [] → WorksOn q (told_by t.operation r) b two c three → is_commit t.operation ≡ false
-    → Going q a share c (share_of share.tasks noted three)
+    → turns_of c ≡ turns_of b → Going q a share c (share_of share.tasks noted three)
 unfolding does_next
-going_next q a b c share replies noted two three t r going inside at fits noted_is works no_commit =
+going_next q a b c share replies noted two three t r going inside at fits noted_is works no_commit same =
     let next = next_open share replies going.does.more t going.does.replies inside at in record {
       does = does_next q a b c share replies noted two three t r going inside at fits noted_is works;
       none = none_next (open_tasks share) going.does.more t r next.0 next.1 going.none no_commit;
+      turns = same ∙ going.turns;
     }
 
 -- a task was told nothing

@@ -1,14 +1,18 @@
 -- What a worker does in a round.
-use Rattle.std.specs.Prelude.{◌≡◌, ◌↔◌, ◌<◌, ◌≤◌, List, [], ◌∷◌, ◌++◌, length, Some, None, true}
-use Rattle.std.specs.List.{AllByRecursion}
+use Rattle.std.specs.Prelude.{◌≡◌, ◌↔◌, ℕ, ◌+◌, ◌<◌, ◌≤◌, ◌⊎◌, List, [], ◌∷◌, ◌++◌, length, slice_index_or}
+use Rattle.std.specs.Prelude.{Some, None, true}
+use Rattle.std.specs.List.{AllByRecursion, filter}
+use Rattle.ix_base.specs.Entry.{entry_of}
 use Rattle.ix_base.specs.Refusals.{refusal}
+use Rattle.ix_base.specs.Words.{entry_words}
 use Rattle.ix_base.specs.declared.document.Operation.{Operation}
+use Rattle.queue_rule.specs.declared.view.Own.{Own}
 use Rattle.delete_queue.specs.declared.queue.DeleteQueue.{DeleteQueue}
-use Rattle.delete_queue.specs.Seats.{SawClosed, base_of, number_of, own_of, the_view}
+use Rattle.delete_queue.specs.Seats.{SawClosed, base_of, left_of, number_of, own_of, the_view}
 use Rattle.row_fates.specs.Fate.{Numbered as NumberedOperation}
 use Rattle.thread_writer.specs.declared.piece.Piece.{Piece}
 use Rattle.thread_writer.specs.declared.writer.ThreadWriter.{ThreadWriter}
-use Rattle.thread_writer.specs.Writing.{Did, IsWriter, parts_of}
+use Rattle.thread_writer.specs.Writing.{Did, IsWriter, is_turn, parts_of}
 use Rattle.round_order.specs.Order.{is_commit}
 use Rattle.round_work.specs.declared.task.Reply.{Reply}
 use Rattle.round_work.specs.declared.task.Reply.TheVariants.{Numbered, Refused}
@@ -63,6 +67,10 @@ pub record WorksOn (q : DeleteQueue) (more : List NumberedOperation) (old : Thre
   pub above : AllByRecursion (λ (t : NumberedOperation). base_of q < t.0) more
   pub still : own_of old.seat ≡ [] → more ≡ [] → own_of new.seat ≡ []
 
+-- how many turns the writer has linked
+abbrev pub turns_of : ThreadWriter → ℕ
+turns_of w = length (filter (λ (o : Own). is_turn o.words) (own_of w.seat))
+
 -- ---- a worker
 
 -- A writer of the queue can go on with this share: no more tasks were told something than there are, and the share has the
@@ -84,12 +92,20 @@ pub record Does (q : DeleteQueue) (old : ThreadWriter) (share : Share) (new : Th
   pub commit : EndsAtCommit (open_tasks share) more
   pub works : WorksOn q (told_in (open_tasks share) more) old share.gave new after.gave
 
+-- The first task that was told nothing needs more words than are left to the writer in its part of the queue.
+pub record LacksRoom (w : ThreadWriter) (share : Share) : Type 0 where
+  pub task : Task
+  pub inside : length share.replies < length share.tasks
+  pub is : slice_index_or share.tasks (length share.replies) task ≡ task
+  pub short : left_of w.seat < length (entry_words (entry_of task.operation)) + 1
+
 -- A worker did tasks of its share and stopped: by `Done` exactly where each task was told something, and by `Closed`
--- only where its seat has seen that the queue is closed.
+-- only where its seat has seen that the queue is closed. It linked a turn only where the next task lacks room.
 pub record Works (q : DeleteQueue) (writer : ThreadWriter) (share : Share) (worked : Worked) : Type 0 where
   pub does : Does q writer share worked.writer worked.share
   pub done : (worked.stop ≡ Done) ↔ (length worked.share.replies ≡ length worked.share.tasks)
   pub closed : worked.stop ≡ Closed → SawClosed (the_view worked.writer.seat)
+  pub turns : (turns_of worked.writer ≡ turns_of writer) ⊎ LacksRoom worked.writer worked.share
 
 -- each worker did so, in their order
 abbrev pub AreWorked : DeleteQueue → List ThreadWriter → List Share → List Worked → Type 0

@@ -4,7 +4,7 @@ ghost use Rattle.delete_queue.specs.Seats.{SawClosed, own_of, the_view};
 ghost use Rattle.thread_writer.specs.Writing.{IsWriter};
 ghost use Rattle.round_order.specs.Order.{is_commit};
 ghost use Rattle.round_work.specs.declared.line.Halt.TheVariants as halt;
-ghost use Rattle.round_work.specs.Lines.{Closes, reply_for, told_for};
+ghost use Rattle.round_work.specs.Lines.{Closes, TurnsFor, reply_for, told_for};
 ghost use Rattle.round_work.specs.Working.{IsReplyTo, WorksOn};
 
 use crate::task::Reply;
@@ -91,6 +91,7 @@ pub fn do_line(
     ensures closed { result ≡ Err halt.Closed → SawClosed (the_view writer.new.seat) }
     ensures commit { is_commit operation.now ≡ true
         → OnOk result (Closes queue.now writer.old gave.old.items writer.new) }
+    ensures turned { TurnsFor result operation.now writer.old writer.new }
 {
     give_off(queue, writer, gave)?;
     let told = writer.do_line(queue, operation);

@@ -1,13 +1,13 @@
 //! One worker.
-ghost use Rattle.std.specs.Prelude.{◌≡◌, ◌≤◌, ◌↔◌, ◌++◌, ◌∷◌, [], length, IfOk, OnOk, OnErr, Err, true};
+ghost use Rattle.std.specs.Prelude.{◌≡◌, ◌≤◌, ◌↔◌, ◌⊎◌, ◌++◌, ◌∷◌, [], length, IfOk, OnOk, OnErr, Err, true};
 ghost use Rattle.round_order.specs.Order.{is_commit};
 ghost use Rattle.delete_queue.specs.Seats.{SawClosed, the_view};
 ghost use Rattle.thread_writer.specs.Writing.{IsWriter};
 ghost use Rattle.round_work.specs.declared.line.Halt.TheVariants as halt;
 ghost use Rattle.round_work.specs.declared.worked.Stop.TheVariants as stop;
-ghost use Rattle.round_work.specs.Lines.{Closes, told_for};
+ghost use Rattle.round_work.specs.Lines.{Closes, TurnsFor, told_for};
 ghost use Rattle.round_work.specs.Shares.{share_of};
-ghost use Rattle.round_work.specs.Working.{Does, IsAtWork, IsReplyTo, Works, WorksOn};
+ghost use Rattle.round_work.specs.Working.{Does, IsAtWork, IsReplyTo, LacksRoom, Works, WorksOn, turns_of};
 
 use crate::line::{Halt, do_line};
 use crate::share::Share;
@@ -70,6 +70,8 @@ fn do_tasks<G: Gate>(
         writer.new (share_of tasks.now replies.new.items gave.new.items) }
     ensures done { (result ≡ stop.Done) ↔ (length replies.new.items ≡ length tasks.now) }
     ensures closed { result ≡ stop.Closed → SawClosed (the_view writer.new.seat) }
+    ensures turned { (turns_of writer.new ≡ turns_of writer.old)
+        ⊎ LacksRoom writer.new (share_of tasks.now replies.new.items gave.new.items) }
 {
     while replies.len() < tasks.len() {
         let task = &tasks[replies.len()];
@@ -103,6 +105,7 @@ fn do_task<G: Gate>(
     ensures closed { result ≡ Err halt.Closed → SawClosed (the_view writer.new.seat) }
     ensures commit { is_commit task.now.operation ≡ true
         → OnOk result (Closes queue.now writer.old gave.old.items writer.new) }
+    ensures turned { TurnsFor result task.now.operation writer.old writer.new }
 {
     replies.reserve(1)?;
     gate.before(task.line);

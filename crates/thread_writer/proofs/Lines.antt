@@ -196,3 +196,12 @@ told_stays q op words (RefusedQuery size) old new does = stays q (documents_of o
 told_stays q op words Closed old new does = stays q (documents_of op) old new does
 told_stays q op words (Full need left) old new does = stays q (documents_of op) old new does
 told_stays q op words NoMemory old new does = stays q (documents_of op) old new does
+
+pub told_links : (q : DeleteQueue) (op : Operation) (words : List ℕ) (told : Told) (old new : ThreadWriter)
+    → Does q words (λ n. added n op) (documents_of op) told old new → IfNumbered told (λ n. Links old.seat new.seat words n)
+told_links q op words (Numbered n) old new does = does.links
+told_links q op words (RefusedTerm size) old new does = tt
+told_links q op words (RefusedQuery size) old new does = tt
+told_links q op words Closed old new does = tt
+told_links q op words (Full need left) old new does = tt
+told_links q op words NoMemory old new does = tt

@@ -6,7 +6,7 @@ ghost use Rattle.ix_base.specs.Refusals.{refusal, own_refusal, document_refusal,
 ghost use Rattle.ix_base.specs.Words.{Spells, entry_words};
 ghost use Rattle.ix_base.specs.declared.document.Operation.TheVariants.{Commit};
 ghost use Rattle.delete_queue.specs.Answers.{IsOperation};
-ghost use Rattle.delete_queue.specs.Seats.{Grows, SawClosed, the_view};
+ghost use Rattle.delete_queue.specs.Seats.{Grows, Links, SawClosed, the_view};
 ghost use Rattle.row_fates.specs.Fate.{added};
 ghost use Rattle.thread_writer.specs.Writing.{IsWriter, Numbers, Stays, adds, documents_of};
 ghost use Rattle.thread_writer.specs.Answers.{IfNumbered, IfNotNumbered, IfClosed, IfFull};
@@ -163,8 +163,9 @@ impl ThreadWriter {
     /// seen closes the queue, `Full` only where the entry takes more words than are left to the seat,
     /// which then has linked one before. All memory is taken before the entry is linked.
     ///
-    /// After any answer but a number nothing was linked: the writer is as before, but that its seat
-    /// may have seen more, and the document may take a place in the buffer for good, in no row.
+    /// With a number the entry of the operation was linked, and nothing else. After any other answer
+    /// nothing was linked: the writer is as before, but that its seat may have seen more, and the
+    /// document may take a place in the buffer for good, in no row.
     pub fn do_line(&mut self, queue: &DeleteQueue, operation: &Operation) -> Told
         requires writer { IsWriter queue.now self.old }
         requires room { IsTrue (adds operation.now) → length self.old.rows < self.old.size }
@@ -176,6 +177,10 @@ impl ThreadWriter {
         ensures refusal { RefusedExactly result (refusal operation.now) }
         ensures closed { IfClosed result (SawClosed (the_view self.new.seat)) }
         ensures full { FullFor (entry_words (entry_of operation.now)) result self.old self.new }
+        ensures links { IfNumbered result (λ n. Links
+            self.old.seat self.new.seat (entry_words (entry_of operation.now)) n) }
+        ensures spelled { IfNumbered result (λ n. Spells
+            (entry_words (entry_of operation.now)) (entry_of operation.now)) }
     {
         slices_stay();
         self.link_operation(queue, operation)

@@ -7,10 +7,11 @@ use Rattle.thread_writer.specs.declared.writer.ThreadWriter.{ThreadWriter}
 use Rattle.thread_writer.specs.Answers.{FullFor}
 use Rattle.round_work.specs.declared.line.Halt.{Halt}
 use Rattle.round_work.specs.declared.task.Reply.{Reply}
-use Rattle.round_work.specs.Lines.{reply_for, told_for}
+use Rattle.round_work.specs.Lines.{TurnsFor, reply_for, told_for}
 use Rattle.round_work.specs.Working.{IsReplyTo, WorksOn}
 use Rattle.round_work.proofs.AtWork.{closed_for, closes_for, lined, replied, told_nothing, works_on, works_then}
 use Rattle.round_work.proofs.Seeing.{turned_seen}
+use Rattle.round_work.proofs.Turning.{full_turns, lined_turns, no_turns, same_turns, stays_own}
 use Rattle.round_work.proofs.line.do_line.Goals.{in-Full, in_default}
 use Rattle.round_work.proofs.line.do_line.Goals as goal
 
@@ -61,3 +62,21 @@ pub returns-clause-commit : goal.returns-clause-commit
 returns-clause-commit c = λ commit.
     closes_for c.args.queue.now c.args.operation.now c.reply.result c.args.writer.now c.match-told.writer c.args.gave.now.items c.give_off.new.gave.items commit
     (returns-clause-reply c) (returns-clause-works c)
+
+pub returns-clause-turned : goal.returns-clause-turned
+returns-clause-turned c =
+    let op = c.args.operation.now in
+    let old = c.args.writer.now in
+    let ready = c.give_off.new.writer in
+    let done = c.do_line-told.new.self in
+    let said = c.do_line-told.result in
+    let does = c.do_line-told.ensures in
+    let line = lined_turns op said ready done does.links does.spelled (stays_own c.args.queue.now said ready done does.stays) in
+    subst (λ (r : Result Reply Halt). TurnsFor r op old c.match-told.writer) (sym c.reply.ensures)
+    (elim c.match-told.branch [
+      | in-Full w ↦ subst (λ (v : ThreadWriter). TurnsFor (reply_for said) op old v) (sym w.writer-is)
+          (full_turns op said w.in-Full.need w.in-Full.left old ready done w.turn.new.self w.in-Full.is
+          (subst (λ (t : Told). FullFor (entry_words (entry_of op)) t ready done) w.in-Full.is does.full) does.grows w.turn.ensures.grows)
+      | in_default w ↦ subst (λ (v : ThreadWriter). TurnsFor (reply_for said) op old v) (sym w.writer-is)
+          (no_turns op (reply_for said) old done (line ∙ same_turns old ready c.give_off.ensures.own))
+    ])

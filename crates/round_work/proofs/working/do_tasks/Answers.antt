@@ -1,8 +1,9 @@
-use Rattle.std.proofs.Common.{◌≡◌, ◌∙◌, ℕ, ◌<◌, length, sym, subst, arith}
+use Rattle.std.proofs.Common.{◌≡◌, ◌∙◌, ℕ, ◌<◌, length, sym, subst, arith, inl}
 use Rattle.std.specs.Prelude.{slice_index_or}
 use Rattle.round_work.specs.Shares.{share_of}
 use Rattle.round_work.proofs.AtWork.{works_not}
 use Rattle.round_work.proofs.Tasks.{does_next, does_start, going_next}
+use Rattle.round_work.proofs.Turning.{stop_turns}
 use Rattle.round_work.proofs.working.do_tasks.Goals as goal
 
 pub loop-replies-init : goal.loop-replies-init
@@ -51,4 +52,24 @@ loop-replies-preserved g c =
     let same : c.len-in-loop-replies.result ≡ length at.replies.items = omega arith in
     going_next c.args.queue.now c.args.writer.now at.writer after.writer start at.replies.items after.replies.items at.gave.items after.gave.items t c.in-Ok.field-0 at.invariant
     inside (subst (λ (i : ℕ). slice_index_or c.args.tasks.now i t ≡ t) same (sym c.index-tasks-len.is)) done.reply done.noted done.works
-    (sym c.is_commit.ensures ∙ c.if-is_commit.false)
+    (sym c.is_commit.ensures ∙ c.if-is_commit.false) done.turned
+
+pub returns-in-Err-clause-turned : goal.returns-in-Err-clause-turned
+returns-in-Err-clause-turned g c =
+    let at = c.loop-replies in
+    let t = c.index-tasks-len.result in
+    let after = c.do_task.new in
+    let more = c.loop-replies-test.true in
+    let first = c.len.ensures in
+    let second = c.len-in-loop-replies.ensures in
+    let long = at.replies.ok in
+    let inside : length at.replies.items < length c.args.tasks.now = omega arith in
+    let same : c.len-in-loop-replies.result ≡ length at.replies.items = omega arith in
+    stop_turns c.args.writer.now at.writer after.writer c.args.tasks.now at.replies.items after.replies.items after.gave.items t c.in-Err.halt at.invariant.turns
+    inside (subst (λ (i : ℕ). slice_index_or c.args.tasks.now i t ≡ t) same (sym c.index-tasks-len.is)) c.in-Err.ensures.same c.in-Err.ensures.turned
+
+pub returns-then-is_commit-clause-turned : goal.returns-then-is_commit-clause-turned
+returns-then-is_commit-clause-turned g c = inl (c.in-Ok.ensures.turned ∙ c.loop-replies.invariant.turns)
+
+pub returns-clause-turned : goal.returns-clause-turned
+returns-clause-turned g c = inl c.loop-replies.invariant.turns

@@ -1,6 +1,6 @@
 use Rattle.ix_base.specs.Entry.{entry_of}
 use Rattle.ix_base.specs.Words.{entry_words}
-use Rattle.thread_writer.proofs.Lines.{told_writer, told_numbers, told_stays}
+use Rattle.thread_writer.proofs.Lines.{told_writer, told_numbers, told_stays, told_links}
 use Rattle.thread_writer.proofs.writer.ThreadWriter.do_line.Goals as goal
 
 pub returns-clause-writer : goal.returns-clause-writer
@@ -16,4 +16,9 @@ returns-clause-numbered c =
 pub returns-clause-stays : goal.returns-clause-stays
 returns-clause-stays c =
     told_stays c.args.queue.now c.args.operation.now (entry_words (entry_of c.args.operation.now)) c.link_operation.result c.args.self.now c.link_operation.new.self
+    c.link_operation.ensures.does
+
+pub returns-clause-links : goal.returns-clause-links
+returns-clause-links c =
+    told_links c.args.queue.now c.args.operation.now (entry_words (entry_of c.args.operation.now)) c.link_operation.result c.args.self.now c.link_operation.new.self
     c.link_operation.ensures.does
