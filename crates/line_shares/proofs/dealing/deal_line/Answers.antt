@@ -1,0 +1,29 @@
+use Rattle.std.proofs.Common.{◌≡◌, ℕ, ◌+◌, ◌<◌, ◌%◌, ◌∙◌, ◌++◌, [], ◌∷◌, length, sym, ap, arith}
+use Rattle.ix_base.specs.declared.document.Operation.{Operation}
+use Rattle.op_script.specs.declared.script.Act.{Act}
+use Rattle.line_shares.specs.Shares.{is_doing, operation_of}
+use Rattle.line_shares.proofs.Sharing.{tasks_done, tasks_searched}
+use Rattle.line_shares.proofs.dealing.deal_line.Goals as goal
+
+pub returns-in_ok-push-in-Search-clause-tasks : goal.returns-in_ok-push-in-Search-clause-tasks
+returns-in_ok-push-in-Search-clause-tasks c = λ done are.
+    tasks_searched c.args.threads 0 done c.args.line c.args.tasks.now.items
+    (ap (λ (a : Act). is_doing a) c.in-Search.is)
+    are
+
+pub returns-in_ok-push-in-Do-2-clause-tasks : goal.returns-in_ok-push-in-Do-2-clause-tasks
+returns-in_ok-push-in-Do-2-clause-tasks c = λ done are.
+    let n = c.args.threads in
+    let l = c.args.line in
+    let vs = c.args.tasks.now.items in
+    let at = c.from.result % n in
+    let v = c.index_mut.result.now in
+    let same : l.caller % n ≡ at = ap (λ (k : ℕ). k % n) (sym c.from.ensures) in
+    let own : l.caller % n ≡ 0 + at = omega arith in
+    let inside : at < length vs = let count = c.requires.threads.1 in let some = c.requires.threads.0 in omega arith in
+    let operation : c.in-Do.operation ≡ operation_of l.act = sym (ap (λ (a : Act). operation_of a) c.in-Do.is) in
+    tasks_done n 0 done l vs at v c.push-in-Do-2.new.self (ap (λ (a : Act). is_doing a) c.in-Do.is) own inside
+    (sym c.index_mut.ensures.value)
+    (c.in_ok-push-in-Do-2.ensures.items
+    ∙ ap (λ (op : Operation). v.items ++ (record { line = l.line; operation = op }) ∷ []) operation)
+    are

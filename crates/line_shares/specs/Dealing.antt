@@ -1,0 +1,26 @@
+-- What the functions inside the crate say of lines on their way to the workers.
+use Rattle.std.specs.Prelude.{◌≡◌, ℕ, ◌+◌, List, [], ◌∷◌, length, map}
+use Rattle.std.specs.Global.{Vec}
+use Rattle.std.specs.List.{AllByRecursion}
+use Rattle.op_script.specs.declared.script.Line.{Line}
+use Rattle.round_work.specs.declared.share.Share.{Share}
+use Rattle.round_work.specs.declared.task.Task.{Task}
+use Rattle.line_shares.specs.Shares.{own_lines, task_of}
+
+-- these are the tasks of this one of n workers and of those after it, by these lines
+abbrev pub AreTasksFrom : ℕ → ℕ → List Line → List (Vec Task) → Type 0
+AreTasksFrom n worker lines [] = Unit {0}
+AreTasksFrom n worker lines (v ∷ vs) =
+    (v.items ≡ map task_of (own_lines n worker lines)) × AreTasksFrom n (worker + 1) lines vs
+
+-- these are the tasks of n workers, by these lines
+abbrev pub AreTasks : ℕ → List Line → List (Vec Task) → Type 0
+AreTasks n lines vs = AreTasksFrom n 0 lines vs
+
+-- so many workers have no task
+abbrev pub AreNoTasks : ℕ → List (Vec Task) → Type 0
+AreNoTasks n vs = (length vs ≡ n) × AllByRecursion (λ (v : Vec Task). v.items ≡ []) vs
+
+-- a share has these tasks, and was told nothing
+abbrev pub IsShareOf : Vec Task → Share → Type 0
+IsShareOf v s = (s.tasks ≡ v.items) × (s.replies ≡ []) × (s.gave ≡ [])

@@ -1,0 +1,110 @@
+//! Dealing the lines out.
+ghost use Rattle.std.specs.Prelude.{◌≡◌, ◌≤◌, ◌<◌, ◌↔◌, ℕ, List as ListOf, [], ◌∷◌, ◌++◌, length, map, IfOk, OnOk};
+ghost use Rattle.std.specs.Prelude.{IsTrue};
+ghost use Rattle.std.specs.List.{AllByRecursion, AllZip};
+ghost use Rattle.op_script.specs.declared.script.Line.{Line};
+ghost use Rattle.line_shares.specs.Dealing.{AreNoTasks, AreTasks, IsShareOf};
+ghost use Rattle.line_shares.specs.Shares.{AreDone, AreShares, IsFresh, kind_of_operation, place_of};
+
+use crate::place::{Kind, Place};
+use ix_base::{List, NoMemory, Operation};
+use op_script::{Act, Line};
+use round_work::{Share, Task};
+use std::alloc::Global;
+
+/// A script's lines: the place of each, in their order, and the share of each worker.
+#[derive(Drop)]
+pub struct Dealt {
+    pub places: Vec<Place>,
+    pub shares: Vec<Share>,
+}
+
+/// Deals the lines out to so many workers. The only error is out of memory.
+pub fn deal(alloc: Global, threads: u32, lines: List<Line>) -> Result<Dealt, NoMemory>
+    requires threads { (1 ≤ threads) × (threads ≤ 16) }
+    ensures places { IfOk result (λ dealt. dealt.places.items ≡ map place_of lines) }
+    ensures shares { IfOk result (λ dealt. AreShares threads lines dealt.shares.items) }
+    ensures fresh { IfOk result (λ dealt. AllByRecursion IsFresh dealt.shares.items) }
+{
+    let mut places = Vec::new(alloc);
+    let mut tasks = no_tasks(alloc, threads)?;
+    for line in lines.into_vec() {
+        deal_line(threads, line, &mut places, &mut tasks)?;
+    }
+    Ok(Dealt {
+        places,
+        shares: shares_of(alloc, tasks)?,
+    })
+}
+
+/// A list of tasks for each of so many workers, without a task in it.
+fn no_tasks(alloc: Global, threads: u32) -> Result<Vec<Vec<Task>>, NoMemory>
+    ensures { IfOk result (λ tasks. AreNoTasks threads tasks.items) }
+{
+    let mut tasks = Vec::new(alloc);
+    for _worker in 0..threads {
+        tasks.push(Vec::new(alloc))?;
+    }
+    Ok(tasks)
+}
+
+/// Deals one line more out: its place, and what its worker is to do.
+fn deal_line(
+    threads: u32,
+    line: Line,
+    places: &mut Vec<Place>,
+    tasks: &mut Vec<Vec<Task>>,
+) -> Result<(), NoMemory>
+    requires threads { (1 ≤ threads) × (length tasks.old.items ≡ threads) }
+    ensures places { OnOk result (places.new.items ≡ places.old.items ++ place_of line ∷ []) }
+    ensures tasks { (done : ListOf Line) → AreTasks threads done tasks.old.items
+        → OnOk result (AreTasks threads (done ++ line ∷ []) tasks.new.items) }
+    ensures count { length tasks.new.items ≡ length tasks.old.items }
+{
+    let Line { line, caller, act } = line;
+    match act {
+        Act::Search(query) => {
+            let kind = Kind::Search(query);
+            places.push(Place { line, caller, kind })?;
+        }
+        Act::Do(operation) => {
+            let kind = kind_of(&operation);
+            places.push(Place { line, caller, kind })?;
+            let worker = (u32::from(caller) % threads) as usize;
+            tasks[worker].push(Task { line, operation })?;
+        }
+    }
+    Ok(())
+}
+
+/// What a line does that isn't a search.
+fn kind_of(operation: &Operation) -> Kind
+    ensures { result ≡ kind_of_operation operation.now }
+{
+    match operation {
+        Operation::Add(_)
+        | Operation::Update(_, _)
+        | Operation::DeleteTerm(_)
+        | Operation::DeleteQuery(_)
+        | Operation::SetNumber { .. } => Kind::Write,
+        Operation::Commit => Kind::Commit,
+    }
+}
+
+/// The shares of these tasks, of which none was told anything.
+fn shares_of(alloc: Global, tasks: Vec<Vec<Task>>) -> Result<Vec<Share>, NoMemory>
+    ensures { IfOk result (λ shares. AllZip IsShareOf tasks.items shares.items) }
+{
+    let mut shares = Vec::new(alloc);
+    for own in tasks {
+        shares.push(Share::new(alloc, own))?;
+    }
+    Ok(shares)
+}
+
+/// Whether each task of each share was told something.
+pub fn all_done(shares: &[Share]) -> bool
+    ensures { IsTrue result ↔ AreDone shares.now }
+{
+    shares.iter().all(|share| share.is_done())
+}
