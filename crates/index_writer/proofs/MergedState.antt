@@ -1,5 +1,5 @@
 -- A merge of a writer's segments.
-use Rattle.std.proofs.Common.{◌≡◌, ◌∙◌, ℕ, ◌+◌, ◌≤◌, Bool, true, false, cond, not, List, [], ◌∷◌, ◌++◌, Option, Some, None, IfSome, length, refl, sym, ap, subst, arith, append-nil, length-append}
+use Rattle.std.proofs.Common.{◌≡◌, ◌∙◌, ℕ, ◌≤◌, Bool, true, false, cond, not, List, [], ◌∷◌, ◌++◌, Option, Some, None, IfSome, length, refl, sym, ap, subst, arith, append-nil, length-append}
 use Rattle.std.specs.List.{AllByRecursion}
 use Rattle.ix_outside.specs.Files.{Files}
 use Rattle.segment_core.specs.LiveRows.{Lived}
@@ -10,7 +10,7 @@ use Rattle.flush_control.specs.Merging.{EndsMerge, IsMergeOf, MergesStand, is_am
 use Rattle.flush_control.specs.declared.merging.MergeTurn.TheVariants.{Idle, Merged}
 use Rattle.flush_control.specs.declared.published.Published.{Published}
 use Rattle.index_writer.specs.declared.state.State.{State}
-use Rattle.index_writer.specs.Merging.{Merges, of_merged, on_merge, own_staying, staying}
+use Rattle.index_writer.specs.Merging.{Merges, of_merged, on_merge, staying}
 use Rattle.index_writer.specs.Ready.{CanBePending, IsReady, NewIdsFrom}
 
 -- ---- the merged segment, if there is one

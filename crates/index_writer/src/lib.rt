@@ -18,6 +18,7 @@ mod tests;
 mod tests_deletes;
 #[cfg(test)]
 mod tests_merging;
+#[cfg(test)]
 mod working;
 mod writer;
 
@@ -26,5 +27,4 @@ pub use flush_control::MergeTurn;
 pub use laws::{commits_go_on, commits_hold, opened_go_on};
 pub use round::{CommitInfo, Round, RoundEnd, RoundParts};
 pub use state::State;
-pub use working::Worked;
 pub use writer::IndexWriter;

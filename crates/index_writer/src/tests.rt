@@ -1,9 +1,10 @@
 //! Rounds of two writers and their commits, against what was worked out by hand.
 ghost use Rattle.std.specs.Prelude.{◌≡◌, ◌≤◌, ℕ, None, false, true, IfOk, OnOk};
 ghost use Rattle.index_writer.specs.Ready.{IsSound};
-ghost use Rattle.index_writer.specs.Working.{IsUnderWay};
+ghost use Rattle.index_writer.specs.Trials.{IsUnderWay};
 
-use crate::{IndexWriter, RoundEnd, RoundParts, Worked, WriterFault, opened_go_on};
+use crate::working::{Answer, do_line, into_parts};
+use crate::{IndexWriter, RoundEnd, RoundParts, WriterFault, opened_go_on};
 use commit_point::open_commit;
 use ix_base::{Document, Fields, Name, Numbers, Operation, Refusal, Term, Text};
 use ix_memory::MemoryStore;
@@ -53,7 +54,7 @@ fn operation_of(alloc: Global, act: Act, key: &str) -> Result<Operation, Fail> {
 }
 
 /// Does a line of a script.
-fn told(alloc: Global, parts: &mut RoundParts, line: Line) -> Result<Worked, Fail>
+fn told(alloc: Global, parts: &mut RoundParts, line: Line) -> Result<Answer, Fail>
     requires { (base : ℕ) × IsUnderWay base parts.old }
     ensures { OnOk result ((base : ℕ) → IsUnderWay base parts.old → IsUnderWay base parts.new) }
 {
@@ -62,7 +63,7 @@ fn told(alloc: Global, parts: &mut RoundParts, line: Line) -> Result<Worked, Fai
         Err("a writer")?;
     }
     let operation = operation_of(alloc, act, key)?;
-    Ok(parts.do_line(worker, &operation))
+    Ok(do_line(parts, worker, &operation))
 }
 
 /// Does the lines of a script.
@@ -91,7 +92,7 @@ fn begun(
     ensures out { OnOk result (writer.new.state.out ≡ true) }
     ensures pending { writer.new.state.pending ≡ writer.old.state.pending }
 {
-    Ok(writer.begin_round(writers)?.into_parts(alloc)?)
+    Ok(into_parts(alloc, writer.begin_round(writers)?)?)
 }
 
 /// A round of two writers that do the lines of a script.
@@ -207,14 +208,14 @@ fn three_rounds(rt: HostRuntime) -> Result<(), Fail> {
     Ok(())
 }
 
-/// What a line is told.
-fn show_worked(out: &mut String, worked: Worked) -> Result<(), Fail> {
-    match worked {
-        Worked::Numbered(number) => write!(out, " {number}")?,
-        Worked::Refused(Refusal::Term { size }) => write!(out, " term {size}")?,
-        Worked::Refused(Refusal::Query { size }) => write!(out, " query {size}")?,
-        Worked::Closed => write!(out, " closed")?,
-        Worked::NoMemory => write!(out, " memory")?,
+/// Shows what a line is told.
+fn show_answer(out: &mut String, answer: Answer) -> Result<(), Fail> {
+    match answer {
+        Answer::Numbered(number) => write!(out, " {number}")?,
+        Answer::Refused(Refusal::Term { size }) => write!(out, " term {size}")?,
+        Answer::Refused(Refusal::Query { size }) => write!(out, " query {size}")?,
+        Answer::Closed => write!(out, " closed")?,
+        Answer::NoMemory => write!(out, " memory")?,
     }
     Ok(())
 }
@@ -238,7 +239,7 @@ fn shown_work(alloc: Global, parts: &mut RoundParts, script: Script) -> Result<S
 {
     let mut out = String::new(alloc);
     for line in script {
-        show_worked(&mut out, told(alloc, parts, *line)?)?;
+        show_answer(&mut out, told(alloc, parts, *line)?)?;
     }
     for pieces in parts.pieces.as_slice() {
         show_pieces(&mut out, pieces.as_slice())?;
@@ -293,7 +294,7 @@ fn fill(alloc: Global, parts: &mut RoundParts, count: u64) -> Result<bool, Fail>
     let mut right = true;
     for number in 1..=count {
         let told = told(alloc, parts, (0, Act::Delete, "abcde"))?;
-        right = right && told == Worked::Numbered(number);
+        right = right && told == Answer::Numbered(number);
     }
     Ok(right)
 }
@@ -307,9 +308,9 @@ fn turned(rt: HostRuntime) -> Result<(), Fail> {
     let mut parts = begun(alloc, &mut writer, 2)?;
     assert!(rt; fill(alloc, &mut parts, 4159)?);
     let told_first = told(alloc, &mut parts, (0, Delete, "abcdef"))?;
-    assert_eq!(rt; told_first, Worked::Closed);
+    assert_eq!(rt; told_first, Answer::Closed);
     let told_second = told(alloc, &mut parts, (1, Add, "a"))?;
-    assert_eq!(rt; told_second, Worked::Closed);
+    assert_eq!(rt; told_second, Answer::Closed);
     let end = ended(&rt, &mut writer, parts)?;
     assert_eq!(rt; end, RoundEnd::Turned);
     assert_eq!(rt; (writer.upto(), writer.next_id()), (4159, 1));

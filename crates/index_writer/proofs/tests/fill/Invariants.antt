@@ -1,5 +1,5 @@
 use Rattle.std.proofs.Common.{ℕ}
-use Rattle.index_writer.specs.Working.{IsUnderWay}
+use Rattle.index_writer.specs.Trials.{IsUnderWay}
 use Rattle.index_writer.proofs.tests.fill.Given as goal
 
 abbrev pub invariant-loop-number : goal.invariant-loop-number

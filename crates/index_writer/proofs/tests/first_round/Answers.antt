@@ -1,7 +1,7 @@
 use Rattle.std.proofs.Common.{ℕ, Result, Ok, Err}
 use Rattle.std.specs.Prelude.{IfOk}
 use Rattle.index_writer.specs.declared.round.RoundParts.{RoundParts}
-use Rattle.index_writer.specs.Working.{IsUnderWay}
+use Rattle.index_writer.specs.Trials.{IsUnderWay}
 use Rattle.index_writer.proofs.tests.first_round.Goals as goal
 
 some_base : {E : Type 0} (r : Result RoundParts E) (base : ℕ) → IfOk r (IsUnderWay base) → IfOk r (λ parts. (b : ℕ) × IsUnderWay b parts)

@@ -1,4 +1,4 @@
-use Rattle.std.proofs.Common.{◌≡◌, ℕ, Option, None, Some, sym, subst}
+use Rattle.std.proofs.Common.{◌≡◌, Option, None, Some, sym, subst}
 use Rattle.std.specs.Prelude.{MatchOption}
 use Rattle.merge_core.specs.Picking.{HasNoPick}
 use Rattle.flush_control.specs.Merging.{IsMergeOf}
