@@ -23,7 +23,8 @@ use Rattle.index_writer.specs.Storing.{Commits, GoesOn, MayCommit, Settles, on_c
 use Rattle.run_log.specs.Headline.{commit_numbers}
 use Rattle.index_run.specs.Doing.{CanBegin, IsWriterOn}
 use Rattle.index_run.specs.Leaving.{CommitLaws, HasFront, HasSomeFront, IsDiskAfter, IsNextCommit, Stands, first_numbers}
-use Rattle.index_run.proofs.LogNumbers.{Rises, numbers_front, numbers_whole, rises_last, rises_log}
+use Rattle.index_run.proofs.LogNumbers.{numbers_front, numbers_whole, rises_last}
+use Rattle.run_log.specs.CommitLaws.{Rises, commits_rise}
 use Rattle.index_run.proofs.MadeCommits.{ComesNext, front_crash, front_higher, front_longer, front_none, stands_commit}
 
 -- ---- files that are told
@@ -190,7 +191,7 @@ comes_next first w log count laws begun on low numbers =
     let base = first.published.upto in
     let s = w.published.upto in
     let rise : Rises base (first_numbers first log count ++ s ∷ []) =
-    subst (λ (ns : List ℕ). Rises base ns) numbers (rises_log base log) in
+    subst (λ (ns : List ℕ). Rises base ns) numbers (commits_rise base log) in
     let last = rises_last base s (first_numbers first log count) rise in
     record { laws = laws; begun = begun; on = on; above = last.0; below = last.1; low = low }
 

@@ -25,6 +25,7 @@ use Rattle.report_text.specs.declared.fault.Fault.TheVariants as fault
 use Rattle.run_report.specs.declared.outcome.Outcome.{Outcome}
 use Rattle.run_report.specs.Searching.{CanSearch, ReadsCommit}
 use Rattle.run_report.specs.Texts.{texts}
+use Rattle.run_log.specs.CountLaws.{same_count}
 use Rattle.run_log.specs.Headline.{CanRun, Given, HasAll, HasSome, Interleaves, IsIn, IsKept, IsOn, Keeps, Runs, Stops}
 use Rattle.run_log.specs.Headline.{commit_numbers, is_commit, numbered, report, rows_at}
 use Rattle.index_run.specs.declared.stop.Stop.{Stop}
@@ -133,7 +134,7 @@ pub over_stops : (g : Given) (r : Run) (lines : List Line) (outcomes : List Outc
     → Stops g r.start now
 over_stops g r lines outcomes w now same told on o = record {
   log = o.log;
-  numbering = numbering_of g.lines lines o.log same o.over.lines;
+  numbering = numbering_of g.lines lines o.log same o.numbering;
   files = λ are.
       some_onto (told_files now) (HasAll g o.log) (HasSome g o.log) (λ f all. (length o.log, all))
       (ends_files g r.first w o.log r.start now on told o.over.disk);
@@ -168,7 +169,7 @@ over_report g r lines outcomes w now f text same rise can on o has told =
     let are = outcomes_given g r o.log lines outcomes on o.outcomes in
     let asked =
     asked_by (λ (s docs : ℕ). docs ≡ length (rows_at g.base g.rows o.log s)) g.base o.log lines outcomes are in
-    told (rows_of g.base g.rows o.log) (can_search g o.log lines f outcomes can o.over.lines rise has asked)
+    told (rows_of g.base g.rows o.log) (can_search g o.log lines f outcomes can o.numbering rise has asked)
     ∙ texts_with_none g.base g.rows o.log lines outcomes (no_rows g can) are
     ∙ ap (λ (ls : List Line). report g.base g.rows ls o.log) (sym same)
 
@@ -178,14 +179,14 @@ over_runs : (g : Given) (r : Run) (lines : List Line) (outcomes : List Outcome) 
     → Runs g text wrote r.start now
 over_runs g r lines outcomes w now text wrote same can told on o written = record {
   log = o.log;
-  numbering = numbering_of g.lines lines o.log same o.over.lines;
+  numbering = numbering_of g.lines lines o.log same o.numbering;
   written = written;
   files = ends_files g r.first w o.log r.start now on told o.over.disk;
   images = λ are. ends_images g r.first w o.log r.start now on on.of_commits are o.over.disk;
   crash = over_crash g r lines outcomes w now on o;
   again = λ are room.
       let count : length o.log ≡ length (numbered g.lines) =
-      o.over.count ∙ sym (ap (λ (ls : List Line). length (numbered ls)) same) in
+      same_count o.log (numbered lines) o.numbering ∙ sym (ap (λ (ls : List Line). length (numbered ls)) same) in
       ends_again g r.first w o.log r.start now o.over.first on on.of_commits can told are
       (omega (arith, room, count)) o.over.disk;
 }
@@ -250,7 +251,7 @@ sums_of law g r lines outcomes w now base upto result same made can told on o fr
         → IfOk result (λ bytes. bytes.items ≡ text_line (summary_value (script_summary g.lines)))
     by (Err s) f all text = tt
     by (Ok bytes) f all text =
-        summarised law g lines o.log f (count_by is_committed outcomes) upto bytes.items same made can o.over.lines all last count
+        summarised law g lines o.log f (count_by is_committed outcomes) upto bytes.items same made can o.numbering all last count
         (λ next rows holds.
         text next rows holds
         ∙ ap (λ (n : ℕ). text_line (summary_value (summary_of (count_by is_committed outcomes) (upto - n) (map hit_of (born_after n rows))))) first)
@@ -308,11 +309,11 @@ whole_in law g r form lines outcomes w now upto (Err s) rise made on told here l
 
     can : (form : Form) → (form ≡ Summary → IsMade lines) → CanTell form upto found.0 outcomes
     can Report made =
-        can_read g o.log lines found.0 outcomes o.over.lines rise found.2
+        can_read g o.log lines found.0 outcomes o.numbering rise found.2
         (subst (λ (n : ℕ). AllByRecursion (IsAskedBy n o.log lines) outcomes) here.number (over_asked r lines outcomes w now o))
     can Summary made =
         subst (ReadsCommit found.0) (sym last)
-        (found.2 (g.base + length o.log) (inr (last_in law lines o.log g.base (made refl) o.over.lines)))
+        (found.2 (g.base + length o.log) (inr (last_in law lines o.log g.base (made refl) o.numbering)))
 
 -- what is damaged after the lines were done was to be read
 pub damaged_in : MadeRuns → (r : Run) (form : Form) (lines : List Line) (outcomes : List Outcome) (w : State)
@@ -325,7 +326,7 @@ damaged_in law r Report lines outcomes w old now base upto damaged made is_base 
   last = is_base;
   number = found.2.number;
   some = found.2.some;
-  reads = inr (is_asked (base_of r) o.log lines outcomes found.0 found.2.number found.2.query o.over.lines
+  reads = inr (is_asked (base_of r) o.log lines outcomes found.0 found.2.number found.2.query o.numbering
       (over_asked r lines outcomes w now o) found.1 found.2.searches);
   broken = found.2.broken;
 }
@@ -335,7 +336,7 @@ damaged_in law r Summary lines outcomes w old now base upto damaged made is_base
       base = base_of r;
       last = is_base;
       number = upto;
-      some = (let above = last_above law lines o.log (base_of r) (made refl) o.over.lines in omega (arith, last, above));
-      reads = inr (record { log = o.log; numbering = o.over.lines; is = last });
+      some = (let above = last_above law lines o.log (base_of r) (made refl) o.numbering in omega (arith, last, above));
+      reads = inr (record { log = o.log; numbering = o.numbering; is = last });
       broken = found;
     }

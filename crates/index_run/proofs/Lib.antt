@@ -8,10 +8,12 @@ pub mod DiskAfter
 pub mod SomeRows
 pub mod RunEnds
 pub mod RunBegins
-pub mod Between
-pub mod Lined
 pub mod Rounding
-pub mod Driven
+pub mod Workers
+pub mod Counting
+pub mod Left
+pub mod Replying
+pub mod Coming
 pub mod Beginnings
 pub mod Inputs
 pub mod Searchable

@@ -12,6 +12,7 @@ use Rattle.ix_base.specs.declared.document.Row.{Row}
 use Rattle.ix_base.specs.Steps.{after, numbered_from, step}
 use Rattle.op_script.specs.declared.script.Line.{Line}
 use Rattle.row_fates.specs.Fate.{added, rows_added}
+use Rattle.run_log.specs.CommitLaws.{Rises}
 use Rattle.run_log.specs.Headline.{IsIn, act_operation, commit_numbers, is_commit, operations, rows_at}
 
 -- ---- numbers
@@ -26,24 +27,6 @@ nat_or s t = elim (cases_lt s t) [
 abbrev pub AllBelow : ℕ → List ℕ → Type 0
 AllBelow s [] = Unit {0}
 AllBelow s (n ∷ ns) = (n < s) × AllBelow s ns
-
--- the numbers rise, and the first is above `low`
-abbrev pub Rises : ℕ → List ℕ → Type 0
-Rises low [] = Unit {0}
-Rises low (n ∷ ns) = (low < n) × Rises n ns
-
-rises_lower : (low more : ℕ) (ns : List ℕ) → low ≤ more → Rises more ns → Rises low ns
-rises_lower low more [] le rise = tt
-rises_lower low more (n ∷ ns) le rise = (omega (arith, le, rise.0), rise.1)
-
-pub rises_log : (base : ℕ) (log : List Line) → Rises base (commit_numbers base log)
-rises_log base [] = tt
-rises_log base (l ∷ log) = by (is_commit l.act) (rises_log (base + 1) log)
-  where
-    by : (b : Bool) → Rises (base + 1) (commit_numbers (base + 1) log)
-        → Rises base (cond b ((base + 1) ∷ commit_numbers (base + 1) log) (commit_numbers (base + 1) log))
-    by true more = (omega arith, more)
-    by false more = rises_lower base (base + 1) (commit_numbers (base + 1) log) (omega arith) more
 
 -- the last of rising numbers is above the others
 pub rises_last : (low s : ℕ) (ns : List ℕ) → Rises low (ns ++ s ∷ []) → (low < s) × AllBelow s ns

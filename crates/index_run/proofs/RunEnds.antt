@@ -17,13 +17,14 @@ use Rattle.op_script.specs.declared.script.Line.{Line}
 use Rattle.index_writer.specs.declared.state.State.{State}
 use Rattle.index_writer.specs.Ready.{IsStored}
 use Rattle.index_writer.specs.Storing.{GoesOn, MayCommit, SameBelow}
+use Rattle.run_log.specs.CommitLaws.{Rises, commits_rise}
 use Rattle.run_log.specs.Headline.{CanRun, Given, GivesBack, HasAll, HasFirst, HasNoCommit, HasSome, IsIn, IsKept, IsLast, IsNewCommit, IsOn, commit_numbers, rows_at}
 use Rattle.run_report.specs.Searching.{ReadsCommit}
 use Rattle.index_run.specs.Doing.{CanBegin, IsOnGiven, IsWriterOn}
 use Rattle.index_run.specs.Leaving.{AreMade, CommitLaws, HasFront, HasOnly, HasSomeFront, IsDiskAfter, IsNextCommit}
 use Rattle.index_run.specs.Leaving.{IsMade, IsOfCommits, Stands, first_numbers}
-use Rattle.index_run.proofs.LogNumbers.{AllBelow, Rises, in_last, in_most, numbers_front, numbers_whole, rises_last}
-use Rattle.index_run.proofs.LogNumbers.{rises_log, rows_front, split_last}
+use Rattle.index_run.proofs.LogNumbers.{AllBelow, in_last, in_most, numbers_front, numbers_whole, rises_last}
+use Rattle.index_run.proofs.LogNumbers.{rows_front, split_last}
 use Rattle.index_run.proofs.KeptThere.{goes_on_there, inverted_there, kept_through, lists_back, none_of, only_image}
 use Rattle.index_run.proofs.KeptThere.{only_itself, there_by}
 use Rattle.index_run.proofs.MadeCommits.{kept_next}
@@ -158,7 +159,7 @@ again_some g first log limit front s f begun on room is made =
     this = each_at (IsMade first log limit g.files f) (front ++ s ∷ []) s made_here.each (in_last front s)
 
     rise : (base < s) × AllBelow s front
-    rise = rises_last base s front (subst (λ (ns : List ℕ). Rises base ns) is (rises_log base (take (length log) log)))
+    rise = rises_last base s front (subst (λ (ns : List ℕ). Rises base ns) is (commits_rise base (take (length log) log)))
 
     some : 1 ≤ s
     some = omega (arith, rise.0)

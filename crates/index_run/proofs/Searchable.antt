@@ -17,12 +17,13 @@ use Rattle.run_report.specs.declared.outcome.Answer.{Answer}
 use Rattle.run_report.specs.declared.outcome.Answer.TheVariants.{Numbered, Committed, Refused, Searched}
 use Rattle.run_report.specs.declared.outcome.Outcome.{Outcome}
 use Rattle.run_report.specs.Searching.{AnswerHolds, AnswerReads, CanRead, CanSearch, HoldsCommit, ReadsCommit}
+use Rattle.run_log.specs.CommitLaws.{commits_rise}
 use Rattle.run_log.specs.Headline.{CanRun, Given, HasAll, HasNoCommit, Interleaves, IsIn, IsNewCommit, commit_numbers, operations}
 use Rattle.index_run.specs.Damage.{IsAsked}
 use Rattle.index_run.specs.Outcomes.{AsksBy, IsAskedBy, rows_of}
 use Rattle.index_run.specs.OutcomeLaws.{asked_commit, rows_of-is}
 use Rattle.index_run.proofs.KeptThere.{inverted_there}
-use Rattle.index_run.proofs.LogNumbers.{rises_above, rises_log}
+use Rattle.index_run.proofs.LogNumbers.{rises_above}
 use Rattle.index_run.proofs.RunEnds.{each_at}
 
 -- ---- the commits of a log
@@ -37,7 +38,7 @@ no_rows g can zero_is = by can.1
 
 above_base : (base : ℕ) (log : List Line) (s : ℕ) → IsIn (commit_numbers base log) s → (base ≤ s) × (1 ≤ s)
 above_base base log s among =
-    let above = rises_above base s (commit_numbers base log) (rises_log base log) among in
+    let above = rises_above base s (commit_numbers base log) (commits_rise base log) among in
     (omega (arith, above), omega (arith, above))
 
 -- the commit at the beginning still has its rows

@@ -23,13 +23,14 @@ use Rattle.report_text.specs.Summaries.{summary_of}
 use Rattle.row_fates.specs.Fate.{BornBy}
 use Rattle.run_report.specs.declared.outcome.Answer.{Answer}
 use Rattle.run_report.specs.declared.outcome.Outcome.{Outcome}
+use Rattle.run_log.specs.CommitLaws.{commits_rise}
 use Rattle.run_log.specs.Headline.{CanRun, Given, HasAll, HasNoCommit, Interleaves, IsIn, IsNewCommit, commit_numbers, is_commit, rows_at}
 use Rattle.made_runs.specs.Ends.{EndsAt}
 use Rattle.made_runs.specs.Summary.{ComesTo, MadeRuns, run_rows, script_summary}
 use Rattle.index_run.specs.Commands.{IsMade}
 use Rattle.index_run.specs.Outcomes.{AreOutcomes, IsAnswer, IsDone, IsTold}
 use Rattle.index_run.specs.Telling.{commits, is_committed}
-use Rattle.index_run.proofs.LogNumbers.{rises_above, rises_log}
+use Rattle.index_run.proofs.LogNumbers.{rises_above}
 use Rattle.index_run.proofs.RunEnds.{each_at}
 
 -- ---- the last commit
@@ -67,7 +68,7 @@ last_in law lines log base made numbering =
 pub last_above : MadeRuns → (lines log : List Line) (base : ℕ) → IsMade lines → Interleaves lines log
     → 1 ≤ base + length log
 last_above law lines log base made numbering =
-    let above = rises_above base (base + length log) (commit_numbers base log) (rises_log base log)
+    let above = rises_above base (base + length log) (commit_numbers base log) (commits_rise base log)
     (last_in law lines log base made numbering) in
     omega (arith, above)
 

@@ -1,5 +1,5 @@
 -- Where a command finds a broken file.
-use Rattle.std.specs.Prelude.{◌≡◌, ◌⊎◌, ℕ, ◌+◌, ◌≤◌, List, ◌∷◌, ◌++◌, length, Option, Ok}
+use Rattle.std.specs.Prelude.{◌≡◌, ◌⊎◌, ℕ, ◌+◌, ◌≤◌, List, ◌∷◌, ◌++◌, length, Option, Some, Ok}
 use Rattle.command_words.specs.declared.command.Command.{Command}
 use Rattle.command_words.specs.declared.command.Command.TheVariants.{Ask, Make, Run}
 use Rattle.command_words.specs.declared.command.Command.TheVariants as command
@@ -13,7 +13,7 @@ use Rattle.run_log.specs.Headline.{Interleaves, last_commit}
 use Rattle.script_maker.specs.Made.{made_script}
 use Rattle.searcher.specs.Searching.{IsDamagedIn}
 use Rattle.store_answers.specs.Asking.{IsDamagedAsked}
-use Rattle.store_answers.specs.Listing.{IsBrokenCommit}
+use Rattle.store_answers.specs.Listing.{IsBrokenCommit, IsFirstBroken}
 use Rattle.index_run.specs.Beginning.{IsBase}
 use Rattle.index_run.specs.declared.telling.Form.{Form}
 use Rattle.index_run.specs.declared.telling.Form.TheVariants.{Report, Summary}
@@ -55,6 +55,12 @@ pub record ReadsDamaged (form : Form) (lines : List Line) (old new : Option File
   pub reads : ((number ≡ base) × (new ≡ old)) ⊎ IsRead form base lines number
   pub broken : IsDamagedIn new number damaged
 
+-- Of the commit files that are listed one is first broken at this place; where the store tells its files it is the first
+-- one that is broken.
+pub record ListsDamaged (told : Option Files) (damaged : Damaged) : Type 0 where
+  pub broken : (s : ℕ) × IsBrokenCommit told s damaged
+  pub first : (files : Files) → told ≡ Some files → (s : ℕ) × IsFirstBroken files s damaged
+
 -- A command finds a file first broken at this place: of a commit that its run reads, of the commit that is asked for, or
 -- of those that are listed.
 abbrev pub FindsDamage : Command → Option (List ℕ) → Option Files → Option Files → Damaged → Type 0
@@ -63,4 +69,4 @@ FindsDamage (Run threads buffer merge) input old new damaged = (lines : List Lin
 FindsDamage (Make seed count callers) input old new damaged =
     ReadsDamaged Summary (made_script seed count callers) old new damaged
 FindsDamage (Ask commit) input old new damaged = IsDamagedAsked old commit damaged
-FindsDamage command.List input old new damaged = (s : ℕ) × IsBrokenCommit old s damaged
+FindsDamage command.List input old new damaged = ListsDamaged old damaged

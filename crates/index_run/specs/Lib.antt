@@ -2,10 +2,13 @@ pub mod Commands
 pub mod Causes
 pub mod Outcomes
 pub mod OutcomeLaws
+pub mod Replied
+pub mod RepliedLaws
 pub mod Leaving
 pub mod Doing
 pub mod Merged
 pub mod Driving
+pub mod Rounds
 pub mod Beginning
 pub mod Telling
 pub mod Damage

@@ -9,7 +9,8 @@ ghost use Rattle.ix_outside.specs.Disk.{told_files};
 ghost use Rattle.ix_outside.specs.Files.{Files};
 ghost use Rattle.store_answers.specs.Answers.{answers_text};
 ghost use Rattle.store_answers.specs.Asking.{IsAsked, IsDamagedAsked, LacksAsked};
-ghost use Rattle.store_answers.specs.Listing.{AreListed, IsBrokenCommit};
+ghost use Rattle.store_answers.specs.Listing.{AreListed};
+ghost use Rattle.index_run.specs.Damage.{ListsDamaged};
 ghost use Rattle.index_run.specs.Causes.{IsOneOf, stop_by_list, stop_status, stop_to_ask};
 ghost use Rattle.index_run.specs.Promises.{IsListOf};
 
@@ -96,7 +97,7 @@ pub fn show<S: Store>(alloc: Global, store: S) -> Done<S>
         → AreListed files heads
         → IfErr result.text (λ stop. IsOneOf (stop_status stop) (4 ∷ 7 ∷ [])) }
     ensures damaged { (damaged : Damaged) → result.text ≡ Err (Stop.Fault (Fault.Damaged damaged))
-        → (s : ℕ) × IsBrokenCommit (told_files (S.disk store)) s damaged }
+        → ListsDamaged (told_files (S.disk store)) damaged }
     ensures same { S.disk result.store ≡ S.disk store }
     ensures failed { result.text ≡ Err (Stop.Fault Fault.Store)
         → Rose (S.fault_count store) (S.fault_count result.store) }

@@ -22,6 +22,7 @@ use command_words::Command;
 use ix_outside::{Gate, Source, Store};
 use script_maker::make_script;
 use std::alloc::Global;
+use std::sync::Wait;
 use std::thread::Threads;
 
 /// How `make` runs its script.
@@ -32,7 +33,7 @@ const MADE: Options = Options {
 };
 
 /// Does a command, and returns the text that it writes, of which nothing is written yet.
-pub fn do_command<R: Threads + Sync, I: Source, S: Store, G: Gate>(
+pub fn do_command<R: Threads + Wait + Sync, I: Source, S: Store, G: Gate>(
     rt: &R,
     alloc: Global,
     command: Command,
@@ -114,7 +115,7 @@ pub fn do_command<R: Threads + Sync, I: Source, S: Store, G: Gate>(
 
 /// Does the command that the words are, and returns the text that it writes, of which nothing is
 /// written yet, or why it stopped.
-pub fn come_to<R: Threads + Sync, I: Source, S: Store, G: Gate>(
+pub fn come_to<R: Threads + Wait + Sync, I: Source, S: Store, G: Gate>(
     rt: &R,
     alloc: Global,
     words: &[String],

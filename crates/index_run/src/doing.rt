@@ -22,6 +22,7 @@ use made_runs::made_runs;
 use op_script::Line;
 use report_text::Fault;
 use std::alloc::Global;
+use std::sync::Wait;
 use std::thread::Threads;
 
 /// How a script is run.
@@ -44,7 +45,7 @@ pub struct Done<S> {
 
 /// Does the lines over the store's last commit, and returns the text that tells of them, of which
 /// nothing is written yet.
-pub fn do_script<R: Threads + Sync, S: Store, G: Gate>(
+pub fn do_script<R: Threads + Wait + Sync, S: Store, G: Gate>(
     rt: &R,
     alloc: Global,
     store: S,

@@ -16,6 +16,7 @@ mod commands;
 mod doing;
 mod input;
 mod lines;
+mod outcomes;
 mod output;
 mod reading;
 mod rounds;
@@ -37,6 +38,8 @@ mod tests_operations;
 mod tests_rounds;
 #[cfg(test)]
 mod tests_stores;
+#[cfg(test)]
+mod tests_threads;
 mod words;
 
 pub use call::{Ended, top};

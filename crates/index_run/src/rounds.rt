@@ -1,20 +1,27 @@
-//! The rounds of a run: where one ends, its commit is written and the next one is begun.
-ghost use Rattle.std.specs.Prelude.{◌≡◌, ◌≤◌, ◌<◌, ◌++◌, ℕ, [], List, length, IfOk, OnOk, OnErr, Err, None, true, false};
+//! The rounds of a run: each is begun, done by its workers, ended and committed.
+ghost use Rattle.std.specs.Prelude.{◌≡◌, ◌≤◌, ◌<◌, ℕ, List, map, IfOk, OnOk, OnErr, Err, None, true, false};
+ghost use Rattle.std.specs.List.{AllByRecursion};
 ghost use Rattle.ix_outside.specs.Causes.{Rose};
-ghost use Rattle.op_script.specs.Shape.{LinesRise};
 ghost use Rattle.op_script.specs.declared.script.Line.{Line};
-ghost use Rattle.index_writer.specs.Ready.{IsSound};
-ghost use Rattle.index_writer.specs.Rounds.{ArePartsOf};
-ghost use Rattle.index_writer.specs.Working.{IsStuck, links_of};
 ghost use Rattle.row_fates.specs.Fate.{Numbered};
+ghost use Rattle.round_work.specs.declared.share.Share.{Share};
+ghost use Rattle.line_shares.specs.Shares.{AreDone, open_count};
+ghost use Rattle.index_writer.specs.Ready.{IsSound};
+ghost use Rattle.index_writer.specs.Rounds.{ArePartsOf, IsBegun};
+ghost use Rattle.index_writer.specs.Working.{IsStuck};
+ghost use Rattle.index_run.specs.Driving.{EndsRound, HasCome, HasDone, IsCut, IsRound, Run};
 ghost use Rattle.index_run.specs.Merged.{EndsMerged};
-ghost use Rattle.run_log.specs.Telling.{Tell};
-ghost use Rattle.run_report.specs.declared.outcome.Outcome.{Outcome};
-ghost use Rattle.index_run.specs.Driving.{EndsRound, HasCome, IsAt, IsCut, IsFar, IsOver, IsRound, NextRound, Run};
+ghost use Rattle.index_run.specs.Rounds.{AllCame, gave_of, given, pieces_of, share_of, writers_of};
 
-use index_writer::{IndexWriter, RoundEnd, RoundParts, WriterFault, commits_go_on, commits_hold};
-use ix_outside::Store;
+use delete_queue::DeleteQueue;
+use index_writer::{
+    CommitInfo, IndexWriter, Round, RoundEnd, RoundParts, WriterFault, commits_go_on, commits_hold,
+};
+use ix_base::NoMemory;
+use ix_outside::{Gate, Store};
+use round_work::{Share, Stop, Worked, run_round};
 use std::alloc::Global;
+use std::sync::Wait;
 use std::thread::Threads;
 
 /// No round is begun after a number above this, and no commit written or round begun where the next
@@ -22,53 +29,60 @@ use std::thread::Threads;
 const MOST: u64 = 4_611_686_018_427_387_904;
 
 /// Begins the next round, of so many writers.
-pub fn begin_round<S: Store>(
-    alloc: Global,
-    writer: &mut IndexWriter<S>,
-    threads: u32,
-) -> Result<RoundParts, WriterFault>
+fn begin_round<S: Store>(writer: &mut IndexWriter<S>, threads: u32) -> Result<Round, WriterFault>
     requires sound { IsSound writer.old.state }
-    requires out { writer.old.state.out ≡ false }
     requires threads { (1 ≤ threads) × (threads ≤ 16) }
-    ensures round { (r : Run) (done : List Line) (log : List Line) → r.workers ≡ threads
-        → LinesRise 1 done → IsAt r done log writer.old.state (S.disk writer.old.store)
-        → IfOk result (λ parts. IsRound r done log [] writer.new.state parts (S.disk writer.new.store)) }
-    ensures fresh { IfOk result (λ parts. links_of parts ≡ 0) }
+    requires out { writer.old.state.out ≡ false }
+    ensures begun { IfOk result (IsBegun threads writer.old.state) }
+    ensures on { OnOk result (writer.new.state ≡ record writer.old.state { out = true }) }
+    ensures sound { IsSound writer.new.state }
     ensures store { writer.new.store ≡ writer.old.store }
     ensures outside { result ≡ Err WriterFault.Store → ⊥ }
 {
     if writer.upto() > MOST || writer.next_id() > MOST {
         return Err(WriterFault::NoMemory);
     }
-    let round = writer.begin_round(threads)?;
-    Ok(round.into_parts(alloc)?)
+    writer.begin_round(threads)
 }
 
-/// The round that is out, or the next one where none is.
-pub fn round_of<S: Store>(
+/// What came back of a round's workers, as the round's parts and the shares. The only error is out of
+/// memory, here or in one of the workers.
+fn part(
     alloc: Global,
-    writer: &mut IndexWriter<S>,
-    parts: Option<RoundParts>,
-    threads: u32,
-) -> Result<RoundParts, WriterFault>
-    requires threads { (1 ≤ threads) × (threads ≤ 16) }
-    requires come { (r : Run) × (done : List Line) × (lasts : List ℕ) × (outcomes : List Outcome)
-        × (r.workers ≡ threads)
-        × HasCome r done lasts outcomes writer.old.state parts (S.disk writer.old.store) }
-    ensures far { (r : Run) (done : List Line) (lasts : List ℕ) (outcomes : List Outcome)
-        → r.workers ≡ threads
-        → HasCome r done lasts outcomes writer.old.state parts (S.disk writer.old.store)
-        → IfOk result (λ far. IsFar r done lasts outcomes writer.new.state far (S.disk writer.new.store)) }
-    ensures cut { (r : Run) (done : List Line) (lasts : List ℕ) (outcomes : List Outcome) (rest : List Line)
-        → HasCome r done lasts outcomes writer.old.state parts (S.disk writer.old.store)
-        → OnErr result (IsCut r (done ++ rest) (S.disk writer.new.store)) }
-    ensures store { writer.new.store ≡ writer.old.store }
-    ensures outside { result ≡ Err WriterFault.Store → ⊥ }
+    queue: DeleteQueue,
+    worked: Vec<Worked>,
+) -> Result<(RoundParts, Vec<Share>), NoMemory>
+    ensures queue { IfOk result (λ x. x.0.queue ≡ queue) }
+    ensures writers { IfOk result (λ x. x.0.writers.items ≡ writers_of worked.items) }
+    ensures pieces { IfOk result (λ x. pieces_of x.0.pieces.items ≡ gave_of worked.items) }
+    ensures shares { IfOk result (λ x. x.1.items ≡ map share_of worked.items) }
+    ensures came { OnOk result (AllCame worked.items) }
 {
-    match parts {
-        Some(parts) => Ok(parts),
-        None => begin_round(alloc, writer, threads),
+    let mut writers = Vec::new(alloc);
+    let mut pieces = Vec::new(alloc);
+    let mut shares = Vec::new(alloc);
+    for one in worked {
+        let Worked {
+            writer,
+            share,
+            stop,
+        } = one;
+        if stop == Stop::NoMemory {
+            return Err(NoMemory);
+        }
+        let mut share = share;
+        pieces.push(share.take_gave(alloc))?;
+        writers.push(writer)?;
+        shares.push(share)?;
     }
+    Ok((
+        RoundParts {
+            queue,
+            writers,
+            pieces,
+        },
+        shares,
+    ))
 }
 
 /// Ends the round that is out, and then merges segments where there are many. This is done only where
@@ -105,22 +119,20 @@ fn end_round<R: Threads + Sync, S: Store>(
     Ok(end)
 }
 
-/// Ends the round that is out, and writes its commit where it ended with one. It returns how many
-/// rows that has, or 0 without one.
-pub fn finish_round<R: Threads + Sync, S: Store>(
+/// Ends the round that is out, and writes its commit where it ended with one.
+fn finish_round<R: Threads + Sync, S: Store>(
     rt: &R,
     writer: &mut IndexWriter<S>,
     parts: RoundParts,
-) -> Result<u64, WriterFault>
-    requires round { (r : Run) × (done : List Line) × (log : List Line) × (tells : List Tell)
-        × IsRound r done log tells writer.old.state parts (S.disk writer.old.store) }
-    ensures ends { (r : Run) (done : List Line) (log : List Line) (tells : List Tell)
-        → IsRound r done log tells writer.old.state parts (S.disk writer.old.store)
-        → IfOk result (λ docs. EndsRound r done log tells docs writer.new.state (S.disk writer.new.store)) }
-    ensures cut { (r : Run) (done : List Line) (log : List Line) (tells : List Tell) (rest : List Line)
-        → IsRound r done log tells writer.old.state parts (S.disk writer.old.store)
-        → OnErr result (IsCut r (done ++ rest) (S.disk writer.new.store)) }
-    ensures sound { OnOk result (IsSound writer.new.state) }
+) -> Result<Option<CommitInfo>, WriterFault>
+    requires round { (r : Run) × (lines : List Line) × (olds : List Share) × (news : List Share) × (log : List Line)
+        × IsRound r lines olds news log writer.old.state parts (S.disk writer.old.store) }
+    ensures ends { (r : Run) (lines : List Line) (olds news : List Share) (log : List Line)
+        → IsRound r lines olds news log writer.old.state parts (S.disk writer.old.store)
+        → IfOk result (λ commit. EndsRound r lines news log commit writer.new.state (S.disk writer.new.store)) }
+    ensures cut { (r : Run) (lines : List Line) (olds news : List Share) (log : List Line)
+        → IsRound r lines olds news log writer.old.state parts (S.disk writer.old.store)
+        → OnErr result (IsCut r lines (S.disk writer.new.store)) }
     ensures out { OnOk result (writer.new.state.out ≡ false) }
     ensures open { OnOk result (IsStuck parts → ⊥) }
     ensures later { S.fault_count writer.old.store ≤ S.fault_count writer.new.store }
@@ -134,66 +146,45 @@ pub fn finish_round<R: Threads + Sync, S: Store>(
             if writer.next_id() > MOST {
                 return Err(WriterFault::NoMemory);
             }
-            Ok(writer.commit()?.docs)
+            Ok(Some(writer.commit()?))
         }
-        Ok(RoundEnd::Turned) => Ok(0),
-        Ok(RoundEnd::Ran) => Ok(0),
+        Ok(RoundEnd::Turned) => Ok(None),
+        Ok(RoundEnd::Ran) => Ok(None),
         Err(fault) => Err(fault),
     }
 }
 
-/// Ends the round that is out, if there is one.
-pub fn finish<R: Threads + Sync, S: Store>(
-    rt: &R,
-    writer: &mut IndexWriter<S>,
-    parts: Option<RoundParts>,
-) -> Result<(), WriterFault>
-    requires come { (r : Run) × (done : List Line) × (lasts : List ℕ) × (outcomes : List Outcome)
-        × HasCome r done lasts outcomes writer.old.state parts (S.disk writer.old.store) }
-    ensures over { (r : Run) (done : List Line) (lasts : List ℕ) (outcomes : List Outcome)
-        → HasCome r done lasts outcomes writer.old.state parts (S.disk writer.old.store)
-        → OnOk result (IsOver r done outcomes writer.new.state (S.disk writer.new.store)) }
-    ensures cut { (r : Run) (done : List Line) (lasts : List ℕ) (outcomes : List Outcome)
-        → HasCome r done lasts outcomes writer.old.state parts (S.disk writer.old.store)
-        → OnErr result (IsCut r done (S.disk writer.new.store)) }
-    ensures later { S.fault_count writer.old.store ≤ S.fault_count writer.new.store }
-    ensures failed { result ≡ Err WriterFault.Store
-        → Rose (S.fault_count writer.old.store) (S.fault_count writer.new.store) }
-{
-    let Some(parts) = parts else {
-        return Ok(());
-    };
-    match finish_round(rt, writer, parts) {
-        Ok(_) => Ok(()),
-        Err(fault) => Err(fault),
-    }
-}
-
-/// Ends the round that is out, with its commit, and begins the next one. It returns also how many rows
-/// the commit has, or 0 without one.
-pub fn next_round<R: Threads + Sync, S: Store>(
+/// Does a round: its workers go on with their shares at the same time, each by a writer of its own,
+/// until the lines are done or one of them closes the queue. Then the round is ended, with its commit.
+/// It returns the shares as the workers left them, and the commit, if there was one.
+pub fn do_round<R: Threads + Wait + Sync, S: Store, G: Gate>(
     rt: &R,
     alloc: Global,
+    gate: &G,
     writer: &mut IndexWriter<S>,
-    parts: RoundParts,
     threads: u32,
-) -> Result<(RoundParts, u64), WriterFault>
+    shares: Vec<Share>,
+) -> Result<(Vec<Share>, Option<CommitInfo>), WriterFault>
     requires threads { (1 ≤ threads) × (threads ≤ 16) }
-    requires round { (r : Run) × (done : List Line) × (log : List Line) × (tells : List Tell)
-        × IsRound r done log tells writer.old.state parts (S.disk writer.old.store) }
-    ensures next { (r : Run) (done : List Line) (log : List Line) (tells : List Tell) → r.workers ≡ threads
-        → IsRound r done log tells writer.old.state parts (S.disk writer.old.store)
-        → IfOk result (λ x. NextRound r done log tells x.1 writer.new.state x.0 (S.disk writer.new.store)) }
-    ensures cut { (r : Run) (done : List Line) (log : List Line) (tells : List Tell) (rest : List Line)
-        → IsRound r done log tells writer.old.state parts (S.disk writer.old.store)
-        → OnErr result (IsCut r (done ++ rest) (S.disk writer.new.store)) }
-    ensures fresh { IfOk result (λ x. links_of x.0 ≡ 0) }
-    ensures open { OnOk result (IsStuck parts → ⊥) }
+    requires come { (r : Run) × (lines : List Line) × (commits : List (ℕ × ℕ)) × (r.workers ≡ threads)
+        × HasCome r lines shares.items commits writer.old.state (S.disk writer.old.store) }
+    ensures come { (r : Run) (lines : List Line) (commits : List (ℕ × ℕ)) → r.workers ≡ threads
+        → HasCome r lines shares.items commits writer.old.state (S.disk writer.old.store)
+        → IfOk result (λ x. HasCome r lines x.0.items (given commits x.1) writer.new.state
+        (S.disk writer.new.store)) }
+    ensures cut { (r : Run) (lines : List Line) (commits : List (ℕ × ℕ)) → r.workers ≡ threads
+        → HasCome r lines shares.items commits writer.old.state (S.disk writer.old.store)
+        → OnErr result (IsCut r lines (S.disk writer.new.store)) }
+    // Where a task was left, one was told something.
+    ensures goes_on { (AreDone shares.items → ⊥)
+        → IfOk result (λ x. open_count x.0.items < open_count shares.items) }
     ensures later { S.fault_count writer.old.store ≤ S.fault_count writer.new.store }
     ensures failed { result ≡ Err WriterFault.Store
         → Rose (S.fault_count writer.old.store) (S.fault_count writer.new.store) }
 {
-    let docs = finish_round(rt, writer, parts)?;
-    let parts = begin_round(alloc, writer, threads)?;
-    Ok((parts, docs))
+    let Round { queue, writers } = begin_round(writer, threads)?;
+    let worked = run_round(rt, alloc, &queue, writers, shares, gate)?;
+    let (parts, shares) = part(alloc, queue, worked)?;
+    let commit = finish_round(rt, writer, parts)?;
+    Ok((shares, commit))
 }

@@ -66,7 +66,8 @@ pub(crate) fn run_words<R: Threads + Wait + Sync, S: Store + Drop>(
     })
 }
 
-/// A run of the script over the store.
+/// A run of the script over the store, by one worker: the lines get their numbers in the order of the
+/// script.
 pub(crate) fn run_over<R: Threads + Wait + Sync, S: Store + Drop>(
     rt: &R,
     alloc: Global,
@@ -78,7 +79,7 @@ pub(crate) fn run_over<R: Threads + Wait + Sync, S: Store + Drop>(
     run_words(
         rt,
         alloc,
-        &["run"],
+        &["run", "--threads", "1"],
         script,
         store,
         failing_reads,

@@ -71,7 +71,9 @@ fn watched_run<R: Threads + Wait + Sync>(
         bytes.extend_from_slice(part.as_bytes())?;
     }
     let mut words = Vec::new(alloc);
-    words.push(String::from_str(alloc, "run")?)?;
+    for word in ["run", "--threads", "1"] {
+        words.push(String::from_str(alloc, word)?)?;
+    }
     let mut input = MemorySource::failing(bytes, Vec::new(alloc));
     let mut out = MemorySink::failing(alloc, 65536, Vec::new(alloc))?;
     let store = MemoryStore::new(alloc);

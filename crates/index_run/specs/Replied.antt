@@ -1,0 +1,114 @@
+-- What the workers' replies tell of a script's lines.
+use Rattle.std.specs.Prelude.{◌≡◌, ◌⊎◌, ℕ, ◌+◌, ◌<◌, List, [], ◌∷◌, length, map, Some, None}
+use Rattle.std.specs.List.{AllByRecursion, AllZip}
+use Rattle.std.specs.Vec.Iter.{into_iter_items, into_iter_len}
+use Rattle.std.specs.Global.{Global}
+use Rattle.std.specs.declared.vec.IntoIter.{IntoIter}
+use Rattle.ix_base.specs.Refusals.{refusal}
+use Rattle.op_script.specs.Shape.{LinesRise}
+use Rattle.op_script.specs.declared.script.Line.{Line}
+use Rattle.round_work.specs.declared.share.Share.{Share}
+use Rattle.round_work.specs.declared.task.Reply.{Reply}
+use Rattle.round_work.specs.declared.task.Reply.TheVariants.{Numbered, Refused}
+use Rattle.line_shares.specs.Shares.{AreDone, AreShares, operation_of, own_lines, place_of}
+use Rattle.line_shares.specs.Tells.{AreTold}
+use Rattle.line_shares.specs.declared.place.Place.{Place}
+use Rattle.run_log.specs.CommitLaws.{Rises}
+use Rattle.run_log.specs.Headline.{Interleaves, commit_numbers, number_of}
+use Rattle.run_log.specs.LogLaws.{IsCommitted}
+use Rattle.run_report.specs.declared.outcome.Answer.{Answer}
+use Rattle.run_report.specs.declared.outcome.Answer.TheVariants as answer
+use Rattle.index_run.specs.Outcomes.{AreLasts}
+
+-- ---- the commits, each as its number and how many rows it has
+
+-- one of these commits has this number and so many rows
+abbrev pub IsCounted : List (ℕ × ℕ) → ℕ → ℕ → Type 0
+IsCounted [] s docs = ⊥
+IsCounted (c ∷ commits) s docs = ((c.0 ≡ s) × (c.1 ≡ docs)) ⊎ IsCounted commits s docs
+
+abbrev pub numbers_of : List (ℕ × ℕ) → List ℕ
+numbers_of commits = map (λ (c : ℕ × ℕ). c.0) commits
+
+-- ---- what is told of all lines
+
+-- All that was told of the lines, and how many rows each commit has, by the log.
+pub record CanTell (base : ℕ) (lines log : List Line) (places : List Place) (shares : List Share)
+    (commits : List (ℕ × ℕ)) : Type 0 where
+  pub rise : LinesRise 1 lines
+  pub callers : AllByRecursion (λ (l : Line). l.caller < 256) lines
+  pub places_are : places ≡ map place_of lines
+  pub shares_are : AreShares (length shares) lines shares
+  pub done : AreDone shares
+  pub numbering : Interleaves lines log
+  pub told : AreTold (length shares) base lines shares log
+  pub numbers : numbers_of commits ≡ commit_numbers base log
+
+-- ---- what is told of the lines left
+
+-- the replies that a worker still has
+abbrev pub Replies : Type 0
+Replies = IntoIter Reply Global
+
+-- they are as many as they count
+abbrev pub Counts : Replies → Type 0
+Counts own = into_iter_len own ≡ length (into_iter_items own)
+
+-- The line was told this: its number in the log, or its refusal.
+abbrev pub IsReplyFor : ℕ → List Line → Line → Reply → Type 0
+IsReplyFor base log l (Numbered n) = (refusal (operation_of l.act) ≡ None) × (number_of base log l.line ≡ n)
+IsReplyFor base log l (Refused refused) = refusal (operation_of l.act) ≡ Some refused
+
+-- the lines were told these, one by one
+abbrev pub AreRepliesFor : ℕ → List Line → List Line → List Reply → Type 0
+AreRepliesFor base log [] [] = Unit {0}
+AreRepliesFor base log [] (r ∷ rs) = ⊥
+AreRepliesFor base log (l ∷ ls) [] = ⊥
+AreRepliesFor base log (l ∷ ls) (r ∷ rs) = IsReplyFor base log l r × AreRepliesFor base log ls rs
+
+-- the replies left are those to the lines left of this one of n workers, and of those after it
+abbrev pub AreLeftFrom : ℕ → ℕ → ℕ → List Line → List Line → List Replies → Type 0
+AreLeftFrom n worker base log lines [] = Unit {0}
+AreLeftFrom n worker base log lines (own ∷ others) =
+    AreRepliesFor base log (own_lines n worker lines) (into_iter_items own) × Counts own
+    × AreLeftFrom n (worker + 1) base log lines others
+
+-- The replies left of all workers are those to the lines left.
+pub record AreLeft (base : ℕ) (log lines : List Line) (told : List Replies) : Type 0 where
+  pub some : 0 < length told
+  pub each : AreLeftFrom (length told) 0 base log lines told
+
+-- ---- on the way
+
+-- How far it has come: the callers' last commits by the lines done, and the replies to the lines left.
+pub record IsSoFar (base : ℕ) (log done rest : List Line) (lasts : List ℕ) (told : List Replies) : Type 0 where
+  pub size : length lasts ≡ 256
+  pub lasts_are : AreLasts base log done lasts
+  pub left : AreLeft base log rest told
+  pub callers : AllByRecursion (λ (l : Line). l.caller < 256) rest
+  pub committed : AllByRecursion (IsCommitted base log) rest
+
+-- The commits are the log's, and their numbers rise.
+pub record AreCommits (base : ℕ) (log : List Line) (commits : List (ℕ × ℕ)) : Type 0 where
+  pub numbers : numbers_of commits ≡ commit_numbers base log
+  pub rise : Rises base (numbers_of commits)
+
+-- the answer of a line that isn't a commit, by what it was told
+abbrev pub answer_for : Reply → Answer
+answer_for (Numbered n) = answer.Numbered n
+answer_for (Refused refused) = answer.Refused refused
+
+-- what holds of the number that was told, if one was
+abbrev pub IfNumbered : Reply → (ℕ → Type 0) → Type 0
+IfNumbered (Numbered n) P = P n
+IfNumbered (Refused refused) P = Unit {0}
+
+-- the answer of a commit, by what it was told
+abbrev pub IsCommitAnswer : (ℕ → ℕ → Type 0) → Reply → Answer → Type 0
+IsCommitAnswer Docs (Numbered n) is = (docs : ℕ) × Docs n docs × (is ≡ answer.Committed n docs)
+IsCommitAnswer Docs (Refused refused) is = is ≡ answer.Refused refused
+
+-- these are the replies of the shares
+abbrev pub AreRepliesOf : List Share → List Replies → Type 0
+AreRepliesOf shares told =
+    AllZip (λ (s : Share) (own : Replies). (into_iter_items own ≡ s.replies) × Counts own) shares told

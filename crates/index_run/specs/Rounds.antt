@@ -1,0 +1,34 @@
+-- What comes back of a round's workers.
+use Rattle.std.specs.Prelude.{◌≡◌, ℕ, List, [], ◌∷◌, ◌++◌, map, Option, Some, None}
+use Rattle.std.specs.List.{AllByRecursion}
+use Rattle.std.specs.Global.{Vec}
+use Rattle.round_work.specs.declared.share.Share.{Share}
+use Rattle.round_work.specs.declared.worked.Stop.TheVariants.{NoMemory}
+use Rattle.round_work.specs.declared.worked.Worked.{Worked}
+use Rattle.thread_writer.specs.declared.piece.Piece.{Piece}
+use Rattle.thread_writer.specs.declared.writer.ThreadWriter.{ThreadWriter}
+use Rattle.index_writer.specs.declared.round.CommitInfo.{CommitInfo}
+
+-- the workers' writers
+abbrev pub writers_of : List Worked → List ThreadWriter
+writers_of worked = map (λ (w : Worked). w.writer) worked
+
+-- the pieces that they gave off
+abbrev pub gave_of : List Worked → List (List Piece)
+gave_of worked = map (λ (w : Worked). w.share.gave) worked
+
+abbrev pub pieces_of : List (Vec Piece) → List (List Piece)
+pieces_of pieces = map (λ (p : Vec Piece). p.items) pieces
+
+-- a worker's share without its pieces
+abbrev pub share_of : Worked → Share
+share_of w = record w.share { gave = [] }
+
+-- none of the workers ran out of memory
+abbrev pub AllCame : List Worked → Type 0
+AllCame worked = AllByRecursion (λ (w : Worked). w.stop ≡ NoMemory → ⊥) worked
+
+-- these commits, and then this one, if it is one: the number of each, and how many rows it has
+abbrev pub given : List (ℕ × ℕ) → Option CommitInfo → List (ℕ × ℕ)
+given commits None = commits
+given commits (Some c) = commits ++ (c.number, c.docs) ∷ []
