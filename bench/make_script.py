@@ -43,7 +43,8 @@ def lines(kind, count):
     if kind in ("update", "delete", "set"):
         for number in range(count):
             yield {"c": number % 4, **change(kind, number)}
-    yield {"c": 0, "op": "commit"}
+    for caller in range(4):
+        yield {"c": caller, "op": "commit"}
     if kind == "add":
         for query in SEARCHES:
             yield {"c": 0, "op": "search", "query": query}

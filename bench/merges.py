@@ -5,7 +5,7 @@ usage: merges.py PROGRAM
 
 First `make --seed 7 --lines 100000 --callers 8`, and the same script by `run` with --merge 2, 8 and 64: the seconds, the most
 memory, and what the last commit has: its segments, and the megabytes of its directory. Then 50,000 documents of 125 words and
-one commit, with the same choices, and on each `ask` with no question, which opens the commit alone, with 1 and with 1,000.
+a commit of each caller, with the same choices, and on each `ask` with no question, which opens the commit alone, with 1 and with 1,000.
 """
 import json
 import os
@@ -39,10 +39,11 @@ def directory_size(index):
 
 
 def documents(count):
-    """So many documents of 50 to 200 words by four callers, and a commit."""
+    """So many documents of 50 to 200 words by four callers, and a commit of each."""
     for number, words in enumerate(bodies(count)):
         yield {"c": number % 4, "op": "add", "doc": {"key": str(number), "text": {"body": " ".join(words)}}}
-    yield {"c": 0, "op": "commit"}
+    for caller in range(4):
+        yield {"c": caller, "op": "commit"}
 
 
 def main():

@@ -22,10 +22,11 @@ CHOICES = [(1, 1_000), (1, 10), (1, 65_536), (4, 1_000), (16, 1_000)]
 
 
 def documents(count, callers):
-    """So many documents by so many callers, and a commit."""
+    """So many documents by so many callers, and a commit of each."""
     for number in range(count):
         yield {"c": number % callers, "op": "add", "doc": document(number)}
-    yield {"c": 0, "op": "commit"}
+    for caller in range(callers):
+        yield {"c": caller, "op": "commit"}
 
 
 def segments_of(index):

@@ -3,10 +3,11 @@
 
 usage: text.py PROGRAM [DOCUMENTS [QUESTIONS]]
 
-It prints a table with a row for each phase: writing all documents and a commit, then one question, then many, each in
+It prints a table with a row for each phase: writing all documents and a commit of each caller, then one question, then many, each in
 a process of its own. The hits of both have to be the same in number. With no numbers it takes 50,000 documents and
 1,000 questions: 40 % terms, 30 % phrases and 30 % bools.
 """
+import itertools
 import json
 import os
 import random
@@ -33,9 +34,9 @@ def bodies(count):
     """The texts of so many documents. The n-th word of the vocabulary is about n times rarer than the first."""
     chance = random.Random(7)
     words = words_of(chance)
-    frequency = [1 / (place + 1) for place in range(VOCABULARY)]
+    frequency = list(itertools.accumulate(1 / (place + 1) for place in range(VOCABULARY)))
     for _ in range(count):
-        yield chance.choices(words, weights=frequency, k=chance.randint(50, 200))
+        yield chance.choices(words, cum_weights=frequency, k=chance.randint(50, 200))
 
 
 def questions(count):
@@ -70,7 +71,8 @@ def write_documents(count, path):
         for number, body in enumerate(bodies(count)):
             doc = {"key": f"k{number}", "text": {"body": " ".join(body)}}
             print(line_of(c=number % CALLERS, op="add", doc=doc), file=out)
-        print(line_of(c=0, op="commit"), file=out)
+        for caller in range(CALLERS):
+            print(line_of(c=caller, op="commit"), file=out)
 
 
 def write_questions(count, ours, theirs):
