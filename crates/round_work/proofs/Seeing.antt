@@ -21,7 +21,7 @@ use Rattle.delete_queue.specs.declared.seat.Seat.{Seat}
 use Rattle.delete_queue.specs.declared.seat.Linked.{Linked}
 use Rattle.delete_queue.specs.declared.seat.Linked.TheVariants as linked
 use Rattle.delete_queue.specs.Answers as queue
-use Rattle.delete_queue.specs.Seats.{IsSeatOf, Links, SawClosed, own_of, seen_of, the_view}
+use Rattle.delete_queue.specs.Seats.{FindsClosed, IsSeatOf, Links, SawClosed, own_of, seen_of, the_view}
 use Rattle.row_fates.specs.Fate.{Numbered as NumberedOperation}
 use Rattle.thread_writer.specs.Writing.{Tells, is_turn, numbered_own}
 use Rattle.round_order.specs.Order.{is_commit}
@@ -85,9 +85,9 @@ turn_seen q s t n is links =
 
 -- who asked for a turn has seen that the queue is closed
 pub turned_seen : (q : DeleteQueue) (linked : Linked) (s t : Seat) → IsSeatOf q t → queue.IfAt linked (λ n. Links s t (entry_words turn) n)
-    → queue.IfClosed linked (SawClosed (the_view t)) → queue.IfFull linked ⊥ → SawClosed (the_view t)
+    → queue.IfClosed linked (FindsClosed s t) → queue.IfFull linked ⊥ → SawClosed (the_view t)
 turned_seen q (linked.At n) s t is at closed full = turn_seen q s t n is at
-turned_seen q linked.Closed s t is at closed full = closed
+turned_seen q linked.Closed s t is at closed full = closed.closed
 turned_seen q (linked.Full need left) s t is at closed full = absurd full
 
 -- ---- a commit

@@ -1,10 +1,10 @@
 -- A writer links a turn only where its part of the queue has no room for the operation.
-use Rattle.std.proofs.Common.{◌≡◌, ◌∙◌, ℕ, ◌^◌, ◌<◌, ◌≤◌, ◌⊎◌, List, [], ◌∷◌, ◌++◌, Result, Ok, Err, false}
+use Rattle.std.proofs.Common.{◌≡◌, ◌∙◌, ℕ, ◌-◌, ◌^◌, ◌<◌, ◌⊎◌, List, [], ◌∷◌, ◌++◌, Result, Ok, Err, false}
 use Rattle.std.proofs.Common.{length, slice_index, refl, sym, ap, subst, arith, append-nil, inl, inr, ne_eqb}
 use Rattle.std.specs.Prelude.{slice_index_or}
 use Rattle.std.specs.List.{filter}
 use Rattle.std.proofs.lemmas.List.Elements.{filter-append}
-use Rattle.ix_base.specs.Entry.{entry_bytes, entry_of, kind_of}
+use Rattle.ix_base.specs.Entry.{entry_bytes, entry_of, kind_of, turn}
 use Rattle.ix_base.specs.EntryLaws.{head_again, most_bytes}
 use Rattle.ix_base.specs.Words.{Spells, entry_words, head_kind}
 use Rattle.ix_base.specs.declared.document.Operation.{Operation}
@@ -12,7 +12,10 @@ use Rattle.ix_base.specs.declared.document.Operation.TheVariants as op
 use Rattle.queue_rule.specs.Chain.{filled, own}
 use Rattle.queue_rule.specs.declared.view.Own.{Own}
 use Rattle.delete_queue.specs.declared.queue.DeleteQueue.{DeleteQueue}
-use Rattle.delete_queue.specs.Seats.{Grows, Links, left_of, own_of, seen_of}
+use Rattle.delete_queue.specs.declared.seat.Linked.{Linked}
+use Rattle.delete_queue.specs.declared.seat.Linked.TheVariants as linked
+use Rattle.delete_queue.specs.Answers as queue
+use Rattle.delete_queue.specs.Seats.{FindsClosed, Links, left_of, own_of, seen_of}
 use Rattle.thread_writer.specs.Answers as answers
 use Rattle.thread_writer.specs.Writing.{Stays, is_turn}
 use Rattle.thread_writer.specs.declared.piece.Piece.{Piece}
@@ -55,16 +58,9 @@ turns_still os place words is =
     ap (λ (l : List Own). length l)
     (filter-append (λ (o : Own). is_turn o.words) os (own place words ∷ []) ∙ rw is (append-nil _))
 
-filled_more : (os more : List Own) → filled os ≤ filled (os ++ more)
-filled_more [] more = omega arith
-filled_more (o ∷ os) more = let rest = filled_more os more in omega (arith, rest)
-
--- who has linked more has no more words left
-pub left_less : (s t : ThreadWriter) → Grows s.seat t.seat → left_of t.seat ≤ left_of s.seat
-left_less s t grows =
-    let more = filled_more (own_of s.seat) grows.own.0 in
-    let all = ap filled grows.own.1 in
-    omega (arith, more, all)
+-- who has linked nothing has as many words left
+same_left : (s t : ThreadWriter) → own_of t.seat ≡ own_of s.seat → left_of t.seat ≡ left_of s.seat
+same_left s t mine = ap (λ (os : List Own). 16642 - filled os - 2) mine
 
 -- ---- a line
 
@@ -101,16 +97,26 @@ no_turns is (Ok reply) old new same = same
 no_turns is (Err h) old new same = inl same
 
 -- a step that asked for a turn, since a line found no room
-pub full_turns : (is : Operation) (said : Told) (need left : ℕ) (old ready done new : ThreadWriter)
+pub full_turns : (is : Operation) (said : Told) (need left : ℕ) (linked : Linked) (old ready done new : ThreadWriter)
     → said ≡ told.Full need left
     → answers.FindsFull (entry_words (entry_of is)) ready done need left
-    → Grows ready.seat done.seat → Grows done.seat new.seat
+    → own_of ready.seat ≡ own_of old.seat → own_of done.seat ≡ own_of ready.seat
+    → queue.IfAt linked (λ n. Links done.seat new.seat (entry_words turn) n)
+    → queue.IfClosed linked (FindsClosed done.seat new.seat) → queue.IfFull linked ⊥
     → TurnsFor (reply_for said) is old new
-full_turns is said need left old ready done new full finds first second =
-    let needs = finds.need_is in let had = finds.left_is in let short = finds.short in
-    let less = left_less ready done first in let still_less = left_less done new second in
-    subst (λ (t : Told). TurnsFor (reply_for t) is old new) (sym full)
-    (inr (refl, omega (arith, needs, had, short, less, still_less)))
+full_turns is said need left (linked.At n) old ready done new full finds first second at closed never =
+    subst (λ (t : Told). TurnsFor (reply_for t) is old new) (sym full) (inr (refl, record {
+      before = done.seat;
+      number = n;
+      turn = at;
+      full =
+          (let needs = finds.need_is in let had = finds.left_is in let short = finds.short in
+          let same = same_left ready done second in
+          omega (arith, needs, had, short, same));
+    }))
+full_turns is said need left linked.Closed old ready done new full finds first second at closed never =
+    subst (λ (t : Told). TurnsFor (reply_for t) is old new) (sym full) (inl (same_turns old new (closed.own ∙ second ∙ first)))
+full_turns is said need left (linked.Full a b) old ready done new full finds first second at closed never = absurd never
 
 -- ---- a worker
 
@@ -124,5 +130,5 @@ stop_turns a b c tasks replies noted given t h before inside at same (inr lacks)
   task = t;
   inside = subst (λ (rs : List Reply). length rs < length tasks) (sym same) inside;
   is = subst (λ (rs : List Reply). slice_index_or tasks (length rs) t ≡ t) (sym same) at;
-  short = lacks.1;
+  turned = lacks.1;
 })

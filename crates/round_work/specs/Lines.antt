@@ -1,11 +1,9 @@
 -- What the functions inside the crate say of one try.
-use Rattle.std.specs.Prelude.{◌≡◌, ◌+◌, ◌<◌, ◌⊎◌, List, [], length, Result, Ok, Err}
-use Rattle.ix_base.specs.Entry.{entry_of}
-use Rattle.ix_base.specs.Words.{entry_words}
+use Rattle.std.specs.Prelude.{◌≡◌, ◌⊎◌, List, [], Result, Ok, Err}
 use Rattle.ix_base.specs.declared.document.Operation.{Operation}
 use Rattle.ix_base.specs.declared.refusal.Refusal.TheVariants.{Term, Query}
 use Rattle.delete_queue.specs.declared.queue.DeleteQueue.{DeleteQueue}
-use Rattle.delete_queue.specs.Seats.{SawClosed, left_of, the_view}
+use Rattle.delete_queue.specs.Seats.{SawClosed, the_view}
 use Rattle.row_fates.specs.Fate.{Numbered as NumberedOperation}
 use Rattle.thread_writer.specs.declared.piece.Piece.{Piece}
 use Rattle.thread_writer.specs.declared.told.Told.{Told}
@@ -16,7 +14,7 @@ use Rattle.round_work.specs.declared.line.Halt.{Halt}
 use Rattle.round_work.specs.declared.line.Halt.TheVariants.{Closed, NoMemory}
 use Rattle.round_work.specs.declared.task.Reply.{Reply}
 use Rattle.round_work.specs.declared.task.Reply.TheVariants.{Numbered, Refused}
-use Rattle.round_work.specs.Working.{told_by, turns_of}
+use Rattle.round_work.specs.Working.{EndsByTurnFor, told_by, turns_of}
 
 -- what a task is told for what the writer answered, if anything
 abbrev pub reply_for : Told → Result Reply Halt
@@ -36,8 +34,8 @@ told_for (Err halt) op = []
 abbrev pub Closes : DeleteQueue → ThreadWriter → List Piece → ThreadWriter → Type 0
 Closes q old gave new = (before : List NumberedOperation) → Did q (parts_of old) before gave → SawClosed (the_view new.seat)
 
--- No turn was linked by this step; or the operation was told nothing, and needs more words than are left to the writer.
+-- No turn was linked by this step; or the operation was told nothing, and a turn was linked since there was no room for it.
 abbrev pub TurnsFor : Result Reply Halt → Operation → ThreadWriter → ThreadWriter → Type 0
 TurnsFor (Ok reply) op old new = turns_of new ≡ turns_of old
 TurnsFor (Err halt) op old new = (turns_of new ≡ turns_of old)
-    ⊎ ((halt ≡ Closed) × (left_of new.seat < length (entry_words (entry_of op)) + 1))
+    ⊎ ((halt ≡ Closed) × EndsByTurnFor new op)

@@ -2,13 +2,14 @@
 use Rattle.std.specs.Prelude.{◌≡◌, ◌↔◌, ℕ, ◌+◌, ◌<◌, ◌≤◌, ◌⊎◌, List, [], ◌∷◌, ◌++◌, length, slice_index_or}
 use Rattle.std.specs.Prelude.{Some, None, true}
 use Rattle.std.specs.List.{AllByRecursion, filter}
-use Rattle.ix_base.specs.Entry.{entry_of}
+use Rattle.ix_base.specs.Entry.{entry_of, turn}
 use Rattle.ix_base.specs.Refusals.{refusal}
 use Rattle.ix_base.specs.Words.{entry_words}
 use Rattle.ix_base.specs.declared.document.Operation.{Operation}
 use Rattle.queue_rule.specs.declared.view.Own.{Own}
 use Rattle.delete_queue.specs.declared.queue.DeleteQueue.{DeleteQueue}
-use Rattle.delete_queue.specs.Seats.{SawClosed, base_of, left_of, number_of, own_of, the_view}
+use Rattle.delete_queue.specs.declared.seat.Seat.{Seat}
+use Rattle.delete_queue.specs.Seats.{Links, SawClosed, base_of, left_of, number_of, own_of, the_view}
 use Rattle.row_fates.specs.Fate.{Numbered as NumberedOperation}
 use Rattle.thread_writer.specs.declared.piece.Piece.{Piece}
 use Rattle.thread_writer.specs.declared.writer.ThreadWriter.{ThreadWriter}
@@ -92,15 +93,23 @@ pub record Does (q : DeleteQueue) (old : ThreadWriter) (share : Share) (new : Th
   pub commit : EndsAtCommit (open_tasks share) more
   pub works : WorksOn q (told_in (open_tasks share) more) old share.gave new after.gave
 
--- The first task that was told nothing needs more words than are left to the writer in its part of the queue.
+-- The writer's last own entry is a turn. Right before it was linked, fewer words were left to the writer in its part of
+-- the queue than the operation's entry needs with its next word: the operation was told that the part is full.
+pub record EndsByTurnFor (w : ThreadWriter) (op : Operation) : Type 0 where
+  pub before : Seat
+  pub number : ℕ
+  pub turn : Links before w.seat (entry_words turn) number
+  pub full : left_of before < length (entry_words (entry_of op)) + 1
+
+-- For the first task that was told nothing the writer found no room, and linked a turn.
 pub record LacksRoom (w : ThreadWriter) (share : Share) : Type 0 where
   pub task : Task
   pub inside : length share.replies < length share.tasks
   pub is : slice_index_or share.tasks (length share.replies) task ≡ task
-  pub short : left_of w.seat < length (entry_words (entry_of task.operation)) + 1
+  pub turned : EndsByTurnFor w task.operation
 
 -- A worker did tasks of its share and stopped: by `Done` exactly where each task was told something, and by `Closed`
--- only where its seat has seen that the queue is closed. It linked a turn only where the next task lacks room.
+-- only where its seat has seen that the queue is closed. It linked a turn only after the next task found its part full.
 pub record Works (q : DeleteQueue) (writer : ThreadWriter) (share : Share) (worked : Worked) : Type 0 where
   pub does : Does q writer share worked.writer worked.share
   pub done : (worked.stop ≡ Done) ↔ (length worked.share.replies ≡ length worked.share.tasks)

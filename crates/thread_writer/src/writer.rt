@@ -4,7 +4,7 @@ ghost use Rattle.ix_base.specs.Entry.{turn};
 ghost use Rattle.ix_base.specs.Words.{entry_words};
 ghost use Rattle.delete_queue.specs.declared.queue.DeleteQueue.{DeleteQueue};
 ghost use Rattle.delete_queue.specs.Answers.{IfAt, IfClosed, IfFull};
-ghost use Rattle.delete_queue.specs.Seats.{IsSeat, IsSeatOf, Grows, Links, SawClosed, own_of, seen_of, the_view};
+ghost use Rattle.delete_queue.specs.Seats.{IsSeat, IsSeatOf, FindsClosed, Grows, Links, own_of, seen_of};
 ghost use Rattle.ram_postings.specs.Buffer.{born_rows};
 ghost use Rattle.thread_writer.specs.Writing.{IsWriter, Did, Turns, parts_of};
 
@@ -49,8 +49,9 @@ impl ThreadWriter {
 
     /// Links a turn, which closes the queue without a sequence number. It returns what
     /// `DeleteQueue::close` returns: the number of the last numbered entry before, or `Closed`, which
-    /// comes only where the last entry that the seat has seen closes the queue already. `Full` never
-    /// comes. The buffer is as before. It asks that the seat has linked an entry. It takes no memory.
+    /// comes only where the last entry that the seat has seen closes the queue already; nothing was
+    /// linked then. `Full` never comes. The buffer is as before. It asks that the seat has linked an
+    /// entry. It takes no memory.
     pub fn turn(&mut self, queue: &DeleteQueue) -> Linked
         requires writer { IsWriter queue.now self.old }
         requires own { 0 < length (own_of self.old.seat) }
@@ -59,7 +60,7 @@ impl ThreadWriter {
         ensures buffer { (self.new.rows ≡ self.old.rows) × (self.new.size ≡ self.old.size) }
         ensures grows { Grows self.old.seat self.new.seat }
         ensures at { IfAt result (λ n. Links self.old.seat self.new.seat (entry_words turn) n) }
-        ensures closed { IfClosed result (SawClosed (the_view self.new.seat)) }
+        ensures closed { IfClosed result (FindsClosed self.old.seat self.new.seat) }
         ensures full { IfFull result ⊥ }
     {
         slices_stay();

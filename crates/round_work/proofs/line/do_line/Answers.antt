@@ -1,10 +1,10 @@
-use Rattle.std.proofs.Common.{◌∙◌, [], Result, IfOk, length, sym, ap, subst, arith}
+use Rattle.std.proofs.Common.{◌≡◌, ◌∙◌, [], Result, IfOk, length, sym, ap, subst, arith}
 use Rattle.ix_base.specs.Entry.{entry_of}
 use Rattle.ix_base.specs.Words.{entry_words}
-use Rattle.delete_queue.specs.Seats.{SawClosed, the_view}
+use Rattle.delete_queue.specs.Seats.{SawClosed, own_of, the_view}
 use Rattle.thread_writer.specs.declared.told.Told.{Told}
 use Rattle.thread_writer.specs.declared.writer.ThreadWriter.{ThreadWriter}
-use Rattle.thread_writer.specs.Answers.{FullFor}
+use Rattle.thread_writer.specs.Answers.{FullFor, IfNotNumbered}
 use Rattle.round_work.specs.declared.line.Halt.{Halt}
 use Rattle.round_work.specs.declared.task.Reply.{Reply}
 use Rattle.round_work.specs.Lines.{TurnsFor, reply_for, told_for}
@@ -75,8 +75,10 @@ returns-clause-turned c =
     subst (λ (r : Result Reply Halt). TurnsFor r op old c.match-told.writer) (sym c.reply.ensures)
     (elim c.match-told.branch [
       | in-Full w ↦ subst (λ (v : ThreadWriter). TurnsFor (reply_for said) op old v) (sym w.writer-is)
-          (full_turns op said w.in-Full.need w.in-Full.left old ready done w.turn.new.self w.in-Full.is
-          (subst (λ (t : Told). FullFor (entry_words (entry_of op)) t ready done) w.in-Full.is does.full) does.grows w.turn.ensures.grows)
+          (full_turns op said w.in-Full.need w.in-Full.left w.turn.result old ready done w.turn.new.self w.in-Full.is
+          (subst (λ (t : Told). FullFor (entry_words (entry_of op)) t ready done) w.in-Full.is does.full)
+          c.give_off.ensures.own (subst (λ (t : Told). IfNotNumbered t (own_of done.seat ≡ own_of ready.seat)) w.in-Full.is
+          (stays_own c.args.queue.now said ready done does.stays)) w.turn.ensures.at w.turn.ensures.closed w.turn.ensures.full)
       | in_default w ↦ subst (λ (v : ThreadWriter). TurnsFor (reply_for said) op old v) (sym w.writer-is)
           (no_turns op (reply_for said) old done (line ∙ same_turns old ready c.give_off.ensures.own))
     ])
