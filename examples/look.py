@@ -1,7 +1,8 @@
 #!/usr/bin/env python3
-"""Prints what the files of an index hold, read by docs/FORMATS.md alone: a line for each commit and, below the last one,
-a line for each of its live rows, with the numbers that were set in it, and one for each term of each of its segments,
-with the places where it stands in the segment's rows, live or not: the births of the rows, and the positions in each.
+"""Prints what the files of an index hold, read by docs/FORMATS.md alone: a line for each commit and, below the last
+one, a line for each of its live rows, with the numbers that were set in it, and one for each term of each of its
+segments, with the places where it stands in the segment's rows, live or not: the births of the rows, and the
+positions in each.
 
 usage: look.py DIR
 
