@@ -1,68 +1,31 @@
 #!/usr/bin/env python3
-"""Measures what commits cost once segments stay, and prints three tables.
-
-usage: commits.py PROGRAM
-
-1. The generator's script (10,000 lines, four callers, a commit every 64 lines) on a new directory.
-2. Commits of 64 operations each on an index of 10,000 and of 100,000 older rows: milliseconds a commit.
-3. One commit whose 200 deletes by query, of a phrase that stands in every row, go to eight segments of 12,500 rows each,
-   on one, two and four processors. The queries exclude all rows, so that each is answered anew.
+"""Phases of commits: the generator's script with one every 64 lines; commits on older rows; and one whose deletes by
+query, of a phrase that stands in every row, go to eight segments on one, two and four processors. Those queries
+exclude all rows, so that each is answered anew.
 """
-import json
-import os
-import subprocess
-import sys
-import tempfile
-import time
+from make_script import adds, lines, small
+from tools import Phase, Run, main, nothing
 
-from make_script import document
+# Options with which each run leaves one new segment, and none is merged with it.
+ALONE = ("run", "--threads", "1", "--buffer", "65536", "--merge", "64")
 
 
-def generated(seed, count, callers):
-    """The lines of the generator: see docs/FORMATS.md of the script for their members."""
-    x = seed
-    for i in range(1, count + 1):
-        x = (x * 1103515245 + 12345) % 2**31
-        c, r = (i - 1) % callers, x // 65536
-        d = r // 8
-        key, tag = f"k{c}-{d % 16}", f"t{c}-{d % 4}"
-        doc = {"key": key, "text": {"body": f"w{d % 16} w{d % 4}"}, "exact": {"tag": tag}, "num": {"n": d}}
-        if i % 64 == 0:
-            yield {"c": c, "op": "commit"}
-        elif r % 8 < 4:
-            yield {"c": c, "op": "add", "doc": doc}
-        elif r % 8 == 4:
-            yield {"c": c, "op": "update", "field": "key", "term": key, "doc": doc}
-        elif r % 8 == 5:
-            yield {"c": c, "op": "delete", "field": "tag", "term": tag}
-        elif r % 8 == 6:
-            yield {"c": c, "op": "set", "field": "tag", "term": tag, "num": "n", "value": d}
-        else:
-            query = {"bool": {"must": [{"term": ["tag", tag]}], "not": [{"term": ["key", key]}]}}
-            yield {"c": c, "op": "delete_query", "query": query}
-    for c in range(callers):
-        yield {"c": c, "op": "commit"}
-
-
-def adds(first, count):
-    for number in range(first, first + count):
-        yield {"c": 0, "op": "add", "doc": document(number)}
+def one_by_one(first, count):
+    """So many small documents by one caller, and its commit."""
+    yield from adds(map(small, range(first, first + count)), 1)
     yield {"c": 0, "op": "commit"}
 
 
 def changes(commits, rows):
     """So many commits, each of 32 adds, 16 updates, 8 deletes and 8 sets by the keys of older rows."""
-    number = rows
     old = 0
-    for _ in range(commits):
-        for _ in range(32):
-            yield {"c": 0, "op": "add", "doc": document(number)}
-            number += 1
+    for number in range(rows, rows + 32 * commits, 32):
+        yield from adds(map(small, range(number, number + 32)), 1)
         for step in range(32):
             old = (old + 7919) % rows
             line = {"c": 0, "field": "key", "term": f"k{old}"}
             if step < 16:
-                yield {**line, "op": "update", "doc": document(old)}
+                yield {**line, "op": "update", "doc": small(old)}
             elif step < 24:
                 yield {**line, "op": "delete"}
             else:
@@ -71,60 +34,36 @@ def changes(commits, rows):
 
 
 def phrases(count):
+    """So many deletes of no row, and a commit."""
     query = {"bool": {"must": [{"phrase": ["body", "common text"]}], "not": ["all"]}}
     for _ in range(count):
         yield {"c": 0, "op": "delete_query", "query": query}
     yield {"c": 0, "op": "commit"}
 
 
-def run(program, index, lines, processors=None):
-    """The seconds and the most memory in MB of one run."""
-    with tempfile.TemporaryFile("w+") as script:
-        for line in lines:
-            print(json.dumps(line, separators=(",", ":")), file=script)
-        script.flush()
-        script.seek(0)
-        pinned = [] if processors is None else ["taskset", "-c", f"0-{processors - 1}"]
-        begun = time.monotonic()
-        child = subprocess.Popen([*pinned, program, index, "run"], stdin=script, stdout=subprocess.DEVNULL)
-        _, status, usage = os.wait4(child.pid, 0)
-        seconds = time.monotonic() - begun
-    if status != 0:
-        sys.exit(f"{program} ended with wait status {status}")
-    return seconds, usage.ru_maxrss / 1024
+def on_older(rows, count):
+    """A run on so many rows that does nothing, and one that makes commits; with default options and in one segment."""
+    for words, where, fts5 in [(("run",), "older rows", True), (ALONE, "one older segment", False)]:
+        before = (Run(words, (one_by_one, 0, rows)),)
+        yield Phase(f"commits: none on {where}", rows, Run(words, (nothing,)), before, fts5)
+        yield Phase(f"commits: {count} on {where}", rows, Run(words, (changes, count, rows)), before, fts5)
 
 
-def on_older_rows(program, rows):
-    """The seconds of opening an index of so many rows, and of opening it and making 50 commits."""
-    with tempfile.TemporaryDirectory() as index:
-        run(program, index, adds(0, rows))
-        opened, _ = run(program, index, [])
-        whole, _ = run(program, index, changes(50, rows))
-        return opened, whole
+def by_processors(rows, count):
+    """Deletes by query on eight segments."""
+    before = tuple(Run(ALONE, (one_by_one, first, rows)) for first in range(0, 8 * rows, rows))
+    for processors in (1, 2, 4):
+        name = f"commits: {count} deletes by query, processors {processors}"
+        yield Phase(name, 8 * rows, Run(ALONE, (phrases, count)), before, processors=processors)
 
 
-def main():
-    program = os.path.realpath(sys.argv[1])
-    with tempfile.TemporaryDirectory() as index:
-        seconds, megabytes = run(program, index, generated(7, 10_000, 4))
-        files = sum(entry.stat().st_size for entry in os.scandir(index))
-    print("| Generated script | Seconds | MB | Files, MB |\n|---|---|---|---|")
-    print(f"| 10,000 lines | {seconds:.2f} | {megabytes:.0f} | {files / 1e6:.1f} |\n")
-
-    print("| Older rows | Opening, seconds | Milliseconds a commit of 64 operations |\n|---|---|---|")
-    for rows in [10_000, 100_000]:
-        opened, whole = on_older_rows(program, rows)
-        print(f"| {rows:,} | {opened:.2f} | {(whole - opened) * 1000 / 50:.1f} |", flush=True)
-
-    print("\n| Processors | Opening, seconds | Seconds of 200 deletes by query over eight segments |\n|---|---|---|")
-    for processors in [1, 2, 4]:
-        with tempfile.TemporaryDirectory() as index:
-            for first in range(0, 100_000, 12_500):
-                run(program, index, adds(first, 12_500))
-            opened, _ = run(program, index, [], processors)
-            seconds, _ = run(program, index, phrases(200), processors)
-        print(f"| {processors} | {opened:.2f} | {seconds - opened:.2f} |", flush=True)
+def phases(quick):
+    size, count = (1_000, 10) if quick else (10_000, 50)
+    yield Phase("commits: generated", size, Run(("run",), (lines, "generated", size)), fts5=True)
+    for rows in [size] if quick else [10_000, 100_000]:
+        yield from on_older(rows, count)
+    yield from by_processors(*((250, 40) if quick else (12_500, 200)))
 
 
 if __name__ == "__main__":
-    main()
+    main(phases)

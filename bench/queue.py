@@ -4,8 +4,8 @@ prints a table.
 
 usage: queue.py [FOLDER]
 
-It makes a repository of its own from the crates of this one and the texts in queue/, proves and builds the program there
-by `rt run`, and runs it. With a FOLDER the repository stays there, so that a later run has less to prove.
+It makes a repository of its own from the crates of this one and the texts in queue/, proves and builds the program
+there by `rt run`, and runs it. With a FOLDER the repository stays there, so that a later run has less to prove.
 """
 import pathlib
 import shutil
@@ -106,4 +106,5 @@ def main():
         print_table(measure(build(make_repository(folder))))
 
 
-main()
+if __name__ == "__main__":
+    main()

@@ -1,0 +1,21 @@
+#!/usr/bin/env python3
+"""Measures all phases in one table: those of grow.py, text.py, commits.py, threads.py, rounds.py and merges.py.
+
+usage: all.py PROGRAM [--quick] [--only WORD] [--times N] [--count]
+"""
+import commits
+import grow
+import merges
+import rounds
+import text
+import threads
+from tools import main
+
+
+def phases(quick):
+    for module in (grow, text, commits, threads, rounds, merges):
+        yield from module.phases(quick)
+
+
+if __name__ == "__main__":
+    main(phases)
