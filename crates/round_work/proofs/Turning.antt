@@ -105,15 +105,18 @@ pub full_turns : (is : Operation) (said : Told) (need left : ℕ) (linked : Link
     → queue.IfClosed linked (FindsClosed done.seat new.seat) → queue.IfFull linked ⊥
     → TurnsFor (reply_for said) is old new
 full_turns is said need left (linked.At n) old ready done new full finds first second at closed never =
-    subst (λ (t : Told). TurnsFor (reply_for t) is old new) (sym full) (inr (refl, record {
-      before = done.seat;
-      number = n;
-      turn = at;
-      full =
-          (let needs = finds.need_is in let had = finds.left_is in let short = finds.short in
-          let same = same_left ready done second in
-          omega (arith, needs, had, short, same));
-    }))
+    subst (λ (t : Told). TurnsFor (reply_for t) is old new) (sym full) (inr (
+      refl,
+      record {
+        before = done.seat;
+        number = n;
+        turn = at;
+        full =
+            (let needs = finds.need_is in let had = finds.left_is in let short = finds.short in
+            let same = same_left ready done second in
+            omega (arith, needs, had, short, same));
+      },
+    ))
 full_turns is said need left linked.Closed old ready done new full finds first second at closed never =
     subst (λ (t : Told). TurnsFor (reply_for t) is old new) (sym full) (inl (same_turns old new (closed.own ∙ second ∙ first)))
 full_turns is said need left (linked.Full a b) old ready done new full finds first second at closed never = absurd never
