@@ -18,6 +18,10 @@ mod input;
 mod lines;
 mod outcomes;
 mod output;
+#[cfg(test)]
+mod plain_fold;
+#[cfg(test)]
+mod plain_script;
 mod reading;
 mod rounds;
 mod stop;
@@ -28,6 +32,8 @@ mod tests;
 mod tests_commands;
 #[cfg(test)]
 mod tests_crash;
+#[cfg(test)]
+mod tests_fold;
 #[cfg(test)]
 mod tests_gate;
 #[cfg(test)]
