@@ -30,8 +30,8 @@ pub record StandsFor (p : Published) (rows : List Row) : Type 0 where
 abbrev pub HasInversion : Piece → Type 0
 HasInversion p = CanBuild p.frozen.rows.items p.frozen.postings
 
--- The segments built of pieces, which take ids from this one on, up to below the next: one for each piece that has a
--- live row, in their order.
+-- The segments built of pieces, which take ids from this one on, up to below the next: one for each piece of which its
+-- updates leave a row, in their order.
 abbrev pub AreBuilt : List Piece → ℕ → List Lived → ℕ → Type 0
 AreBuilt [] id made next = (made ≡ []) × (next ≡ id)
 AreBuilt (p ∷ ps) id made next =

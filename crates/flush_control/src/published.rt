@@ -26,9 +26,9 @@ pub struct Published {
 }
 
 impl Published {
-    /// Takes the pieces of a round: each becomes a segment, in their order, unless no row of it is
-    /// live at its cut. Then it is no segment and takes no id. The operations up to a piece's cut
-    /// are in its segment; `upto` stays. After an error all is as before.
+    /// Takes the pieces of a round: each becomes a segment, in their order, unless its updates leave
+    /// none of its rows, or it has none. Then it is no segment and takes no id. The operations up to
+    /// a piece's cut are in its segment; `upto` stays. After an error all is as before.
     pub fn take_round(&mut self, alloc: Global, pieces: Vec<Piece>) -> Result<(), NoMemory>
         requires room { self.old.next_id + length pieces.items < 2 ^ 64 }
         requires can { AllByRecursion HasInversion pieces.items }

@@ -226,6 +226,41 @@ fn two_rounds(rt: HostRuntime) -> Result<(), Fail> {
     Ok(())
 }
 
+/// Last pieces, with no operations in them: their cut is before the round's first number. Of the
+/// first the row that was born before a delete is gone. The second has no row, and takes no id. The
+/// row of the third is deleted by the packet: it is a segment without a live row.
+#[test]
+fn last_pieces(rt: HostRuntime) -> Result<(), Fail> {
+    use Act::*;
+    let alloc = rt.alloc();
+    let mut index = Published {
+        segments: List::new(alloc),
+        next_id: 1,
+        upto: 4,
+    };
+    let first = Given {
+        rows: &[(5, "a"), (7, "a"), (9, "b")],
+        entries: &[],
+        cut: 4,
+    };
+    let second = Given {
+        rows: &[],
+        entries: &[],
+        cut: 4,
+    };
+    let third = Given {
+        rows: &[(8, "c")],
+        entries: &[],
+        cut: 4,
+    };
+    let entries = [(6, Delete, "a"), (10, Set(3), "b"), (11, Delete, "c")];
+    let pieces = pieces_of(alloc, &[first, second, third])?;
+    do_round(&rt, alloc, &mut index, pieces, &entries, 11)?;
+    let after = "11 3; 1:3@11 a7 b9=3; 2:1@11";
+    assert_eq!(rt; shown(alloc, &index)?.as_str(), after);
+    Ok(())
+}
+
 /// 2,000 pieces of a row each, and in each the same delete, which came after half of the rows.
 fn many_of(alloc: Global) -> Result<Vec<Piece>, Fail>
     ensures { IfOk result (λ pieces. AllByRecursion HasInversion pieces.items) }

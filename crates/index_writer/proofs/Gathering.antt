@@ -26,7 +26,7 @@ use Rattle.flush_control.specs.Rounds.{IsRound}
 use Rattle.index_writer.specs.declared.ending.Gathered.{Gathered}
 use Rattle.index_writer.specs.declared.ending.Rest.{Rest}
 use Rattle.index_writer.specs.declared.round.RoundParts.{RoundParts}
-use Rattle.index_writer.specs.Ending.{AreEnded, CanEnd, IsGathered, IsLastOf, rests_of}
+use Rattle.index_writer.specs.Ending.{AreEnded, CanEnd, IsGathered, rests_of}
 use Rattle.index_writer.specs.Rounds.{ArePartsOf, AreWorkersFrom}
 
 -- ---- rows
@@ -43,32 +43,32 @@ born_few (s ∷ ss) = by s.birth (born_few ss)
 -- ---- pieces, one writer after another
 
 -- the pieces to come, after those so far, are those of all
-abbrev pub GoesOn : QueueLog → List Rest → List Rest → List Piece → Type 0
-GoesOn log all to_come pieces = (more : List Piece) → AreEnded log to_come more → AreEnded log all (pieces ++ more)
+abbrev pub GoesOn : ℕ → List Rest → List Rest → List Piece → Type 0
+GoesOn base all to_come pieces = (more : List Piece) → AreEnded base to_come more → AreEnded base all (pieces ++ more)
 
-pub one_more : (log : QueueLog) (all : List Rest) (r : Rest) (rs : List Rest) (pieces new : List Piece) (last : Piece) → IsLastOf log r last
-    → new ≡ (pieces ++ r.gave.items) ++ last ∷ [] → GoesOn log all (r ∷ rs) pieces → GoesOn log all rs new
-one_more log all r rs pieces new last is new_is so_far = λ more ended.
+pub one_more : (base : ℕ) (all : List Rest) (r : Rest) (rs : List Rest) (pieces new : List Piece) (last : Piece) → IsLast base r.rows last
+    → new ≡ (pieces ++ r.gave.items) ++ last ∷ [] → GoesOn base all (r ∷ rs) pieces → GoesOn base all rs new
+one_more base all r rs pieces new last is new_is so_far = λ more ended.
     let joined : pieces ++ (r.gave.items ++ last ∷ more) ≡ new ++ more =
     sym (append_assoc pieces r.gave.items (last ∷ more)) ∙ (sym (append_assoc (pieces ++ r.gave.items) (last ∷ []) more) ∙ ap (λ (ps : List Piece). ps ++ more) (sym new_is)) in
-    subst (AreEnded log all) joined (so_far (r.gave.items ++ last ∷ more) (last, more, is, refl, ended))
+    subst (AreEnded base all) joined (so_far (r.gave.items ++ last ∷ more) (last, more, is, refl, ended))
 
-pub all_ended : (log : QueueLog) (all to_come : List Rest) (pieces : List Piece) → to_come ≡ [] → GoesOn log all to_come pieces → AreEnded log all pieces
-all_ended log all to_come pieces none so_far =
-    subst (AreEnded log all) (append-nil pieces) (so_far [] (subst (λ (rs : List Rest). AreEnded log rs []) (sym none) refl))
+pub all_ended : (base : ℕ) (all to_come : List Rest) (pieces : List Piece) → to_come ≡ [] → GoesOn base all to_come pieces → AreEnded base all pieces
+all_ended base all to_come pieces none so_far =
+    subst (AreEnded base all) (append-nil pieces) (so_far [] (subst (λ (rs : List Rest). AreEnded base rs []) (sym none) refl))
 
 -- ---- the workers
 
 abbrev pub seats_in : List ThreadWriter → List Seat
 seats_in ws = map (λ (w : ThreadWriter). (parts_of w).seat) ws
 
-pub record LeftsOf (q : DeleteQueue) (i : ℕ) (log : QueueLog) (told : List (List Numbered)) (ws : List ThreadWriter) (pieces : List Piece) : Type 0 where
+pub record LeftsOf (q : DeleteQueue) (i base : ℕ) (told : List (List Numbered)) (ws : List ThreadWriter) (pieces : List Piece) : Type 0 where
   pub lefts : List Left
   pub seated : AreSeatedFrom i lefts
   pub many : length lefts ≡ length ws
   pub ready : AllByRecursion (λ (l : Left). IsReady q l.parts) lefts
   pub did : AllByRecursion (λ (l : Left). Did q l.parts l.told l.gave) lefts
-  pub lasts : AllByRecursion (λ (l : Left). IsLast log l.parts l.last) lefts
+  pub lasts : AllByRecursion (λ (l : Left). IsLast base l.parts.rest l.last) lefts
   pub all : all_pieces lefts ≡ pieces
   pub told_is : map (λ (l : Left). l.told) lefts ≡ told
   pub seats_are : map (λ (l : Left). l.parts.seat) lefts ≡ seats_in ws
@@ -76,22 +76,16 @@ pub record LeftsOf (q : DeleteQueue) (i : ℕ) (log : QueueLog) (told : List (Li
 pub record Workers (q : DeleteQueue) (i : ℕ) (told : List (List Numbered)) (ws : List ThreadWriter) (ps : List (Vec Piece)) : Type 0 where
   pub count : length ws ≡ length ps
   pub seats : Each (IsSeatOf q) (seats_in ws)
-  pub can : (log : QueueLog) (list : List Logged) → length (entries_of log) ≡ length list → Each (HasAllOf (entries_of log) list) (seats_in ws)
-      → AllByRecursion (CanEnd log) (rests_of i ws ps)
-  pub lefts : (log : QueueLog) (pieces : List Piece) → AreEnded log (rests_of i ws ps) pieces → LeftsOf q i log told ws pieces
-
-seen_inside : (l : List ℕ) (n a : ℕ) → get_elem? l n ≡ some a → n < length l
-seen_inside [] n a at = absurd (some-ne-none a (sym at))
-seen_inside (x ∷ l) zero a at = omega arith
-seen_inside (x ∷ l) (suc n) a at = let more = seen_inside l n a at in omega (arith, more)
+  pub can : AllByRecursion CanEnd (rests_of i ws ps)
+  pub lefts : (base : ℕ) (pieces : List Piece) → AreEnded base (rests_of i ws ps) pieces → LeftsOf q i base told ws pieces
 
 pub workers : (q : DeleteQueue) (i : ℕ) (told : List (List Numbered)) (ws : List ThreadWriter) (ps : List (Vec Piece))
     → AreWorkersFrom q i told ws ps → Workers q i told ws ps
 workers q i [] [] [] are = record {
   count = refl;
   seats = tt;
-  can = λ log list same has. tt;
-  lefts = λ log pieces ended. record {
+  can = tt;
+  lefts = λ base pieces ended. record {
     lefts = [];
     seated = tt;
     many = refl;
@@ -115,17 +109,9 @@ workers q i (t ∷ told) (w ∷ ws) (p ∷ ps) are =
     record {
       count = ap (λ (n : ℕ). suc n) more.count;
       seats = (writer.ready.seat, more.seats);
-      can = λ log list same has. (
-        record {
-          inside =
-              let at = seen_inside (0 ∷ (the_view w.seat).seen) w.slice.from.at w.slice.from.word writer.ready.slice.from in
-              let seen = has.0.seen in omega (arith, at, seen, same);
-          few = omega (arith, writer.room, writer.most);
-        },
-        more.can log list same has.1,
-      );
-      lefts = λ log pieces ended.
-          let rest = more.lefts log ended.1 ended.4 in
+      can = (omega (arith, writer.room, writer.most), more.can);
+      lefts = λ base pieces ended.
+          let rest = more.lefts base ended.1 ended.4 in
           let one : Left = record { parts = parts_of w; told = t; gave = p.items; last = ended.0 } in
           record {
             lefts = one ∷ rest.lefts;
@@ -133,7 +119,7 @@ workers q i (t ∷ told) (w ∷ ws) (p ∷ ps) are =
             many = ap (λ (n : ℕ). suc n) rest.many;
             ready = (writer.ready, rest.ready);
             did = (are.0.did, rest.did);
-            lasts = (ended.2 (parts_of w) refl refl, rest.lasts);
+            lasts = (ended.2, rest.lasts);
             all =
                 append_assoc p.items (ended.0 ∷ []) (all_pieces rest.lefts)
                 ∙ (ap (λ (ps : List Piece). p.items ++ ended.0 ∷ ps) rest.all ∙ sym ended.3);
@@ -144,20 +130,9 @@ workers q i (t ∷ told) (w ∷ ws) (p ∷ ps) are =
 
 -- ---- the round
 
--- the list of a log has as many entries as the log
-pub same_length : (q : DeleteQueue) (seats : List Seat) (log : QueueLog) (is : IsLogOf q seats log) → length (entries_of log) ≡ length is.list
-same_length q seats log is = ap length is.words ∙ length-map is.list (λ (e : Logged). e.words)
-
-pub can_end : (base : ℕ) (told : List (List Numbered)) (parts : RoundParts) (seats : List Seat) (log : QueueLog) → ArePartsOf base told parts
-    → seats ≡ seats_in parts.writers.items → IsLogOf parts.queue seats log
-    → AllByRecursion (CanEnd log) (rests_of 0 parts.writers.items parts.pieces.items)
-can_end base told parts seats log are seats_are is =
-    (workers parts.queue 0 told parts.writers.items parts.pieces.items are.workers).can log is.list (same_length parts.queue seats log is)
-    (subst (Each (HasAllOf (entries_of log) is.list)) seats_are is.seats)
-
 pub gathered : RoundsAreOrdered → (base : ℕ) (told : List (List Numbered)) (parts : RoundParts) (seats : List Seat) (log : QueueLog) (g : Gathered)
     → ArePartsOf base told parts → seats ≡ seats_in parts.writers.items → IsLogOf parts.queue seats log
-    → AreEnded log (rests_of 0 parts.writers.items parts.pieces.items) g.pieces.items → IsPacketOf log g.packet
+    → AreEnded base (rests_of 0 parts.writers.items parts.pieces.items) g.pieces.items → IsPacketOf log g.packet
     → g.kind ≡ head_kind (last_head_or 0 (entries_of log)) → IsGathered base told g
 gathered law base told parts seats log g are seats_are is ended packet kind = record {
   ts = ordered.ts;
@@ -171,8 +146,8 @@ gathered law base told parts seats log g are seats_are is ended packet kind = re
   ends = subst (λ (k : ℕ). EndBy k (seconds ordered.ts)) (sym kind) ordered.ends;
 }
   where
-    left : LeftsOf parts.queue 0 log told parts.writers.items g.pieces.items
-    left = (workers parts.queue 0 told parts.writers.items parts.pieces.items are.workers).lefts log g.pieces.items ended
+    left : LeftsOf parts.queue 0 base told parts.writers.items g.pieces.items
+    left = (workers parts.queue 0 told parts.writers.items parts.pieces.items are.workers).lefts base g.pieces.items ended
 
     finished : IsFinished parts.queue left.lefts log
     finished = record {
@@ -181,7 +156,9 @@ gathered law base told parts seats log g are seats_are is ended packet kind = re
       all = left.many ∙ are.all;
       ready = left.ready;
       did = left.did;
-      lasts = left.lasts;
+      lasts =
+          subst (λ (b : ℕ). AllByRecursion (λ (l : Left). IsLast b l.parts.rest l.last) left.lefts) (sym are.base_is)
+          left.lasts;
     }
 
     ordered : Ordered parts.queue left.lefts log g.packet

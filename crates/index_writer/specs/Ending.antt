@@ -3,11 +3,8 @@ use Rattle.std.specs.Prelude.{◌≡◌, ℕ, ◌+◌, ◌≤◌, List, [], ◌�
 use Rattle.std.specs.Prelude.{length, slice_index_or, replicate, Option, Some, None, ◌==◌, if◌then◌else◌, false}
 use Rattle.std.specs.Global.{Vec}
 use Rattle.ix_base.specs.Steps.{numbered_from}
-use Rattle.delete_queue.specs.declared.log.QueueLog.{QueueLog}
-use Rattle.delete_queue.specs.Log.{entries_of}
 use Rattle.row_fates.specs.Fate.{Numbered}
 use Rattle.thread_writer.specs.declared.piece.Piece.{Piece}
-use Rattle.thread_writer.specs.declared.piece.HandedBack.{HandedBack}
 use Rattle.thread_writer.specs.declared.writer.ThreadWriter.{ThreadWriter}
 use Rattle.commit_point.specs.declared.written.Written.{Written}
 use Rattle.flush_control.specs.Logs.{EndBy, IsLast}
@@ -23,22 +20,18 @@ use Rattle.index_writer.specs.declared.state.State.{State}
 abbrev pub rests_of : ℕ → List ThreadWriter → List (Vec Piece) → List Rest
 rests_of i [] ps = []
 rests_of i (w ∷ ws) [] = []
-rests_of i (w ∷ ws) (p ∷ ps) = record { worker = i; rows = w.rows; slice = w.slice; gave = p } ∷ rests_of (i + 1) ws ps
+rests_of i (w ∷ ws) (p ∷ ps) = record { worker = i; rows = w.rows; gave = p } ∷ rests_of (i + 1) ws ps
 
--- a last piece can be made: the slice begins in the log, and the rows are few
-pub record CanEnd (log : QueueLog) (r : Rest) : Type 0 where
-  pub inside : r.slice.from.at ≤ length (entries_of log)
-  pub few : length r.rows ≤ 65536
+-- a last piece can be made: the rows are few
+abbrev pub CanEnd : Rest → Type 0
+CanEnd r = length r.rows ≤ 65536
 
--- the last piece of whoever left these rows and this slice
-abbrev pub IsLastOf : QueueLog → Rest → Piece → Type 0
-IsLastOf log r p = (h : HandedBack) → h.rest ≡ r.rows → h.slice ≡ r.slice → IsLast log h p
-
--- the pieces that were given off with a last one, of one after another
-abbrev pub AreEnded : QueueLog → List Rest → List Piece → Type 0
-AreEnded log [] pieces = pieces ≡ []
-AreEnded log (r ∷ rs) pieces = (last : Piece) × (more : List Piece) × IsLastOf log r last
-    × (pieces ≡ r.gave.items ++ last ∷ more) × AreEnded log rs more
+-- The pieces that were given off with a last one, of one after another. The round's first operation has the number
+-- after the base.
+abbrev pub AreEnded : ℕ → List Rest → List Piece → Type 0
+AreEnded base [] pieces = pieces ≡ []
+AreEnded base (r ∷ rs) pieces = (last : Piece) × (more : List Piece) × IsLast base r.rows last
+    × (pieces ≡ r.gave.items ++ last ∷ more) × AreEnded base rs more
 
 -- What workers were told is one order of operations, and their pieces and the packet are a round of these.
 pub record IsGathered (base : ℕ) (told : List (List Numbered)) (g : Gathered) : Type 0 where

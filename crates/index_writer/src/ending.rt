@@ -1,15 +1,15 @@
 //! What came back of a round, put together: the pieces of all its writers, and the packet of all its
 //! operations.
-ghost use Rattle.std.specs.Prelude.{◌≡◌, ◌≤◌, ◌+◌, List, map, length, IfOk, OnOk};
+ghost use Rattle.std.specs.Prelude.{◌≡◌, List, map, length, IfOk, OnOk};
 ghost use Rattle.std.specs.List.{AllByRecursion};
 ghost use Rattle.ix_base.specs.Words.{head_kind};
 ghost use Rattle.delete_queue.specs.Log.{entries_of, last_head_or, last_number};
 ghost use Rattle.delete_slice.specs.Laws.{IsInGrammar};
 ghost use Rattle.row_fates.specs.Fate.{Numbered};
 ghost use Rattle.thread_writer.specs.Writing.{parts_of};
-ghost use Rattle.flush_control.specs.Logs.{IsPacketOf, TakesAfter};
+ghost use Rattle.flush_control.specs.Logs.{IsLast, IsPacketOf, TakesAll};
 ghost use Rattle.index_writer.specs.Rounds.{ArePartsOf};
-ghost use Rattle.index_writer.specs.Ending.{AreEnded, CanEnd, IsGathered, IsLastOf, rests_of};
+ghost use Rattle.index_writer.specs.Ending.{AreEnded, CanEnd, IsGathered, rests_of};
 ghost use Rattle.index_writer.specs.Working.{IsStuck};
 
 use crate::round::RoundParts;
@@ -29,8 +29,6 @@ pub struct Rest {
     pub worker: u64,
     /// The rows that are in no piece yet.
     pub rows: RamPostings,
-    /// The part of the queue since these were begun.
-    pub slice: Slice,
     /// The pieces that it gave off, in their order.
     pub gave: Vec<Piece>,
 }
@@ -67,7 +65,7 @@ pub fn gather(alloc: Global, base: u64, parts: RoundParts) -> Result<Gathered, N
         return Err(NoMemory);
     };
     let (upto, kind) = last_of(&log, base);
-    let pieces = pieces_of(alloc, &log, upto, rests)?;
+    let pieces = pieces_of(alloc, base, rests)?;
     let packet = packet_of(alloc, &log, base, upto)?;
     Ok(Gathered {
         pieces,
@@ -94,12 +92,11 @@ fn handed_back(
             continue;
         };
         let worker = rests.len() as u64;
-        let HandedBack { seat, rest, slice } = writer.hand_back();
+        let HandedBack { seat, rest, .. } = writer.hand_back();
         seats.push(seat)?;
         rests.push(Rest {
             worker,
             rows: rest,
-            slice,
             gave,
         })?;
     }
@@ -122,64 +119,50 @@ fn last_of(log: &QueueLog, base: u64) -> (u64, u64)
     (number, kind)
 }
 
-/// The updates of the entries of a log after a place.
-fn updates_after(alloc: Global, log: &QueueLog, from: Place) -> Result<Updates, NoMemory>
-    requires grammar { IsInGrammar log.now }
-    requires inside { from.at ≤ length (entries_of log.now) }
-    ensures { IfOk result (TakesAfter log.now from.at) }
-{
-    let mut updates = Updates::new(alloc);
-    let to = Place {
-        at: log.len(),
-        word: 0,
-    };
-    Slice { from, to }.apply_log(alloc, log, &mut updates)?;
-    Ok(updates)
-}
-
-/// The last piece of a writer, which is made of its rest. Where it has no rows it has no updates: these
-/// would reach nothing.
-fn last_piece(alloc: Global, log: &QueueLog, cut: u64, rest: &Rest) -> Result<Piece, NoMemory>
-    requires grammar { IsInGrammar log.now }
-    requires can { CanEnd log.now rest.now }
-    requires cut { cut ≡ last_number log.now.base (entries_of log.now) }
-    ensures { IfOk result (IsLastOf log.now rest.now) }
+/// The last piece of a writer, which is made of its rest, in a round whose first operation has the
+/// number after `base`. None of the round's operations is in it: the packet has them all.
+fn last_piece(alloc: Global, base: u64, rest: &Rest) -> Result<Piece, NoMemory>
+    requires can { CanEnd rest.now }
+    ensures { IfOk result (IsLast base rest.now.rows) }
 {
     let frozen = rest.rows.freeze(alloc)?;
-    let updates = if frozen.rows.is_empty() {
-        Updates::new(alloc)
-    } else {
-        updates_after(alloc, log, rest.slice.from)?
-    };
     Ok(Piece {
         worker: rest.worker,
         frozen,
-        updates,
-        cut,
+        updates: Updates::new(alloc),
+        cut: base,
     })
 }
 
 /// The pieces of all writers, one writer after another, with the last one of each.
-fn pieces_of(
-    alloc: Global,
-    log: &QueueLog,
-    cut: u64,
-    rests: Vec<Rest>,
-) -> Result<Vec<Piece>, NoMemory>
-    requires grammar { IsInGrammar log.now }
-    requires can { AllByRecursion (CanEnd log.now) rests.items }
-    requires cut { cut ≡ last_number log.now.base (entries_of log.now) }
-    ensures { IfOk result (λ pieces. AreEnded log.now rests.items pieces.items) }
+fn pieces_of(alloc: Global, base: u64, rests: Vec<Rest>) -> Result<Vec<Piece>, NoMemory>
+    requires can { AllByRecursion CanEnd rests.items }
+    ensures { IfOk result (λ pieces. AreEnded base rests.items pieces.items) }
 {
     let mut pieces = Vec::new(alloc);
     for rest in rests {
-        let last = last_piece(alloc, log, cut, &rest)?;
+        let last = last_piece(alloc, base, &rest)?;
         let Rest { gave, .. } = rest;
         let mut gave = gave;
         pieces.append(&mut gave)?;
         pieces.push(last)?;
     }
     Ok(pieces)
+}
+
+/// The updates of all entries of a log.
+fn updates_of(alloc: Global, log: &QueueLog) -> Result<Updates, NoMemory>
+    requires grammar { IsInGrammar log.now }
+    ensures { IfOk result (TakesAll log.now) }
+{
+    let mut updates = Updates::new(alloc);
+    let from = Place { at: 0, word: 0 };
+    let to = Place {
+        at: log.len(),
+        word: 0,
+    };
+    Slice { from, to }.apply_log(alloc, log, &mut updates)?;
+    Ok(updates)
 }
 
 /// The packet of a whole log.
@@ -189,10 +172,9 @@ fn packet_of(alloc: Global, log: &QueueLog, after: u64, upto: u64) -> Result<Pac
     requires upto { upto ≡ last_number log.now.base (entries_of log.now) }
     ensures { IfOk result (IsPacketOf log.now) }
 {
-    let updates = updates_after(alloc, log, Place { at: 0, word: 0 })?;
     Ok(Packet {
         after,
         upto,
-        updates,
+        updates: updates_of(alloc, log)?,
     })
 }

@@ -11,6 +11,8 @@ mod fault;
 mod laws;
 mod merging;
 mod round;
+#[cfg(test)]
+mod script_lines;
 mod state;
 #[cfg(test)]
 mod tests;
@@ -18,6 +20,8 @@ mod tests;
 mod tests_deletes;
 #[cfg(test)]
 mod tests_merging;
+#[cfg(test)]
+mod tests_operations;
 #[cfg(test)]
 mod working;
 mod writer;

@@ -3,10 +3,11 @@ ghost use Rattle.std.specs.Prelude.{◌≡◌, ◌≤◌, ℕ, None, false, true
 ghost use Rattle.index_writer.specs.Ready.{IsSound};
 ghost use Rattle.index_writer.specs.Trials.{IsUnderWay};
 
+use crate::script_lines::{Act, Line, Script, name_of, operation_of};
 use crate::working::{Answer, do_line, into_parts};
 use crate::{IndexWriter, RoundEnd, RoundParts, WriterFault, opened_go_on};
 use commit_point::open_commit;
-use ix_base::{Document, Fields, Name, Numbers, Operation, Refusal, Term, Text};
+use ix_base::Refusal;
 use ix_memory::MemoryStore;
 use segment_core::LiveSegment;
 use std::alloc::Global;
@@ -14,44 +15,6 @@ use std::fmt::Write;
 use std::test::*;
 use std::thread::Threads;
 use thread_writer::Piece;
-
-/// What a line of a script does.
-#[derive(Clone, Copy)]
-pub(crate) enum Act {
-    Add,
-    Delete,
-    Commit,
-}
-
-/// A line of a script: the seat number of its writer, what it does, and a key.
-pub(crate) type Line<'a> = (usize, Act, &'a str);
-
-pub(crate) type Script<'a> = &'a [Line<'a>];
-
-fn text_of(alloc: Global, text: &str) -> Result<Text, Fail> {
-    Ok(Text::new(String::from_str(alloc, text)?).ok_or("long")?)
-}
-
-fn term_of(alloc: Global, key: &str) -> Result<Term, Fail> {
-    let field = Name::new(text_of(alloc, "key")?).ok_or("no name")?;
-    let bytes = text_of(alloc, key)?;
-    Ok(Term { field, bytes })
-}
-
-fn document_of(alloc: Global, key: &str) -> Result<Document, Fail> {
-    let none = Numbers::none(alloc);
-    let fields = Fields::none(alloc);
-    let doc = Document::new(text_of(alloc, key)?, Fields::none(alloc), fields, none);
-    Ok(doc.ok_or("names that stand twice")?)
-}
-
-fn operation_of(alloc: Global, act: Act, key: &str) -> Result<Operation, Fail> {
-    match act {
-        Act::Add => Ok(Operation::Add(document_of(alloc, key)?)),
-        Act::Delete => Ok(Operation::DeleteTerm(term_of(alloc, key)?)),
-        Act::Commit => Ok(Operation::Commit),
-    }
-}
 
 /// Does a line of a script.
 fn told(alloc: Global, parts: &mut RoundParts, line: Line) -> Result<Answer, Fail>
@@ -135,27 +98,31 @@ fn ended<R: Threads + Sync>(
 }
 
 /// The live rows of the commit of this number, of each segment its id and then its rows with their
-/// births.
+/// births, and the number `n` where it was set.
 pub(crate) fn shown(alloc: Global, store: &mut MemoryStore, number: u64) -> Result<String, Fail> {
     let mut out = String::new(alloc);
     let opened = open_commit(alloc, store, number)?;
     write!(out, "{}:", opened.next_id)?;
     for segment in opened.segments.as_slice() {
         write!(out, " {}", segment.segment().id)?;
-        for at in 0..4 {
-            show_row(&mut out, segment, at)?;
+        for at in 0..8 {
+            show_row(alloc, &mut out, segment, at)?;
         }
     }
     Ok(out)
 }
 
-fn show_row(out: &mut String, segment: &LiveSegment, at: u32) -> Result<(), Fail> {
+fn show_row(alloc: Global, out: &mut String, segment: &LiveSegment, at: u32) -> Result<(), Fail> {
     let rows = segment.segment().rows.as_slice();
     if at as usize >= rows.len() || !segment.live().is_live(at) {
         return Ok(());
     }
     let row = &rows[at as usize];
     write!(out, " {}{}", row.doc.key.as_str(), row.birth)?;
+    match segment.live().value(at, &name_of(alloc, "n")?) {
+        Some(value) => write!(out, "={value}")?,
+        None => {}
+    }
     Ok(())
 }
 

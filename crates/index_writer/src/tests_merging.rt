@@ -2,7 +2,8 @@
 ghost use Rattle.std.specs.Prelude.{OnOk};
 ghost use Rattle.index_writer.specs.Ready.{IsSound};
 
-use crate::tests::{Act, Script, committed, round, shown};
+use crate::script_lines::{Act, Script};
+use crate::tests::{committed, round, shown};
 use crate::{IndexWriter, MergeTurn};
 use ix_memory::MemoryStore;
 use std::alloc::Global;
@@ -100,5 +101,24 @@ fn no_row_is_live(rt: HostRuntime) -> Result<(), Fail> {
     assert_eq!(rt; merged(&mut writer)?, MergeTurn::Idle);
     let mut store = writer.into_store();
     assert_eq!(rt; shown(alloc, &mut store, 6)?.as_str(), "4: 3 c3");
+    Ok(())
+}
+
+/// A segment whose row died in the round that added it is merged with the one that has a live row.
+#[test]
+fn dead_in_its_round(rt: HostRuntime) -> Result<(), Fail> {
+    use Act::*;
+    let alloc = rt.alloc();
+    let mut writer = IndexWriter::none(alloc, MemoryStore::new(alloc), 8, 2);
+    let script = [
+        (0, Add, "a"),
+        (1, Add, "b"),
+        (1, Delete, "a"),
+        (0, Commit, ""),
+    ];
+    let first = step(&rt, alloc, &mut writer, &script)?;
+    assert_eq!(rt; first, (MergeTurn::Merged, 1));
+    let mut store = writer.into_store();
+    assert_eq!(rt; shown(alloc, &mut store, 4)?.as_str(), "4: 3 b2");
     Ok(())
 }

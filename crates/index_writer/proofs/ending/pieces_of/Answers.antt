@@ -12,14 +12,14 @@ returns c = all_ended _ _ _ _ (grind (arith, common_steps)) c.loop-rest.invarian
 
 pub loop-rest-preserved : goal.loop-rest-preserved
 loop-rest-preserved c =
-    let log = c.args.log.now in
+    let base = c.args.base in
     let pieces = c.loop-rest.pieces.items in
     let last = c.in_ok-last.last in
     let steps = c.in-Some.ensures.steps.0 in
     record {
       goes_on =
-          one_more log c.args.rests.items c.in-Some.rest _ pieces c.push.new.self.items last c.in_ok-last.ensures
+          one_more base c.args.rests.items c.in-Some.rest _ pieces c.push.new.self.items last c.in_ok-last.ensures
           (c.in_ok-push.ensures.items ∙ ap (λ (ps : List Piece). ps ++ last ∷ []) c.in_ok-append.ensures.items)
-          (subst (λ (rs : List Rest). GoesOn log c.args.rests.items rs pieces) steps c.loop-rest.invariant.goes_on);
-      can = (subst (AllByRecursion (CanEnd log)) steps c.loop-rest.invariant.can).1;
+          (subst (λ (rs : List Rest). GoesOn base c.args.rests.items rs pieces) steps c.loop-rest.invariant.goes_on);
+      can = (subst (AllByRecursion CanEnd) steps c.loop-rest.invariant.can).1;
     }

@@ -6,6 +6,6 @@ use Rattle.index_writer.proofs.ending.pieces_of.Given as goal
 
 abbrev pub invariant-loop-rest : goal.invariant-loop-rest
 invariant-loop-rest l = record {
-  goes_on : GoesOn l.log l.fn.rests.items (into_iter_items l.rest-iterator) l.pieces.items;
-  can : AllByRecursion (CanEnd l.log) (into_iter_items l.rest-iterator);
+  goes_on : GoesOn l.base l.fn.rests.items (into_iter_items l.rest-iterator) l.pieces.items;
+  can : AllByRecursion CanEnd (into_iter_items l.rest-iterator);
 }
