@@ -1,19 +1,16 @@
 -- What came back of a round, put together.
-use Rattle.std.proofs.Common.{◌≡◌, ◌∙◌, ℕ, zero, suc, ◌+◌, ◌<◌, ◌≤◌, Option, Some, None, List, [], ◌∷◌, ◌++◌, map, length, refl, sym, ap, subst, arith, append-nil, append_assoc}
+use Rattle.std.proofs.Common.{◌≡◌, ◌∙◌, ℕ, suc, ◌+◌, ◌≤◌, Option, Some, None, List, [], ◌∷◌, ◌++◌, map, length, refl, sym, ap, subst, arith, append-nil, append_assoc}
 use Rattle.std.specs.Global.{Vec}
 use Rattle.std.specs.Prelude.{slice_index_or}
 use Rattle.std.specs.List.{AllByRecursion}
-use Rattle.std.proofs.lemmas.List.{length-map}
-use mathlib.Core.Option.{some, some-ne-none}
-use lib.ListN.{get_elem?}
 use Rattle.ix_base.specs.Steps.{numbered_from}
 use Rattle.ix_base.specs.Words.{head_kind}
 use Rattle.queue_rule.specs.Lists.{Each}
 use Rattle.delete_queue.specs.declared.log.QueueLog.{QueueLog}
 use Rattle.delete_queue.specs.declared.queue.DeleteQueue.{DeleteQueue}
 use Rattle.delete_queue.specs.declared.seat.Seat.{Seat}
-use Rattle.delete_queue.specs.Log.{HasAllOf, IsLogOf, Logged, entries_of, last_head_or}
-use Rattle.delete_queue.specs.Seats.{IsSeatOf, base_of, the_view}
+use Rattle.delete_queue.specs.Log.{IsLogOf, entries_of, last_head_or}
+use Rattle.delete_queue.specs.Seats.{IsSeatOf, base_of}
 use Rattle.ram_postings.specs.Buffer.{Staged, born_rows, row_of}
 use Rattle.row_fates.specs.Fate.{Numbered}
 use Rattle.thread_writer.specs.declared.piece.Piece.{Piece}
