@@ -1,4 +1,5 @@
 //! A round with operations of each kind, against what was worked out by hand.
+ghost use Rattle.std.specs.Prelude.{◌≤◌};
 
 use crate::IndexWriter;
 use crate::script_lines::{Act, Script};
