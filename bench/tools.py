@@ -201,7 +201,7 @@ def main(phases):
     """Reads the words of the command line and prints the table of these phases."""
     parser = argparse.ArgumentParser(description="Measures index_run, and SQLite's FTS5 beside it, in one table.")
     parser.add_argument("program", help="the program, as rt run leaves it: crates/index_run/out/index_run")
-    parser.add_argument("--quick", action="store_true", help="small sizes: a minute in all")
+    parser.add_argument("--quick", action="store_true", help="small sizes")
     parser.add_argument("--only", default="", metavar="WORD", help="only the phases whose names contain WORD")
     parser.add_argument("--times", type=int, default=1, metavar="N", help="least seconds, most memory of N runs")
     parser.add_argument("--count", action="store_true", help="count instructions too, by valgrind --tool=callgrind")
