@@ -6,7 +6,8 @@ exclude all rows, so that each is answered anew.
 from make_script import adds, lines, small
 from tools import Phase, Run, main, nothing
 
-# Options with which each run leaves one new segment, and none is merged with it.
+# Options with which a run of up to 7,000 small documents leaves one new segment, a longer one a segment for each round
+# that a full part of the queue ends, and nothing is merged.
 ALONE = ("run", "--threads", "1", "--buffer", "65536", "--merge", "64")
 
 
@@ -42,8 +43,8 @@ def phrases(count):
 
 
 def on_older(rows, count):
-    """A run on so many rows that does nothing, and one that makes commits; with default options and in one segment."""
-    for words, where, fts5 in [(("run",), "older rows", True), (ALONE, "one older segment", False)]:
+    """A run on so many rows that does nothing, and one that makes commits; with default options and on few segments."""
+    for words, where, fts5 in [(("run",), "older rows", True), (ALONE, "few older segments", False)]:
         before = (Run(words, (one_by_one, 0, rows)),)
         yield Phase(f"commits: none on {where}", rows, Run(words, (nothing,)), before, fts5)
         yield Phase(f"commits: {count} on {where}", rows, Run(words, (changes, count, rows)), before, fts5)
@@ -62,7 +63,7 @@ def phases(quick):
     yield Phase("commits: generated", size, Run(("run",), (lines, "generated", size)), fts5=True)
     for rows in [size] if quick else [10_000, 100_000]:
         yield from on_older(rows, count)
-    yield from by_processors(*((250, 40) if quick else (12_500, 200)))
+    yield from by_processors(*((250, 40) if quick else (7_000, 200)))
 
 
 if __name__ == "__main__":
