@@ -111,10 +111,17 @@ def files_of(directory):
     return files
 
 
+KNOWN = {}
+
+
 def answers(program, directory):
-    """What each commit of the directory answers, by number."""
-    numbers = sorted(int(name[9:]) for name in os.listdir(directory) if name.startswith("segments_"))
-    return {number: run(program, directory, ["ask", "--commit", str(number)], '"all"\n') for number in numbers}
+    """What each commit of the directory answers, by number. The same files are asked once."""
+    held = tuple(sorted(files_of(directory).items()))
+    if held not in KNOWN:
+        numbers = sorted(int(name[9:]) for name, _ in held if name.startswith("segments_"))
+        asked = {number: run(program, directory, ["ask", "--commit", str(number)], '"all"\n') for number in numbers}
+        KNOWN[held] = asked
+    return KNOWN[held]
 
 
 def faults(program, begun, left, whole, done, wanted):
