@@ -223,58 +223,89 @@ fn copies_of_documents(rt: HostRuntime) -> Result<(), Fail> {
     Ok(())
 }
 
-#[test]
-fn copies_of_operations(rt: HostRuntime) -> Result<(), Fail> {
-    let alloc = rt.alloc();
-    let set = Operation::SetNumber {
-        term: term_of(alloc, "tag", "x")?,
-        num: name_of(alloc, "n")?,
-        value: i64::MIN,
-    };
-    let operations = vec![in alloc;
-        Operation::Add(letter(alloc)?),
-        Operation::Update(
-            term_of(alloc, "tag", "x")?,
-            Document::of_key(alloc, text_of(alloc, "a2")?)
-        ),
-        Operation::DeleteTerm(term_of(alloc, "key", "a1")?),
-        Operation::DeleteQuery(nested(alloc)?),
-        set,
-        Operation::Commit,
-    ]?;
-    let mut out = String::new(alloc);
-    for operation in &operations {
-        show_operation(&mut out, &operation.clone_in(alloc)?)?;
-        out.push_str(";")?;
+/// An operation of each kind, from 0 to 5.
+fn operation_of(alloc: Global, kind: u32) -> Result<Operation, Fail> {
+    match kind {
+        0 => Ok(Operation::Add(letter(alloc)?)),
+        1 => {
+            let doc = Document::of_key(alloc, text_of(alloc, "a2")?);
+            Ok(Operation::Update(term_of(alloc, "tag", "x")?, doc))
+        }
+        2 => Ok(Operation::DeleteTerm(term_of(alloc, "key", "a1")?)),
+        3 => Ok(Operation::DeleteQuery(nested(alloc)?)),
+        4 => Ok(Operation::SetNumber {
+            term: term_of(alloc, "tag", "x")?,
+            num: name_of(alloc, "n")?,
+            value: i64::MIN,
+        }),
+        _ => Ok(Operation::Commit),
     }
-    let want =
-        "a1 text body=Quick FOX exact tag=x num price=-7;tag:x by a2 text exact num;key:a1;+(key:a1)(+|(all)-(body~a b))|(all)-;tag:x n=-9223372036854775808;commit;";
-    assert_eq!(rt; out.as_str(), want);
-    Ok(())
+}
+
+fn copy_of(alloc: Global, kind: u32) -> Result<Operation, Fail> {
+    let operation = operation_of(alloc, kind)?;
+    Ok(operation.clone_in(alloc)?)
+}
+
+/// What a copy of the operation of this kind has.
+fn shown_copy(alloc: Global, kind: u32) -> Result<String, Fail> {
+    let mut out = String::new(alloc);
+    show_operation(&mut out, &copy_of(alloc, kind)?)?;
+    Ok(out)
 }
 
 #[test]
-fn copies_of_queries_and_postings(rt: HostRuntime) -> Result<(), Fail> {
+fn copies_of_operations(rt: HostRuntime) -> Result<(), Fail> {
+    let cases = [
+        (0, "a1 text body=Quick FOX exact tag=x num price=-7"),
+        (1, "tag:x by a2 text exact num"),
+        (2, "key:a1"),
+        (3, "+(key:a1)(+|(all)-(body~a b))|(all)-"),
+        (4, "tag:x n=-9223372036854775808"),
+        (5, "commit"),
+    ];
+    for (kind, want) in cases {
+        assert_eq!(rt; shown_copy(rt.alloc(), kind)?.as_str(), want);
+    }
+    Ok(())
+}
+
+fn two_queries(alloc: Global) -> Result<Queries, Fail> {
+    let nested = nested(alloc)?;
+    Ok(Queries::from_vec(vec![in alloc; Query::All, nested]?))
+}
+
+#[test]
+fn copies_of_queries(rt: HostRuntime) -> Result<(), Fail> {
     let alloc = rt.alloc();
-    let queries = Queries::from_vec(vec![in alloc; Query::All, nested(alloc)?]?);
-    let queries = queries.clone_in(alloc)?;
+    let queries = two_queries(alloc)?.clone_in(alloc)?;
     let mut out = String::new(alloc);
     for query in queries.as_slice() {
         show_query(&mut out, query, 2)?;
         out.push_str(" ")?;
     }
-    let postings = Postings {
-        terms: List::from_vec(vec![in alloc; key_postings(alloc)?]?),
-    };
-    let analysed = Analysed {
-        doc: letter(alloc)?,
-        postings,
-    };
-    let analysed = analysed.clone_in(alloc)?;
+    let want = "all +(key:a1)(+|(all)-(body~a b))|(all)- ";
+    assert_eq!(rt; out.as_str(), want);
+    Ok(())
+}
+
+/// A document beside postings, which needn't be its own here.
+fn analysed_letter(alloc: Global) -> Result<Analysed, Fail> {
+    let postings = key_postings(alloc)?;
+    let terms = List::from_vec(vec![in alloc; postings]?);
+    let postings = Postings { terms };
+    let doc = letter(alloc)?;
+    Ok(Analysed { doc, postings })
+}
+
+#[test]
+fn copies_of_postings(rt: HostRuntime) -> Result<(), Fail> {
+    let alloc = rt.alloc();
+    let analysed = analysed_letter(alloc)?.clone_in(alloc)?;
+    let mut out = String::new(alloc);
     show_postings(alloc, &mut out, &analysed.postings)?;
     show_document(&mut out, &analysed.doc)?;
-    let want =
-        "all +(key:a1)(+|(all)-(body~a b))|(all)- key:a1 3@[0, 2];a1 text body=Quick FOX exact tag=x num price=-7";
+    let want = "key:a1 3@[0, 2];a1 text body=Quick FOX exact tag=x num price=-7";
     assert_eq!(rt; out.as_str(), want);
     Ok(())
 }
