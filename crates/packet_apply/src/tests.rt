@@ -174,3 +174,68 @@ fn all_segments_in_order(rt: HostRuntime) -> Result<(), Fail> {
     assert_eq!(rt; counts(alloc, all.as_slice())?.as_str(), "1,2,");
     Ok(())
 }
+
+/// 2,000 rows, each second one with the key `a`.
+fn many_rows(alloc: Global) -> Result<Frozen, Fail>
+    ensures { IfOk result (λ frozen. CanBuild frozen.rows.items frozen.postings) }
+{
+    let mut rows = Vec::new(alloc);
+    for at in 0..2000 {
+        let key = if at % 2 == 0 { "a" } else { "b" };
+        rows.push(row_of(alloc, 1, key)?)?;
+    }
+    if rows.len() > 2000 {
+        Err("many rows")?;
+    }
+    let postings = invert(alloc, rows.as_slice())?;
+    Ok(Frozen { rows, postings })
+}
+
+/// The segment of these rows, with all in it up to 7, which this packet meets.
+fn large_segment(alloc: Global, packet: &Packet) -> Result<LiveSegment, Fail>
+    requires { (packet.now.after ≡ 5) × (packet.now.upto ≡ 9) }
+    ensures { IfOk result (Meets packet.now) }
+{
+    match build(alloc, 1, many_rows(alloc)?, &Updates::new(alloc), 7)? {
+        Some(segment) => Ok(segment),
+        None => Err("no row is live")?,
+    }
+}
+
+/// A packet that hits a thousand rows, and once more where these are dead.
+#[test]
+fn thousands_of_rows(rt: HostRuntime) -> Result<(), Fail> {
+    let alloc = rt.alloc();
+    let packet = packet_of(alloc, 8)?;
+    let mut segment = large_segment(alloc, &packet)?;
+    let made = apply(alloc, &segment, &packet)?;
+    assert_eq!(rt; made.live_count(), 1000);
+    segment.set_live(made);
+    let again = apply(alloc, &segment, &packet)?;
+    assert_eq!(rt; again.live_count(), 1000);
+    Ok(())
+}
+
+/// 150 segments, of rows born by the operation 1.
+fn many_segments(alloc: Global, packet: &Packet) -> Result<Vec<LiveSegment>, Fail>
+    requires { (packet.now.after ≡ 5) × (packet.now.upto ≡ 9) }
+    ensures { IfOk result (λ all. All (Meets packet.now) all.items) }
+{
+    let mut segments = Vec::new(alloc);
+    for _ in 0..150 {
+        segments.push(segment_of(alloc, 1, packet)?)?;
+    }
+    Ok(segments)
+}
+
+/// Each of many segments gets the packet.
+#[test]
+fn many_segments_at_once(rt: HostRuntime) -> Result<(), Fail> {
+    let alloc = rt.alloc();
+    let packet = packet_of(alloc, 8)?;
+    let segments = many_segments(alloc, &packet)?;
+    let all = apply_all(&rt, alloc, segments.as_slice(), &packet)?;
+    let wanted = "1,".repeat(alloc, 150)?;
+    assert_eq!(rt; counts(alloc, all.as_slice())?.as_str(), wanted.as_str());
+    Ok(())
+}
