@@ -5,7 +5,7 @@ ghost use Rattle.segment_core.specs.LiveRows.{CanBuild};
 ghost use Rattle.packet_apply.specs.Packets.{Meets};
 ghost use Rattle.flush_control.specs.Published.{HasInversion};
 
-use crate::Published;
+use crate::{MergeTurn, Published};
 use analysis::invert;
 use frozen_packet::{Packet, Updates};
 use ix_base::{Document, Fields, List, Name, Numbers, Row, Term, Text};
@@ -295,5 +295,19 @@ fn many_pieces(rt: HostRuntime) -> Result<(), Fail> {
         counts |= segment.live().live_count();
     }
     assert_eq!(rt; (index.segments.len(), counts), (1000, 1));
+    Ok(())
+}
+
+/// Where there are no segments, none is merged.
+#[test]
+fn nothing_to_merge(rt: HostRuntime) -> Result<(), Fail> {
+    let alloc = rt.alloc();
+    let mut index = Published {
+        segments: List::new(alloc),
+        next_id: 1,
+        upto: 0,
+    };
+    assert_eq!(rt; index.merge_turn(alloc, 2)?, MergeTurn::Idle);
+    assert_eq!(rt; (index.upto, index.next_id), (0, 1));
     Ok(())
 }
