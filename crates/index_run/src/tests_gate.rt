@@ -2,63 +2,19 @@
 use crate::call::top;
 use crate::tests::run_script;
 use ix_base::NoMemory;
-use ix_memory::{MemorySink, MemorySource, MemoryStore};
-use ix_outside::{Gate, Store};
+use ix_memory::{MemorySink, MemorySource, MemoryStore, RecordingGate};
+use ix_outside::Store;
 use std::alloc::Global;
 use std::sync::Wait;
-use std::sync::atomic::{AtomicU64, Ordering};
 use std::test::*;
 use std::thread::Threads;
-
-/// A gate that keeps what it hears, in order: a line before it is tried as its number, and a line
-/// that was told as 100 times its line and its number.
-#[derive(Drop)]
-struct Recorder {
-    heard: [AtomicU64; 8],
-    count: AtomicU64,
-}
-
-impl Recorder {
-    fn new() -> Recorder {
-        Recorder {
-            heard: [
-                AtomicU64::new(0),
-                AtomicU64::new(0),
-                AtomicU64::new(0),
-                AtomicU64::new(0),
-                AtomicU64::new(0),
-                AtomicU64::new(0),
-                AtomicU64::new(0),
-                AtomicU64::new(0),
-            ],
-            count: AtomicU64::new(0),
-        }
-    }
-
-    fn hear(&self, what: u64) {
-        let place = self.count.fetch_add(1, Ordering::SeqCst);
-        if place < 8 {
-            self.heard[place as usize].store(what, Ordering::SeqCst);
-        }
-    }
-}
-
-impl Gate for Recorder {
-    fn before(&self, line: u32) {
-        self.hear(line as u64);
-    }
-
-    fn told(&self, line: u32, number: u64) {
-        self.hear((line as u64) * 100 + number % 100);
-    }
-}
 
 /// A run that the recorder watches: an add, a term that is too long, a commit, a search and an add
 /// of another caller.
 fn watched_run<R: Threads + Wait + Sync>(
     rt: &R,
     alloc: Global,
-    gate: &Recorder,
+    gate: &RecordingGate,
 ) -> Result<u8, NoMemory> {
     let letters = "a".repeat(alloc, 32767)?;
     let script = [
@@ -94,15 +50,14 @@ fn watched_run<R: Threads + Wait + Sync>(
 #[test]
 fn the_gate_hears_of_each_line(rt: HostRuntime) {
     let alloc = rt.alloc();
-    let gate = Recorder::new();
+    let gate = RecordingGate::new();
     let Ok(status) = watched_run(&rt, alloc, &gate) else {
         panic!(rt; "memory");
     };
     assert_eq!(rt; status, 0);
-    let wanted: [u64; 8] = [1, 101, 2, 3, 302, 5, 503, 0];
-    assert_eq!(rt; gate.count.load(Ordering::SeqCst), 7);
-    for place in 0..8usize {
-        assert_eq!(rt; gate.heard[place].load(Ordering::SeqCst), wanted[place]);
+    assert_eq!(rt; gate.count(), 7);
+    for (place, wanted) in [1, 101, 2, 3, 302, 5, 503, 0].iter().enumerate() {
+        assert_eq!(rt; gate.heard(place), *wanted);
     }
 }
 

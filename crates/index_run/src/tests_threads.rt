@@ -7,14 +7,12 @@ use crate::doing::{self, do_script};
 use crate::plain_fold::{Kept, Options, check_run, numbers_in, place_of};
 use crate::plain_script::{Act, Leaf, Line, Query, Term, document_of, script_of};
 use crate::telling::Form;
-use ix_memory::{MemorySink, MemorySource, MemoryStore};
+use ix_memory::{GroupsGate, MeetingGate, MemorySink, MemorySource, MemoryStore};
 use ix_outside::{EmptyGate, Gate};
 use script_maker::make_script;
 use std::alloc::Global;
 use std::sync::Wait;
-use std::sync::atomic::{AtomicU64, Ordering};
 use std::test::*;
-use std::thread;
 use std::thread::Threads;
 
 /// A search for all documents.
@@ -120,48 +118,6 @@ fn one_summary(rt: HostRuntime) -> Result<(), Fail> {
     Ok(())
 }
 
-/// Waits until the word isn't below this, for 1,000,000,000 turns at most, past which it is late.
-fn wait_for(word: &AtomicU64, least: u64, late: &AtomicU64) {
-    for turn in 0..1_000_000_000u64 {
-        if word.load(Ordering::SeqCst) >= least {
-            return;
-        }
-        if turn % 64 == 0 {
-            thread::yield_now();
-        }
-    }
-    late.store(1, Ordering::SeqCst);
-}
-
-/// A gate for two lines: line 1 is tried after line 2 was told, and line 2 after the gate has heard
-/// of line 1. It counts what it hears.
-#[derive(Drop)]
-struct Meeting {
-    begun: AtomicU64,
-    told: AtomicU64,
-    heard: AtomicU64,
-    late: AtomicU64,
-}
-
-impl Gate for Meeting {
-    fn before(&self, line: u32) {
-        self.heard.fetch_add(1, Ordering::SeqCst);
-        if line == 1 {
-            self.begun.store(1, Ordering::SeqCst);
-            wait_for(&self.told, 1, &self.late);
-        } else {
-            wait_for(&self.begun, 1, &self.late);
-        }
-    }
-
-    fn told(&self, line: u32, _number: u64) {
-        self.heard.fetch_add(100, Ordering::SeqCst);
-        if line == 2 {
-            self.told.store(1, Ordering::SeqCst);
-        }
-    }
-}
-
 /// The report of the script by so many threads, over an empty store, watched by this gate.
 fn watched<R: Threads + Wait + Sync, G: Gate>(
     rt: &R,
@@ -198,12 +154,7 @@ fn watched<R: Threads + Wait + Sync, G: Gate>(
 /// either order, doesn't pass the gate.
 #[test]
 fn two_callers_meet(rt: HostRuntime) -> Result<(), Fail> {
-    let gate = Meeting {
-        begun: AtomicU64::new(0),
-        told: AtomicU64::new(0),
-        heard: AtomicU64::new(0),
-        late: AtomicU64::new(0),
-    };
+    let gate = MeetingGate::new();
     let lines = [
         Line {
             caller: 0,
@@ -215,8 +166,8 @@ fn two_callers_meet(rt: HostRuntime) -> Result<(), Fail> {
         },
     ];
     let report = watched(&rt, rt.alloc(), "2", &lines, &gate)?;
-    assert_eq!(rt; gate.late.load(Ordering::SeqCst), 0);
-    assert_eq!(rt; gate.heard.load(Ordering::SeqCst), 202);
+    assert!(rt; !gate.is_late());
+    assert_eq!(rt; gate.counts(), (2, 2));
     assert_eq!(rt;
         report.as_slice(),
         b"{\"line\":1,\"seq\":2}\n{\"line\":2,\"seq\":1}\n".as_slice()
@@ -224,39 +175,10 @@ fn two_callers_meet(rt: HostRuntime) -> Result<(), Fail> {
     Ok(())
 }
 
-/// A gate for four callers: a line is tried after the gate has heard of all four of its group.
-#[derive(Drop)]
-struct Groups {
-    heard: [AtomicU64; 8],
-    late: AtomicU64,
-}
-
-impl Gate for Groups {
-    fn before(&self, line: u32) {
-        let group = (line.saturating_sub(1) / 4).min(7) as usize;
-        self.heard[group].fetch_add(1, Ordering::SeqCst);
-        wait_for(&self.heard[group], 4, &self.late);
-    }
-
-    fn told(&self, _line: u32, _number: u64) {}
-}
-
 /// Four callers meet at each of eight groups of lines: those of each group get the next four numbers.
 #[test]
 fn four_callers_meet(rt: HostRuntime) -> Result<(), Fail> {
-    let gate = Groups {
-        heard: [
-            AtomicU64::new(0),
-            AtomicU64::new(0),
-            AtomicU64::new(0),
-            AtomicU64::new(0),
-            AtomicU64::new(0),
-            AtomicU64::new(0),
-            AtomicU64::new(0),
-            AtomicU64::new(0),
-        ],
-        late: AtomicU64::new(0),
-    };
+    let gate = GroupsGate::new();
     let mut lines = Vec::new(rt.alloc());
     for at in 0..32u64 {
         let caller = at % 4;
@@ -266,7 +188,7 @@ fn four_callers_meet(rt: HostRuntime) -> Result<(), Fail> {
         })?;
     }
     let report = watched(&rt, rt.alloc(), "4", lines.as_slice(), &gate)?;
-    assert_eq!(rt; gate.late.load(Ordering::SeqCst), 0);
+    assert!(rt; !gate.is_late());
     let text = str::from_utf8(report.as_slice()).ok().ok_or("no text")?;
     let numbers = numbers_in(rt.alloc(), text)?;
     assert_eq!(rt; numbers.len(), 32);

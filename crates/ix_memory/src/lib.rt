@@ -1,4 +1,5 @@
-//! The outside in memory: a source, a sink and stores that tell all that they hold, for tests.
+//! The outside in memory: a source, a sink and stores that tell all that they hold, and gates that
+//! watch a run, for tests.
 //!
 //! A store in memory is the list of the steps that its calls took. What reads return and what a crash
 //! may leave follow from that list. Calls of chosen numbers fail, or all calls from one on.
@@ -6,6 +7,7 @@
 
 mod failing_calls;
 mod fuse_store;
+mod gates;
 mod history;
 mod left;
 mod memory_sink;
@@ -19,6 +21,7 @@ mod steady_source;
 mod steady_store;
 
 pub use fuse_store::FuseStore;
+pub use gates::{GroupsGate, MeetingGate, RecordingGate};
 pub use memory_sink::MemorySink;
 pub use memory_source::MemorySource;
 pub use memory_store::MemoryStore;

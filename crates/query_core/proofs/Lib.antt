@@ -4,3 +4,4 @@ pub mod Found
 pub mod InPostings
 pub mod Joining
 pub mod Unique
+pub mod Windows

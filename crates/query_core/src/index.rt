@@ -1,31 +1,41 @@
 //! An inverted index over postings in memory.
-ghost use Rattle.std.specs.Prelude.{◌≡◌, ◌≢◌, ◌<◌, ◌^◌, length, map, All, IfOk, IfSome, IfNone, slice_index_or};
+ghost use Rattle.std.specs.Prelude.{◌≡◌, ◌<◌, ◌^◌, length, map, IfOk};
 ghost use Rattle.ix_base.specs.Matches.{holds_term};
-ghost use Rattle.ix_base.specs.Inversion.{IsInversion, IsPostings};
+ghost use Rattle.ix_base.specs.Inversion.{IsInversion};
 ghost use Rattle.query_core.specs.Answers.{AreRowsWhere, ArePositions};
 
+use crate::finding::{find_from, find_term};
 use crate::inverted::Inverted;
-use analysis::{compare_terms, invert};
-use ix_base::{NoMemory, Postings, Row, Term, TermPostings};
+use analysis::invert;
+use ix_base::{NoMemory, Postings, Row, Term};
 use std::alloc::Global;
-
-/// The place of a term's postings.
-fn find_term(entries: &[TermPostings], term: &Term) -> Option<usize>
-    ensures found { IfSome result (λ i. (i < length entries.now) × ((d : _) → (slice_index_or entries.now i d).term ≡ term.now)) }
-    ensures none { IfNone result (IsPostings entries.now → All (λ entry. entry.term ≢ term.now) entries.now) }
-{
-    entries
-        .binary_search_by(|entry| compare_terms(&entry.term, term))
-        .ok()
-}
 
 /// The rows that hold a term by the postings, rising: where these are the inversion of documents,
 /// the rows whose documents hold it. It refuses for memory only.
 pub fn holding_in(alloc: Global, postings: &Postings, term: &Term) -> Result<Vec<u32>, NoMemory>
-    ensures { IfOk result (λ rows. AreRowsWhere (λ docs. IsInversion docs postings.now) (holds_term term.now.field term.now.bytes) rows.items) }
+    ensures { IfOk result (λ rows. AreRowsWhere (λ docs. IsInversion docs postings.now)
+        (holds_term term.now.field term.now.bytes) rows.items) }
 {
     let entries = postings.terms.as_slice();
     match find_term(entries, term) {
+        Some(i) => entries[i].rows.rows(alloc),
+        None => Ok(Vec::new(alloc)),
+    }
+}
+
+/// The same as `holding_in`, with the search for the term begun at a place of the postings, which is
+/// moved to the term's. Any place is right: the nearer the term is behind it, the sooner it is found.
+pub fn holding_from_in(
+    alloc: Global,
+    postings: &Postings,
+    term: &Term,
+    place: &mut usize,
+) -> Result<Vec<u32>, NoMemory>
+    ensures { IfOk result (λ rows. AreRowsWhere (λ docs. IsInversion docs postings.now)
+        (holds_term term.now.field term.now.bytes) rows.items) }
+{
+    let entries = postings.terms.as_slice();
+    match find_from(entries, term, place) {
         Some(i) => entries[i].rows.rows(alloc),
         None => Ok(Vec::new(alloc)),
     }
@@ -39,7 +49,8 @@ pub fn places_in(
     term: &Term,
     row: u32,
 ) -> Result<Vec<u32>, NoMemory>
-    ensures { IfOk result (λ places. (docs : _) → IsInversion docs postings.now → ArePositions docs term.now row places.items) }
+    ensures { IfOk result (λ places. (docs : _) → IsInversion docs postings.now
+        → ArePositions docs term.now row places.items) }
 {
     let entries = postings.terms.as_slice();
     match find_term(entries, term) {
@@ -69,6 +80,15 @@ impl Inverted for PostingsIndex {
         holding_in(alloc, &self.postings, term)
     }
 
+    fn holding_from(
+        &self,
+        alloc: Global,
+        term: &Term,
+        place: &mut usize,
+    ) -> Result<Vec<u32>, NoMemory> {
+        holding_from_in(alloc, &self.postings, term, place)
+    }
+
     fn places(&self, alloc: Global, term: &Term, row: u32) -> Result<Vec<u32>, NoMemory> {
         places_in(alloc, &self.postings, term, row)
     }
@@ -78,7 +98,8 @@ impl Inverted for PostingsIndex {
 /// has the number i. It refuses for memory only.
 pub fn index_rows(alloc: Global, rows: &[Row]) -> Result<PostingsIndex, NoMemory>
     requires { length rows.now < 2 ^ 32 }
-    ensures { IfOk result (λ index. (index.rows ≡ length rows.now) × IsInversion (map (λ row. row.doc) rows.now) index.postings) }
+    ensures { IfOk result (λ index. (index.rows ≡ length rows.now)
+        × IsInversion (map (λ row. row.doc) rows.now) index.postings) }
 {
     Ok(PostingsIndex {
         postings: invert(alloc, rows)?,

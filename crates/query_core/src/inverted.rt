@@ -17,10 +17,24 @@ pub trait Inverted {
 
     /// The rows that hold the term, rising. It refuses for memory only.
     fn holding(&self, alloc: Global, term: &Term) -> Result<Vec<u32>, NoMemory>
-        ensures { IfOk result (λ rows. AreRowsWhere (inverts self.now) (holds_term term.now.field term.now.bytes) rows.items) };
+        ensures { IfOk result (λ rows. AreRowsWhere (inverts self.now)
+            (holds_term term.now.field term.now.bytes) rows.items) };
+
+    /// The same as `holding`, with the search for the term begun at a place of the index, which is
+    /// moved to the term's: of terms that are asked for in their order, by field and then by bytes,
+    /// each is found near the one before. Any place is right.
+    fn holding_from(
+        &self,
+        alloc: Global,
+        term: &Term,
+        place: &mut usize,
+    ) -> Result<Vec<u32>, NoMemory>
+        ensures { IfOk result (λ rows. AreRowsWhere (inverts self.now)
+            (holds_term term.now.field term.now.bytes) rows.items) };
 
     /// The positions of the term in the row, rising: none where there is no such row. It refuses
     /// for memory only.
     fn places(&self, alloc: Global, term: &Term, row: u32) -> Result<Vec<u32>, NoMemory>
-        ensures { IfOk result (λ places. (docs : List Document) → inverts self.now docs → ArePositions docs term.now row places.items) };
+        ensures { IfOk result (λ places. (docs : List Document) → inverts self.now docs
+            → ArePositions docs term.now row places.items) };
 }

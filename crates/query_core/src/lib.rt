@@ -5,13 +5,14 @@
 //! that only excludes walk all rows.
 #![tactic(auto)]
 
+mod finding;
 mod index;
 mod inverted;
 mod matching;
 mod phrase;
 mod row_lists;
 
-pub use index::{PostingsIndex, holding_in, index_rows, places_in};
+pub use index::{PostingsIndex, holding_from_in, holding_in, index_rows, places_in};
 pub use inverted::Inverted;
 pub use matching::answer;
 

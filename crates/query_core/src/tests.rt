@@ -12,10 +12,14 @@ fn name_of(alloc: Global, name: &str) -> Result<Name, Fail> {
     Ok(Name::new(text_of(alloc, name)?).ok_or("name")?)
 }
 
-fn term(alloc: Global, field: &str, bytes: &str) -> Result<Query, Fail> {
+fn term_of(alloc: Global, field: &str, bytes: &str) -> Result<Term, Fail> {
     let field = name_of(alloc, field)?;
     let bytes = text_of(alloc, bytes)?;
-    Ok(Query::Term(Term { field, bytes }))
+    Ok(Term { field, bytes })
+}
+
+fn term(alloc: Global, field: &str, bytes: &str) -> Result<Query, Fail> {
+    Ok(Query::Term(term_of(alloc, field, bytes)?))
 }
 
 fn phrase(alloc: Global, field: &str, text: &str) -> Result<Query, Fail> {
@@ -95,6 +99,81 @@ fn foldings(rt: HostRuntime) -> Result<(), Fail> {
     }
     let shown = shown(alloc, &index, &phrase(alloc, "body", "stra\u{DF}e")?)?;
     assert_eq!(rt; shown.as_str(), "0,1,");
+    Ok(())
+}
+
+/// What the search for a term finds from this place on. The place is moved.
+fn found_from(
+    alloc: Global,
+    index: &PostingsIndex,
+    term: &Term,
+    place: &mut usize,
+) -> Result<String, Fail> {
+    let mut shown = String::new(alloc);
+    for row in index.holding_from(alloc, term, place)? {
+        write!(shown, "{row},")?;
+    }
+    Ok(shown)
+}
+
+/// A term's rows are found wherever the search begins: one term after another in their order, and in
+/// the opposite order.
+#[test]
+fn searches_from_any_place(rt: HostRuntime) -> Result<(), Fail> {
+    let alloc = rt.alloc();
+    let index = index_of(alloc, ["red", "red blue", "blue", "green"].as_slice())?;
+    let cases = [
+        ("body", "azure", ""),
+        ("body", "blue", "1,2,"),
+        ("body", "green", "3,"),
+        ("body", "pink", ""),
+        ("body", "red", "0,1,"),
+        ("key", "0", "0,"),
+        ("key", "3", "3,"),
+        ("key", "4", ""),
+    ];
+    for first in [0, 1, 3, 6, 7, 8, 1000, usize::MAX] {
+        let mut rising = first;
+        for (field, bytes, want) in cases {
+            let term = term_of(alloc, field, bytes)?;
+            let found = found_from(alloc, &index, &term, &mut rising)?;
+            assert_eq!(rt; found.as_str(), want, "{bytes} after {first}");
+        }
+        let mut falling = first;
+        for (field, bytes, want) in cases.iter().rev() {
+            let term = term_of(alloc, field, bytes)?;
+            let found = found_from(alloc, &index, &term, &mut falling)?;
+            assert_eq!(rt; found.as_str(), *want, "{bytes} before {first}");
+        }
+    }
+    Ok(())
+}
+
+/// Among some thousand terms each is found, from the place where the search for the one before it
+/// ended, and from the other end.
+#[test]
+fn searches_among_many_terms(rt: HostRuntime) -> Result<(), Fail> {
+    let alloc = rt.alloc();
+    let mut bodies = Vec::new(alloc);
+    for at in 0..2000u32 {
+        bodies.push(format!(in alloc; "w{}", at * 7 % 2000)?)?;
+    }
+    let mut texts = Vec::new(alloc);
+    for body in &bodies {
+        texts.push(body.as_str())?;
+    }
+    let index = index_of(alloc, texts.as_slice())?;
+    let mut place = 0;
+    for at in 0..2000u32 {
+        let term = term_of(
+            alloc,
+            "body",
+            format!(in alloc; "w{}", at * 7 % 2000)?.as_str(),
+        )?;
+        let wanted = format!(in alloc; "{at},")?;
+        let found = found_from(alloc, &index, &term, &mut place)?;
+        assert_eq!(rt; found.as_str(), wanted.as_str());
+    }
     Ok(())
 }
 

@@ -8,13 +8,12 @@ ghost use Rattle.round_work.specs.Working.{IsAtWork};
 use crate::{Reply, Share, Stop, Task, Worked, run_round, work};
 use delete_queue::{DeleteQueue, Seat};
 use ix_base::{Document, Operation, Refusal, Text};
+use ix_memory::{GroupsGate, MeetingGate, RecordingGate};
 use ix_outside::Gate;
 use std::alloc::Global;
 use std::fmt::Write;
 use std::sync::Wait;
-use std::sync::atomic::{AtomicU64, Ordering};
 use std::test::*;
-use std::thread;
 use std::thread::Threads;
 use thread_writer::ThreadWriter;
 
@@ -50,49 +49,6 @@ fn show(out: &mut String, stop: Stop, share: &Share, pieces: usize) -> Result<()
     }
     write!(out, " {pieces};")?;
     Ok(())
-}
-
-/// A gate that keeps what it hears, in order: a line before it is tried as its number, and a line
-/// that was told as 100 times its line and its number.
-#[derive(Drop)]
-struct Recorder {
-    heard: [AtomicU64; 8],
-    count: AtomicU64,
-}
-
-impl Recorder {
-    fn new() -> Recorder {
-        Recorder {
-            heard: [
-                AtomicU64::new(0),
-                AtomicU64::new(0),
-                AtomicU64::new(0),
-                AtomicU64::new(0),
-                AtomicU64::new(0),
-                AtomicU64::new(0),
-                AtomicU64::new(0),
-                AtomicU64::new(0),
-            ],
-            count: AtomicU64::new(0),
-        }
-    }
-
-    fn hear(&self, what: u64) {
-        let place = self.count.fetch_add(1, Ordering::SeqCst);
-        if place < 8 {
-            self.heard[place as usize].store(what, Ordering::SeqCst);
-        }
-    }
-}
-
-impl Gate for Recorder {
-    fn before(&self, line: u32) {
-        self.hear(line as u64);
-    }
-
-    fn told(&self, line: u32, number: u64) {
-        self.hear((line as u64) * 100 + number % 100);
-    }
 }
 
 /// An add, a term that is too long, a commit and an add.
@@ -147,14 +103,13 @@ fn two_rounds<G: Gate>(alloc: Global, gate: &G) -> Result<String, Fail> {
 /// round. It gives its full buffer off before the line that follows.
 #[test]
 fn worker_of_two_rounds(rt: HostRuntime) -> Result<(), Fail> {
-    let gate = Recorder::new();
+    let gate = RecordingGate::new();
     let shown = two_rounds(rt.alloc(), &gate)?;
     let expected = " 1 term 32767 2 closed 1; 1 term 32767 2 3 done 0; 4";
     assert_eq!(rt; shown.as_str(), expected);
-    let wanted: [u64; 8] = [1, 101, 2, 3, 302, 4, 403, 0];
-    assert_eq!(rt; gate.count.load(Ordering::SeqCst), 7);
-    for place in 0..8usize {
-        assert_eq!(rt; gate.heard[place].load(Ordering::SeqCst), wanted[place]);
+    assert_eq!(rt; gate.count(), 7);
+    for (place, wanted) in [1, 101, 2, 3, 302, 4, 403, 0].iter().enumerate() {
+        assert_eq!(rt; gate.heard(place), *wanted);
     }
     Ok(())
 }
@@ -210,53 +165,10 @@ fn round<R: Threads + Wait, G: Gate>(
     Ok(run_round(rt, alloc, &queue, writers, shares, gate)?)
 }
 
-/// Waits until the word isn't below this, for 1,000,000,000 turns at most, past which it is late.
-fn wait_for(word: &AtomicU64, least: u64, late: &AtomicU64) {
-    for turn in 0..1_000_000_000u64 {
-        if word.load(Ordering::SeqCst) >= least {
-            return;
-        }
-        if turn % 64 == 0 {
-            thread::yield_now();
-        }
-    }
-    late.store(1, Ordering::SeqCst);
-}
-
-/// A gate for two lines: line 1 is tried after line 2 was told, and line 2 after the gate has heard
-/// of line 1.
-#[derive(Drop)]
-struct Meeting {
-    begun: AtomicU64,
-    told: AtomicU64,
-    late: AtomicU64,
-}
-
-impl Gate for Meeting {
-    fn before(&self, line: u32) {
-        if line == 1 {
-            self.begun.store(1, Ordering::SeqCst);
-            wait_for(&self.told, 1, &self.late);
-        } else {
-            wait_for(&self.begun, 1, &self.late);
-        }
-    }
-
-    fn told(&self, line: u32, _number: u64) {
-        if line == 2 {
-            self.told.store(1, Ordering::SeqCst);
-        }
-    }
-}
-
 /// Two workers meet. Neither order of them, one after the other, passes the gate.
 #[test]
 fn two_workers_meet(rt: HostRuntime) -> Result<(), Fail> {
-    let gate = Meeting {
-        begun: AtomicU64::new(0),
-        told: AtomicU64::new(0),
-        late: AtomicU64::new(0),
-    };
+    let gate = MeetingGate::new();
     let mut out = String::new(rt.alloc());
     for worked in round(&rt, rt.alloc(), 2, 1, &gate)? {
         let Worked {
@@ -267,44 +179,15 @@ fn two_workers_meet(rt: HostRuntime) -> Result<(), Fail> {
         let pieces = share.take_gave(rt.alloc()).len();
         show(&mut out, stop, &share, pieces)?;
     }
-    assert_eq!(rt; gate.late.load(Ordering::SeqCst), 0);
+    assert!(rt; !gate.is_late());
     assert_eq!(rt; out.as_str(), " 2 done 0; 1 done 0;");
     Ok(())
-}
-
-/// A gate for four workers: a line is tried after the gate has heard of all four of its group.
-#[derive(Drop)]
-struct Groups {
-    heard: [AtomicU64; 8],
-    late: AtomicU64,
-}
-
-impl Gate for Groups {
-    fn before(&self, line: u32) {
-        let group = (line.saturating_sub(1) / 4).min(7) as usize;
-        self.heard[group].fetch_add(1, Ordering::SeqCst);
-        wait_for(&self.heard[group], 4, &self.late);
-    }
-
-    fn told(&self, _line: u32, _number: u64) {}
 }
 
 /// Four workers go on side by side: the lines of each group get the next four numbers.
 #[test]
 fn four_workers(rt: HostRuntime) -> Result<(), Fail> {
-    let gate = Groups {
-        heard: [
-            AtomicU64::new(0),
-            AtomicU64::new(0),
-            AtomicU64::new(0),
-            AtomicU64::new(0),
-            AtomicU64::new(0),
-            AtomicU64::new(0),
-            AtomicU64::new(0),
-            AtomicU64::new(0),
-        ],
-        late: AtomicU64::new(0),
-    };
+    let gate = GroupsGate::new();
     let mut seen = [false; 33];
     for worked in round(&rt, rt.alloc(), 4, 8, &gate)? {
         assert!(rt; worked.stop == Stop::Done && worked.share.is_done());
@@ -321,6 +204,6 @@ fn four_workers(rt: HostRuntime) -> Result<(), Fail> {
             seen[number as usize] = true;
         }
     }
-    assert_eq!(rt; gate.late.load(Ordering::SeqCst), 0);
+    assert!(rt; !gate.is_late());
     Ok(())
 }

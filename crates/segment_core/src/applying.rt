@@ -103,11 +103,12 @@ fn apply_deletes<I: Inverted>(
         let marks = marks_after ops rows.now live.old.marks in
         OnOk result (I.inverts index.now (documents rows.now) → live.new.marks ≡ marks) }
 {
+    let mut place = 0;
     for (key, number) in deletes.as_map() {
         if *number <= low {
             continue;
         }
-        let found = index.holding(alloc, key.term())?;
+        let found = index.holding_from(alloc, key.term(), &mut place)?;
         kill_found(rows, live, found.as_slice(), *number);
     }
     Ok(())
@@ -157,11 +158,12 @@ fn apply_settings<I: Inverted>(
         let marks = marks_after ops rows.now live.old.marks in
         OnOk result (I.inverts index.now (documents rows.now) → live.new.marks ≡ marks) }
 {
+    let mut place = 0;
     for setting in settings {
         if setting.number <= low {
             continue;
         }
-        let found = index.holding(alloc, &setting.term)?;
+        let found = index.holding_from(alloc, &setting.term, &mut place)?;
         set_found(alloc, rows, live, found.as_slice(), setting)?;
     }
     Ok(())

@@ -1,6 +1,6 @@
 //! A segment.
 use ix_base::{List, NoMemory, Postings, Row, Term};
-use query_core::{Inverted, holding_in, places_in};
+use query_core::{Inverted, holding_from_in, holding_in, places_in};
 use std::alloc::Global;
 
 /// Rows that don't change, with their postings. Where these are the inversion of the rows, it is an
@@ -26,6 +26,15 @@ impl Inverted for Segment {
 
     fn holding(&self, alloc: Global, term: &Term) -> Result<Vec<u32>, NoMemory> {
         holding_in(alloc, &self.postings, term)
+    }
+
+    fn holding_from(
+        &self,
+        alloc: Global,
+        term: &Term,
+        place: &mut usize,
+    ) -> Result<Vec<u32>, NoMemory> {
+        holding_from_in(alloc, &self.postings, term, place)
     }
 
     fn places(&self, alloc: Global, term: &Term, row: u32) -> Result<Vec<u32>, NoMemory> {

@@ -10,7 +10,7 @@ use Rattle.ix_base.proofs.TermOrder.{term_total, term_same}
 use Rattle.ix_base.specs.declared.document.Term.{Term}
 use Rattle.ix_base.specs.declared.postings.TermPostings.{TermPostings}
 use Rattle.query_core.proofs.Found.{found_at, found_nowhere, none_then, some_then}
-use Rattle.query_core.proofs.index.find_term.Goals as goal
+use Rattle.query_core.proofs.finding.find_term.Goals as goal
 
 pub returns-clause-found : goal.returns-clause-found
 returns-clause-found c =
