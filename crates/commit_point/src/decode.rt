@@ -22,7 +22,8 @@ fn entry_of(
     next_id: u64,
     last: u64,
 ) -> Result<(HeadSegment, &[u8]), BrokenField>
-    ensures { GivesExactly (λ x. (x.0, x.1.now)) result (entry_at number next_id (last + 1) bytes.now) }
+    ensures { GivesExactly (λ x. (x.0, x.1.now)) result
+        (entry_at number next_id (last + 1) bytes.now) }
 {
     let (id, counted) = u64_at(bytes)?;
     if id <= last || next_id <= id {
@@ -51,7 +52,8 @@ fn entry_list(
     number: u64,
     next_id: u64,
 ) -> Result<(Vec<HeadSegment>, &[u8]), Broken>
-    ensures { Gives (λ x. (x.0.items, x.1.now)) result (items_at (entry_at number next_id) (λ segment. segment.id + 1) 1 count bytes.now) }
+    ensures { Gives (λ x. (x.0.items, x.1.now)) result
+        (items_at (entry_at number next_id) (λ segment. segment.id + 1) 1 count bytes.now) }
 {
     let mut segments = Vec::new(alloc);
     let mut last = 0;
@@ -98,7 +100,8 @@ fn head_of(alloc: Global, bytes: &[u8], number: u64) -> Result<Head, Broken>
 
 /// What a whole commit file says. Where it is broken, the place is told from the file's start.
 fn placed_head(alloc: Global, bytes: &[u8], number: u64) -> Result<Head, FileFault>
-    ensures { GivesFile (λ x. x) result (placed (Commit number) bytes.now (head_in number bytes.now)) }
+    ensures { GivesFile (λ x. x) result
+        (placed (Commit number) bytes.now (head_in number bytes.now)) }
 {
     match head_of(alloc, bytes, number) {
         Ok(head) => Ok(head),
@@ -110,11 +113,14 @@ fn placed_head(alloc: Global, bytes: &[u8], number: u64) -> Result<Head, FileFau
 /// the grammar of such a file, with the first broken place.
 pub fn decode_commit(alloc: Global, bytes: &[u8], number: u64) -> Result<Head, FileFault>
     // What is read is spelled so, each byte of it.
-    ensures found { IfOk result (λ head. (head.number ≡ number) × HeadFits head × (bytes.now ≡ commit_file head)) }
+    ensures found { IfOk result (λ head. (head.number ≡ number) × HeadFits head
+        × (bytes.now ≡ commit_file head)) }
     // What is spelled so is read, unless memory runs out.
-    ensures only { (head : Head) → head.number ≡ number → HeadFits head → bytes.now ≡ commit_file head → GivesFile (λ x. x) result (Ok head) }
+    ensures only { (head : Head) → head.number ≡ number → HeadFits head
+        → bytes.now ≡ commit_file head → GivesFile (λ x. x) result (Ok head) }
     // Which place is the first broken one.
-    ensures exact { GivesFile (λ x. x) result (placed (Commit number) bytes.now (head_in number bytes.now)) }
+    ensures exact { GivesFile (λ x. x) result
+        (placed (Commit number) bytes.now (head_in number bytes.now)) }
 {
     placed_head(alloc, bytes, number)
 }

@@ -16,7 +16,9 @@ use std::collections::BTreeSet;
 
 /// Adds the number of a commit, where the name is that of a commit file.
 fn add_commit(numbers: &mut BTreeSet<u64>, name: &FileName) -> Result<(), NoMemory>
-    ensures { OnOk result ((s : ℕ) → contains nat_cmp numbers.new s ≡ (contains nat_cmp numbers.old s || names_commit s name.now)) }
+    ensures { OnOk result ((s : ℕ)
+        → contains nat_cmp numbers.new s
+        ≡ (contains nat_cmp numbers.old s || names_commit s name.now)) }
 {
     if let FileName::Commit(number) = name {
         numbers.insert(*number)?;
@@ -26,7 +28,8 @@ fn add_commit(numbers: &mut BTreeSet<u64>, name: &FileName) -> Result<(), NoMemo
 
 /// The numbers of the commits among these names.
 fn commits_among(alloc: Global, names: &[FileName]) -> Result<BTreeSet<u64>, NoMemory>
-    ensures { IfOk result (λ numbers. (s : ℕ) → contains nat_cmp numbers s ≡ list_any (names_commit s) names.now) }
+    ensures { IfOk result (λ numbers. (s : ℕ)
+        → contains nat_cmp numbers s ≡ list_any (names_commit s) names.now) }
 {
     let mut numbers = BTreeSet::new(alloc);
     for name in names {
@@ -37,7 +40,8 @@ fn commits_among(alloc: Global, names: &[FileName]) -> Result<BTreeSet<u64>, NoM
 
 /// The numbers of the commits among these names, rising.
 fn rising_numbers(alloc: Global, names: &[FileName]) -> Result<List<u64>, NoMemory>
-    ensures commits { IfOk result (λ numbers. (s : ℕ) → Contains numbers s ↔ Contains names.now (Commit s)) }
+    ensures commits { IfOk result (λ numbers. (s : ℕ)
+        → Contains numbers s ↔ Contains names.now (Commit s)) }
     ensures rise { IfOk result (λ numbers. AllPairs ◌<◌ numbers) }
 {
     let numbers = commits_among(alloc, names)?;
@@ -47,12 +51,15 @@ fn rising_numbers(alloc: Global, names: &[FileName]) -> Result<List<u64>, NoMemo
 
 /// The numbers of the store's commits, rising.
 pub fn list_commits<S: Store>(alloc: Global, store: &mut S) -> Result<List<u64>, StoreFault>
-    ensures commits { IfOk result (λ numbers. IfSome (told_files (S.disk store.old)) (λ files. (s : ℕ) → Contains numbers s ↔ IsSome (files (Commit s)))) }
+    ensures commits { IfOk result (λ numbers.
+        IfSome (told_files (S.disk store.old)) (λ files. (s : ℕ)
+        → Contains numbers s ↔ IsSome (files (Commit s)))) }
     ensures rise { IfOk result (λ numbers. AllPairs ◌<◌ numbers) }
     ensures counted { IfOk result (λ numbers. (s : ℕ) → Contains numbers s → IsCounted s) }
     ensures reads { S.disk store.new ≡ S.disk store.old }
     ensures later { S.fault_count store.old ≤ S.fault_count store.new }
-    ensures failed { result ≡ Err StoreFault.Failed → Rose (S.fault_count store.old) (S.fault_count store.new) }
+    ensures failed { result ≡ Err StoreFault.Failed
+        → Rose (S.fault_count store.old) (S.fault_count store.new) }
 {
     let names = store.list(alloc)?;
     match rising_numbers(alloc, &names) {

@@ -28,14 +28,16 @@ use std::collections::BTreeSet;
 
 /// The bytes of a file. An absent file is damaged at 0.
 fn bytes_of<S: Store>(alloc: Global, store: &mut S, name: FileName) -> Result<Vec<u8>, OpenFault>
-    ensures bytes { IfOk result (λ bytes. Reads (told_files (S.disk store.old)) name (Some bytes.items)) }
+    ensures bytes { IfOk result (λ bytes.
+        Reads (told_files (S.disk store.old)) name (Some bytes.items)) }
     ensures absent { (damaged : Damaged) → result ≡ Err (OpenFault.Damaged damaged)
         → (damaged ≡ record { file = name; at = 0 })
         × Reads (told_files (S.disk store.old)) name None }
     ensures listed { (other : ℕ) → result ≡ Err (OpenFault.NoSuch other) → ⊥ }
     ensures reads { S.disk store.new ≡ S.disk store.old }
     ensures later { S.fault_count store.old ≤ S.fault_count store.new }
-    ensures failed { result ≡ Err OpenFault.Store → Rose (S.fault_count store.old) (S.fault_count store.new) }
+    ensures failed { result ≡ Err OpenFault.Store
+        → Rose (S.fault_count store.old) (S.fault_count store.new) }
 {
     match store.read(alloc, name) {
         Ok(Some(bytes)) => Ok(bytes),
@@ -58,7 +60,8 @@ pub(crate) fn read_head<S: Store>(
     ensures listed { (other : ℕ) → result ≡ Err (OpenFault.NoSuch other) → ⊥ }
     ensures reads { S.disk store.new ≡ S.disk store.old }
     ensures later { S.fault_count store.old ≤ S.fault_count store.new }
-    ensures failed { result ≡ Err OpenFault.Store → Rose (S.fault_count store.old) (S.fault_count store.new) }
+    ensures failed { result ≡ Err OpenFault.Store
+        → Rose (S.fault_count store.old) (S.fault_count store.new) }
 {
     let bytes = bytes_of(alloc, store, FileName::Commit(number))?;
     match decode_commit(alloc, &bytes, number) {
@@ -76,13 +79,15 @@ fn read_rows<S: Store>(
     entry: HeadSegment,
     earlier: &BTreeSet<u64>,
 ) -> Result<List<Row>, OpenFault>
-    ensures found { IfOk result (λ rows. RowsRead (told_files (S.disk store.old)) number (contains nat_cmp earlier.now) entry rows) }
+    ensures found { IfOk result (λ rows.
+        RowsRead (told_files (S.disk store.old)) number (contains nat_cmp earlier.now) entry rows) }
     ensures damaged { (damaged : Damaged) → result ≡ Err (OpenFault.Damaged damaged)
         → RowsBroken (told_files (S.disk store.old)) number (contains nat_cmp earlier.now) entry damaged }
     ensures listed { (other : ℕ) → result ≡ Err (OpenFault.NoSuch other) → ⊥ }
     ensures reads { S.disk store.new ≡ S.disk store.old }
     ensures later { S.fault_count store.old ≤ S.fault_count store.new }
-    ensures failed { result ≡ Err OpenFault.Store → Rose (S.fault_count store.old) (S.fault_count store.new) }
+    ensures failed { result ≡ Err OpenFault.Store
+        → Rose (S.fault_count store.old) (S.fault_count store.new) }
 {
     let bytes = bytes_of(alloc, store, FileName::Rows(entry.id))?;
     match decode_row(alloc, &bytes, entry.id, entry.rows, number, earlier) {
@@ -98,13 +103,15 @@ fn read_postings<S: Store>(
     store: &mut S,
     entry: HeadSegment,
 ) -> Result<Postings, OpenFault>
-    ensures found { IfOk result (λ postings. PostingsRead (told_files (S.disk store.old)) entry postings) }
+    ensures found { IfOk result (λ postings.
+        PostingsRead (told_files (S.disk store.old)) entry postings) }
     ensures damaged { (damaged : Damaged) → result ≡ Err (OpenFault.Damaged damaged)
         → PostingsBroken (told_files (S.disk store.old)) entry damaged }
     ensures listed { (other : ℕ) → result ≡ Err (OpenFault.NoSuch other) → ⊥ }
     ensures reads { S.disk store.new ≡ S.disk store.old }
     ensures later { S.fault_count store.old ≤ S.fault_count store.new }
-    ensures failed { result ≡ Err OpenFault.Store → Rose (S.fault_count store.old) (S.fault_count store.new) }
+    ensures failed { result ≡ Err OpenFault.Store
+        → Rose (S.fault_count store.old) (S.fault_count store.new) }
 {
     let bytes = bytes_of(alloc, store, FileName::Posts(entry.id))?;
     match decode_pst(alloc, &bytes, entry.id, entry.rows) {
@@ -120,13 +127,15 @@ fn read_bits<S: Store>(
     store: &mut S,
     entry: HeadSegment,
 ) -> Result<Vec<bool>, OpenFault>
-    ensures found { IfOk result (λ bits. BitsRead (told_files (S.disk store.old)) entry bits.items) }
+    ensures found { IfOk result (λ bits.
+        BitsRead (told_files (S.disk store.old)) entry bits.items) }
     ensures damaged { (damaged : Damaged) → result ≡ Err (OpenFault.Damaged damaged)
         → BitsBroken (told_files (S.disk store.old)) entry damaged }
     ensures listed { (other : ℕ) → result ≡ Err (OpenFault.NoSuch other) → ⊥ }
     ensures reads { S.disk store.new ≡ S.disk store.old }
     ensures later { S.fault_count store.old ≤ S.fault_count store.new }
-    ensures failed { result ≡ Err OpenFault.Store → Rose (S.fault_count store.old) (S.fault_count store.new) }
+    ensures failed { result ≡ Err OpenFault.Store
+        → Rose (S.fault_count store.old) (S.fault_count store.new) }
 {
     let bytes = bytes_of(alloc, store, FileName::Live(entry.id, entry.written))?;
     match decode_liv(alloc, &bytes, entry.id, entry.written, entry.rows) {
@@ -142,13 +151,15 @@ fn read_values<S: Store>(
     store: &mut S,
     entry: HeadSegment,
 ) -> Result<Vec<(u32, Name, i64)>, OpenFault>
-    ensures found { IfOk result (λ values. ValuesRead (told_files (S.disk store.old)) entry values.items) }
+    ensures found { IfOk result (λ values.
+        ValuesRead (told_files (S.disk store.old)) entry values.items) }
     ensures damaged { (damaged : Damaged) → result ≡ Err (OpenFault.Damaged damaged)
         → ValuesBroken (told_files (S.disk store.old)) entry damaged }
     ensures listed { (other : ℕ) → result ≡ Err (OpenFault.NoSuch other) → ⊥ }
     ensures reads { S.disk store.new ≡ S.disk store.old }
     ensures later { S.fault_count store.old ≤ S.fault_count store.new }
-    ensures failed { result ≡ Err OpenFault.Store → Rose (S.fault_count store.old) (S.fault_count store.new) }
+    ensures failed { result ≡ Err OpenFault.Store
+        → Rose (S.fault_count store.old) (S.fault_count store.new) }
 {
     let bytes = bytes_of(alloc, store, FileName::Values(entry.id, entry.written))?;
     match decode_val(alloc, &bytes, entry.id, entry.written, entry.rows) {
@@ -167,15 +178,18 @@ fn read_live<S: Store>(
     entry: HeadSegment,
 ) -> Result<LiveDocs, OpenFault>
     ensures applied { IfOk result (λ live. live.applied ≡ number) }
-    ensures bits { IfOk result (λ live. BitsRead (told_files (S.disk store.old)) entry (live_bits live.marks)) }
-    ensures values { IfOk result (λ live. ValuesRead (told_files (S.disk store.old)) entry (values_of live.marks)) }
+    ensures bits { IfOk result (λ live.
+        BitsRead (told_files (S.disk store.old)) entry (live_bits live.marks)) }
+    ensures values { IfOk result (λ live.
+        ValuesRead (told_files (S.disk store.old)) entry (values_of live.marks)) }
     // The live bits are broken, or they were read and the set numbers are.
     ensures damaged { (damaged : Damaged) → result ≡ Err (OpenFault.Damaged damaged)
         → LiveBroken (told_files (S.disk store.old)) entry damaged }
     ensures listed { (other : ℕ) → result ≡ Err (OpenFault.NoSuch other) → ⊥ }
     ensures reads { S.disk store.new ≡ S.disk store.old }
     ensures later { S.fault_count store.old ≤ S.fault_count store.new }
-    ensures failed { result ≡ Err OpenFault.Store → Rose (S.fault_count store.old) (S.fault_count store.new) }
+    ensures failed { result ≡ Err OpenFault.Store
+        → Rose (S.fault_count store.old) (S.fault_count store.new) }
 {
     let bits = read_bits(alloc, store, entry)?;
     let values = read_values(alloc, store, entry)?;
@@ -192,14 +206,17 @@ fn read_segment<S: Store>(
     entry: HeadSegment,
     earlier: &BTreeSet<u64>,
 ) -> Result<LiveSegment, OpenFault>
-    ensures found { IfOk result (λ segment. SegmentRead (told_files (S.disk store.old)) number (contains nat_cmp earlier.now) entry segment) }
+    ensures found { IfOk result (λ segment.
+        SegmentRead (told_files (S.disk store.old)) number
+        (contains nat_cmp earlier.now) entry segment) }
     // The first of the four files that is broken; those before it were read.
     ensures damaged { (damaged : Damaged) → result ≡ Err (OpenFault.Damaged damaged)
         → SegmentBroken (told_files (S.disk store.old)) number (contains nat_cmp earlier.now) entry damaged }
     ensures listed { (other : ℕ) → result ≡ Err (OpenFault.NoSuch other) → ⊥ }
     ensures reads { S.disk store.new ≡ S.disk store.old }
     ensures later { S.fault_count store.old ≤ S.fault_count store.new }
-    ensures failed { result ≡ Err OpenFault.Store → Rose (S.fault_count store.old) (S.fault_count store.new) }
+    ensures failed { result ≡ Err OpenFault.Store
+        → Rose (S.fault_count store.old) (S.fault_count store.new) }
 {
     let rows = read_rows(alloc, store, number, entry, earlier)?;
     let postings = read_postings(alloc, store, entry)?;
@@ -215,7 +232,9 @@ fn read_segment<S: Store>(
 /// Adds the births of a segment's rows to those of earlier ones. After an error some of them may
 /// stand there.
 fn add_births(earlier: &mut BTreeSet<u64>, rows: &[Row]) -> Result<(), NoMemory>
-    ensures { OnOk result ((b : ℕ) → contains nat_cmp earlier.new b ≡ (contains nat_cmp earlier.old b || has_birth rows.now b)) }
+    ensures { OnOk result ((b : ℕ)
+        → contains nat_cmp earlier.new b
+        ≡ (contains nat_cmp earlier.old b || has_birth rows.now b)) }
 {
     for row in rows {
         earlier.insert(row.birth)?;
@@ -253,7 +272,8 @@ pub(crate) fn read_segments<S: Store>(
     ensures listed { (other : ℕ) → result ≡ Err (OpenFault.NoSuch other) → ⊥ }
     ensures reads { S.disk store.new ≡ S.disk store.old }
     ensures later { S.fault_count store.old ≤ S.fault_count store.new }
-    ensures failed { result ≡ Err OpenFault.Store → Rose (S.fault_count store.old) (S.fault_count store.new) }
+    ensures failed { result ≡ Err OpenFault.Store
+        → Rose (S.fault_count store.old) (S.fault_count store.new) }
 {
     let number = head.number;
     let entries = head.segments.as_slice();

@@ -57,7 +57,8 @@ fn read_whole<S: Store>(alloc: Global, store: &mut S, number: u64) -> Result<Ope
     ensures listed { (other : ℕ) → result ≡ Err (OpenFault.NoSuch other) → ⊥ }
     ensures reads { S.disk store.new ≡ S.disk store.old }
     ensures later { S.fault_count store.old ≤ S.fault_count store.new }
-    ensures failed { result ≡ Err OpenFault.Store → Rose (S.fault_count store.old) (S.fault_count store.new) }
+    ensures failed { result ≡ Err OpenFault.Store
+        → Rose (S.fault_count store.old) (S.fault_count store.new) }
 {
     let head = read_head(alloc, store, number)?;
     let segments = read_segments(alloc, store, &head)?;
@@ -95,7 +96,8 @@ pub fn read_commit<S: Store>(alloc: Global, store: &mut S, number: u64) -> Resul
     ensures listed { (other : ℕ) → result ≡ Err (OpenFault.NoSuch other) → ⊥ }
     ensures reads { S.disk store.new ≡ S.disk store.old }
     ensures later { S.fault_count store.old ≤ S.fault_count store.new }
-    ensures failed { result ≡ Err OpenFault.Store → Rose (S.fault_count store.old) (S.fault_count store.new) }
+    ensures failed { result ≡ Err OpenFault.Store
+        → Rose (S.fault_count store.old) (S.fault_count store.new) }
 {
     read_whole(alloc, store, number)
 }
@@ -107,7 +109,8 @@ fn is_listed<S: Store>(alloc: Global, store: &mut S, number: u64) -> Result<bool
     ensures fault { IfErr result IsOutside }
     ensures reads { S.disk store.new ≡ S.disk store.old }
     ensures later { S.fault_count store.old ≤ S.fault_count store.new }
-    ensures failed { result ≡ Err OpenFault.Store → Rose (S.fault_count store.old) (S.fault_count store.new) }
+    ensures failed { result ≡ Err OpenFault.Store
+        → Rose (S.fault_count store.old) (S.fault_count store.new) }
 {
     match list_commits(alloc, store) {
         Ok(numbers) => Ok(numbers.as_slice().contains(&number)),
@@ -134,7 +137,8 @@ pub fn head<S: Store>(alloc: Global, store: &mut S, number: u64) -> Result<Head,
     ensures no_such { TellsNone (told_files (S.disk store.old)) number result }
     ensures reads { S.disk store.new ≡ S.disk store.old }
     ensures later { S.fault_count store.old ≤ S.fault_count store.new }
-    ensures failed { result ≡ Err OpenFault.Store → Rose (S.fault_count store.old) (S.fault_count store.new) }
+    ensures failed { result ≡ Err OpenFault.Store
+        → Rose (S.fault_count store.old) (S.fault_count store.new) }
 {
     if !is_listed(alloc, store, number)? {
         return Err(OpenFault::NoSuch { number });
@@ -163,7 +167,8 @@ pub fn open_commit<S: Store>(alloc: Global, store: &mut S, number: u64) -> Resul
     ensures no_such { TellsNone (told_files (S.disk store.old)) number result }
     ensures reads { S.disk store.new ≡ S.disk store.old }
     ensures later { S.fault_count store.old ≤ S.fault_count store.new }
-    ensures failed { result ≡ Err OpenFault.Store → Rose (S.fault_count store.old) (S.fault_count store.new) }
+    ensures failed { result ≡ Err OpenFault.Store
+        → Rose (S.fault_count store.old) (S.fault_count store.new) }
 {
     if !is_listed(alloc, store, number)? {
         return Err(OpenFault::NoSuch { number });

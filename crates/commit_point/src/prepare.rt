@@ -94,7 +94,8 @@ fn put_entry(
     segment: &LiveSegment,
 ) -> Result<(), NoMemory>
     requires { length segment.now.segment.rows < 2 ^ 32 }
-    ensures { OnOk result (entries.new.items ≡ entries.old.items ++ own_entries number written.now segment.now) }
+    ensures { OnOk result (entries.new.items
+        ≡ entries.old.items ++ own_entries number written.now segment.now) }
 {
     if is_alive(segment) {
         entries.push(entry_of(number, written, segment))?;
@@ -130,8 +131,10 @@ fn put_rows(
     requires ordered { IsPostings segment.now.segment.postings.terms }
     requires below { RowsBelow (length segment.now.segment.rows) segment.now.segment.postings }
     ensures files { OnOk result (files.new.items ≡ files.old.items ++ row_files None segment.now) }
-    ensures documents { OnOk result (AllByRecursion (λ row. DocumentFits row.doc) segment.now.segment.rows) }
-    ensures postings { OnOk result (PostingsFit (length segment.now.segment.rows) segment.now.segment.postings) }
+    ensures documents { OnOk result (AllByRecursion
+        (λ row. DocumentFits row.doc) segment.now.segment.rows) }
+    ensures postings { OnOk result (PostingsFit
+        (length segment.now.segment.rows) segment.now.segment.postings) }
 {
     let segment = segment.segment();
     let id = segment.id;
@@ -153,9 +156,12 @@ fn put_live(
 ) -> Result<(), NoMemory>
     requires whole { IsWhole segment.now.segment segment.now.live }
     requires alive { is_alive segment.now ≡ true }
-    ensures files { OnOk result (files.new.items ≡ files.old.items ++ live_files number None segment.now) }
-    ensures live { OnOk result (LiveFits (length segment.now.segment.rows) (live_bits segment.now.live.marks)) }
-    ensures values { OnOk result (ValuesFit (length segment.now.segment.rows) (values_of segment.now.live.marks)) }
+    ensures files { OnOk result (files.new.items
+        ≡ files.old.items ++ live_files number None segment.now) }
+    ensures live { OnOk result (LiveFits (length segment.now.segment.rows)
+        (live_bits segment.now.live.marks)) }
+    ensures values { OnOk result (ValuesFit (length segment.now.segment.rows)
+        (values_of segment.now.live.marks)) }
 {
     let id = segment.segment().id;
     let rows = segment.segment().rows.len() as u32;
@@ -180,7 +186,8 @@ fn put_files(
     requires whole { IsWhole segment.now.segment segment.now.live }
     requires alive { is_alive segment.now ≡ true }
     requires can { CanWrite number segment.now }
-    ensures files { OnOk result (files.new.items ≡ files.old.items ++ files_of number written.now segment.now) }
+    ensures files { OnOk result (files.new.items
+        ≡ files.old.items ++ files_of number written.now segment.now) }
     ensures encoded { OnOk result (IsEncoded written.now segment.now) }
 {
     if written.is_none() {
@@ -202,7 +209,8 @@ fn put_segment(
 ) -> Result<(), NoMemory>
     requires whole { IsWhole segment.now.segment segment.now.live }
     requires can { CanWrite number segment.now }
-    ensures files { OnOk result (files.new.items ≡ files.old.items ++ own_files number written.now segment.now) }
+    ensures files { OnOk result (files.new.items
+        ≡ files.old.items ++ own_files number written.now segment.now) }
     ensures encoded { OnOk result (IsEncodedAlive written.now segment.now) }
 {
     if is_alive(segment) {
@@ -221,7 +229,8 @@ fn files(
     requires count { length written.now ≡ length segments.now }
     requires whole { AreWhole segments.now }
     requires can { AllByRecursion (CanWrite number) segments.now }
-    ensures files { IfOk result (λ files. files.items ≡ commit_files number segments.now written.now) }
+    ensures files { IfOk result (λ files.
+        files.items ≡ commit_files number segments.now written.now) }
     ensures encoded { OnOk result (AreEncoded segments.now written.now) }
 {
     let mut files = Vec::new(alloc);
@@ -242,10 +251,12 @@ pub(crate) fn prepare(
 ) -> Result<Prepared, NoMemory>
     requires count { length written.now ≡ length segments.now }
     requires can { AllByRecursion (CanWrite number) segments.now }
-    ensures head { IfOk result (λ commit. commit.head ≡ new_head number next_id segments.now written.now) }
+    ensures head { IfOk result (λ commit.
+        commit.head ≡ new_head number next_id segments.now written.now) }
     ensures bytes { let head = new_head number next_id segments.now written.now in
         IfOk result (λ commit. commit.bytes ≡ commit_file head) }
-    ensures files { IfOk result (λ commit. commit.files ≡ commit_files number segments.now written.now) }
+    ensures files { IfOk result (λ commit.
+        commit.files ≡ commit_files number segments.now written.now) }
     ensures spelling { OnOk result (HaveSpelling segments.now written.now) }
 {
     let docs = live_rows(segments).ok_or(NoMemory)?;

@@ -53,7 +53,8 @@ fn name_file<S: Store>(
 ) -> Result<(), CommitRefused>
     requires name { IsFileName last }
     requires apart { pending ≢ last }
-    ensures disk { Does (RenamedStep pending last ∷ SettledStep ∷ []) (S.disk store.old) (S.disk store.new) result }
+    ensures disk { Does (RenamedStep pending last ∷ SettledStep ∷ []) (S.disk store.old)
+        (S.disk store.new) result }
     ensures renamed { IfErr result (λ refused. Told (λ old new. Refuses [] (RenamedStep pending last) refused.fault refused.renamed old new)
         (S.disk store.old) (S.disk store.new)) }
     ensures cause { BlamesRefusal (S.fault_count store.old) (S.fault_count store.new) result }
@@ -79,7 +80,8 @@ fn put_last<S: Store>(
 ) -> Result<(), CommitRefused>
     requires names { IsFileName pending × IsFileName last }
     requires apart { pending ≢ last }
-    ensures disk { Does (puts pending bytes.now ++ (RenamedStep pending last ∷ SettledStep ∷ [])) (S.disk store.old) (S.disk store.new) result }
+    ensures disk { Does (puts pending bytes.now ++ (RenamedStep pending last ∷ SettledStep ∷ []))
+        (S.disk store.old) (S.disk store.new) result }
     ensures renamed { IfErr result (λ refused. Told (λ old new. Refuses (puts pending bytes.now) (RenamedStep pending last) refused.fault refused.renamed old new)
         (S.disk store.old) (S.disk store.new)) }
     ensures cause { BlamesRefusal (S.fault_count store.old) (S.fault_count store.new) result }
@@ -99,9 +101,11 @@ pub(crate) fn publish<S: Store>(
     last: FileName,
     bytes: &[u8],
 ) -> Result<(), CommitRefused>
-    requires names { All (λ file. IsFileName file.0) list.now × IsFileName pending × IsFileName last }
+    requires names { All (λ file. IsFileName file.0) list.now × IsFileName pending
+        × IsFileName last }
     requires apart { pending ≢ last }
-    ensures disk { Does (publishes list.now pending last bytes.now) (S.disk store.old) (S.disk store.new) result }
+    ensures disk { Does (publishes list.now pending last bytes.now) (S.disk store.old)
+        (S.disk store.new) result }
     ensures renamed { IfErr result (λ refused. Told (λ old new. Refuses (puts_all list.now ++ puts pending bytes.now) (RenamedStep pending last) refused.fault refused.renamed old new)
         (S.disk store.old) (S.disk store.new)) }
     ensures cause { BlamesRefusal (S.fault_count store.old) (S.fault_count store.new) result }

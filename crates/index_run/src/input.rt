@@ -26,11 +26,15 @@ fn zeros(alloc: Global, count: usize) -> Result<Vec<u8>, NoMemory>
 /// further. Each turn takes at least one byte, so there are at most 67,108,865 turns and the one
 /// that finds the end.
 pub fn read_input<I: Source>(alloc: Global, input: &mut I) -> Result<Vec<u8>, Stop>
-    ensures bytes { IfOk result (λ bytes. Consumes (I.left input.old) (I.left input.new) bytes.items) }
-    ensures end { IfOk result (λ bytes. (IsAtEnd (I.left input.new)) ⊎ (MOST_BYTES < length bytes.items)) }
+    ensures bytes { IfOk result (λ bytes.
+        Consumes (I.left input.old) (I.left input.new) bytes.items) }
+    ensures end { IfOk result (λ bytes. (IsAtEnd (I.left input.new))
+        ⊎ (MOST_BYTES < length bytes.items)) }
     ensures bound { TakesUpTo (most_bytes + 1) (I.left input.old) (I.left input.new) }
-    ensures source { result ≡ Err (Stop.Fault Fault.Source) → Rose (I.fault_count input.old) (I.fault_count input.new) }
-    ensures others { IfErr result (λ stop. (stop ≡ Stop.Fault Fault.Source) ⊎ (stop ≡ Stop.NoMemory)) }
+    ensures source { result ≡ Err (Stop.Fault Fault.Source)
+        → Rose (I.fault_count input.old) (I.fault_count input.new) }
+    ensures others { IfErr result (λ stop. (stop ≡ Stop.Fault Fault.Source)
+        ⊎ (stop ≡ Stop.NoMemory)) }
     ensures later { I.fault_count input.old ≤ I.fault_count input.new }
 {
     let mut bytes = Vec::new(alloc);

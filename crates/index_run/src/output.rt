@@ -9,7 +9,8 @@ use ix_outside::{Failed, Sink};
 /// Writes all of the bytes, or a prefix of them where the sink fails.
 pub fn write_all<O: Sink>(out: &mut O, bytes: &[u8]) -> Result<(), Failed>
     ensures ok { OnOk result (Appends (O.written out.old) (O.written out.new) bytes.now) }
-    ensures front { WritesFront (O.written out.old) (O.written out.new) (O.fault_count out.old) (O.fault_count out.new) bytes.now }
+    ensures front { WritesFront (O.written out.old) (O.written out.new) (O.fault_count out.old)
+        (O.fault_count out.new) bytes.now }
     ensures cause { HasCause (O.fault_count out.old) (O.fault_count out.new) result }
 {
     let mut done = 0;

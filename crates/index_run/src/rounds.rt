@@ -96,7 +96,8 @@ fn end_round<R: Threads + Sync, S: Store>(
     requires on { writer.old.state.closed ≡ false }
     requires out { writer.old.state.out ≡ true }
     requires pending { writer.old.state.pending ≡ None }
-    requires parts { (told : List (List Numbered)) × ArePartsOf writer.old.state.published.upto told parts }
+    requires parts { (told : List (List Numbered))
+        × ArePartsOf writer.old.state.published.upto told parts }
     ensures ended { (told : List (List Numbered)) → ArePartsOf writer.old.state.published.upto told parts
         → IfOk result (λ end. EndsMerged told end writer.old.state writer.new.state) }
     ensures sound { IsSound writer.new.state }

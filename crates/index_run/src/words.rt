@@ -14,7 +14,8 @@ pub fn read_command(alloc: Global, words: &[String]) -> Result<Command, Stop>
     ensures command { IfOk result (λ command. command_of words.now ≡ Some command) }
     ensures ranges { IfOk result InRange }
     ensures words { result ≡ Err (Stop.Fault Fault.Words) → command_of words.now ≡ None }
-    ensures others { IfErr result (λ stop. (stop ≡ Stop.Fault Fault.Words) ⊎ (stop ≡ Stop.NoMemory)) }
+    ensures others { IfErr result (λ stop. (stop ≡ Stop.Fault Fault.Words)
+        ⊎ (stop ≡ Stop.NoMemory)) }
 {
     match command_words::read_command(alloc, words) {
         Ok(command) => Ok(command),

@@ -26,7 +26,8 @@ impl<S> IndexWriter<S> {
         requires ids { self.old.state.published.next_id ≤ 2 ^ 63 }
         ensures begun { IfOk result (IsBegun n self.old.state) }
         ensures sound { IsSound self.new.state }
-        ensures ok { OnOk result (self.new ≡ record self.old { state = record self.old.state { out = true } }) }
+        ensures ok { OnOk result (self.new
+            ≡ record self.old { state = record self.old.state { out = true } }) }
         ensures err { OnErr result (self.new ≡ self.old) }
         ensures closed { (result ≡ Err WriterFault.Closed) ↔ IsTrue self.old.state.closed }
         ensures outside { result ≡ Err WriterFault.Store → ⊥ }

@@ -41,7 +41,8 @@ impl<S: Store> IndexWriter<S> {
         ensures number { IfOk result (λ info. self.old.state.pending ≡ Some info.number) }
         ensures docs { (rows : ListOf Row) → HasRows self.old.state rows
             → IfOk result (λ info. info.docs ≡ length rows) }
-        ensures stands { (rows : ListOf Row) → HasRows self.old.state rows → OnOk result (HasRows self.new.state rows) }
+        ensures stands { (rows : ListOf Row) → HasRows self.old.state rows
+            → OnOk result (HasRows self.new.state rows) }
         ensures made { self.old.state.published.next_id ≤ 2 ^ 62
             → OnOk result (Changes (Commits self.old.state self.new.state)
             (told_files (S.disk self.old.store)) (told_files (S.disk self.new.store))) }
@@ -58,7 +59,8 @@ impl<S: Store> IndexWriter<S> {
         ensures settled { self.old.state.published.next_id ≤ 2 ^ 62
             → OnOk result (Settles self.old.state (S.disk self.old.store) (S.disk self.new.store)) }
         // After an error the state is as before, but that the writer may be closed.
-        ensures err { OnErr result (self.new.state ≡ record self.old.state { closed = self.new.state.closed }) }
+        ensures err { OnErr result (self.new.state
+            ≡ record self.old.state { closed = self.new.state.closed }) }
         ensures closed { (result ≡ Err WriterFault.Closed) ↔ IsTrue self.old.state.closed }
         ensures kept { IsTrue self.old.state.closed → self.new ≡ self.old }
         ensures closes { result ≡ Err WriterFault.Store → IsTrue self.new.state.closed }

@@ -48,7 +48,8 @@ impl<S> IndexWriter<S> {
             → IfErr result (λ refused. refused ≡ record { parts = None; fault = WriterFault.NoMemory }) }
         ensures closes { OnErr result (IsTrue self.new.state.closed) }
         ensures left { self.old.state.closed ≡ false → OnErr result (self.new.state.out ≡ false) }
-        ensures upto { OnErr result (self.new.state.published.upto ≡ self.old.state.published.upto) }
+        ensures upto { OnErr result (self.new.state.published.upto
+            ≡ self.old.state.published.upto) }
         ensures last { OnErr result (self.new.state.last ≡ self.old.state.last) }
         // What closes a queue was linked by one of its writers.
         ensures open { self.old.state.closed ≡ false → OnOk result (IsStuck parts → ⊥) }
@@ -82,7 +83,8 @@ impl State {
         parts: RoundParts,
     ) -> Result<RoundEnd, NoMemory>
         requires ready { IsReady self.old }
-        requires parts { (told : List (List Numbered)) × ArePartsOf self.old.published.upto told parts }
+        requires parts { (told : List (List Numbered))
+            × ArePartsOf self.old.published.upto told parts }
         ensures ended { (told : List (List Numbered)) → ArePartsOf self.old.published.upto told parts
             → IfOk result (λ end. Ends told end self.old self.new) }
         ensures ready { OnOk result (IsReady self.new) }
@@ -103,7 +105,8 @@ impl State {
         gathered: Gathered,
     ) -> Result<RoundEnd, NoMemory>
         requires ready { IsReady self.old }
-        requires gathered { (told : List (List Numbered)) × IsGathered self.old.published.upto told gathered }
+        requires gathered { (told : List (List Numbered))
+            × IsGathered self.old.published.upto told gathered }
         ensures ended { (told : List (List Numbered)) → IsGathered self.old.published.upto told gathered
             → IfOk result (λ end. Ends told end self.old self.new) }
         ensures ready { OnOk result (IsReady self.new) }

@@ -104,7 +104,8 @@ fn staying(
     written: &[Option<Written>],
 ) -> Result<List<Option<Written>>, NoMemory>
     requires { length segments.now ≡ length written.now }
-    ensures { IfOk result (λ made. made ≡ staying replacement.now.ids.items segments.now written.now) }
+    ensures { IfOk result (λ made.
+        made ≡ staying replacement.now.ids.items segments.now written.now) }
 {
     let mut made = List::new(alloc);
     for (at, segment) in segments.iter().enumerate() {

@@ -49,7 +49,8 @@ fn begun(
     requires sound { IsSound writer.old.state }
     requires writers { (1 ≤ writers) × (writers ≤ 16) }
     requires out { writer.old.state.out ≡ false }
-    requires few { (writer.old.state.published.upto ≤ 1000) × (writer.old.state.published.next_id ≤ 1000) }
+    requires few { (writer.old.state.published.upto ≤ 1000)
+        × (writer.old.state.published.next_id ≤ 1000) }
     ensures parts { IfOk result (IsUnderWay writer.new.state.published.upto) }
     ensures sound { IsSound writer.new.state }
     ensures out { OnOk result (writer.new.state.out ≡ true) }

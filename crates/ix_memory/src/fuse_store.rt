@@ -68,7 +68,8 @@ impl<S: Store> Store for FuseStore<S> {
 
     ghost disk = { λ store. S.disk store.inner };
 
-    ghost fault_count = { λ store. min (S.fault_count store.inner + store.fuse.faults) (2 ^ 64 - 1) };
+    ghost fault_count = { λ store. min (S.fault_count store.inner + store.fuse.faults)
+        (2 ^ 64 - 1) };
 
     ghost use Rattle.std.specs.Prelude.{◌≡◌, ◌≢◌, ◌<◌, Err, IfOk, IfSome, All, option_map};
     ghost use Rattle.ix_base.specs.FileNames.{IsFileName};
@@ -78,10 +79,13 @@ impl<S: Store> Store for FuseStore<S> {
     ghost use Rattle.ix_outside.specs.declared.step.Step.TheVariants.{Wrote, Synced, Renamed, Deleted, Settled};
 
     fn list(&mut self, alloc: Global) -> Result<Vec<FileName>, StoreFault>
-        ensures names { IfOk result (λ names. IfSome (told_files (S.disk self.old.inner)) (λ here. Lists here names.items)) }
+        ensures names { IfOk result (λ names.
+            IfSome (told_files (S.disk self.old.inner)) (λ here. Lists here names.items)) }
         ensures real { IfOk result (λ names. All IsFileName names.items) }
         ensures disk { S.disk self.new.inner ≡ S.disk self.old.inner }
-        ensures cause { HasStoreCause (min (S.fault_count self.old.inner + self.old.fuse.faults) (2 ^ 64 - 1)) (min (S.fault_count self.new.inner + self.new.fuse.faults) (2 ^ 64 - 1)) result }
+        ensures cause { HasStoreCause (min (S.fault_count self.old.inner + self.old.fuse.faults)
+            (2 ^ 64 - 1)) (min (S.fault_count self.new.inner + self.new.fuse.faults)
+            (2 ^ 64 - 1)) result }
         ensures burnt { self.old.fuse.passes ≡ 0 → result ≡ Err StoreFault.Failed }
         ensures kept { self.old.fuse.passes ≡ 0 → self.new.inner ≡ self.old.inner }
         ensures spared { 0 < self.old.fuse.passes → self.new.fuse.faults ≡ self.old.fuse.faults }
@@ -94,9 +98,13 @@ impl<S: Store> Store for FuseStore<S> {
     }
 
     fn read(&mut self, alloc: Global, name: FileName) -> Result<Option<Vec<u8>>, StoreFault>
-        ensures bytes { IfOk result (λ found. Reads (told_files (S.disk self.old.inner)) name (option_map (λ bytes. bytes.items) found)) }
+        ensures bytes { IfOk result (λ found.
+            Reads (told_files (S.disk self.old.inner)) name
+            (option_map (λ bytes. bytes.items) found)) }
         ensures disk { S.disk self.new.inner ≡ S.disk self.old.inner }
-        ensures cause { HasStoreCause (min (S.fault_count self.old.inner + self.old.fuse.faults) (2 ^ 64 - 1)) (min (S.fault_count self.new.inner + self.new.fuse.faults) (2 ^ 64 - 1)) result }
+        ensures cause { HasStoreCause (min (S.fault_count self.old.inner + self.old.fuse.faults)
+            (2 ^ 64 - 1)) (min (S.fault_count self.new.inner + self.new.fuse.faults)
+            (2 ^ 64 - 1)) result }
         ensures burnt { self.old.fuse.passes ≡ 0 → result ≡ Err StoreFault.Failed }
         ensures kept { self.old.fuse.passes ≡ 0 → self.new.inner ≡ self.old.inner }
         ensures spared { 0 < self.old.fuse.passes → self.new.fuse.faults ≡ self.old.fuse.faults }
@@ -110,8 +118,11 @@ impl<S: Store> Store for FuseStore<S> {
 
     fn write(&mut self, name: FileName, bytes: &[u8]) -> Result<(), StoreFault>
         requires { IsFileName name }
-        ensures disk { Takes (Wrote name bytes.now) (S.disk self.old.inner) (S.disk self.new.inner) result }
-        ensures cause { HasStoreCause (min (S.fault_count self.old.inner + self.old.fuse.faults) (2 ^ 64 - 1)) (min (S.fault_count self.new.inner + self.new.fuse.faults) (2 ^ 64 - 1)) result }
+        ensures disk { Takes (Wrote name bytes.now) (S.disk self.old.inner)
+            (S.disk self.new.inner) result }
+        ensures cause { HasStoreCause (min (S.fault_count self.old.inner + self.old.fuse.faults)
+            (2 ^ 64 - 1)) (min (S.fault_count self.new.inner + self.new.fuse.faults)
+            (2 ^ 64 - 1)) result }
         ensures burnt { self.old.fuse.passes ≡ 0 → result ≡ Err StoreFault.Failed }
         ensures kept { self.old.fuse.passes ≡ 0 → self.new.inner ≡ self.old.inner }
         ensures spared { 0 < self.old.fuse.passes → self.new.fuse.faults ≡ self.old.fuse.faults }
@@ -125,7 +136,9 @@ impl<S: Store> Store for FuseStore<S> {
 
     fn sync(&mut self, name: FileName) -> Result<(), StoreFault>
         ensures disk { Takes (Synced name) (S.disk self.old.inner) (S.disk self.new.inner) result }
-        ensures cause { HasStoreCause (min (S.fault_count self.old.inner + self.old.fuse.faults) (2 ^ 64 - 1)) (min (S.fault_count self.new.inner + self.new.fuse.faults) (2 ^ 64 - 1)) result }
+        ensures cause { HasStoreCause (min (S.fault_count self.old.inner + self.old.fuse.faults)
+            (2 ^ 64 - 1)) (min (S.fault_count self.new.inner + self.new.fuse.faults)
+            (2 ^ 64 - 1)) result }
         ensures burnt { self.old.fuse.passes ≡ 0 → result ≡ Err StoreFault.Failed }
         ensures kept { self.old.fuse.passes ≡ 0 → self.new.inner ≡ self.old.inner }
         ensures spared { 0 < self.old.fuse.passes → self.new.fuse.faults ≡ self.old.fuse.faults }
@@ -140,8 +153,11 @@ impl<S: Store> Store for FuseStore<S> {
     fn rename(&mut self, from: FileName, to: FileName) -> Result<(), StoreFault>
         requires name { IsFileName to }
         requires apart { from ≢ to }
-        ensures disk { Takes (Renamed from to) (S.disk self.old.inner) (S.disk self.new.inner) result }
-        ensures cause { HasStoreCause (min (S.fault_count self.old.inner + self.old.fuse.faults) (2 ^ 64 - 1)) (min (S.fault_count self.new.inner + self.new.fuse.faults) (2 ^ 64 - 1)) result }
+        ensures disk { Takes (Renamed from to) (S.disk self.old.inner)
+            (S.disk self.new.inner) result }
+        ensures cause { HasStoreCause (min (S.fault_count self.old.inner + self.old.fuse.faults)
+            (2 ^ 64 - 1)) (min (S.fault_count self.new.inner + self.new.fuse.faults)
+            (2 ^ 64 - 1)) result }
         ensures burnt { self.old.fuse.passes ≡ 0 → result ≡ Err StoreFault.Failed }
         ensures kept { self.old.fuse.passes ≡ 0 → self.new.inner ≡ self.old.inner }
         ensures spared { 0 < self.old.fuse.passes → self.new.fuse.faults ≡ self.old.fuse.faults }
@@ -155,7 +171,9 @@ impl<S: Store> Store for FuseStore<S> {
 
     fn delete(&mut self, name: FileName) -> Result<(), StoreFault>
         ensures disk { Takes (Deleted name) (S.disk self.old.inner) (S.disk self.new.inner) result }
-        ensures cause { HasStoreCause (min (S.fault_count self.old.inner + self.old.fuse.faults) (2 ^ 64 - 1)) (min (S.fault_count self.new.inner + self.new.fuse.faults) (2 ^ 64 - 1)) result }
+        ensures cause { HasStoreCause (min (S.fault_count self.old.inner + self.old.fuse.faults)
+            (2 ^ 64 - 1)) (min (S.fault_count self.new.inner + self.new.fuse.faults)
+            (2 ^ 64 - 1)) result }
         ensures burnt { self.old.fuse.passes ≡ 0 → result ≡ Err StoreFault.Failed }
         ensures kept { self.old.fuse.passes ≡ 0 → self.new.inner ≡ self.old.inner }
         ensures spared { 0 < self.old.fuse.passes → self.new.fuse.faults ≡ self.old.fuse.faults }
@@ -169,7 +187,9 @@ impl<S: Store> Store for FuseStore<S> {
 
     fn sync_all(&mut self) -> Result<(), StoreFault>
         ensures disk { Takes Settled (S.disk self.old.inner) (S.disk self.new.inner) result }
-        ensures cause { HasStoreCause (min (S.fault_count self.old.inner + self.old.fuse.faults) (2 ^ 64 - 1)) (min (S.fault_count self.new.inner + self.new.fuse.faults) (2 ^ 64 - 1)) result }
+        ensures cause { HasStoreCause (min (S.fault_count self.old.inner + self.old.fuse.faults)
+            (2 ^ 64 - 1)) (min (S.fault_count self.new.inner + self.new.fuse.faults)
+            (2 ^ 64 - 1)) result }
         ensures burnt { self.old.fuse.passes ≡ 0 → result ≡ Err StoreFault.Failed }
         ensures kept { self.old.fuse.passes ≡ 0 → self.new.inner ≡ self.old.inner }
         ensures spared { 0 < self.old.fuse.passes → self.new.fuse.faults ≡ self.old.fuse.faults }

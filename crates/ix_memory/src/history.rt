@@ -122,7 +122,8 @@ impl History {
         step: &Step,
     ) -> Result<(), NoMemory>
         requires { NamesFile step.now }
-        ensures files { OnOk result (files_of left.new ≡ taken_at (file_made step.now) (files_left steps bytes self.now) (files_of left.old)) }
+        ensures files { OnOk result (files_of left.new
+            ≡ taken_at (file_made step.now) (files_left steps bytes self.now) (files_of left.old)) }
         ensures synced { OnOk result (AllSynced left.old → AllSynced left.new) }
     {
         match step {
@@ -147,7 +148,8 @@ impl History {
         name: FileName,
     ) -> Result<(), NoMemory>
         requires { IsFileName name }
-        ensures files { OnOk result (files_of left.new ≡ with_at name (files_left steps bytes self.now name) (files_of left.old)) }
+        ensures files { OnOk result (files_of left.new
+            ≡ with_at name (files_left steps bytes self.now name) (files_of left.old)) }
         ensures synced { OnOk result (AllSynced left.old → AllSynced left.new) }
     {
         match self.left(steps, bytes, name) {

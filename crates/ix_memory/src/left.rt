@@ -49,7 +49,8 @@ pub fn left_of(
 
 /// Looks at one step, with so many steps before it.
 fn look(step: &Step, before: usize, steps: StepsLeft, bytes: BytesLeft, name: FileName) -> Found<'_>
-    ensures { (older : ListOf StepOf) → length older ≡ before → Goes older (files_left steps bytes (step.now ∷ older) name) result }
+    ensures { (older : ListOf StepOf) → length older ≡ before
+        → Goes older (files_left steps bytes (step.now ∷ older) name) result }
 {
     match step {
         Step::Wrote(at, written) if is_same(name, *at) => look_written(written.as_slice(), bytes),
@@ -80,7 +81,8 @@ fn look_written(written: &[u8], bytes: BytesLeft) -> Found<'_>
 
 /// What is left of a file that a failed call left like this.
 fn look_spoilt(found: &Option<List<u8>>, bytes: BytesLeft) -> Found<'_>
-    ensures { (older : ListOf StepOf) → Goes older (option_and_then (bytes_left bytes) found.now) result }
+    ensures { (older : ListOf StepOf)
+        → Goes older (option_and_then (bytes_left bytes) found.now) result }
 {
     match found {
         Some(written) => look_written(written.as_slice(), bytes),
@@ -96,7 +98,8 @@ fn look_renamed<'a>(
     bytes: BytesLeft,
     name: FileName,
 ) -> Found<'a>
-    ensures { (older : ListOf StepOf) → Goes older (moved from to None (files_left steps bytes older) name) result }
+    ensures { (older : ListOf StepOf)
+        → Goes older (moved from to None (files_left steps bytes older) name) result }
 {
     if is_same(from, to) {
         Found::Before(steps, bytes, name)

@@ -70,10 +70,13 @@ impl Sink for MemorySink {
     fn write(&mut self, bytes: &[u8]) -> Result<usize, Failed>
         ensures bound { IfOk result (λ n. n ≤ length bytes.now) }
         ensures some { IfOk result (λ n. 0 < length bytes.now → 0 < n) }
-        ensures bytes { WriteAppends (Some self.old.bytes.items) (Some self.new.bytes.items) result bytes.now }
+        ensures bytes { WriteAppends (Some self.old.bytes.items)
+            (Some self.new.bytes.items) result bytes.now }
         ensures cause { HasCause self.old.calls.faults self.new.calls.faults result }
-        ensures fails { IsErr result ↔ (NextFails self.old.calls ⊎ ((vec_capacity self.old.bytes ≤ vec_len self.old.bytes) × (0 < length bytes.now))) }
-        ensures count { IfOk result (λ n. n ≡ min (vec_capacity self.old.bytes - vec_len self.old.bytes) (length bytes.now)) }
+        ensures fails { IsErr result ↔ (NextFails self.old.calls
+            ⊎ ((vec_capacity self.old.bytes ≤ vec_len self.old.bytes) × (0 < length bytes.now))) }
+        ensures count { IfOk result (λ n.
+            n ≡ min (vec_capacity self.old.bytes - vec_len self.old.bytes) (length bytes.now)) }
         ensures counted { Counts self.old.calls self.new.calls }
     {
         if self.calls.next_fails() {

@@ -51,7 +51,8 @@ impl Source for MemorySource {
 
     fn read(&mut self, buffer: &mut [u8]) -> Result<usize, Failed>
         ensures bound { ReadsAtMost result buffer.new }
-        ensures bytes { ReadConsumes (Some self.old.source) (Some self.new.source) result buffer.new }
+        ensures bytes { ReadConsumes (Some self.old.source)
+            (Some self.new.source) result buffer.new }
         ensures cause { HasCause self.old.calls.faults self.new.calls.faults result }
         ensures fails { IsErr result ↔ NextFails self.old.calls }
         ensures counted { Counts self.old.calls self.new.calls }

@@ -41,7 +41,9 @@ impl MemoryStore {
     /// None of its calls is to fail.
     pub fn with_files(alloc: Global, files: Vec<(FileName, Vec<u8>)>) -> Result<Self, NoMemory>
         requires { All (λ file. IsFileName file.0) files.items }
-        ensures files { IfOk result (λ store. Tells (AreDurable (with_pairs files.items no_files)) (⟦<MemoryStore as Store>⟧.disk store)) }
+        ensures files { IfOk result (λ store.
+            Tells (AreDurable (with_pairs files.items no_files))
+            (⟦<MemoryStore as Store>⟧.disk store)) }
         ensures faults { IfOk result (λ store. ⟦<MemoryStore as Store>⟧.fault_count store ≡ 0) }
         ensures never { IfOk result (λ store. store.calls.numbers.items ≡ []) }
     {
@@ -71,9 +73,15 @@ impl MemoryStore {
     /// written and not yet synced is: it has all of its bytes, is absent, is empty, or has the first
     /// half of its bytes. Any other choice is as `choice % 16`.
     pub fn crash(&self, alloc: Global, choice: u32) -> Result<MemoryStore, NoMemory>
-        ensures image { IfOk result (λ left. IfSome (told_files (⟦<MemoryStore as Store>⟧.disk left)) (IsImage self.now.history)) }
-        ensures chosen { IfOk result (λ left. Tells (AreDurable (files_left (steps_of choice) (bytes_of (choice / 4)) self.now.history)) (⟦<MemoryStore as Store>⟧.disk left)) }
-        ensures all_left { choice ≡ 0 → IfOk result (λ left. told_files (⟦<MemoryStore as Store>⟧.disk left) ≡ told_files (⟦<MemoryStore as Store>⟧.disk self.now)) }
+        ensures image { IfOk result (λ left.
+            IfSome (told_files (⟦<MemoryStore as Store>⟧.disk left)) (IsImage self.now.history)) }
+        ensures chosen { IfOk result (λ left.
+            Tells (AreDurable
+            (files_left (steps_of choice) (bytes_of (choice / 4)) self.now.history))
+            (⟦<MemoryStore as Store>⟧.disk left)) }
+        ensures all_left { choice ≡ 0 → IfOk result (λ left.
+            told_files (⟦<MemoryStore as Store>⟧.disk left)
+            ≡ told_files (⟦<MemoryStore as Store>⟧.disk self.now)) }
         ensures faults { IfOk result (λ left. ⟦<MemoryStore as Store>⟧.fault_count left ≡ 0) }
         ensures never { IfOk result (λ left. left.calls.numbers.items ≡ []) }
     {
@@ -111,7 +119,8 @@ impl Store for MemoryStore {
     ghost use Rattle.ix_memory.specs.Failing.{Counts, NextFails};
 
     fn list(&mut self, alloc: Global) -> Result<Vec<FileName>, StoreFault>
-        ensures names { IfOk result (λ names. IfSome (told_files (Some self.old.history)) (λ here. Lists here names.items)) }
+        ensures names { IfOk result (λ names.
+            IfSome (told_files (Some self.old.history)) (λ here. Lists here names.items)) }
         ensures real { IfOk result (λ names. All IsFileName names.items) }
         ensures disk { Some self.new.history ≡ Some self.old.history }
         ensures cause { HasStoreCause self.old.calls.faults self.new.calls.faults result }
@@ -125,7 +134,9 @@ impl Store for MemoryStore {
     }
 
     fn read(&mut self, alloc: Global, name: FileName) -> Result<Option<Vec<u8>>, StoreFault>
-        ensures bytes { IfOk result (λ found. Reads (told_files (Some self.old.history)) name (option_map (λ bytes. bytes.items) found)) }
+        ensures bytes { IfOk result (λ found.
+            Reads (told_files (Some self.old.history)) name
+            (option_map (λ bytes. bytes.items) found)) }
         ensures disk { Some self.new.history ≡ Some self.old.history }
         ensures cause { HasStoreCause self.old.calls.faults self.new.calls.faults result }
         ensures fails { IsErrOf result StoreFault.Failed ↔ NextFails self.old.calls }
@@ -139,7 +150,8 @@ impl Store for MemoryStore {
 
     fn write(&mut self, name: FileName, bytes: &[u8]) -> Result<(), StoreFault>
         requires { IsFileName name }
-        ensures disk { Takes (Wrote name bytes.now) (Some self.old.history) (Some self.new.history) result }
+        ensures disk { Takes (Wrote name bytes.now) (Some self.old.history)
+            (Some self.new.history) result }
         ensures cause { HasStoreCause self.old.calls.faults self.new.calls.faults result }
         ensures fails { IsErrOf result StoreFault.Failed ↔ NextFails self.old.calls }
         ensures counted { Counts self.old.calls self.new.calls }
@@ -153,7 +165,8 @@ impl Store for MemoryStore {
     fn sync(&mut self, name: FileName) -> Result<(), StoreFault>
         ensures disk { Takes (Synced name) (Some self.old.history) (Some self.new.history) result }
         ensures cause { HasStoreCause self.old.calls.faults self.new.calls.faults result }
-        ensures fails { IsErrOf result StoreFault.Failed ↔ (NextFails self.old.calls ⊎ (files self.old.history name ≡ None)) }
+        ensures fails { IsErrOf result StoreFault.Failed
+            ↔ (NextFails self.old.calls ⊎ (files self.old.history name ≡ None)) }
         ensures counted { Counts self.old.calls self.new.calls }
     {
         if self.calls.next_fails() {
@@ -169,9 +182,11 @@ impl Store for MemoryStore {
     fn rename(&mut self, from: FileName, to: FileName) -> Result<(), StoreFault>
         requires name { IsFileName to }
         requires apart { from ≢ to }
-        ensures disk { Takes (Renamed from to) (Some self.old.history) (Some self.new.history) result }
+        ensures disk { Takes (Renamed from to) (Some self.old.history)
+            (Some self.new.history) result }
         ensures cause { HasStoreCause self.old.calls.faults self.new.calls.faults result }
-        ensures fails { IsErrOf result StoreFault.Failed ↔ (NextFails self.old.calls ⊎ (files self.old.history from ≡ None)) }
+        ensures fails { IsErrOf result StoreFault.Failed
+            ↔ (NextFails self.old.calls ⊎ (files self.old.history from ≡ None)) }
         ensures counted { Counts self.old.calls self.new.calls }
     {
         if self.calls.next_fails() {

@@ -32,7 +32,8 @@ fn lose(names: &mut Vec<FileName>, name: FileName)
 /// A file of this name is there: the list has the name once, at its end.
 fn gain(names: &mut Vec<FileName>, name: FileName) -> Result<(), NoMemory>
     ensures change { OnOk result (Gains name names.old.items names.new.items) }
-    ensures real { OnOk result (IsFileName name → All IsFileName names.old.items → All IsFileName names.new.items) }
+    ensures real { OnOk result (IsFileName name → All IsFileName names.old.items
+        → All IsFileName names.new.items) }
 {
     take_out(names, name);
     names.push(name)?;
@@ -42,7 +43,8 @@ fn gain(names: &mut Vec<FileName>, name: FileName) -> Result<(), NoMemory>
 /// The names of the files before the step become those after it.
 pub fn go_on(names: &mut Vec<FileName>, step: &Step) -> Result<(), NoMemory>
     ensures change { OnOk result (GoesOn step.now names.old.items names.new.items) }
-    ensures real { OnOk result (NamesFile step.now → All IsFileName names.old.items → All IsFileName names.new.items) }
+    ensures real { OnOk result (NamesFile step.now → All IsFileName names.old.items
+        → All IsFileName names.new.items) }
 {
     match step {
         Step::Wrote(name, _) => gain(names, *name),
@@ -62,8 +64,10 @@ fn spoil(
     name: FileName,
     found: &Option<List<u8>>,
 ) -> Result<(), NoMemory>
-    ensures change { OnOk result (GoesOn (Step.Spoilt name found.now) names.old.items names.new.items) }
-    ensures real { OnOk result (IsFileName name → All IsFileName names.old.items → All IsFileName names.new.items) }
+    ensures change { OnOk result (GoesOn
+        (Step.Spoilt name found.now) names.old.items names.new.items) }
+    ensures real { OnOk result (IsFileName name → All IsFileName names.old.items
+        → All IsFileName names.new.items) }
 {
     match found {
         Some(_) => gain(names, name),
@@ -77,7 +81,8 @@ fn spoil(
 /// The file of the first name, if it is there, has the second one now, in place of another file.
 fn rename(names: &mut Vec<FileName>, from: FileName, to: FileName) -> Result<(), NoMemory>
     ensures change { OnOk result (GoesOn (Step.Renamed from to) names.old.items names.new.items) }
-    ensures real { OnOk result (IsFileName to → All IsFileName names.old.items → All IsFileName names.new.items) }
+    ensures real { OnOk result (IsFileName to → All IsFileName names.old.items
+        → All IsFileName names.new.items) }
 {
     if is_same(from, to) {
         return Ok(());

@@ -52,7 +52,8 @@ pub fn read_bytes(
     alloc: Global,
     name: FileName,
 ) -> Result<Option<Vec<u8>>, StoreFault>
-    ensures bytes { IfOk result (λ found. option_map (λ bytes. bytes.items) found ≡ files_of history.now name) }
+    ensures bytes { IfOk result (λ found.
+        option_map (λ bytes. bytes.items) found ≡ files_of history.now name) }
     ensures never { IsErrOf result StoreFault.Failed → ⊥ }
 {
     match history.read(name) {

@@ -13,7 +13,8 @@ use std::alloc::Global;
 /// Adds a write of the file and its sync.
 pub fn put(history: &mut History, name: FileName, bytes: &[u8]) -> Result<(), NoMemory>
     requires { IsFileName name }
-    ensures files { OnOk result (files_of history.new ≡ with_at name (Some bytes.now) (files_of history.old)) }
+    ensures files { OnOk result (files_of history.new
+        ≡ with_at name (Some bytes.now) (files_of history.old)) }
     ensures synced { OnOk result (AllSynced history.old → AllSynced history.new) }
 {
     let copy = history.copy_of(bytes)?;
@@ -24,7 +25,8 @@ pub fn put(history: &mut History, name: FileName, bytes: &[u8]) -> Result<(), No
 /// Adds a write of the file, a pair of name and bytes, and its sync.
 fn put_file(history: &mut History, file: &(FileName, Vec<u8>)) -> Result<(), NoMemory>
     requires { IsFileName file.now.0 }
-    ensures files { OnOk result (files_of history.new ≡ with_at file.now.0 (Some file.now.1.items) (files_of history.old)) }
+    ensures files { OnOk result (files_of history.new
+        ≡ with_at file.now.0 (Some file.now.1.items) (files_of history.old)) }
     ensures synced { OnOk result (AllSynced history.old → AllSynced history.new) }
 {
     put(history, file.0, file.1.as_slice())
@@ -41,7 +43,8 @@ pub fn take_out(history: &mut History, name: FileName) -> Result<(), NoMemory>
 /// Adds a sync of all renames and deletes.
 pub fn settle(history: &mut History) -> Result<(), NoMemory>
     ensures files { OnOk result (files_of history.new ≡ files_of history.old) }
-    ensures durable { OnOk result (AllSynced history.old → AreDurable (files_of history.new) history.new) }
+    ensures durable { OnOk result (AllSynced history.old
+        → AreDurable (files_of history.new) history.new) }
 {
     history.push(Step::Settled)
 }

@@ -36,7 +36,9 @@ impl SteadyStore {
     /// The store of these files, all of them on the disk. Of files with one name the last counts.
     pub fn with_files(alloc: Global, files: Vec<(FileName, Vec<u8>)>) -> Result<Self, NoMemory>
         requires { All (λ file. IsFileName file.0) files.items }
-        ensures { IfOk result (λ store. Tells (AreDurable (with_pairs files.items no_files)) (⟦<SteadyStore as Store>⟧.disk store)) }
+        ensures { IfOk result (λ store.
+            Tells (AreDurable (with_pairs files.items no_files))
+            (⟦<SteadyStore as Store>⟧.disk store)) }
     {
         Ok(SteadyStore {
             history: settled_files(alloc, files)?,
@@ -46,9 +48,15 @@ impl SteadyStore {
     /// A store with the files that a crash now may leave, all of them on the disk. The choice says
     /// which of the possible outcomes, as at `MemoryStore::crash`.
     pub fn crash(&self, alloc: Global, choice: u32) -> Result<SteadyStore, NoMemory>
-        ensures image { IfOk result (λ left. IfSome (told_files (⟦<SteadyStore as Store>⟧.disk left)) (IsImage self.now.history)) }
-        ensures chosen { IfOk result (λ left. Tells (AreDurable (files_left (steps_of choice) (bytes_of (choice / 4)) self.now.history)) (⟦<SteadyStore as Store>⟧.disk left)) }
-        ensures all_left { choice ≡ 0 → IfOk result (λ left. told_files (⟦<SteadyStore as Store>⟧.disk left) ≡ told_files (⟦<SteadyStore as Store>⟧.disk self.now)) }
+        ensures image { IfOk result (λ left.
+            IfSome (told_files (⟦<SteadyStore as Store>⟧.disk left)) (IsImage self.now.history)) }
+        ensures chosen { IfOk result (λ left.
+            Tells (AreDurable
+            (files_left (steps_of choice) (bytes_of (choice / 4)) self.now.history))
+            (⟦<SteadyStore as Store>⟧.disk left)) }
+        ensures all_left { choice ≡ 0 → IfOk result (λ left.
+            told_files (⟦<SteadyStore as Store>⟧.disk left)
+            ≡ told_files (⟦<SteadyStore as Store>⟧.disk self.now)) }
     {
         let steps = StepsLeft::of_choice(choice);
         let bytes = BytesLeft::of_choice(choice / 4);

@@ -57,7 +57,8 @@ fn carry_row(
     requires row { row < length live.old.marks }
     ensures marks { let marks = changed_at (carry (slice_index_or from.now.marks from_row fresh)) row live.old.marks in
         OnOk result (live.new ≡ record live.old { marks = marks }) }
-    ensures same { let mark = slice_index_or from.now.marks from_row fresh in OnOk result (carry mark fresh ≡ mark) }
+    ensures same { let mark = slice_index_or from.now.marks from_row fresh in
+        OnOk result (carry mark fresh ≡ mark) }
 {
     if !from.is_live(from_row) {
         live.kill(row);

@@ -78,10 +78,12 @@ impl Merge {
     fn stage(&mut self, row: &Row, origin: Origin) -> Result<(), NoMemory>
         requires room { length self.old.buffer < 2147483647 }
         requires positive { 1 ≤ row.now.birth }
-        requires above { All (λ earlier. earlier.birth < row.now.birth) (born_rows self.old.buffer) }
+        requires above { All (λ earlier. earlier.birth < row.now.birth)
+            (born_rows self.old.buffer) }
         ensures same { (self.new.ids ≡ self.old.ids) × (self.new.next ≡ self.old.next) }
         ensures buffer { OnOk result (self.new.buffer ≡ self.old.buffer ++ born row.now ∷ []) }
-        ensures origins { OnOk result (self.new.origins.items ≡ self.old.origins.items ++ origin ∷ []) }
+        ensures origins { OnOk result (self.new.origins.items
+            ≡ self.old.origins.items ++ origin ∷ []) }
         ensures err { OnErr result (SameReading self.old self.new) }
     {
         let analysed = analysed(self.alloc, row)?;

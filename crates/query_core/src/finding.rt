@@ -11,7 +11,8 @@ use std::cmp::Ordering;
 /// The place of a term's postings.
 pub fn find_term(entries: &[TermPostings], term: &Term) -> Option<usize>
     ensures found { IfSome result (IsTermAt entries.now term.now) }
-    ensures none { IfNone result (IsPostings entries.now → All (λ entry. entry.term ≢ term.now) entries.now) }
+    ensures none { IfNone result (IsPostings entries.now
+        → All (λ entry. entry.term ≢ term.now) entries.now) }
 {
     entries
         .binary_search_by(|entry| compare_terms(&entry.term, term))
@@ -21,7 +22,8 @@ pub fn find_term(entries: &[TermPostings], term: &Term) -> Option<usize>
 /// Whether it is certain that the term doesn't stand before this place: the entry there comes before it.
 fn is_behind(entries: &[TermPostings], place: usize, term: &Term) -> bool
     ensures within { IsTrue result → place ≤ length entries.now }
-    ensures behind { IsTrue result → IsPostings entries.now → StandsNotBefore entries.now term.now place }
+    ensures behind { IsTrue result → IsPostings entries.now
+        → StandsNotBefore entries.now term.now place }
 {
     match place.checked_sub(1) {
         Some(last) if last < entries.len() => compare_terms(&entries[last].term, term).is_lt(),
@@ -60,7 +62,8 @@ fn window(entries: &[TermPostings], term: &Term, place: usize) -> (usize, usize)
 /// moved behind the term's postings, or to where the search for the term ended.
 pub fn find_from(entries: &[TermPostings], term: &Term, place: &mut usize) -> Option<usize>
     ensures found { IfSome result (IsTermAt entries.now term.now) }
-    ensures none { IfNone result (IsPostings entries.now → All (λ entry. entry.term ≢ term.now) entries.now) }
+    ensures none { IfNone result (IsPostings entries.now
+        → All (λ entry. entry.term ≢ term.now) entries.now) }
 {
     let (from, to) = window(entries, term, *place);
     match find_term(&entries[from..to], term) {

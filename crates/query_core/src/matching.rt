@@ -27,7 +27,8 @@ fn all_rows<I: Inverted>(alloc: Global, index: &I) -> Result<Vec<u32>, NoMemory>
 /// index is the inversion. It refuses for memory only.
 #[cycle(answer)]
 pub fn answer<I: Inverted>(alloc: Global, query: &Query, index: &I) -> Result<Vec<u32>, NoMemory>
-    ensures { IfOk result (λ rows. AreRowsWhere (I.inverts index.now) (matches (tree_of query.now)) rows.items) }
+    ensures { IfOk result (λ rows.
+        AreRowsWhere (I.inverts index.now) (matches (tree_of query.now)) rows.items) }
 {
     match query {
         Query::All => all_rows(alloc, index),
@@ -52,7 +53,8 @@ pub fn answer<I: Inverted>(alloc: Global, query: &Query, index: &I) -> Result<Ve
 /// The rows that match all of the queries.
 #[cycle(answer)]
 fn all_of<I: Inverted>(alloc: Global, queries: &Queries, index: &I) -> Result<Vec<u32>, NoMemory>
-    ensures { IfOk result (λ rows. AreRowsWhere (I.inverts index.now) (all_match queries.now) rows.items) }
+    ensures { IfOk result (λ rows.
+        AreRowsWhere (I.inverts index.now) (all_match queries.now) rows.items) }
 {
     let mut rows = None;
     for query in queries.as_slice() {
@@ -68,7 +70,8 @@ fn all_of<I: Inverted>(alloc: Global, queries: &Queries, index: &I) -> Result<Ve
 /// The rows that match one of the queries at least.
 #[cycle(answer)]
 fn any_of<I: Inverted>(alloc: Global, queries: &Queries, index: &I) -> Result<Vec<u32>, NoMemory>
-    ensures { IfOk result (λ rows. AreRowsWhere (I.inverts index.now) (any_matches queries.now) rows.items) }
+    ensures { IfOk result (λ rows.
+        AreRowsWhere (I.inverts index.now) (any_matches queries.now) rows.items) }
 {
     let mut rows = Vec::new(alloc);
     for query in queries.as_slice() {
@@ -81,7 +84,9 @@ fn any_of<I: Inverted>(alloc: Global, queries: &Queries, index: &I) -> Result<Ve
 /// The rows so far, if there are any limits yet, that are among those found.
 fn narrowed(alloc: Global, rows: Option<Vec<u32>>, found: Vec<u32>) -> Result<Vec<u32>, NoMemory>
     ensures none { IfNone rows (IfOk result (λ kept. kept.items ≡ found.items)) }
-    ensures some { IfSome rows (λ before. IfOk result (λ kept. IsRising found.items → kept.items ≡ filter (has_number found.items) before.items)) }
+    ensures some { IfSome rows (λ before.
+        IfOk result (λ kept. IsRising found.items
+        → kept.items ≡ filter (has_number found.items) before.items)) }
 {
     match rows {
         Some(rows) => in_both(alloc, rows.as_slice(), found.as_slice()),

@@ -29,7 +29,8 @@ fn words_of(alloc: Global, field: &Name, text: &PhraseText) -> Result<Vec<Term>,
 /// The rows that hold each of these terms.
 fn holding_all<I: Inverted>(alloc: Global, index: &I, words: &[Term]) -> Result<Vec<u32>, NoMemory>
     requires { 0 < length words.now }
-    ensures { IfOk result (λ rows. AreRowsWhere (I.inverts index.now) (holds_all words.now) rows.items) }
+    ensures { IfOk result (λ rows.
+        AreRowsWhere (I.inverts index.now) (holds_all words.now) rows.items) }
 {
     let mut rows = index.holding(alloc, &words[0])?;
     for i in 1..words.len() {
@@ -47,7 +48,9 @@ fn starts<I: Inverted>(
     row: u32,
 ) -> Result<Vec<u32>, NoMemory>
     requires { 0 < length words.now }
-    ensures { IfOk result (λ starts. (docs : _) → I.inverts index.now docs → (at : ℕ) → has_number starts.items at ≡ at_row (λ doc. terms_stand_at (terms doc) words.now at) docs row) }
+    ensures { IfOk result (λ starts. (docs : _) → I.inverts index.now docs → (at : ℕ)
+        → has_number starts.items at ≡ at_row (λ doc.
+        terms_stand_at (terms doc) words.now at) docs row) }
 {
     let mut starts = index.places(alloc, &words[0], row)?;
     for i in 1..words.len() {
@@ -60,7 +63,8 @@ fn starts<I: Inverted>(
 /// Whether the terms stand in a row one after another.
 fn stands<I: Inverted>(alloc: Global, index: &I, words: &[Term], row: u32) -> Result<bool, NoMemory>
     requires { 0 < length words.now }
-    ensures { IfOk result (λ found. (docs : _) → I.inverts index.now docs → found ≡ at_row (terms_stand words.now) docs row) }
+    ensures { IfOk result (λ found. (docs : _) → I.inverts index.now docs
+        → found ≡ at_row (terms_stand words.now) docs row) }
 {
     let starts = starts(alloc, index, words, row)?;
     Ok(starts.len() > 0)
@@ -69,7 +73,8 @@ fn stands<I: Inverted>(alloc: Global, index: &I, words: &[Term], row: u32) -> Re
 /// The rows in which the terms stand one after another.
 fn standing<I: Inverted>(alloc: Global, index: &I, words: &[Term]) -> Result<Vec<u32>, NoMemory>
     requires { 0 < length words.now }
-    ensures { IfOk result (λ rows. AreRowsWhere (I.inverts index.now) (terms_stand words.now) rows.items) }
+    ensures { IfOk result (λ rows.
+        AreRowsWhere (I.inverts index.now) (terms_stand words.now) rows.items) }
 {
     let rows = holding_all(alloc, index, words)?;
     let mut kept = Vec::new(alloc);
@@ -89,7 +94,9 @@ pub fn phrase_rows<I: Inverted>(
     field: &Name,
     text: &PhraseText,
 ) -> Result<Vec<u32>, NoMemory>
-    ensures { IfOk result (λ rows. AreRowsWhere (I.inverts index.now) (λ doc. phrase_stands (terms doc) field.now (folded_words text.now)) rows.items) }
+    ensures { IfOk result (λ rows.
+        AreRowsWhere (I.inverts index.now) (λ doc.
+        phrase_stands (terms doc) field.now (folded_words text.now)) rows.items) }
 {
     let words = words_of(alloc, field, text)?;
     if words.is_empty() {

@@ -19,7 +19,8 @@ pub fn has(numbers: &[u32], number: u64) -> bool
 
 /// The numbers that stand in the others too.
 pub fn in_both(alloc: Global, numbers: &[u32], others: &[u32]) -> Result<Vec<u32>, NoMemory>
-    ensures { IfOk result (λ kept. IsRising others.now → kept.items ≡ filter (has_number others.now) numbers.now) }
+    ensures { IfOk result (λ kept. IsRising others.now
+        → kept.items ≡ filter (has_number others.now) numbers.now) }
 {
     let mut kept = Vec::new(alloc);
     for number in numbers {
@@ -32,7 +33,8 @@ pub fn in_both(alloc: Global, numbers: &[u32], others: &[u32]) -> Result<Vec<u32
 
 /// The numbers that don't stand in the others.
 pub fn in_first(alloc: Global, numbers: &[u32], others: &[u32]) -> Result<Vec<u32>, NoMemory>
-    ensures { IfOk result (λ kept. IsRising others.now → kept.items ≡ filter (λ x. not (has_number others.now x)) numbers.now) }
+    ensures { IfOk result (λ kept. IsRising others.now
+        → kept.items ≡ filter (λ x. not (has_number others.now x)) numbers.now) }
 {
     let mut kept = Vec::new(alloc);
     for number in numbers {
@@ -51,7 +53,8 @@ pub fn followed(
     distance: u64,
 ) -> Result<Vec<u32>, NoMemory>
     requires { distance < 2 ^ 63 }
-    ensures { IfOk result (λ kept. IsRising others.now → kept.items ≡ filter (λ x. has_number others.now (x + distance)) numbers.now) }
+    ensures { IfOk result (λ kept. IsRising others.now
+        → kept.items ≡ filter (λ x. has_number others.now (x + distance)) numbers.now) }
 {
     let mut kept = Vec::new(alloc);
     for number in numbers {
@@ -65,7 +68,8 @@ pub fn followed(
 /// Each of the numbers once, rising.
 pub fn distinct(mut numbers: Vec<u32>) -> Result<Vec<u32>, NoMemory>
     ensures rise { IfOk result (λ kept. IsRising kept.items) }
-    ensures same { IfOk result (λ kept. (x : ℕ) → has_number kept.items x ≡ has_number numbers.items x) }
+    ensures same { IfOk result (λ kept. (x : ℕ)
+        → has_number kept.items x ≡ has_number numbers.items x) }
 {
     numbers.sort()?;
     numbers.dedup();

@@ -65,7 +65,8 @@ fn do_tasks<G: Gate>(
     gave: &mut Vec<Piece>,
     gate: &G,
 ) -> Stop
-    requires worker { IsAtWork queue.now writer.old (share_of tasks.now replies.old.items gave.old.items) }
+    requires worker { IsAtWork queue.now writer.old
+        (share_of tasks.now replies.old.items gave.old.items) }
     ensures does { Does queue.now writer.old (share_of tasks.now replies.old.items gave.old.items)
         writer.new (share_of tasks.now replies.new.items gave.new.items) }
     ensures done { (result ≡ stop.Done) ↔ (length replies.new.items ≡ length tasks.now) }

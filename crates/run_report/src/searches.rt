@@ -50,11 +50,14 @@ fn reopen<S: Store>(
     ensures number { OnOk result (commit.new.number ≡ number) }
     ensures rows { (files : Files) (rows_of : ℕ → List Row) → told_files (S.disk store.old) ≡ Some files → Searches commit.old.searcher.segments (rows_of commit.old.number) → rows_of 0 ≡ []
         → (number ≡ 0) ⊎ ((1 ≤ number) × HoldsCommit files number (rows_of number)) → OnOk result (Searches commit.new.searcher.segments (rows_of number)) }
-    ensures whole { (files : Files) → told_files (S.disk store.old) ≡ Some files → (number ≡ 0) ⊎ ((1 ≤ number) × ReadsCommit files number) → IfErr result IsOutside }
-    ensures damaged { (damaged : Damaged) → result ≡ Err (OpenFault.Damaged damaged) → (1 ≤ number) × IsDamagedIn (told_files (S.disk store.old)) number damaged }
+    ensures whole { (files : Files) → told_files (S.disk store.old) ≡ Some files
+        → (number ≡ 0) ⊎ ((1 ≤ number) × ReadsCommit files number) → IfErr result IsOutside }
+    ensures damaged { (damaged : Damaged) → result ≡ Err (OpenFault.Damaged damaged)
+        → (1 ≤ number) × IsDamagedIn (told_files (S.disk store.old)) number damaged }
     ensures reads { S.disk store.new ≡ S.disk store.old }
     ensures later { S.fault_count store.old ≤ S.fault_count store.new }
-    ensures failed { result ≡ Err OpenFault.Store → Rose (S.fault_count store.old) (S.fault_count store.new) }
+    ensures failed { result ≡ Err OpenFault.Store
+        → Rose (S.fault_count store.old) (S.fault_count store.new) }
     ensures others { IfErr result IsReadFault }
 {
     if commit.number == number {
@@ -97,11 +100,14 @@ pub fn line_text<S: Store>(
     ensures text { (files : Files) (rows_of : ℕ → List Row) → told_files (S.disk store.old) ≡ Some files → Searches commit.old.searcher.segments (rows_of commit.old.number) → rows_of 0 ≡ []
         → AnswerHolds files rows_of outcome.now.answer
         → IfOk result (λ text. (text.items ≡ outcome_text rows_of outcome.now) × Searches commit.new.searcher.segments (rows_of commit.new.number)) }
-    ensures whole { (files : Files) → told_files (S.disk store.old) ≡ Some files → AnswerReads files outcome.now.answer → IfErr result IsOutside }
-    ensures damaged { (damaged : Damaged) → result ≡ Err (OpenFault.Damaged damaged) → SearchesDamaged (told_files (S.disk store.old)) outcome.now.answer damaged }
+    ensures whole { (files : Files) → told_files (S.disk store.old) ≡ Some files
+        → AnswerReads files outcome.now.answer → IfErr result IsOutside }
+    ensures damaged { (damaged : Damaged) → result ≡ Err (OpenFault.Damaged damaged)
+        → SearchesDamaged (told_files (S.disk store.old)) outcome.now.answer damaged }
     ensures reads { S.disk store.new ≡ S.disk store.old }
     ensures later { S.fault_count store.old ≤ S.fault_count store.new }
-    ensures failed { result ≡ Err OpenFault.Store → Rose (S.fault_count store.old) (S.fault_count store.new) }
+    ensures failed { result ≡ Err OpenFault.Store
+        → Rose (S.fault_count store.old) (S.fault_count store.new) }
     ensures others { IfErr result IsReadFault }
 {
     let line = outcome.line;
@@ -126,7 +132,8 @@ fn or_no_memory(text: Result<Vec<u8>, NoMemory>) -> Result<Vec<u8>, OpenFault>
 
 /// The text of a line that searches nothing.
 fn plain_text(alloc: Global, line: u32, answer: &Answer) -> Result<Vec<u8>, NoMemory>
-    ensures { (rows_of : ℕ → List Row) → is_search answer.now ≡ false → IfOk result (λ text. text.items ≡ answer_text rows_of line answer.now) }
+    ensures { (rows_of : ℕ → List Row) → is_search answer.now ≡ false
+        → IfOk result (λ text. text.items ≡ answer_text rows_of line answer.now) }
 {
     match answer {
         Answer::Numbered(number) => write_text(alloc, line, *number),

@@ -22,7 +22,8 @@ fn add_rows(
     numbers: &[u32],
 ) -> Result<(), NoMemory>
     requires { length live.now.marks ≡ length rows.now }
-    ensures { OnOk result (found.new.items ≡ found.old.items ++ found_at rows.now live.now.marks numbers.now) }
+    ensures { OnOk result (found.new.items
+        ≡ found.old.items ++ found_at rows.now live.now.marks numbers.now) }
 {
     for number in numbers {
         if let Some(one) = shown(alloc, rows, live, *number)? {

@@ -41,12 +41,14 @@ impl Searcher {
         ensures whole { (files : Files) (next : ℕ) (rows : List Row) → told_files (S.disk store.old) ≡ Some files → Holds files number next rows
             → IfErr result IsOutside }
         // Which place is the first broken one.
-        ensures damaged { (damaged : Damaged) → result ≡ Err (OpenFault.Damaged damaged) → IsDamagedIn (told_files (S.disk store.old)) number damaged }
+        ensures damaged { (damaged : Damaged) → result ≡ Err (OpenFault.Damaged damaged)
+            → IsDamagedIn (told_files (S.disk store.old)) number damaged }
         // Where there is no such commit, this is said, and nowhere else.
         ensures no_such { TellsNone (told_files (S.disk store.old)) number result }
         ensures reads { S.disk store.new ≡ S.disk store.old }
         ensures later { S.fault_count store.old ≤ S.fault_count store.new }
-        ensures failed { result ≡ Err OpenFault.Store → Rose (S.fault_count store.old) (S.fault_count store.new) }
+        ensures failed { result ≡ Err OpenFault.Store
+            → Rose (S.fault_count store.old) (S.fault_count store.new) }
     {
         match open_commit(alloc, store, number) {
             Ok(opened) => Ok(Searcher {
@@ -68,11 +70,13 @@ impl Searcher {
         ensures whole { (files : Files) (next : ℕ) (rows : List Row) → told_files (S.disk store.old) ≡ Some files → Holds files number next rows
             → IfErr result IsOutside }
         // Which place is the first broken one.
-        ensures damaged { (damaged : Damaged) → result ≡ Err (OpenFault.Damaged damaged) → IsDamagedIn (told_files (S.disk store.old)) number damaged }
+        ensures damaged { (damaged : Damaged) → result ≡ Err (OpenFault.Damaged damaged)
+            → IsDamagedIn (told_files (S.disk store.old)) number damaged }
         ensures listed { (other : ℕ) → result ≡ Err (OpenFault.NoSuch other) → ⊥ }
         ensures reads { S.disk store.new ≡ S.disk store.old }
         ensures later { S.fault_count store.old ≤ S.fault_count store.new }
-        ensures failed { result ≡ Err OpenFault.Store → Rose (S.fault_count store.old) (S.fault_count store.new) }
+        ensures failed { result ≡ Err OpenFault.Store
+            → Rose (S.fault_count store.old) (S.fault_count store.new) }
     {
         match read_commit(alloc, store, number) {
             Ok(opened) => Ok(Searcher {
@@ -85,7 +89,8 @@ impl Searcher {
     /// What matches a query, in order of birth: of each such row its key and its numbers. Where each
     /// segment's postings are the inversion of its rows, these are the hits among the commit's rows.
     pub fn hits(&self, alloc: Global, query: &Query) -> Result<Vec<Hit>, NoMemory>
-        ensures { IfOk result (λ found. (rows : List Row) → Searches self.now.segments rows → found.items ≡ hits query.now rows) }
+        ensures { IfOk result (λ found. (rows : List Row) → Searches self.now.segments rows
+            → found.items ≡ hits query.now rows) }
     {
         hits_by_birth(alloc, found_in(alloc, query, self.segments.as_slice())?)
     }

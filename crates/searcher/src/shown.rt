@@ -41,7 +41,8 @@ pub fn shown(
     number: u32,
 ) -> Result<Option<Found>, NoMemory>
     requires { length live.now.marks ≡ length rows.now }
-    ensures { IfOk result (λ found. found ≡ option_map found_of (live_at rows.now live.now.marks number)) }
+    ensures { IfOk result (λ found.
+        found ≡ option_map found_of (live_at rows.now live.now.marks number)) }
 {
     let Some(row) = rows.get(number as usize) else {
         return Ok(None);

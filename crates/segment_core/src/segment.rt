@@ -18,7 +18,8 @@ impl Inverted for Segment {
     ghost use Rattle.ix_base.specs.Inversion.{IsInversion};
     ghost use Rattle.segment_core.specs.Segments.{documents};
 
-    ghost inverts = { λ segment docs. (docs ≡ documents segment.rows) × (length segment.rows < 2 ^ 32) × IsInversion docs segment.postings };
+    ghost inverts = { λ segment docs. (docs ≡ documents segment.rows)
+        × (length segment.rows < 2 ^ 32) × IsInversion docs segment.postings };
 
     fn rows(&self) -> u32 {
         self.rows.len().min(u32::MAX as usize) as u32
