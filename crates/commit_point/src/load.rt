@@ -53,7 +53,8 @@ pub(crate) fn read_head<S: Store>(
     store: &mut S,
     number: u64,
 ) -> Result<Head, OpenFault>
-    ensures found { IfOk result (λ head. Reads (told_files (S.disk store.old)) (Commit number) (Some (commit_file head))
+    ensures found { IfOk result (λ head.
+        Reads (told_files (S.disk store.old)) (Commit number) (Some (commit_file head))
         × (head.number ≡ number) × HeadFits head) }
     ensures damaged { (damaged : Damaged) → result ≡ Err (OpenFault.Damaged damaged)
         → IsBroken (told_files (S.disk store.old)) (Commit number) (head_in number) damaged }
@@ -82,7 +83,8 @@ fn read_rows<S: Store>(
     ensures found { IfOk result (λ rows.
         RowsRead (told_files (S.disk store.old)) number (contains nat_cmp earlier.now) entry rows) }
     ensures damaged { (damaged : Damaged) → result ≡ Err (OpenFault.Damaged damaged)
-        → RowsBroken (told_files (S.disk store.old)) number (contains nat_cmp earlier.now) entry damaged }
+        → RowsBroken (told_files (S.disk store.old)) number
+        (contains nat_cmp earlier.now) entry damaged }
     ensures listed { (other : ℕ) → result ≡ Err (OpenFault.NoSuch other) → ⊥ }
     ensures reads { S.disk store.new ≡ S.disk store.old }
     ensures later { S.fault_count store.old ≤ S.fault_count store.new }
@@ -211,7 +213,8 @@ fn read_segment<S: Store>(
         (contains nat_cmp earlier.now) entry segment) }
     // The first of the four files that is broken; those before it were read.
     ensures damaged { (damaged : Damaged) → result ≡ Err (OpenFault.Damaged damaged)
-        → SegmentBroken (told_files (S.disk store.old)) number (contains nat_cmp earlier.now) entry damaged }
+        → SegmentBroken (told_files (S.disk store.old)) number
+        (contains nat_cmp earlier.now) entry damaged }
     ensures listed { (other : ℕ) → result ≡ Err (OpenFault.NoSuch other) → ⊥ }
     ensures reads { S.disk store.new ≡ S.disk store.old }
     ensures later { S.fault_count store.old ≤ S.fault_count store.new }
@@ -250,7 +253,8 @@ fn take_in(
     segment: LiveSegment,
 ) -> Result<(), NoMemory>
     ensures births { OnOk result ((b : ℕ)
-        → contains nat_cmp earlier.new b ≡ (contains nat_cmp earlier.old b || has_birth segment.segment.rows b)) }
+        → contains nat_cmp earlier.new b
+        ≡ (contains nat_cmp earlier.old b || has_birth segment.segment.rows b)) }
     ensures segments { OnOk result (segments.new.items ≡ segments.old.items ++ segment ∷ []) }
 {
     add_births(earlier, segment.segment().rows.as_slice())?;
@@ -266,8 +270,10 @@ pub(crate) fn read_segments<S: Store>(
 ) -> Result<Vec<LiveSegment>, OpenFault>
     requires { HeadFits head.now }
     ensures found { (before : Files) → Was (told_files (S.disk store.old)) before
-        → IfOk result (λ segments. AreRead (told_files (S.disk store.old)) head.now before segments.items) }
-    ensures damaged { (before : Files) (damaged : Damaged) → Was (told_files (S.disk store.old)) before → result ≡ Err (OpenFault.Damaged damaged)
+        → IfOk result (λ segments.
+        AreRead (told_files (S.disk store.old)) head.now before segments.items) }
+    ensures damaged { (before : Files) (damaged : Damaged)
+        → Was (told_files (S.disk store.old)) before → result ≡ Err (OpenFault.Damaged damaged)
         → BreakAt (told_files (S.disk store.old)) head.now before damaged }
     ensures listed { (other : ℕ) → result ≡ Err (OpenFault.NoSuch other) → ⊥ }
     ensures reads { S.disk store.new ≡ S.disk store.old }

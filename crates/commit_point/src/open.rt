@@ -50,10 +50,12 @@ fn have_rows(segments: &[LiveSegment], docs: u64) -> bool
 /// Reads the commit of this number, whose commit file should be there.
 fn read_whole<S: Store>(alloc: Global, store: &mut S, number: u64) -> Result<Opened, OpenFault>
     ensures number { IfOk result (λ opened. opened.number ≡ number) }
-    ensures found { IfOk result (λ opened. (files : Files) × Was (told_files (S.disk store.old)) files
+    ensures found { IfOk result (λ opened. (files : Files)
+        × Was (told_files (S.disk store.old)) files
         × HasSegments files number opened.next_id opened.entries opened.segments) }
     ensures damaged { (damaged : Damaged) → result ≡ Err (OpenFault.Damaged damaged)
-        → (files : Files) × Was (told_files (S.disk store.old)) files × (reading files number ≡ Err damaged) }
+        → (files : Files) × Was (told_files (S.disk store.old)) files
+        × (reading files number ≡ Err damaged) }
     ensures listed { (other : ℕ) → result ≡ Err (OpenFault.NoSuch other) → ⊥ }
     ensures reads { S.disk store.new ≡ S.disk store.old }
     ensures later { S.fault_count store.old ≤ S.fault_count store.new }
@@ -81,18 +83,27 @@ fn read_whole<S: Store>(alloc: Global, store: &mut S, number: u64) -> Result<Ope
 pub fn read_commit<S: Store>(alloc: Global, store: &mut S, number: u64) -> Result<Opened, OpenFault>
     ensures number { IfOk result (λ opened. opened.number ≡ number) }
     // What is read is what the files spell.
-    ensures found { IfOk result (λ opened. (files : Files) × Was (told_files (S.disk store.old)) files
+    ensures found { IfOk result (λ opened. (files : Files)
+        × Was (told_files (S.disk store.old)) files
         × HasSegments files number opened.next_id opened.entries opened.segments) }
     // What the files spell is read, unless the store fails or memory runs out.
     ensures only { (files : Files) (next : ℕ) (entries : List HeadSegment) (segments : List Lived)
-        → told_files (S.disk store.old) ≡ Some files → HasSegments files number next entries segments
-        → IfOk result (λ opened. opened ≡ record { number = number; next_id = next; entries = entries; segments = segments }) }
+        → told_files (S.disk store.old) ≡ Some files
+        → HasSegments files number next entries segments
+        → IfOk result (λ opened.
+        opened ≡ record {
+          number = number;
+          next_id = next;
+          entries = entries;
+          segments = segments;
+        }) }
     ensures whole { (files : Files) (next : ℕ) (entries : List HeadSegment) (segments : List Lived)
-        → told_files (S.disk store.old) ≡ Some files → HasSegments files number next entries segments
-        → IfErr result IsOutside }
+        → told_files (S.disk store.old) ≡ Some files
+        → HasSegments files number next entries segments → IfErr result IsOutside }
     // Which place is the first broken one.
     ensures damaged { (damaged : Damaged) → result ≡ Err (OpenFault.Damaged damaged)
-        → (files : Files) × Was (told_files (S.disk store.old)) files × (reading files number ≡ Err damaged) }
+        → (files : Files) × Was (told_files (S.disk store.old)) files
+        × (reading files number ≡ Err damaged) }
     ensures listed { (other : ℕ) → result ≡ Err (OpenFault.NoSuch other) → ⊥ }
     ensures reads { S.disk store.new ≡ S.disk store.old }
     ensures later { S.fault_count store.old ≤ S.fault_count store.new }
@@ -104,7 +115,8 @@ pub fn read_commit<S: Store>(alloc: Global, store: &mut S, number: u64) -> Resul
 
 /// Whether the store's list has the commit of this number.
 fn is_listed<S: Store>(alloc: Global, store: &mut S, number: u64) -> Result<bool, OpenFault>
-    ensures told { IfOk result (λ listed. (files : Files) → told_files (S.disk store.old) ≡ Some files
+    ensures told { IfOk result (λ listed. (files : Files)
+        → told_files (S.disk store.old) ≡ Some files
         → (IsTrue listed ↔ IsSome (files (Commit number)))) }
     ensures fault { IfErr result IsOutside }
     ensures reads { S.disk store.new ≡ S.disk store.old }
@@ -126,13 +138,14 @@ pub fn head<S: Store>(alloc: Global, store: &mut S, number: u64) -> Result<Head,
     ensures found { IfOk result (λ head. (files : Files) × Was (told_files (S.disk store.old)) files
         × HasHead files number head) }
     // What the file spells is read, unless the store fails or memory runs out.
-    ensures only { (files : Files) (head : Head) → told_files (S.disk store.old) ≡ Some files → HasHead files number head
-        → IfOk result (λ read. read ≡ head) }
-    ensures whole { (files : Files) (head : Head) → told_files (S.disk store.old) ≡ Some files → HasHead files number head
-        → IfErr result IsOutside }
+    ensures only { (files : Files) (head : Head) → told_files (S.disk store.old) ≡ Some files
+        → HasHead files number head → IfOk result (λ read. read ≡ head) }
+    ensures whole { (files : Files) (head : Head) → told_files (S.disk store.old) ≡ Some files
+        → HasHead files number head → IfErr result IsOutside }
     // Which place is the first broken one.
     ensures damaged { (damaged : Damaged) → result ≡ Err (OpenFault.Damaged damaged)
-        → (files : Files) × Was (told_files (S.disk store.old)) files × (head_from files number ≡ Err damaged) }
+        → (files : Files) × Was (told_files (S.disk store.old)) files
+        × (head_from files number ≡ Err damaged) }
     // Where there is no such commit, this is said, and nowhere else.
     ensures no_such { TellsNone (told_files (S.disk store.old)) number result }
     ensures reads { S.disk store.new ≡ S.disk store.old }
@@ -151,18 +164,27 @@ pub fn head<S: Store>(alloc: Global, store: &mut S, number: u64) -> Result<Head,
 pub fn open_commit<S: Store>(alloc: Global, store: &mut S, number: u64) -> Result<Opened, OpenFault>
     ensures number { IfOk result (λ opened. opened.number ≡ number) }
     // What is read is what the files spell.
-    ensures found { IfOk result (λ opened. (files : Files) × Was (told_files (S.disk store.old)) files
+    ensures found { IfOk result (λ opened. (files : Files)
+        × Was (told_files (S.disk store.old)) files
         × HasSegments files number opened.next_id opened.entries opened.segments) }
     // What the files spell is read, unless the store fails or memory runs out.
     ensures only { (files : Files) (next : ℕ) (entries : List HeadSegment) (segments : List Lived)
-        → told_files (S.disk store.old) ≡ Some files → HasSegments files number next entries segments
-        → IfOk result (λ opened. opened ≡ record { number = number; next_id = next; entries = entries; segments = segments }) }
+        → told_files (S.disk store.old) ≡ Some files
+        → HasSegments files number next entries segments
+        → IfOk result (λ opened.
+        opened ≡ record {
+          number = number;
+          next_id = next;
+          entries = entries;
+          segments = segments;
+        }) }
     ensures whole { (files : Files) (next : ℕ) (entries : List HeadSegment) (segments : List Lived)
-        → told_files (S.disk store.old) ≡ Some files → HasSegments files number next entries segments
-        → IfErr result IsOutside }
+        → told_files (S.disk store.old) ≡ Some files
+        → HasSegments files number next entries segments → IfErr result IsOutside }
     // Which place is the first broken one.
     ensures damaged { (damaged : Damaged) → result ≡ Err (OpenFault.Damaged damaged)
-        → (files : Files) × Was (told_files (S.disk store.old)) files × (reading files number ≡ Err damaged) }
+        → (files : Files) × Was (told_files (S.disk store.old)) files
+        × (reading files number ≡ Err damaged) }
     // Where there is no such commit, this is said, and nowhere else.
     ensures no_such { TellsNone (told_files (S.disk store.old)) number result }
     ensures reads { S.disk store.new ≡ S.disk store.old }

@@ -55,8 +55,10 @@ fn name_file<S: Store>(
     requires apart { pending ≢ last }
     ensures disk { Does (RenamedStep pending last ∷ SettledStep ∷ []) (S.disk store.old)
         (S.disk store.new) result }
-    ensures renamed { IfErr result (λ refused. Told (λ old new. Refuses [] (RenamedStep pending last) refused.fault refused.renamed old new)
-        (S.disk store.old) (S.disk store.new)) }
+    ensures renamed { IfErr result (λ refused.
+        Told (λ old new. Refuses []
+        (RenamedStep pending last) refused.fault refused.renamed old new) (S.disk store.old)
+        (S.disk store.new)) }
     ensures cause { BlamesRefusal (S.fault_count store.old) (S.fault_count store.new) result }
 {
     if let Err(fault) = store.rename(pending, last) {
@@ -82,8 +84,10 @@ fn put_last<S: Store>(
     requires apart { pending ≢ last }
     ensures disk { Does (puts pending bytes.now ++ (RenamedStep pending last ∷ SettledStep ∷ []))
         (S.disk store.old) (S.disk store.new) result }
-    ensures renamed { IfErr result (λ refused. Told (λ old new. Refuses (puts pending bytes.now) (RenamedStep pending last) refused.fault refused.renamed old new)
-        (S.disk store.old) (S.disk store.new)) }
+    ensures renamed { IfErr result (λ refused.
+        Told (λ old new. Refuses (puts pending bytes.now)
+        (RenamedStep pending last) refused.fault refused.renamed old new) (S.disk store.old)
+        (S.disk store.new)) }
     ensures cause { BlamesRefusal (S.fault_count store.old) (S.fault_count store.new) result }
 {
     match put_file(store, pending, bytes) {
@@ -106,8 +110,10 @@ pub(crate) fn publish<S: Store>(
     requires apart { pending ≢ last }
     ensures disk { Does (publishes list.now pending last bytes.now) (S.disk store.old)
         (S.disk store.new) result }
-    ensures renamed { IfErr result (λ refused. Told (λ old new. Refuses (puts_all list.now ++ puts pending bytes.now) (RenamedStep pending last) refused.fault refused.renamed old new)
-        (S.disk store.old) (S.disk store.new)) }
+    ensures renamed { IfErr result (λ refused.
+        Told (λ old new. Refuses (puts_all list.now ++ puts pending bytes.now)
+        (RenamedStep pending last) refused.fault refused.renamed old new) (S.disk store.old)
+        (S.disk store.new)) }
     ensures cause { BlamesRefusal (S.fault_count store.old) (S.fault_count store.new) result }
 {
     match put_files(store, list) {

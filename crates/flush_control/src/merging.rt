@@ -132,8 +132,9 @@ fn read_all(merge: &mut Merge, segments: &[LiveSegment], ids: &[u64]) -> Result<
     requires sources { IsOf merge.old segments.now }
     requires ids { merge.old.ids.items ≡ ids.now }
     ensures ids { merge.new.ids.items ≡ ids.now }
-    ensures read { (sources : ListOf Lived) (count : ℕ) → Sources segments.now ids.now sources →
-        HasRead merge.old sources count → OnOk result (HasRead merge.new sources (row_count sources)) }
+    ensures read { (sources : ListOf Lived) (count : ℕ) → Sources segments.now ids.now sources
+        → HasRead merge.old sources count
+        → OnOk result (HasRead merge.new sources (row_count sources)) }
 {
     'reading: loop {
         match merge.step(segments, STEP_ROWS)? {

@@ -147,8 +147,9 @@ pub fn top<R: Threads + Wait + Sync, I: Source, O: Sink, S: Store, G: Gate>(
     // Each commit is listed, with the documents that its commit file tells.
     ensures lists { (files : Files) → command_of words.now ≡ Some command.List
         → told_files (S.disk store) ≡ Some files → IsOneOf result.status (0 ∷ 6 ∷ [])
-        → (text : List ℕ) × IsListOf files text × WritesFront (O.written out.old) (O.written out.new)
-        (O.fault_count out.old) (O.fault_count out.new) text }
+        → (text : List ℕ) × IsListOf files text
+        × WritesFront (O.written out.old) (O.written out.new) (O.fault_count out.old)
+        (O.fault_count out.new) text }
     ensures end { (c : Command) → command_of words.now ≡ Some c → ReadsInput c → result.status ≡ 0
         → IsAtEnd (I.left input.new) }
     // No more of the input is read than what shows that it is too long, and none at words that are no
@@ -190,8 +191,9 @@ fn write_text<O: Sink>(out: &mut O, text: &[u8]) -> u8
 fn tell<O: Sink>(out: &mut O, stop: Stop) -> u8
     ensures status { result ≡ stop_status stop }
     ensures nothing { stop ≡ Stop.NoMemory → O.written out.new ≡ O.written out.old }
-    ensures front { (f : Fault) → stop ≡ Stop.Fault f → WritesFront (O.written out.old) (O.written out.new)
-        (O.fault_count out.old) (O.fault_count out.new) (fault_text f) }
+    ensures front { (f : Fault) → stop ≡ Stop.Fault f
+        → WritesFront (O.written out.old) (O.written out.new) (O.fault_count out.old)
+        (O.fault_count out.new) (fault_text f) }
 {
     let Stop::Fault(fault) = stop else {
         return NO_MEMORY;

@@ -28,8 +28,10 @@ pub fn outcomes_of(
 ) -> Result<Vec<Outcome>, NoMemory>
     requires told { (lines : List Line) × (log : List Line)
         × CanTell base lines log places.items shares.items commits.now }
-    ensures outcomes { (lines log : List Line) → CanTell base lines log places.items shares.items commits.now
-        → IfOk result (λ outcomes. AreOutcomes (IsCounted commits.now) base log [] lines outcomes.items) }
+    ensures outcomes { (lines log : List Line)
+        → CanTell base lines log places.items shares.items commits.now
+        → IfOk result (λ outcomes.
+        AreOutcomes (IsCounted commits.now) base log [] lines outcomes.items) }
 {
     let mut lasts = [base; 256];
     let mut told = replies_of(alloc, shares)?;
@@ -58,8 +60,8 @@ fn outcome_of(
     told: &mut Vec<vec::IntoIter<Reply>>,
     commits: &[(u64, u64)],
 ) -> Outcome
-    requires far { (base : ℕ) × (log : List Line) × (done : List Line) × (l : Line) × (rest : List Line)
-        × (place ≡ place_of l) × AreCommits base log commits.now
+    requires far { (base : ℕ) × (log : List Line) × (done : List Line) × (l : Line)
+        × (rest : List Line) × (place ≡ place_of l) × AreCommits base log commits.now
         × IsSoFar base log done (l ∷ rest) lasts.old told.old.items }
     ensures outcome { (base : ℕ) (log done : List Line) (l : Line) (rest : List Line)
         → place ≡ place_of l → AreCommits base log commits.now
@@ -81,10 +83,12 @@ fn outcome_of(
 
 /// The reply to the next line of this caller.
 fn next_reply(told: &mut Vec<vec::IntoIter<Reply>>, caller: u8) -> Reply
-    requires left { (base : ℕ) × (log : List Line) × (l : Line) × (rest : List Line) × (l.caller ≡ caller)
-        × (is_doing l.act ≡ true) × AreLeft base log (l ∷ rest) told.old.items }
+    requires left { (base : ℕ) × (log : List Line) × (l : Line) × (rest : List Line)
+        × (l.caller ≡ caller) × (is_doing l.act ≡ true)
+        × AreLeft base log (l ∷ rest) told.old.items }
     ensures reply { (base : ℕ) (log : List Line) (l : Line) (rest : List Line) → l.caller ≡ caller
-        → is_doing l.act ≡ true → AreLeft base log (l ∷ rest) told.old.items → IsReplyFor base log l result }
+        → is_doing l.act ≡ true → AreLeft base log (l ∷ rest) told.old.items
+        → IsReplyFor base log l result }
     ensures left { (base : ℕ) (log : List Line) (l : Line) (rest : List Line) → l.caller ≡ caller
         → is_doing l.act ≡ true → AreLeft base log (l ∷ rest) told.old.items
         → AreLeft base log rest told.new.items }

@@ -98,7 +98,8 @@ fn end_round<R: Threads + Sync, S: Store>(
     requires pending { writer.old.state.pending ≡ None }
     requires parts { (told : List (List Numbered))
         × ArePartsOf writer.old.state.published.upto told parts }
-    ensures ended { (told : List (List Numbered)) → ArePartsOf writer.old.state.published.upto told parts
+    ensures ended { (told : List (List Numbered))
+        → ArePartsOf writer.old.state.published.upto told parts
         → IfOk result (λ end. EndsMerged told end writer.old.state writer.new.state) }
     ensures sound { IsSound writer.new.state }
     ensures store { writer.new.store ≡ writer.old.store }
@@ -126,11 +127,13 @@ fn finish_round<R: Threads + Sync, S: Store>(
     writer: &mut IndexWriter<S>,
     parts: RoundParts,
 ) -> Result<Option<CommitInfo>, WriterFault>
-    requires round { (r : Run) × (lines : List Line) × (olds : List Share) × (news : List Share) × (log : List Line)
+    requires round { (r : Run) × (lines : List Line) × (olds : List Share) × (news : List Share)
+        × (log : List Line)
         × IsRound r lines olds news log writer.old.state parts (S.disk writer.old.store) }
     ensures ends { (r : Run) (lines : List Line) (olds news : List Share) (log : List Line)
         → IsRound r lines olds news log writer.old.state parts (S.disk writer.old.store)
-        → IfOk result (λ commit. EndsRound r lines news log commit writer.new.state (S.disk writer.new.store)) }
+        → IfOk result (λ commit.
+        EndsRound r lines news log commit writer.new.state (S.disk writer.new.store)) }
     ensures cut { (r : Run) (lines : List Line) (olds news : List Share) (log : List Line)
         → IsRound r lines olds news log writer.old.state parts (S.disk writer.old.store)
         → OnErr result (IsCut r lines (S.disk writer.new.store)) }
@@ -167,7 +170,8 @@ pub fn do_round<R: Threads + Wait + Sync, S: Store, G: Gate>(
     shares: Vec<Share>,
 ) -> Result<(Vec<Share>, Option<CommitInfo>), WriterFault>
     requires threads { (1 ≤ threads) × (threads ≤ 16) }
-    requires come { (r : Run) × (lines : List Line) × (commits : List (ℕ × ℕ)) × (r.workers ≡ threads)
+    requires come { (r : Run) × (lines : List Line) × (commits : List (ℕ × ℕ))
+        × (r.workers ≡ threads)
         × HasCome r lines shares.items commits writer.old.state (S.disk writer.old.store) }
     ensures come { (r : Run) (lines : List Line) (commits : List (ℕ × ℕ)) → r.workers ≡ threads
         → HasCome r lines shares.items commits writer.old.state (S.disk writer.old.store)

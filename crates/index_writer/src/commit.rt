@@ -46,7 +46,8 @@ impl<S: Store> IndexWriter<S> {
         ensures made { self.old.state.published.next_id ≤ 2 ^ 62
             → OnOk result (Changes (Commits self.old.state self.new.state)
             (told_files (S.disk self.old.store)) (told_files (S.disk self.new.store))) }
-        ensures elsewhere { OnErr result (Changes (SameBelow self.old.state.published.upto self.old.state.since)
+        ensures elsewhere { OnErr result (Changes
+            (SameBelow self.old.state.published.upto self.old.state.since)
             (told_files (S.disk self.old.store)) (told_files (S.disk self.new.store))) }
         // Once it is acknowledged every image has the commit whole; a crash meanwhile leaves it whole or not at all.
         ensures acknowledged { self.old.state.published.next_id ≤ 2 ^ 62
@@ -64,9 +65,10 @@ impl<S: Store> IndexWriter<S> {
         ensures closed { (result ≡ Err WriterFault.Closed) ↔ IsTrue self.old.state.closed }
         ensures kept { IsTrue self.old.state.closed → self.new ≡ self.old }
         ensures closes { result ≡ Err WriterFault.Store → IsTrue self.new.state.closed }
-        ensures renamed { (files : Files) (now : Files) → told_files (S.disk self.old.store) ≡ Some files
-            → files (Commit self.old.state.published.upto) ≡ None → told_files (S.disk self.new.store) ≡ Some now
-            → result ≡ Err WriterFault.NoMemory
+        ensures renamed { (files : Files) (now : Files)
+            → told_files (S.disk self.old.store) ≡ Some files
+            → files (Commit self.old.state.published.upto) ≡ None
+            → told_files (S.disk self.new.store) ≡ Some now → result ≡ Err WriterFault.NoMemory
             → (IsTrue self.new.state.closed ↔ IsSome (now (Commit self.old.state.published.upto))) }
         ensures later { S.fault_count self.old.store ≤ S.fault_count self.new.store }
         ensures failed { result ≡ Err WriterFault.Store
@@ -120,7 +122,8 @@ impl State {
         ensures failed { refused.fault ≡ StoreFault.Failed
             → (result ≡ WriterFault.Store) × (self.new ≡ record self.old { closed = true }) }
         ensures no_memory { refused.fault ≡ StoreFault.NoMemory
-            → (result ≡ WriterFault.NoMemory) × (self.new ≡ record self.old { closed = refused.renamed }) }
+            → (result ≡ WriterFault.NoMemory)
+            × (self.new ≡ record self.old { closed = refused.renamed }) }
     {
         match refused.fault {
             StoreFault::Failed => {

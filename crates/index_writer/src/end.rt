@@ -45,7 +45,8 @@ impl<S> IndexWriter<S> {
         ensures kept { IsTrue self.old.state.closed → self.new ≡ self.old }
         // Out of memory: it is closed now.
         ensures err { self.old.state.closed ≡ false
-            → IfErr result (λ refused. refused ≡ record { parts = None; fault = WriterFault.NoMemory }) }
+            → IfErr result (λ refused.
+            refused ≡ record { parts = None; fault = WriterFault.NoMemory }) }
         ensures closes { OnErr result (IsTrue self.new.state.closed) }
         ensures left { self.old.state.closed ≡ false → OnErr result (self.new.state.out ≡ false) }
         ensures upto { OnErr result (self.new.state.published.upto
@@ -85,7 +86,8 @@ impl State {
         requires ready { IsReady self.old }
         requires parts { (told : List (List Numbered))
             × ArePartsOf self.old.published.upto told parts }
-        ensures ended { (told : List (List Numbered)) → ArePartsOf self.old.published.upto told parts
+        ensures ended { (told : List (List Numbered))
+            → ArePartsOf self.old.published.upto told parts
             → IfOk result (λ end. Ends told end self.old self.new) }
         ensures ready { OnOk result (IsReady self.new) }
         ensures upto { OnErr result (self.new.published.upto ≡ self.old.published.upto) }
@@ -107,7 +109,8 @@ impl State {
         requires ready { IsReady self.old }
         requires gathered { (told : List (List Numbered))
             × IsGathered self.old.published.upto told gathered }
-        ensures ended { (told : List (List Numbered)) → IsGathered self.old.published.upto told gathered
+        ensures ended { (told : List (List Numbered))
+            → IsGathered self.old.published.upto told gathered
             → IfOk result (λ end. Ends told end self.old self.new) }
         ensures ready { OnOk result (IsReady self.new) }
         ensures upto { OnErr result (self.new.published.upto ≡ self.old.published.upto) }

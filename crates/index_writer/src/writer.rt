@@ -27,8 +27,12 @@ impl<S> IndexWriter<S> {
         requires merge { (2 ≤ merge) × (merge ≤ 64) }
         ensures store { result.store ≡ store }
         ensures ready { IsReady result.state }
-        ensures state { result.state
-            ≡ opened_on (record { number = 0; next_id = 1; entries = []; segments = [] }) buffer merge }
+        ensures state { result.state ≡ opened_on (record {
+          number = 0;
+          next_id = 1;
+          entries = [];
+          segments = [];
+        }) buffer merge }
     {
         IndexWriter {
             store,

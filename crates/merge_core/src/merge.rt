@@ -61,8 +61,8 @@ impl Merge {
     /// A merge of the segments with these ids, of which nothing was read yet.
     pub fn start(alloc: Global, ids: Vec<u64>) -> Result<Merge, NoMemory>
         ensures ids { IfOk result (λ merge. merge.ids.items ≡ ids.items) }
-        ensures read { (segments sources : ListOf Lived) → Sources segments ids.items sources → CanMerge sources →
-            IfOk result (λ merge. HasRead merge sources 0) }
+        ensures read { (segments sources : ListOf Lived) → Sources segments ids.items sources
+            → CanMerge sources → IfOk result (λ merge. HasRead merge sources 0) }
     {
         let next = vec![in alloc; 0; ids.len()]?;
         Ok(Merge {
@@ -123,8 +123,8 @@ impl Merge {
         requires read { let sources = filter_map (slice_get segments.now) places.now in
             (count : ℕ) × HasRead self.old sources count }
         ensures ids { self.new.ids.items ≡ self.old.ids.items }
-        ensures ok { let sources = filter_map (slice_get segments.now) places.now in
-            (count : ℕ) → HasRead self.old sources count → IfOk result (ReadOne self.new sources count) }
+        ensures ok { let sources = filter_map (slice_get segments.now) places.now in (count : ℕ)
+            → HasRead self.old sources count → IfOk result (ReadOne self.new sources count) }
         ensures err { OnErr result (SameReading self.old self.new) }
     {
         match next_source(segments, places, self.next.as_slice()) {
@@ -154,10 +154,12 @@ impl Merge {
     pub fn step(&mut self, segments: &[LiveSegment], rows: u32) -> Result<Step, NoMemory>
         requires { IsOf self.old segments.now }
         ensures ids { self.new.ids.items ≡ self.old.ids.items }
-        ensures ok { (sources : ListOf Lived) (count : ℕ) → Sources segments.now self.old.ids.items sources →
-            HasRead self.old sources count → IfOk result (IsStep self.new sources (count + rows)) }
-        ensures err { (sources : ListOf Lived) (count : ℕ) → Sources segments.now self.old.ids.items sources →
-            HasRead self.old sources count → OnErr result (HasReadWithin self.new sources count (count + rows)) }
+        ensures ok { (sources : ListOf Lived) (count : ℕ)
+            → Sources segments.now self.old.ids.items sources → HasRead self.old sources count
+            → IfOk result (IsStep self.new sources (count + rows)) }
+        ensures err { (sources : ListOf Lived) (count : ℕ)
+            → Sources segments.now self.old.ids.items sources → HasRead self.old sources count
+            → OnErr result (HasReadWithin self.new sources count (count + rows)) }
     {
         let places = places_of(self.alloc, segments, self.ids.as_slice())?;
         for row in 0..rows {
@@ -171,8 +173,9 @@ impl Merge {
     /// The segment that the sources are merged into.
     fn merged(&self, segments: &[LiveSegment], id: u64) -> Result<Option<LiveSegment>, NoMemory>
         requires { CanFinish self.now segments.now }
-        ensures { (sources : ListOf Lived) (applied : ℕ) → Sources segments.now self.now.ids.items sources →
-            AreAt applied sources → IfOk result (Merged sources id applied) }
+        ensures { (sources : ListOf Lived) (applied : ℕ)
+            → Sources segments.now self.now.ids.items sources → AreAt applied sources
+            → IfOk result (Merged sources id applied) }
     {
         let places = places_of(self.alloc, segments, self.ids.as_slice())?;
         if places.is_empty() {
@@ -204,8 +207,9 @@ impl Merge {
         id: u64,
     ) -> Result<Option<LiveSegment>, MergeRefused>
         requires { CanFinish self segments.now }
-        ensures merged { (sources : ListOf Lived) (applied : ℕ) → Sources segments.now self.ids.items sources →
-            AreAt applied sources → IfOk result (Merged sources id applied) }
+        ensures merged { (sources : ListOf Lived) (applied : ℕ)
+            → Sources segments.now self.ids.items sources → AreAt applied sources
+            → IfOk result (Merged sources id applied) }
         ensures refused { IfErr result (λ refused. refused.merge ≡ self) }
     {
         match self.merged(segments, id) {

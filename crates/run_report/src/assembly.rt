@@ -67,12 +67,15 @@ fn texts_in_turn<S: Store>(
     turns: &[Turn],
 ) -> Result<Vec<Vec<u8>>, OpenFault>
     requires { IsOrderOf (length outcomes.now) turns.now }
-    ensures texts { (files : Files) (rows_of : ℕ → List Row) → told_files (S.disk store.old) ≡ Some files → CanSearch files rows_of outcomes.now
-        → IfOk result (λ made. map (λ text. text.items) made.items ≡ map (outcome_text rows_of) outcomes.now) }
+    ensures texts { (files : Files) (rows_of : ℕ → List Row)
+        → told_files (S.disk store.old) ≡ Some files → CanSearch files rows_of outcomes.now
+        → IfOk result (λ made.
+        map (λ text. text.items) made.items ≡ map (outcome_text rows_of) outcomes.now) }
     ensures whole { (files : Files) → told_files (S.disk store.old) ≡ Some files
         → CanRead files outcomes.now → IfErr result IsOutside }
     ensures damaged { (damaged : Damaged) → result ≡ Err (OpenFault.Damaged damaged)
-        → (outcome : Outcome) × Contains outcomes.now outcome × SearchesDamaged (told_files (S.disk store.old)) outcome.answer damaged }
+        → (outcome : Outcome) × Contains outcomes.now outcome
+        × SearchesDamaged (told_files (S.disk store.old)) outcome.answer damaged }
     ensures reads { S.disk store.new ≡ S.disk store.old }
     ensures later { S.fault_count store.old ≤ S.fault_count store.new }
     ensures failed { result ≡ Err OpenFault.Store
@@ -115,12 +118,14 @@ pub fn report<S: Store>(
     store: &mut S,
     outcomes: &[Outcome],
 ) -> Result<Vec<u8>, OpenFault>
-    ensures text { (files : Files) (rows_of : ℕ → List Row) → told_files (S.disk store.old) ≡ Some files → CanSearch files rows_of outcomes.now
+    ensures text { (files : Files) (rows_of : ℕ → List Row)
+        → told_files (S.disk store.old) ≡ Some files → CanSearch files rows_of outcomes.now
         → IfOk result (λ bytes. bytes.items ≡ texts rows_of outcomes.now) }
     ensures whole { (files : Files) → told_files (S.disk store.old) ≡ Some files
         → CanRead files outcomes.now → IfErr result IsOutside }
     ensures damaged { (damaged : Damaged) → result ≡ Err (OpenFault.Damaged damaged)
-        → (outcome : Outcome) × Contains outcomes.now outcome × SearchesDamaged (told_files (S.disk store.old)) outcome.answer damaged }
+        → (outcome : Outcome) × Contains outcomes.now outcome
+        × SearchesDamaged (told_files (S.disk store.old)) outcome.answer damaged }
     ensures reads { S.disk store.new ≡ S.disk store.old }
     ensures later { S.fault_count store.old ≤ S.fault_count store.new }
     ensures failed { result ≡ Err OpenFault.Store

@@ -48,8 +48,11 @@ fn reopen<S: Store>(
     number: u64,
 ) -> Result<(), OpenFault>
     ensures number { OnOk result (commit.new.number ≡ number) }
-    ensures rows { (files : Files) (rows_of : ℕ → List Row) → told_files (S.disk store.old) ≡ Some files → Searches commit.old.searcher.segments (rows_of commit.old.number) → rows_of 0 ≡ []
-        → (number ≡ 0) ⊎ ((1 ≤ number) × HoldsCommit files number (rows_of number)) → OnOk result (Searches commit.new.searcher.segments (rows_of number)) }
+    ensures rows { (files : Files) (rows_of : ℕ → List Row)
+        → told_files (S.disk store.old) ≡ Some files
+        → Searches commit.old.searcher.segments (rows_of commit.old.number) → rows_of 0 ≡ []
+        → (number ≡ 0) ⊎ ((1 ≤ number) × HoldsCommit files number (rows_of number))
+        → OnOk result (Searches commit.new.searcher.segments (rows_of number)) }
     ensures whole { (files : Files) → told_files (S.disk store.old) ≡ Some files
         → (number ≡ 0) ⊎ ((1 ≤ number) × ReadsCommit files number) → IfErr result IsOutside }
     ensures damaged { (damaged : Damaged) → result ≡ Err (OpenFault.Damaged damaged)
@@ -84,7 +87,8 @@ fn found_text(
     line: u32,
 ) -> Result<Vec<u8>, NoMemory>
     ensures { (rows : List Row) → Searches commit.now.searcher.segments rows
-        → IfOk result (λ text. text.items ≡ text_line (search_value commit.now.number (hits query.now rows) line)) }
+        → IfOk result (λ text.
+        text.items ≡ text_line (search_value commit.now.number (hits query.now rows) line)) }
 {
     let found = commit.searcher.hits(alloc, query)?;
     search_text(alloc, commit.number, found.as_slice(), line)
@@ -97,9 +101,12 @@ pub fn line_text<S: Store>(
     commit: &mut SearchedCommit,
     outcome: &Outcome,
 ) -> Result<Vec<u8>, OpenFault>
-    ensures text { (files : Files) (rows_of : ℕ → List Row) → told_files (S.disk store.old) ≡ Some files → Searches commit.old.searcher.segments (rows_of commit.old.number) → rows_of 0 ≡ []
+    ensures text { (files : Files) (rows_of : ℕ → List Row)
+        → told_files (S.disk store.old) ≡ Some files
+        → Searches commit.old.searcher.segments (rows_of commit.old.number) → rows_of 0 ≡ []
         → AnswerHolds files rows_of outcome.now.answer
-        → IfOk result (λ text. (text.items ≡ outcome_text rows_of outcome.now) × Searches commit.new.searcher.segments (rows_of commit.new.number)) }
+        → IfOk result (λ text. (text.items ≡ outcome_text rows_of outcome.now)
+        × Searches commit.new.searcher.segments (rows_of commit.new.number)) }
     ensures whole { (files : Files) → told_files (S.disk store.old) ≡ Some files
         → AnswerReads files outcome.now.answer → IfErr result IsOutside }
     ensures damaged { (damaged : Damaged) → result ≡ Err (OpenFault.Damaged damaged)

@@ -36,9 +36,11 @@ impl Searcher {
     /// Opens the commit of this number. It returns `NoSuch` exactly where the store's list lacks the
     /// number. The store is as before, whatever is returned.
     pub fn open<S: Store>(alloc: Global, store: &mut S, number: u64) -> Result<Searcher, OpenFault>
-        ensures rows { (files : Files) (next : ℕ) (rows : List Row) → told_files (S.disk store.old) ≡ Some files → HoldsInverted files number next rows
+        ensures rows { (files : Files) (next : ℕ) (rows : List Row)
+            → told_files (S.disk store.old) ≡ Some files → HoldsInverted files number next rows
             → IfOk result (λ searcher. Searches searcher.segments rows) }
-        ensures whole { (files : Files) (next : ℕ) (rows : List Row) → told_files (S.disk store.old) ≡ Some files → Holds files number next rows
+        ensures whole { (files : Files) (next : ℕ) (rows : List Row)
+            → told_files (S.disk store.old) ≡ Some files → Holds files number next rows
             → IfErr result IsOutside }
         // Which place is the first broken one.
         ensures damaged { (damaged : Damaged) → result ≡ Err (OpenFault.Damaged damaged)
@@ -65,9 +67,11 @@ impl Searcher {
         store: &mut S,
         number: u64,
     ) -> Result<Searcher, OpenFault>
-        ensures rows { (files : Files) (next : ℕ) (rows : List Row) → told_files (S.disk store.old) ≡ Some files → HoldsInverted files number next rows
+        ensures rows { (files : Files) (next : ℕ) (rows : List Row)
+            → told_files (S.disk store.old) ≡ Some files → HoldsInverted files number next rows
             → IfOk result (λ searcher. Searches searcher.segments rows) }
-        ensures whole { (files : Files) (next : ℕ) (rows : List Row) → told_files (S.disk store.old) ≡ Some files → Holds files number next rows
+        ensures whole { (files : Files) (next : ℕ) (rows : List Row)
+            → told_files (S.disk store.old) ≡ Some files → Holds files number next rows
             → IfErr result IsOutside }
         // Which place is the first broken one.
         ensures damaged { (damaged : Damaged) → result ≡ Err (OpenFault.Damaged damaged)
