@@ -21,6 +21,7 @@ pub use fault::{CommitRefused, OpenFault};
 pub use heads::{Head, HeadSegment};
 pub use listing::list_commits;
 pub use open::{Opened, head, open_commit, read_commit};
+pub use prepare::{is_alive, version};
 pub use write::write_commit;
 pub use written::Written;
 

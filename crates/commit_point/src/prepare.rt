@@ -28,8 +28,8 @@ pub(crate) struct Prepared {
     pub files: List<(FileName, List<u8>)>,
 }
 
-/// Whether a row of the segment is live.
-fn is_alive(segment: &LiveSegment) -> bool
+/// Whether a row of the segment is live. A commit lists such segments alone.
+pub fn is_alive(segment: &LiveSegment) -> bool
     ensures { result ≡ is_alive segment.now }
 {
     segment.live().live_count() > 0
@@ -59,7 +59,7 @@ fn is_same(written: &Option<Written>, segment: &LiveSegment) -> bool
 
 /// The commit with which the live docs of the segment are written: this one, unless they are as
 /// they were written before.
-fn version(number: u64, written: &Option<Written>, segment: &LiveSegment) -> u64
+pub fn version(number: u64, written: &Option<Written>, segment: &LiveSegment) -> u64
     ensures { result ≡ version number written.now segment.now }
 {
     match written {

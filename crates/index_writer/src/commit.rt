@@ -10,7 +10,7 @@ ghost use Rattle.ix_outside.specs.Crash.{MayHold};
 ghost use Rattle.ix_outside.specs.Disk.{told_files};
 ghost use Rattle.ix_outside.specs.Files.{Files, Changes};
 ghost use Rattle.ix_outside.specs.Images.{Follows, Reaches};
-ghost use Rattle.commit_point.specs.Writing.{is_alive, listed, version};
+ghost use Rattle.commit_point.specs.Writing.{listed};
 ghost use Rattle.index_writer.specs.Ready.{HasRows, IsSound};
 ghost use Rattle.index_writer.specs.Storing.{Commits, MayCommit, SameBelow, Settles, on_commit, own_written, renewed};
 
@@ -18,7 +18,7 @@ use crate::fault::WriterFault;
 use crate::round::CommitInfo;
 use crate::state::State;
 use crate::writer::IndexWriter;
-use commit_point::{CommitRefused, Written, write_commit};
+use commit_point::{CommitRefused, Written, is_alive, version, write_commit};
 use ix_base::{List, NoMemory};
 use ix_outside::{Store, StoreFault};
 use segment_core::LiveSegment;
@@ -143,15 +143,8 @@ fn with_rows(segments: List<LiveSegment>) -> List<LiveSegment>
     ensures { result ≡ listed segments }
 {
     let mut segments = segments.into_vec();
-    segments.retain(|segment| has_row(segment));
+    segments.retain(|segment| is_alive(segment));
     List::from_vec(segments)
-}
-
-/// Whether a row of the segment is live.
-fn has_row(segment: &LiveSegment) -> bool
-    ensures { result ≡ is_alive segment.now }
-{
-    segment.live().live_count() > 0
 }
 
 /// What is on the store of each segment with a live row, once the commit of this number is there.
@@ -182,28 +175,11 @@ fn put_written(
 ) -> Result<(), NoMemory>
     ensures { OnOk result (made.new ≡ made.old ++ own_written number was.now segment.now) }
 {
-    if has_row(segment) {
+    if is_alive(segment) {
         made.push(Some(Written {
             v: version(number, was, segment),
             live: segment.live().clone_in(alloc)?,
         }))?;
     }
     Ok(())
-}
-
-/// The commit with which the live docs of the segment are written: this one, unless they are as they
-/// were written before.
-fn version(number: u64, was: &Option<Written>, segment: &LiveSegment) -> u64
-    ensures { result ≡ version number was.now segment.now }
-{
-    match was {
-        Some(written) => {
-            if written.live.same_marks(segment.live()) {
-                written.v
-            } else {
-                number
-            }
-        }
-        None => number,
-    }
 }
