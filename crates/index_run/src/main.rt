@@ -33,6 +33,8 @@ mod tests_commands;
 #[cfg(test)]
 mod tests_crash;
 #[cfg(test)]
+mod tests_examples;
+#[cfg(test)]
 mod tests_fold;
 #[cfg(test)]
 mod tests_gate;

@@ -1,5 +1,4 @@
-//! What whole runs leave in the store, and the example scripts with the reports that are printed
-//! beside them.
+//! What whole runs leave in the store.
 use crate::tests::run_script;
 use commit_point::{OpenFault, head, list_commits, open_commit};
 use ix_base::{FileName, NoMemory};
@@ -18,62 +17,6 @@ const SHORT: &str = "{\"c\":0,\"op\":\"add\",\"doc\":{\"key\":\"a1\"}}\n\
 const FULL: &str =
     "{\"c\":0,\"op\":\"add\",\"doc\":{\"key\":\"m1\",\"text\":{\"body\":\"Hi you\"},\"exact\":{\"box\":\"in\"},\"num\":{\"size\":-2}}}\n\
      {\"c\":0,\"op\":\"commit\"}\n";
-
-/// `examples/first.script`.
-const NOTES: &str =
-    "{\"c\":0,\"op\":\"add\",\"doc\":{\"key\":\"note-1\",\"text\":{\"body\":\"The quick brown fox\"}}}\n\
-     {\"c\":0,\"op\":\"add\",\"doc\":{\"key\":\"note-2\",\"text\":{\"body\":\"A Quick Fox\"}}}\n\
-     {\"c\":0,\"op\":\"commit\"}\n\
-     {\"c\":0,\"op\":\"search\",\"query\":{\"phrase\":[\"body\",\"quick fox\"]}}\n\
-     {\"c\":0,\"op\":\"commit\"}\n";
-
-const NOTES_REPORT: &str = "{\"line\":1,\"seq\":1}\n\
-     {\"line\":2,\"seq\":2}\n\
-     {\"docs\":2,\"line\":3,\"seq\":3}\n\
-     {\"commit\":3,\"hits\":[{\"key\":\"note-2\",\"num\":{}}],\"line\":4}\n\
-     {\"docs\":2,\"line\":5,\"seq\":4}\n";
-
-const NOTES_AGAIN: &str = "{\"line\":1,\"seq\":5}\n\
-     {\"line\":2,\"seq\":6}\n\
-     {\"docs\":4,\"line\":3,\"seq\":7}\n\
-     {\"commit\":7,\"hits\":[{\"key\":\"note-2\",\"num\":{}},{\"key\":\"note-2\",\"num\":{}}],\"line\":4}\n\
-     {\"docs\":4,\"line\":5,\"seq\":8}\n";
-
-/// `examples/mail.script`.
-const MAILS: &str =
-    "{\"c\":0,\"op\":\"add\",\"doc\":{\"key\":\"ann/1\",\"text\":{\"subject\":\"Lunch on Friday?\",\"body\":\"Shall we meet at noon?\"},\"exact\":{\"box\":\"inbox\",\"from\":\"bob@example.org\"},\"num\":{\"date\":20240301,\"size\":412}}}\n\
-     {\"c\":1,\"op\":\"add\",\"doc\":{\"key\":\"bob/1\",\"text\":{\"subject\":\"RE: Lunch on Friday\",\"body\":\"Noon is fine.\"},\"exact\":{\"box\":\"inbox\",\"from\":\"ann@example.org\"},\"num\":{\"date\":20240301,\"size\":298}}}\n\
-     {\"c\":0,\"op\":\"commit\"}\n\
-     {\"c\":1,\"op\":\"search\",\"query\":\"all\"}\n\
-     \n\
-     {\"c\":0,\"op\":\"add\",\"doc\":{\"key\":\"ann/2\",\"text\":{\"subject\":\"Invoice 17\",\"body\":\"Due on Friday.\"},\"exact\":{\"box\":\"inbox\",\"from\":\"shop@example.org\"},\"num\":{\"date\":20240302,\"size\":1290}}}\n\
-     {\"c\":1,\"op\":\"commit\"}\n\
-     {\"c\":0,\"op\":\"search\",\"query\":{\"bool\":{\"must\":[{\"term\":[\"box\",\"inbox\"]}],\"not\":[{\"term\":[\"from\",\"bob@example.org\"]}]}}}\n\
-     {\"c\":1,\"op\":\"search\",\"query\":{\"bool\":{\"should\":[{\"term\":[\"subject\",\"friday\"]},{\"term\":[\"body\",\"friday\"]}]}}}\n\
-     {\"c\":1,\"op\":\"search\",\"query\":{\"phrase\":[\"subject\",\"lunch on friday\"]}}\n\
-     {\"c\":1,\"op\":\"search\",\"query\":{\"term\":[\"from\",\"Shop@example.org\"]}}\n";
-
-const MAILS_REPORT: &str = "{\"line\":1,\"seq\":1}\n\
-     {\"line\":2,\"seq\":2}\n\
-     {\"docs\":2,\"line\":3,\"seq\":3}\n\
-     {\"commit\":0,\"hits\":[],\"line\":4}\n\
-     {\"line\":6,\"seq\":4}\n\
-     {\"docs\":3,\"line\":7,\"seq\":5}\n\
-     {\"commit\":3,\"hits\":[{\"key\":\"bob/1\",\"num\":{\"date\":20240301,\"size\":298}}],\"line\":8}\n\
-     {\"commit\":5,\"hits\":[{\"key\":\"ann/1\",\"num\":{\"date\":20240301,\"size\":412}},{\"key\":\"bob/1\",\"num\":{\"date\":20240301,\"size\":298}},{\"key\":\"ann/2\",\"num\":{\"date\":20240302,\"size\":1290}}],\"line\":9}\n\
-     {\"commit\":5,\"hits\":[{\"key\":\"ann/1\",\"num\":{\"date\":20240301,\"size\":412}},{\"key\":\"bob/1\",\"num\":{\"date\":20240301,\"size\":298}}],\"line\":10}\n\
-     {\"commit\":5,\"hits\":[],\"line\":11}\n";
-
-const MAILS_AGAIN: &str = "{\"line\":1,\"seq\":6}\n\
-     {\"line\":2,\"seq\":7}\n\
-     {\"docs\":5,\"line\":3,\"seq\":8}\n\
-     {\"commit\":5,\"hits\":[{\"key\":\"ann/1\",\"num\":{\"date\":20240301,\"size\":412}},{\"key\":\"bob/1\",\"num\":{\"date\":20240301,\"size\":298}},{\"key\":\"ann/2\",\"num\":{\"date\":20240302,\"size\":1290}}],\"line\":4}\n\
-     {\"line\":6,\"seq\":9}\n\
-     {\"docs\":6,\"line\":7,\"seq\":10}\n\
-     {\"commit\":8,\"hits\":[{\"key\":\"bob/1\",\"num\":{\"date\":20240301,\"size\":298}},{\"key\":\"ann/2\",\"num\":{\"date\":20240302,\"size\":1290}},{\"key\":\"bob/1\",\"num\":{\"date\":20240301,\"size\":298}}],\"line\":8}\n\
-     {\"commit\":10,\"hits\":[{\"key\":\"ann/1\",\"num\":{\"date\":20240301,\"size\":412}},{\"key\":\"bob/1\",\"num\":{\"date\":20240301,\"size\":298}},{\"key\":\"ann/2\",\"num\":{\"date\":20240302,\"size\":1290}},{\"key\":\"ann/1\",\"num\":{\"date\":20240301,\"size\":412}},{\"key\":\"bob/1\",\"num\":{\"date\":20240301,\"size\":298}},{\"key\":\"ann/2\",\"num\":{\"date\":20240302,\"size\":1290}}],\"line\":9}\n\
-     {\"commit\":10,\"hits\":[{\"key\":\"ann/1\",\"num\":{\"date\":20240301,\"size\":412}},{\"key\":\"bob/1\",\"num\":{\"date\":20240301,\"size\":298}},{\"key\":\"ann/1\",\"num\":{\"date\":20240301,\"size\":412}},{\"key\":\"bob/1\",\"num\":{\"date\":20240301,\"size\":298}}],\"line\":10}\n\
-     {\"commit\":10,\"hits\":[],\"line\":11}\n";
 
 /// Two hexadecimal digits for each of the bytes.
 fn hex_of(alloc: Global, bytes: &[u8]) -> Result<Vec<u8>, NoMemory> {
@@ -151,23 +94,6 @@ fn files_byte_for_byte(rt: HostRuntime) -> Result<(), Fail> {
         let hex = hex_of(alloc, &bytes).ok().ok_or("memory")?;
         let wanted = joined(alloc, fields).ok().ok_or("memory")?;
         assert_eq!(rt; hex.as_slice(), wanted.as_slice(), "{fields}");
-    }
-    Ok(())
-}
-
-/// Each example script is run twice over one store.
-#[test]
-fn examples_twice(rt: HostRuntime) -> Result<(), Fail> {
-    let alloc = rt.alloc();
-    let cases = [
-        (NOTES, NOTES_REPORT, NOTES_AGAIN),
-        (MAILS, MAILS_REPORT, MAILS_AGAIN),
-    ];
-    for (script, report, again) in cases {
-        let first = run_script(&rt, alloc, &[script], MemoryStore::new(alloc))?;
-        assert_eq!(rt; first.written.as_slice(), report.as_bytes(), "{report}");
-        let second = run_script(&rt, alloc, &[script], first.store)?;
-        assert_eq!(rt; second.written.as_slice(), again.as_bytes(), "{again}");
     }
     Ok(())
 }
