@@ -1,10 +1,11 @@
 //! Large runs. One has 2,000 documents and two files of a megabyte; its report is computed from the
-//! numbers of its lines. One has a document of 900 names, and 300 commits.
+//! numbers of its lines, and is the same where all documents are merged into one segment. One has a document of 900 names, and 300 commits.
 //!
 //! The first has two rounds of 1,004 lines. A round adds 1,000 documents, numbered on from those of the
 //! round before, deletes the first of them, makes a commit, and searches it for all documents and
 //! for those whose number ends in 7.
-use crate::tests::run_script;
+use crate::tests::{run_script, run_words};
+use commit_point::head;
 use ix_base::{FileName, NoMemory};
 use ix_memory::MemoryStore;
 use ix_outside::Store;
@@ -105,6 +106,28 @@ fn many_documents(rt: HostRuntime) -> Result<(), Fail> {
         .ok_or("a read that fails")?;
     let rows = rows.ok_or("an absent file")?;
     assert!(rt; rows.len() > 1_000_000, "a small file");
+    Ok(())
+}
+
+/// The same script with `--merge 2`: the report is the same, and the later commit has one segment, which
+/// was merged of the 999 rows of the earlier one and the 999 of its own round.
+#[test]
+fn many_documents_merged(rt: HostRuntime) -> Result<(), Fail> {
+    let alloc = rt.alloc();
+    let (script, report) = script_and_report(alloc).ok().ok_or("memory")?;
+    let words = ["run", "--threads", "1", "--merge", "2"];
+    let none = Vec::new(alloc);
+    let store = MemoryStore::new(alloc);
+    let script = [script.as_str()];
+    let done = run_words(&rt, alloc, &words, &script, store, none, Vec::new(alloc))?;
+    assert!(rt;
+        done.written.as_slice() == report.as_bytes(),
+        "another report"
+    );
+    let mut store = done.store;
+    let last = head(alloc, &mut store, 2004).ok().ok_or("a fault")?;
+    assert_eq!(rt; last.docs, 1998);
+    assert_eq!(rt; last.segments.len(), 1);
     Ok(())
 }
 

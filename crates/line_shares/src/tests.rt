@@ -120,3 +120,36 @@ fn fresh_shares_are_done(rt: HostRuntime) -> Result<(), Fail> {
     assert!(rt; !all_done(shares.as_slice()));
     Ok(())
 }
+
+/// How many of the tasks stand where they should: the lines of the callers c with c mod 16 = worker, of
+/// 4,096 lines by 256 callers in turn, which are numbered from 1.
+fn tasks_in_place(share: &Share, worker: u32) -> u32 {
+    let mut count = 0;
+    for (at, task) in share.tasks().iter().enumerate() {
+        if at < 256 && task.line == at as u32 * 16 + worker % 16 + 1 {
+            count += 1;
+        }
+    }
+    count
+}
+
+/// Thousands of lines by all 256 callers to sixteen workers: each has 256 of them, in their order.
+#[test]
+fn all_callers_to_sixteen_workers(rt: HostRuntime) -> Result<(), Fail> {
+    let mut lines = Vec::new(rt.alloc());
+    for at in 0..4096u32 {
+        lines.push(Line {
+            line: at + 1,
+            caller: (at % 256) as u8,
+            act: adding(rt.alloc(), "a1")?,
+        })?;
+    }
+    let Dealt { places, shares } = deal(rt.alloc(), 16, List::from_vec(lines))?;
+    assert_eq!(rt; places.len(), 4096);
+    assert_eq!(rt; shares.len(), 16);
+    for (worker, share) in shares.iter().enumerate() {
+        assert_eq!(rt; share.tasks().len(), 256);
+        assert_eq!(rt; tasks_in_place(share, worker.min(15) as u32), 256);
+    }
+    Ok(())
+}
