@@ -282,12 +282,15 @@ fn damage_is_told_where_it_is_read(rt: HostRuntime) -> Result<(), Fail> {
     Ok(())
 }
 
+/// A list that fails and a file that can't be read are told as the store's fault, by both calls.
 #[test]
 fn failing_stores(rt: HostRuntime) -> Result<(), Fail> {
     let alloc = rt.alloc();
-    let mut store = first_commit(alloc)?.failing(vec![in alloc; 1, 3, 5]?);
+    let mut store = first_commit(alloc)?.failing(vec![in alloc; 1, 3, 5, 6]?);
     assert_eq!(rt; list(alloc, &mut store).err(), Some(ListFault::Store));
     assert_eq!(rt; list(alloc, &mut store).err(), Some(ListFault::Store));
+    let fault = ask(alloc, &mut store, None, &[all(1)]).err();
+    assert_eq!(rt; fault, Some(OpenFault::Store));
     let fault = ask(alloc, &mut store, None, &[all(1)]).err();
     assert_eq!(rt; fault, Some(OpenFault::Store));
     Ok(())
