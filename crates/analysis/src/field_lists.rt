@@ -25,7 +25,8 @@ fn add_field(
     text: &Text,
 ) -> Result<(), NoMemory>
     requires { IsFieldBelow row name.now fields.old.entries }
-    ensures { OnOk result (AddsPlaces row (cut_places cut (name.now, text.now)) fields.old.entries fields.new.entries) }
+    ensures { OnOk result (AddsPlaces row
+        (cut_places cut (name.now, text.now)) fields.old.entries fields.new.entries) }
 {
     let key = NameKey::new(name.clone_in(alloc)?);
     if let Some(words) = fields.get_mut(&key) {
@@ -48,7 +49,8 @@ fn add_fields(
 ) -> Result<(), NoMemory>
     requires rise { names_rise (map (λ pair. pair.0) pairs.now) ≡ true }
     requires below { AreNamedBelow row pairs.now fields.old.entries }
-    ensures { OnOk result (AddsPlaces row (flat_map (cut_places cut) pairs.now) fields.old.entries fields.new.entries) }
+    ensures { OnOk result (AddsPlaces row
+        (flat_map (cut_places cut) pairs.now) fields.old.entries fields.new.entries) }
 {
     for (name, text) in pairs {
         add_field(alloc, fields, scratch, row, cut, name, text)?;

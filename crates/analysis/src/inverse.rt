@@ -58,7 +58,8 @@ pub fn analyse(alloc: Global, doc: Document) -> Result<Analysed, Refused>
     ensures doc { IfOk result (λ analysed. analysed.doc ≡ doc) }
     ensures inversion { IfOk result (λ analysed. IsInversion (doc ∷ []) analysed.postings) }
     ensures fits { IfOk result (λ _. document_refusal doc ≡ None) }
-    ensures refusal { (refusal : _) → result ≡ Err (Refused.For refusal) → document_refusal doc ≡ Some refusal }
+    ensures refusal { (refusal : _) → result ≡ Err (Refused.For refusal)
+        → document_refusal doc ≡ Some refusal }
 {
     let postings = invert_one(alloc, &doc)?;
     if let Some(size) = long_term_of(alloc, &doc, &postings)? {

@@ -54,7 +54,8 @@ fn terms_of(
     lists: IndexMap<String, Spots>,
 ) -> Result<Vec<TermPostings>, NoMemory>
     ensures apart { IsDistinct (λ a b. bytes_eq (string_bytes a) (string_bytes b)) (keys lists) }
-    ensures terms { IfOk result (λ terms. terms.items ≡ map (λ e. term_of field.now (string_bytes e.0, e.1)) lists.entries) }
+    ensures terms { IfOk result (λ terms. terms.items
+        ≡ map (λ e. term_of field.now (string_bytes e.0, e.1)) lists.entries) }
 {
     let mut terms = Vec::with_capacity(alloc, lists.len())?;
     for (word, rows) in lists {

@@ -21,7 +21,8 @@ impl DeleteQueue {
         requires place { HasSeen seat.old place × (place.at ≤ seen_of seat.old) }
         ensures seat { IsSeatOf self.now seat.new }
         ensures learns { Learns seat.old seat.new }
-        ensures found { IfSome result (λ f. IsFound seat.new f × (f.place.at ≡ place.at + 1) × (f.place.at ≤ seen_of seat.new)) }
+        ensures found { IfSome result (λ f. IsFound seat.new f × (f.place.at ≡ place.at + 1)
+            × (f.place.at ≤ seen_of seat.new)) }
         ensures end { IfNone result ((place.at ≡ seen_of seat.new) × Whole (the_view seat.new)) }
     {
         if place.at < seat.seen() {

@@ -31,7 +31,8 @@ impl QueueLog {
         ensures order { result.0 < result.1 }
         ensures inside { result.1 ≤ length self.now.words.items }
         ensures index { i < 2 ^ 61 }
-        ensures piece { get_elem? (entries_of self.now) i ≡ some (take (result.1 - result.0) (drop result.0 self.now.words.items)) }
+        ensures piece { get_elem? (entries_of self.now) i
+            ≡ some (take (result.1 - result.0) (drop result.0 self.now.words.items)) }
     {
         let index = i as usize;
         (self.begin(index), self.ends[index])

@@ -55,7 +55,8 @@ impl DeleteQueue {
     // Whether the last entry seen closes the queue.
     fn saw_close(&self, seat: &Seat) -> bool
         requires { IsSeatOf self.now seat.now }
-        ensures { MatchBool result (SawClosed (the_view seat.now)) (SawOpen (the_view seat.now) × (used_of seat.now ≤ 16640)) }
+        ensures { MatchBool result (SawClosed (the_view seat.now)) (SawOpen (the_view seat.now)
+            × (used_of seat.now ≤ 16640)) }
     {
         is_closing(seat.progress.head)
     }
@@ -78,7 +79,8 @@ impl DeleteQueue {
     pub(crate) fn go_on(&self, seat: &mut Seat, found: u64)
         requires seat { GoesOn self.now seat.old found }
         ensures seat { IsSeatOf self.now seat.new }
-        ensures view { the_view seat.new ≡ knows (the_view seat.old) (found + 1) seat.new.progress.head }
+        ensures view { the_view seat.new
+            ≡ knows (the_view seat.old) (found + 1) seat.new.progress.head }
     {
         seat.progress.count += 1;
         seat.progress.last = found;
@@ -105,7 +107,8 @@ impl DeleteQueue {
         requires room { HasRoom (used_of seat.old) words.now }
         ensures seat { IsSeatOf self.now seat.new }
         ensures follows { Follows (the_view seat.old) (the_view seat.new) }
-        ensures put { MatchBool result (Puts seat.old seat.new words.now) (FindsClosed seat.old seat.new) }
+        ensures put { MatchBool result (Puts seat.old seat.new words.now)
+            (FindsClosed seat.old seat.new) }
     {
         self.lay(seat, words);
         let draft_start = 16642 * seat.progress.number + 1 + seat.progress.used;

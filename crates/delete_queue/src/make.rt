@@ -37,7 +37,8 @@ fn new_table(
 impl DeleteQueue {
     // A seat that has linked and seen nothing.
     fn new_seat(&self, inner: TableSeat<(), View>, number: u64) -> Seat
-        requires { IsLiveOf self.now inner × (view inner ≡ view_of (seats_of self.now) number [] []) × (number < seats_of self.now) }
+        requires { IsLiveOf self.now inner × (view inner ≡ view_of (seats_of self.now) number [] [])
+            × (number < seats_of self.now) }
         ensures { IsNew self.now number result }
     {
         Seat {

@@ -26,7 +26,8 @@ impl DeleteQueue {
     /// linked, and else the address of an entry that the seat had not seen.
     pub(crate) fn try_link(&self, seat: &mut Seat<(), View>, last: usize, at: u64) -> u64
         requires seat { IsTold self.now seat.old }
-        requires place { (last ≡ last_or 0 (view seat.old).seen) × (at ≡ draft_start (view seat.old)) }
+        requires place { (last ≡ last_or 0 (view seat.old).seen)
+            × (at ≡ draft_start (view seat.old)) }
         requires entry { MayLink (view seat.old) }
         ensures seat { IsTold self.now seat.new }
         ensures view { Exchanged (view seat.old) (view seat.new) result }

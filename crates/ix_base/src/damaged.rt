@@ -25,7 +25,8 @@ impl FileFault {
     /// Why a file of this length was not read, where reading its fields ended so.
     pub fn of_field(broken: Broken, file: FileName, len: usize) -> FileFault
         ensures memory { broken ≡ Broken.NoMemory → result ≡ FileFault.NoMemory }
-        ensures place { (left : ℕ) → broken ≡ Broken.At left → result ≡ FileFault.Damaged (record { file = file; at = len - left }) }
+        ensures place { (left : ℕ) → broken ≡ Broken.At left
+            → result ≡ FileFault.Damaged (record { file = file; at = len - left }) }
     {
         match broken {
             Broken::NoMemory => FileFault::NoMemory,

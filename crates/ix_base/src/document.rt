@@ -99,8 +99,10 @@ impl Document {
     /// A document of these parts: `Some` exactly where no name of `text` or `exact` is `key` and
     /// none stands in both. It takes no memory.
     pub fn new(key: Text, text: Fields, exact: Fields, num: Numbers) -> Option<Document>
-        ensures apart { IsSome result ↔ IsTrue (is_apart (record { key = key; text = text; exact = exact; num = num })) }
-        ensures doc { IfSome result (λ doc. doc ≡ record { key = key; text = text; exact = exact; num = num }) }
+        ensures apart { IsSome result
+            ↔ IsTrue (is_apart (record { key = key; text = text; exact = exact; num = num })) }
+        ensures doc { IfSome result (λ doc. doc
+            ≡ record { key = key; text = text; exact = exact; num = num }) }
     {
         if text.has_name("key") || exact.has_name("key") || share_name(&text, &exact) {
             return None;

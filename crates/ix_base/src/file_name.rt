@@ -44,7 +44,8 @@ impl FileName {
     pub fn parse(text: &str) -> Option<FileName>
         ensures text { IfSome result (λ name. name_text name ≡ text.now) }
         ensures real { IfSome result IsFileName }
-        ensures foreign { result ≡ None → (name : FileName) → IsFileName name → name_text name ≡ text.now → ⊥ }
+        ensures foreign { result ≡ None → (name : FileName) → IsFileName name
+            → name_text name ≡ text.now → ⊥ }
     {
         if let Some(number) = number_between("segments_", text, "") {
             return Some(FileName::Commit(number));
@@ -69,7 +70,8 @@ impl FileName {
 /// The number from 1 that these digits spell, if they spell one without leading zeros.
 fn counted(digits: &str) -> Option<u64>
     ensures some { IfSome result (λ number. IsCounted number × (digits.now ≡ decimal number)) }
-    ensures none { result ≡ None → (number : ℕ) → IsCounted number → digits.now ≡ decimal number → ⊥ }
+    ensures none { result ≡ None → (number : ℕ) → IsCounted number → digits.now ≡ decimal number
+        → ⊥ }
 {
     let number = digits.parse::<u64>().ok()?;
     let mut spelling = itoa::Buffer::new();
@@ -82,8 +84,10 @@ fn counted(digits: &str) -> Option<u64>
 
 /// The number from 1 that stands in the text between this prefix and this suffix.
 fn number_between(front: &str, text: &str, end: &str) -> Option<u64>
-    ensures some { IfSome result (λ number. IsCounted number × (text.now ≡ front.now ++ (decimal number ++ end.now))) }
-    ensures none { result ≡ None → (number : ℕ) → IsCounted number → text.now ≡ front.now ++ (decimal number ++ end.now) → ⊥ }
+    ensures some { IfSome result (λ number. IsCounted number
+        × (text.now ≡ front.now ++ (decimal number ++ end.now))) }
+    ensures none { result ≡ None → (number : ℕ) → IsCounted number
+        → text.now ≡ front.now ++ (decimal number ++ end.now) → ⊥ }
 {
     let rest = text.strip_prefix(front)?;
     let digits = rest.strip_suffix(end)?;
@@ -92,8 +96,10 @@ fn number_between(front: &str, text: &str, end: &str) -> Option<u64>
 
 /// The id and the number, each from 1, of a file that was written with a commit and has this end.
 fn numbers_before(text: &str, end: &str) -> Option<(u64, u64)>
-    ensures some { IfSome result (λ both. IsCounted both.0 × IsCounted both.1 × (text.now ≡ codes "seg_" ++ (decimal both.0 ++ (codes "_" ++ (decimal both.1 ++ end.now))))) }
-    ensures none { result ≡ None → (id number : ℕ) → IsCounted id → IsCounted number → text.now ≡ codes "seg_" ++ (decimal id ++ (codes "_" ++ (decimal number ++ end.now))) → ⊥ }
+    ensures some { IfSome result (λ both. IsCounted both.0 × IsCounted both.1 × (text.now
+        ≡ codes "seg_" ++ (decimal both.0 ++ (codes "_" ++ (decimal both.1 ++ end.now))))) }
+    ensures none { result ≡ None → (id number : ℕ) → IsCounted id → IsCounted number → text.now
+        ≡ codes "seg_" ++ (decimal id ++ (codes "_" ++ (decimal number ++ end.now))) → ⊥ }
 {
     let rest = text.strip_prefix("seg_")?;
     two_counted(rest.strip_suffix(end)?)
@@ -101,8 +107,10 @@ fn numbers_before(text: &str, end: &str) -> Option<(u64, u64)>
 
 /// Two numbers from 1 that stand round a `_`.
 fn two_counted(digits: &str) -> Option<(u64, u64)>
-    ensures some { IfSome result (λ both. IsCounted both.0 × IsCounted both.1 × (digits.now ≡ decimal both.0 ++ (codes "_" ++ decimal both.1))) }
-    ensures none { result ≡ None → (id number : ℕ) → IsCounted id → IsCounted number → digits.now ≡ decimal id ++ (codes "_" ++ decimal number) → ⊥ }
+    ensures some { IfSome result (λ both. IsCounted both.0 × IsCounted both.1
+        × (digits.now ≡ decimal both.0 ++ (codes "_" ++ decimal both.1))) }
+    ensures none { result ≡ None → (id number : ℕ) → IsCounted id → IsCounted number
+        → digits.now ≡ decimal id ++ (codes "_" ++ decimal number) → ⊥ }
 {
     let (id, number) = digits.split_once('_')?;
     let id = counted(id)?;
@@ -124,7 +132,8 @@ fn numbered(front: &str, number: u64, end: &str) -> ArrayString<56>
 
 fn written_with(id: u64, number: u64, end: &str) -> ArrayString<56>
     requires { length end.now ≤ 4 }
-    ensures { result.bytes ≡ codes "seg_" ++ (decimal id ++ (codes "_" ++ (decimal number ++ end.now))) }
+    ensures { result.bytes ≡ codes "seg_"
+        ++ (decimal id ++ (codes "_" ++ (decimal number ++ end.now))) }
 {
     let mut digits = itoa::Buffer::new();
     let mut text = ArrayString::<56>::new();

@@ -45,7 +45,8 @@ fn ends_in(rows: &[u32], row: u32) -> bool
 
 /// Whether this place is the last one.
 fn ends_at(spots: &[Spot], row: u32, position: u32) -> bool
-    ensures { IsTrue result ↔ (slice_get spots.now (length spots.now - 1) ≡ Some (record { row = row; position = position })) }
+    ensures { IsTrue result ↔ (slice_get spots.now (length spots.now - 1)
+        ≡ Some (record { row = row; position = position })) }
 {
     match spots.last() {
         Some(last) => last.row == row && last.position == position,
@@ -120,9 +121,11 @@ impl Spots {
     /// Puts a place behind those that are there. After an error the list is as before.
     pub fn push(&mut self, row: u32, position: u32) -> Result<(), NoMemory>
         requires { IsAfter row position self.old }
-        ensures ok { OnOk result (self.new ≡ with_spot self.old (record { row = row; position = position })) }
+        ensures ok { OnOk result (self.new
+            ≡ with_spot self.old (record { row = row; position = position })) }
         ensures ordered { OnOk result (ArePostings self.new) }
-        ensures exact { OnOk result ((r x : ℕ) → posted_at self.new r x ≡ (posted_at self.old r x || ((row == r) && (position == x)))) }
+        ensures exact { OnOk result ((r x : ℕ) → posted_at self.new r x
+            ≡ (posted_at self.old r x || ((row == r) && (position == x)))) }
         ensures err { OnErr result (self.new ≡ self.old) }
     {
         self.spots.push(Spot { row, position })?;
@@ -134,7 +137,8 @@ impl Spots {
     pub fn add(&mut self, row: u32, position: u32) -> Result<(), NoMemory>
         requires { IsUpto row position self.old }
         ensures ordered { OnOk result (ArePostings self.new) }
-        ensures exact { OnOk result ((r x : ℕ) → posted_at self.new r x ≡ (posted_at self.old r x || ((row == r) && (position == x)))) }
+        ensures exact { OnOk result ((r x : ℕ) → posted_at self.new r x
+            ≡ (posted_at self.old r x || ((row == r) && (position == x)))) }
         ensures err { OnErr result (self.new ≡ self.old) }
     {
         if ends_at(self.spots.as_slice(), row, position) {

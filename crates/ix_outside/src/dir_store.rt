@@ -51,8 +51,10 @@ impl<R: Files + AllocGlobal + Clone + Drop> DirStore<R> {
 /// out of memory.
 fn told<T: Drop>(faults: &mut FaultCount, answer: io::Result<T>) -> Result<T, StoreFault>
     ensures value { IfOk answer (λ value. result ≡ Ok value) }
-    ensures failed { IfErr answer (λ error. IsErrOf result StoreFault.Failed ↔ (error_kind error ≢ ErrorKind.OutOfMemory)) }
-    ensures no_memory { IfErr answer (λ error. IsErrOf result StoreFault.NoMemory ↔ (error_kind error ≡ ErrorKind.OutOfMemory)) }
+    ensures failed { IfErr answer (λ error. IsErrOf result StoreFault.Failed
+        ↔ (error_kind error ≢ ErrorKind.OutOfMemory)) }
+    ensures no_memory { IfErr answer (λ error. IsErrOf result StoreFault.NoMemory
+        ↔ (error_kind error ≡ ErrorKind.OutOfMemory)) }
     ensures cause { HasStoreCause faults.old.count faults.new.count result }
 {
     match answer {

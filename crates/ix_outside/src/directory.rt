@@ -46,7 +46,8 @@ impl<R: Files + AllocGlobal + Clone + Drop> Directory<R> {
 
     /// The path of the file.
     pub fn path_of(&self, name: FileName) -> Result<String, NoMemory>
-        ensures { IfOk result (λ path. string_bytes path ≡ string_bytes self.now.path ++ (codes "/" ++ name_text name)) }
+        ensures { IfOk result (λ path. string_bytes path
+            ≡ string_bytes self.now.path ++ (codes "/" ++ name_text name)) }
     {
         let mut path = String::from_str(self.runtime.alloc(), self.path.as_str())?;
         path.push('/')?;
@@ -215,7 +216,8 @@ fn take_name(names: &mut Vec<FileName>, text: &str) -> io::Result<()>
 /// has fewer by then, or is too large.
 fn read_whole<F: Read + OpenFile + Drop>(alloc: Global, file: F) -> io::Result<Vec<u8>>
     ensures bound { IfOk result (λ bytes. vec_len bytes ≤ 2147483648) }
-    ensures bytes { IfOk result (λ bytes. IfSome (F.remaining file) (λ left. StartsWith left bytes.items)) }
+    ensures bytes { IfOk result (λ bytes. IfSome (F.remaining file)
+        (λ left. StartsWith left bytes.items)) }
 {
     let size = file.metadata()?.len();
     if size > LARGEST_FILE {

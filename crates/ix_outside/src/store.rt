@@ -70,14 +70,16 @@ pub trait Store {
 
     /// The names of the files, each once. Entries whose names are no `FileName` are left out.
     fn list(&mut self, alloc: Global) -> Result<Vec<FileName>, StoreFault>
-        ensures names { IfOk result (λ names. IfSome (told_files (disk self.old)) (λ here. Lists here names.items)) }
+        ensures names { IfOk result (λ names. IfSome (told_files (disk self.old))
+            (λ here. Lists here names.items)) }
         ensures real { IfOk result (λ names. All IsFileName names.items) }
         ensures disk { disk self.new ≡ disk self.old }
         ensures cause { HasStoreCause (fault_count self.old) (fault_count self.new) result };
 
     /// All bytes of a file, or `None` where there is no such file.
     fn read(&mut self, alloc: Global, name: FileName) -> Result<Option<Vec<u8>>, StoreFault>
-        ensures bytes { IfOk result (λ found. Reads (told_files (disk self.old)) name (option_map (λ bytes. bytes.items) found)) }
+        ensures bytes { IfOk result (λ found. Reads (told_files (disk self.old)) name
+            (option_map (λ bytes. bytes.items) found)) }
         ensures disk { disk self.new ≡ disk self.old }
         ensures cause { HasStoreCause (fault_count self.old) (fault_count self.new) result };
 

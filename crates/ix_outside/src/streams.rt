@@ -109,7 +109,8 @@ fn write_and_flush<W: Write>(writer: &mut W, bytes: &[u8]) -> io::Result<usize>
 /// Reads, again where the read was interrupted.
 fn read_again<R: Read>(reader: &mut R, buffer: &mut [u8]) -> io::Result<usize>
     ensures bound { ReadsAtMost result buffer.new }
-    ensures bytes { ReadConsumes (R.remaining reader.old) (R.remaining reader.new) result buffer.new }
+    ensures bytes { ReadConsumes (R.remaining reader.old)
+        (R.remaining reader.new) result buffer.new }
 {
     for _ in 0..u64::MAX {
         match reader.read(buffer) {

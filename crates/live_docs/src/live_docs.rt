@@ -44,7 +44,8 @@ impl Model for LiveDocs {
 impl LiveDocs {
     /// So many rows, which are all live and in which no number was set.
     pub fn new(alloc: Global, rows: u32, applied: u64) -> Result<LiveDocs, NoMemory>
-        ensures { IfOk result (λ docs. docs ≡ record { applied = applied; marks = replicate rows fresh }) }
+        ensures { IfOk result (λ docs. docs
+            ≡ record { applied = applied; marks = replicate rows fresh }) }
     {
         let mut flags = Vec::new(alloc);
         flags.resize(rows as usize, true)?;
@@ -161,7 +162,8 @@ impl LiveDocs {
     /// The row is no longer live. Its values, and all other rows, stay.
     pub fn kill(&mut self, row: u32)
         requires { row < length self.old.marks }
-        ensures killed { self.new ≡ record self.old { marks = changed_at killed row self.old.marks } }
+        ensures killed { self.new
+            ≡ record self.old { marks = changed_at killed row self.old.marks } }
         ensures rows { length self.new.marks ≡ length self.old.marks }
     {
         let was_live = mem::replace(&mut self.flags[row as usize], false);

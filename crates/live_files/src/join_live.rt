@@ -52,7 +52,8 @@ pub fn live_docs_of(
 ) -> Result<LiveDocs, NoMemory>
     requires few { length bits.now < 2 ^ 32 }
     requires fit { ValuesFit (length bits.now) values.now }
-    ensures { IfOk result (λ docs. docs ≡ record { applied = applied; marks = marks_of bits.now values.now }) }
+    ensures { IfOk result (λ docs. docs
+        ≡ record { applied = applied; marks = marks_of bits.now values.now }) }
 {
     let mut marks = Vec::new(alloc);
     let mut rest = values;

@@ -110,7 +110,8 @@ fn placed_live(
     v: u64,
     row_count: u32,
 ) -> Result<Vec<bool>, FileFault>
-    ensures { GivesFile (λ x. x.items) result (placed (Live id v) bytes.now (live_in id v row_count bytes.now)) }
+    ensures { GivesFile (λ x. x.items) result
+        (placed (Live id v) bytes.now (live_in id v row_count bytes.now)) }
 {
     match live_of(alloc, bytes, id, v, row_count) {
         Ok(bits) => Ok(bits),
@@ -131,11 +132,14 @@ pub fn decode_liv(
     row_count: u32,
 ) -> Result<Vec<bool>, FileFault>
     // What is read is spelled so, each byte of it.
-    ensures found { IfOk result (λ bits. LiveFits row_count bits.items × (bytes.now ≡ live_file id v bits.items)) }
+    ensures found { IfOk result (λ bits. LiveFits row_count bits.items
+        × (bytes.now ≡ live_file id v bits.items)) }
     // What is spelled so is read, unless memory runs out.
-    ensures only { (bits : List Bool) → LiveFits row_count bits → bytes.now ≡ live_file id v bits → GivesFile (λ x. x.items) result (Ok bits) }
+    ensures only { (bits : List Bool) → LiveFits row_count bits → bytes.now ≡ live_file id v bits
+        → GivesFile (λ x. x.items) result (Ok bits) }
     // Which place is the first broken one.
-    ensures exact { GivesFile (λ x. x.items) result (placed (Live id v) bytes.now (live_in id v row_count bytes.now)) }
+    ensures exact { GivesFile (λ x. x.items) result
+        (placed (Live id v) bytes.now (live_in id v row_count bytes.now)) }
 {
     placed_live(alloc, bytes, id, v, row_count)
 }

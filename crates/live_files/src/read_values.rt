@@ -41,7 +41,8 @@ fn value_name_of<'a>(
     row_count: u32,
     values: &[(u32, Name, i64)],
 ) -> Result<(u32, Name, &'a [u8]), Broken>
-    ensures { Gives (λ x. ((x.0, x.1), x.2.now)) result (value_name_at row_count (left_by (λ x. Some x) None values.now) bytes.now) }
+    ensures { Gives (λ x. ((x.0, x.1), x.2.now)) result
+        (value_name_at row_count (left_by (λ x. Some x) None values.now) bytes.now) }
 {
     let (row, named) = u32_at(bytes)?;
     if !row_may_come(values, row) || row_count <= row {
@@ -62,7 +63,8 @@ fn value_of<'a>(
     row_count: u32,
     values: &[(u32, Name, i64)],
 ) -> Result<((u32, Name, i64), &'a [u8]), Broken>
-    ensures { Gives (λ x. (x.0, x.1.now)) result (value_at row_count (left_by (λ x. Some x) None values.now) bytes.now) }
+    ensures { Gives (λ x. (x.0, x.1.now)) result
+        (value_at row_count (left_by (λ x. Some x) None values.now) bytes.now) }
 {
     let (row, name, rest) = value_name_of(alloc, bytes, row_count, values)?;
     let (number, rest) = i64_at(rest)?;
@@ -76,7 +78,8 @@ fn value_list(
     bytes: &[u8],
     row_count: u32,
 ) -> Result<(Vec<(u32, Name, i64)>, &[u8]), Broken>
-    ensures { Gives (λ x. (x.0.items, x.1.now)) result (items_at (value_at row_count) (λ x. Some x) None count bytes.now) }
+    ensures { Gives (λ x. (x.0.items, x.1.now)) result
+        (items_at (value_at row_count) (λ x. Some x) None count bytes.now) }
 {
     let mut values = Vec::new(alloc);
     let mut rest = bytes;
@@ -129,7 +132,8 @@ fn placed_values(
     v: u64,
     row_count: u32,
 ) -> Result<Vec<(u32, Name, i64)>, FileFault>
-    ensures { GivesFile (λ x. x.items) result (placed (Values id v) bytes.now (values_in id v row_count bytes.now)) }
+    ensures { GivesFile (λ x. x.items) result
+        (placed (Values id v) bytes.now (values_in id v row_count bytes.now)) }
 {
     match all_values(alloc, bytes, id, v, row_count) {
         Ok(values) => Ok(values),
@@ -151,11 +155,14 @@ pub fn decode_val(
     row_count: u32,
 ) -> Result<Vec<(u32, Name, i64)>, FileFault>
     // What is read is spelled so, each byte of it.
-    ensures found { IfOk result (λ values. ValuesFit row_count values.items × (bytes.now ≡ values_file id v row_count values.items)) }
+    ensures found { IfOk result (λ values. ValuesFit row_count values.items
+        × (bytes.now ≡ values_file id v row_count values.items)) }
     // What is spelled so is read, unless memory runs out.
-    ensures only { (values : List SetValue) → ValuesFit row_count values → bytes.now ≡ values_file id v row_count values → GivesFile (λ x. x.items) result (Ok values) }
+    ensures only { (values : List SetValue) → ValuesFit row_count values → bytes.now
+        ≡ values_file id v row_count values → GivesFile (λ x. x.items) result (Ok values) }
     // Which place is the first broken one.
-    ensures exact { GivesFile (λ x. x.items) result (placed (Values id v) bytes.now (values_in id v row_count bytes.now)) }
+    ensures exact { GivesFile (λ x. x.items) result
+        (placed (Values id v) bytes.now (values_in id v row_count bytes.now)) }
 {
     placed_values(alloc, bytes, id, v, row_count)
 }

@@ -15,7 +15,8 @@ use std::alloc::Global;
 /// `u64` where there are more: so many don't fit in memory, since each takes some bytes of the file.
 fn count_values(numbered: &[u32], live: &LiveDocs) -> u64
     requires { numbered.now ≡ numbered_rows live.now.marks }
-    ensures { length (values_of live.now.marks) < 2 ^ 64 → result ≡ length (values_of live.now.marks) }
+    ensures { length (values_of live.now.marks) < 2 ^ 64
+        → result ≡ length (values_of live.now.marks) }
 {
     let mut count = 0u64;
     for row in numbered {
@@ -26,7 +27,8 @@ fn count_values(numbered: &[u32], live: &LiveDocs) -> u64
 
 /// Appends a number that was set in a row.
 fn put_value(out: &mut Vec<u8>, row: u32, pair: &(Name, i64)) -> Result<(), NoMemory>
-    ensures bytes { OnOk result (out.new.items ≡ out.old.items ++ value_bytes (row, pair.now.0, pair.now.1)) }
+    ensures bytes { OnOk result (out.new.items
+        ≡ out.old.items ++ value_bytes (row, pair.now.0, pair.now.1)) }
     ensures fits { (n : ℕ) → row < n → OnOk result (ValueFits n (row, pair.now.0, pair.now.1)) }
 {
     put_u32(out, row)?;
@@ -37,8 +39,10 @@ fn put_value(out: &mut Vec<u8>, row: u32, pair: &(Name, i64)) -> Result<(), NoMe
 
 /// Appends the numbers of a row.
 fn put_row_values(out: &mut Vec<u8>, row: u32, pairs: &[(Name, i64)]) -> Result<(), NoMemory>
-    ensures bytes { OnOk result (out.new.items ≡ out.old.items ++ flat_map value_bytes (row_values row pairs.now)) }
-    ensures fits { (n : ℕ) → row < n → OnOk result (AllByRecursion (ValueFits n) (row_values row pairs.now)) }
+    ensures bytes { OnOk result (out.new.items
+        ≡ out.old.items ++ flat_map value_bytes (row_values row pairs.now)) }
+    ensures fits { (n : ℕ) → row < n
+        → OnOk result (AllByRecursion (ValueFits n) (row_values row pairs.now)) }
 {
     for pair in pairs {
         put_value(out, row, pair)?;
@@ -50,8 +54,10 @@ fn put_row_values(out: &mut Vec<u8>, row: u32, pairs: &[(Name, i64)]) -> Result<
 /// prefix of them may stand there.
 fn put_values(out: &mut Vec<u8>, numbered: &[u32], live: &LiveDocs) -> Result<(), NoMemory>
     requires { numbered.now ≡ numbered_rows live.now.marks }
-    ensures bytes { OnOk result (out.new.items ≡ out.old.items ++ flat_map value_bytes (values_of live.now.marks)) }
-    ensures fits { OnOk result (AllByRecursion (ValueFits (length live.now.marks)) (values_of live.now.marks)) }
+    ensures bytes { OnOk result (out.new.items
+        ≡ out.old.items ++ flat_map value_bytes (values_of live.now.marks)) }
+    ensures fits { OnOk result (AllByRecursion (ValueFits (length live.now.marks))
+        (values_of live.now.marks)) }
     ensures rise { OnOk result (RowsNamesRise live.now.marks) }
 {
     for row in numbered {
@@ -70,7 +76,8 @@ pub fn encode_val(
     live: &LiveDocs,
 ) -> Result<Vec<u8>, NoMemory>
     requires { rows ≡ length live.now.marks }
-    ensures file { IfOk result (λ bytes. bytes.items ≡ values_file id v rows (values_of live.now.marks)) }
+    ensures file { IfOk result (λ bytes. bytes.items
+        ≡ values_file id v rows (values_of live.now.marks)) }
     ensures fits { OnOk result (ValuesFit rows (values_of live.now.marks)) }
 {
     let numbered = live.numbered_rows(alloc)?;

@@ -20,9 +20,11 @@ use std::alloc::Global;
 /// and a query has 10,082 levels at most, so a thread that decodes any words needs some MB of stack.
 pub fn decode(alloc: Global, words: &[u64]) -> Result<Option<Entry>, NoMemory>
     // What is read is spelled so.
-    ensures found { IfOk result (λ found. IfSome found (λ entry. Spells words.now (value_of entry))) }
+    ensures found { IfOk result (λ found. IfSome found
+        (λ entry. Spells words.now (value_of entry))) }
     // What is spelled so is read.
-    ensures only { (e : Value) → Spells words.now e → IfOk result (λ found. option_map value_of found ≡ Some e) }
+    ensures only { (e : Value) → Spells words.now e
+        → IfOk result (λ found. option_map value_of found ≡ Some e) }
     ensures some { IfOk result (λ found. IsSome found ↔ IsEntryWords words.now) }
     // Memory is taken only where the number of words is right.
     ensures memory { IfErr result (λ _. IsCountedByHead words.now) }

@@ -79,7 +79,8 @@ fn kind_of(operation: &Operation) -> u64
 /// Appends the bytes of the operation's fields, without its document.
 fn put_operation(out: &mut Vec<u8>, operation: &Operation) -> Result<(), NoMemory>
     requires { own_refusal operation.now ≡ None }
-    ensures bytes { OnOk result (out.new.items ≡ out.old.items ++ entry_bytes (entry_of operation.now)) }
+    ensures bytes { OnOk result (out.new.items
+        ≡ out.old.items ++ entry_bytes (entry_of operation.now)) }
     ensures entry { OnOk result (IsEntry (entry_of operation.now)) }
 {
     match operation {

@@ -33,7 +33,8 @@ pub(crate) fn unpack(alloc: Global, words: &[u64]) -> Result<(u64, Vec<u8>), Rea
 /// Whether each byte from this place on is 0.
 fn is_zero_from(bytes: &[u8], at: usize) -> bool
     requires { at ≤ length bytes.now }
-    ensures { IsTrue result ↔ EachIndex (drop at bytes.now) (λ k. slice_index (drop at bytes.now) k ≡ 0) }
+    ensures { IsTrue result
+        ↔ EachIndex (drop at bytes.now) (λ k. slice_index (drop at bytes.now) k ≡ 0) }
 {
     let (_, rest) = bytes.split_at(at);
     rest.iter().all(|byte| *byte == 0)

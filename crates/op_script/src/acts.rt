@@ -20,7 +20,8 @@ use std::alloc::Global;
 /// An addition.
 pub fn add_in(alloc: Global, value: &Value) -> Result<Act, LineFault>
     ensures ok { IfOk result (λ act. act_of Verb.Add (view value.now) ≡ Ok act) }
-    ensures bad { (why : Why) → result ≡ Err (LineFault.Bad why) → act_of Verb.Add (view value.now) ≡ Err why }
+    ensures bad { (why : Why) → result ≡ Err (LineFault.Bad why)
+        → act_of Verb.Add (view value.now) ≡ Err why }
     ensures memory { result ≡ Err LineFault.NoMemory → IsOk (act_of Verb.Add (view value.now)) }
 {
     let doc = document_at(value, "doc")?;
@@ -30,7 +31,8 @@ pub fn add_in(alloc: Global, value: &Value) -> Result<Act, LineFault>
 /// An update: the term, and then the document.
 pub fn update_in(alloc: Global, value: &Value) -> Result<Act, LineFault>
     ensures ok { IfOk result (λ act. act_of Verb.Update (view value.now) ≡ Ok act) }
-    ensures bad { (why : Why) → result ≡ Err (LineFault.Bad why) → act_of Verb.Update (view value.now) ≡ Err why }
+    ensures bad { (why : Why) → result ≡ Err (LineFault.Bad why)
+        → act_of Verb.Update (view value.now) ≡ Err why }
     ensures memory { result ≡ Err LineFault.NoMemory → IsOk (act_of Verb.Update (view value.now)) }
 {
     let field = name_at(value, "field")?;
@@ -43,7 +45,8 @@ pub fn update_in(alloc: Global, value: &Value) -> Result<Act, LineFault>
 /// A deletion by a term.
 pub fn delete_in(alloc: Global, value: &Value) -> Result<Act, LineFault>
     ensures ok { IfOk result (λ act. act_of Verb.Delete (view value.now) ≡ Ok act) }
-    ensures bad { (why : Why) → result ≡ Err (LineFault.Bad why) → act_of Verb.Delete (view value.now) ≡ Err why }
+    ensures bad { (why : Why) → result ≡ Err (LineFault.Bad why)
+        → act_of Verb.Delete (view value.now) ≡ Err why }
     ensures memory { result ≡ Err LineFault.NoMemory → IsOk (act_of Verb.Delete (view value.now)) }
 {
     let field = name_at(value, "field")?;
@@ -54,8 +57,10 @@ pub fn delete_in(alloc: Global, value: &Value) -> Result<Act, LineFault>
 /// A deletion by a query.
 pub fn delete_query_in(alloc: Global, value: &Value) -> Result<Act, LineFault>
     ensures ok { IfOk result (λ act. act_of Verb.DeleteQuery (view value.now) ≡ Ok act) }
-    ensures bad { (why : Why) → result ≡ Err (LineFault.Bad why) → act_of Verb.DeleteQuery (view value.now) ≡ Err why }
-    ensures memory { result ≡ Err LineFault.NoMemory → IsOk (act_of Verb.DeleteQuery (view value.now)) }
+    ensures bad { (why : Why) → result ≡ Err (LineFault.Bad why)
+        → act_of Verb.DeleteQuery (view value.now) ≡ Err why }
+    ensures memory { result ≡ Err LineFault.NoMemory
+        → IsOk (act_of Verb.DeleteQuery (view value.now)) }
 {
     let query = query_at(value, "query")?;
     Ok(Act::Do(Operation::DeleteQuery(query_from(alloc, query)?)))
@@ -64,7 +69,8 @@ pub fn delete_query_in(alloc: Global, value: &Value) -> Result<Act, LineFault>
 /// The setting of a number: both names, then the text of the term, and then the value.
 pub fn set_in(alloc: Global, value: &Value) -> Result<Act, LineFault>
     ensures ok { IfOk result (λ act. act_of Verb.Set (view value.now) ≡ Ok act) }
-    ensures bad { (why : Why) → result ≡ Err (LineFault.Bad why) → act_of Verb.Set (view value.now) ≡ Err why }
+    ensures bad { (why : Why) → result ≡ Err (LineFault.Bad why)
+        → act_of Verb.Set (view value.now) ≡ Err why }
     ensures memory { result ≡ Err LineFault.NoMemory → IsOk (act_of Verb.Set (view value.now)) }
 {
     let field = name_at(value, "field")?;
@@ -79,7 +85,8 @@ pub fn set_in(alloc: Global, value: &Value) -> Result<Act, LineFault>
 /// A search.
 pub fn search_in(alloc: Global, value: &Value) -> Result<Act, LineFault>
     ensures ok { IfOk result (λ act. act_of Verb.Search (view value.now) ≡ Ok act) }
-    ensures bad { (why : Why) → result ≡ Err (LineFault.Bad why) → act_of Verb.Search (view value.now) ≡ Err why }
+    ensures bad { (why : Why) → result ≡ Err (LineFault.Bad why)
+        → act_of Verb.Search (view value.now) ≡ Err why }
     ensures memory { result ≡ Err LineFault.NoMemory → IsOk (act_of Verb.Search (view value.now)) }
 {
     let query = query_at(value, "query")?;

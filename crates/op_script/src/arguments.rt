@@ -18,7 +18,8 @@ use serde_json::Value;
 pub fn name_at<'a>(value: &'a Value, at: &str) -> Result<&'a str, Why>
     ensures ok { IfOk result (λ found. name_at at.now (view value.now) ≡ Some found.now) }
     ensures name { IfOk result (λ found. is_name found.now ≡ true) }
-    ensures bad { IfErr result (λ why. (why ≡ Why.Name) × (name_at at.now (view value.now) ≡ None)) }
+    ensures bad { IfErr result (λ why. (why ≡ Why.Name)
+        × (name_at at.now (view value.now) ≡ None)) }
 {
     let Some(name) = value.get(at).and_then(Value::as_str) else {
         return Err(Why::Name);
@@ -33,7 +34,8 @@ pub fn name_at<'a>(value: &'a Value, at: &str) -> Result<&'a str, Why>
 /// The text at a member.
 pub fn text_at<'a>(value: &'a Value, at: &str) -> Result<&'a str, Why>
     ensures ok { IfOk result (λ found. text_at at.now (view value.now) ≡ Some found.now) }
-    ensures bad { IfErr result (λ why. (why ≡ Why.Text) × (text_at at.now (view value.now) ≡ None)) }
+    ensures bad { IfErr result (λ why. (why ≡ Why.Text)
+        × (text_at at.now (view value.now) ≡ None)) }
 {
     match value.get(at).and_then(Value::as_str) {
         Some(text) => Ok(text),
@@ -44,7 +46,8 @@ pub fn text_at<'a>(value: &'a Value, at: &str) -> Result<&'a str, Why>
 /// The whole number at a member, where it fits an `i64`.
 pub fn number_at(value: &Value, at: &str) -> Result<i64, Why>
     ensures ok { IfOk result (λ found. number_at at.now (view value.now) ≡ Some found) }
-    ensures bad { IfErr result (λ why. (why ≡ Why.Number) × (number_at at.now (view value.now) ≡ None)) }
+    ensures bad { IfErr result (λ why. (why ≡ Why.Number)
+        × (number_at at.now (view value.now) ≡ None)) }
 {
     match value.get(at).and_then(Value::as_i64) {
         Some(number) => Ok(number),
@@ -54,9 +57,11 @@ pub fn number_at(value: &Value, at: &str) -> Result<i64, Why>
 
 /// The value at a member, where it is a query.
 pub fn query_at<'a>(value: &'a Value, at: &str) -> Result<&'a Value, Why>
-    ensures ok { IfOk result (λ found. query_at at.now (view value.now) ≡ query_of (view found.now)) }
+    ensures ok { IfOk result (λ found. query_at at.now (view value.now)
+        ≡ query_of (view found.now)) }
     ensures query { IfOk result (λ found. is_some (query_of (view found.now)) ≡ true) }
-    ensures bad { IfErr result (λ why. (why ≡ Why.Query) × (query_at at.now (view value.now) ≡ None)) }
+    ensures bad { IfErr result (λ why. (why ≡ Why.Query)
+        × (query_at at.now (view value.now) ≡ None)) }
 {
     let Some(found) = value.get(at) else {
         return Err(Why::Query);
@@ -70,9 +75,11 @@ pub fn query_at<'a>(value: &'a Value, at: &str) -> Result<&'a Value, Why>
 
 /// The value at a member, where it is a document.
 pub fn document_at<'a>(value: &'a Value, at: &str) -> Result<&'a Value, Why>
-    ensures ok { IfOk result (λ found. document_at at.now (view value.now) ≡ document_of (view found.now)) }
+    ensures ok { IfOk result (λ found. document_at at.now (view value.now)
+        ≡ document_of (view found.now)) }
     ensures document { IfOk result (λ found. is_some (document_of (view found.now)) ≡ true) }
-    ensures bad { IfErr result (λ why. (why ≡ Why.Doc) × (document_at at.now (view value.now) ≡ None)) }
+    ensures bad { IfErr result (λ why. (why ≡ Why.Doc)
+        × (document_at at.now (view value.now) ≡ None)) }
 {
     let Some(found) = value.get(at) else {
         return Err(Why::Doc);

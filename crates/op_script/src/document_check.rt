@@ -43,7 +43,8 @@ fn has_name(value: &Value, at: &str, name: &str) -> bool
 
 /// Whether a name of `text` stands in `exact` too.
 fn share_name(value: &Value) -> bool
-    ensures { result ≡ share_name (names_at (codes "text") (view value.now)) (names_at (codes "exact") (view value.now)) }
+    ensures { result ≡ share_name (names_at (codes "text") (view value.now))
+        (names_at (codes "exact") (view value.now)) }
 {
     match value.get("text").and_then(Value::as_object) {
         Some(members) => members

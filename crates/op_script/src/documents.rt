@@ -61,7 +61,8 @@ fn read_texts(alloc: Global, value: &Value, at: &str) -> Result<Option<Fields>, 
 }
 
 fn texts_in(alloc: Global, members: &Map<String, Value>) -> Result<Option<Fields>, NoMemory>
-    ensures { IfOk result (λ found. found ≡ few_by texts_of (object (members_view members.now.entries))) }
+    ensures { IfOk result (λ found. found
+        ≡ few_by texts_of (object (members_view members.now.entries))) }
 {
     if members.len() > MOST_MEMBERS {
         return Ok(None);
@@ -76,8 +77,10 @@ fn text_pairs(
     alloc: Global,
     members: &Map<String, Value>,
 ) -> Result<Option<Vec<(Name, Text)>>, NoMemory>
-    ensures pairs { IfOk result (λ found. option_map (λ pairs. pairs.items) found ≡ texts_of (members_view members.now.entries)) }
-    ensures rise { IfOk result (λ found. IfSome found (λ pairs. names_rise (map (λ pair. pair.0) pairs.items) ≡ true)) }
+    ensures pairs { IfOk result (λ found. option_map (λ pairs. pairs.items) found
+        ≡ texts_of (members_view members.now.entries)) }
+    ensures rise { IfOk result (λ found. IfSome found
+        (λ pairs. names_rise (map (λ pair. pair.0) pairs.items) ≡ true)) }
 {
     let mut pairs = Vec::new(alloc);
     for (name, value) in members {
@@ -90,7 +93,8 @@ fn text_pairs(
 }
 
 fn text_pair(alloc: Global, name: &str, value: &Value) -> Result<Option<(Name, Text)>, NoMemory>
-    ensures { IfOk result (λ found. found ≡ option_map (λ text. (name.now, text)) (named_text name.now (view value.now))) }
+    ensures { IfOk result (λ found. found
+        ≡ option_map (λ text. (name.now, text)) (named_text name.now (view value.now))) }
 {
     let Some(name) = Name::new(text_from(alloc, name)?) else {
         return Ok(None);
@@ -114,7 +118,8 @@ fn read_numbers(alloc: Global, value: &Value) -> Result<Option<Numbers>, NoMemor
 }
 
 fn numbers_in(alloc: Global, members: &Map<String, Value>) -> Result<Option<Numbers>, NoMemory>
-    ensures { IfOk result (λ found. found ≡ few_by numbers_of (object (members_view members.now.entries))) }
+    ensures { IfOk result (λ found. found
+        ≡ few_by numbers_of (object (members_view members.now.entries))) }
 {
     if members.len() > MOST_MEMBERS {
         return Ok(None);
@@ -129,8 +134,10 @@ fn number_pairs(
     alloc: Global,
     members: &Map<String, Value>,
 ) -> Result<Option<Vec<(Name, i64)>>, NoMemory>
-    ensures pairs { IfOk result (λ found. option_map (λ pairs. pairs.items) found ≡ numbers_of (members_view members.now.entries)) }
-    ensures rise { IfOk result (λ found. IfSome found (λ pairs. names_rise (map (λ pair. pair.0) pairs.items) ≡ true)) }
+    ensures pairs { IfOk result (λ found. option_map (λ pairs. pairs.items) found
+        ≡ numbers_of (members_view members.now.entries)) }
+    ensures rise { IfOk result (λ found. IfSome found
+        (λ pairs. names_rise (map (λ pair. pair.0) pairs.items) ≡ true)) }
 {
     let mut pairs = Vec::new(alloc);
     for (name, value) in members {
@@ -143,7 +150,8 @@ fn number_pairs(
 }
 
 fn number_pair(alloc: Global, name: &str, value: &Value) -> Result<Option<(Name, i64)>, NoMemory>
-    ensures { IfOk result (λ found. found ≡ option_map (λ number. (name.now, number)) (named_number name.now (view value.now))) }
+    ensures { IfOk result (λ found. found
+        ≡ option_map (λ number. (name.now, number)) (named_number name.now (view value.now))) }
 {
     let Some(name) = Name::new(text_from(alloc, name)?) else {
         return Ok(None);

@@ -115,7 +115,8 @@ fn read_list(alloc: Global, value: &Value) -> Result<Option<Queries>, NoMemory>
 
 #[cycle(reading)]
 fn read_queries(alloc: Global, items: &Vec<Value>) -> Result<Option<Vec<Query>>, NoMemory>
-    ensures { IfOk result (λ found. option_map (λ queries. trees_of queries.items) found ≡ queries_of (items_view items.now.items)) }
+    ensures { IfOk result (λ found. option_map (λ queries. trees_of queries.items) found
+        ≡ queries_of (items_view items.now.items)) }
 {
     let mut queries = Vec::new(alloc);
     for item in items {
@@ -154,7 +155,8 @@ fn read_term(alloc: Global, value: &Value) -> Result<Option<Query>, NoMemory>
 }
 
 fn read_phrase(alloc: Global, value: &Value) -> Result<Option<Query>, NoMemory>
-    ensures { IfOk result (λ found. found ≡ option_and_then phrase_by (text_pair (view value.now))) }
+    ensures { IfOk result (λ found. found
+        ≡ option_and_then phrase_by (text_pair (view value.now))) }
 {
     let Some((field, text)) = text_pair(value) else {
         return Ok(None);

@@ -19,10 +19,12 @@ pub const MOST_BYTES: usize = 67_108_864;
 /// first one with its first reason; an input of more than 67,108,864 bytes is bad at line 0.
 pub fn read_script(alloc: Global, bytes: &[u8]) -> Result<Script, ScriptFault>
     ensures lines { IfOk result (λ s. script bytes.now ≡ Ok s.lines) }
-    ensures bad { (bad : BadLine) → result ≡ Err (ScriptFault.Bad bad) → script bytes.now ≡ Err bad }
+    ensures bad { (bad : BadLine) → result ≡ Err (ScriptFault.Bad bad)
+        → script bytes.now ≡ Err bad }
     ensures shape { IfOk result (λ s. AreScriptLines s.lines) }
     // An input that is too long is bad whatever else it holds.
-    ensures long { (input : List ℕ) → MOST_BYTES < length input → script input ≡ Err (record { line = 0; why = Why.Long }) }
+    ensures long { (input : List ℕ) → MOST_BYTES < length input
+        → script input ≡ Err (record { line = 0; why = Why.Long }) }
 {
     if bytes.len() > MOST_BYTES {
         return Err(ScriptFault::Bad(BadLine {
@@ -39,7 +41,8 @@ pub fn read_script(alloc: Global, bytes: &[u8]) -> Result<Script, ScriptFault>
 fn read_lines(alloc: Global, bytes: &[u8]) -> Result<Vec<Line>, ScriptFault>
     requires { length bytes.now ≤ MOST_BYTES }
     ensures ok { IfOk result (λ lines. lines_from 1 (lines_of bytes.now) ≡ Ok lines.items) }
-    ensures bad { (bad : BadLine) → result ≡ Err (ScriptFault.Bad bad) → lines_from 1 (lines_of bytes.now) ≡ Err bad }
+    ensures bad { (bad : BadLine) → result ≡ Err (ScriptFault.Bad bad)
+        → lines_from 1 (lines_of bytes.now) ≡ Err bad }
 {
     let mut lines = Vec::new(alloc);
     let mut rest = bytes;
@@ -57,7 +60,8 @@ fn read_lines(alloc: Global, bytes: &[u8]) -> Result<Vec<Line>, ScriptFault>
 fn add_line(alloc: Global, at: u32, text: &[u8], lines: &mut Vec<Line>) -> Result<(), ScriptFault>
     ensures ok { OnOk result ((rest : Result (List Line) BadLine)
         → onto lines.old.items (and_then (line_at at text.now) rest) ≡ onto lines.new.items rest) }
-    ensures bad { (bad : BadLine) → result ≡ Err (ScriptFault.Bad bad) → line_at at text.now ≡ Err bad }
+    ensures bad { (bad : BadLine) → result ≡ Err (ScriptFault.Bad bad)
+        → line_at at text.now ≡ Err bad }
 {
     if let Some(line) = read_line(alloc, at, text)? {
         lines.push(line)?;

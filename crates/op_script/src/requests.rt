@@ -18,7 +18,8 @@ use std::alloc::Global;
 /// The line of this number, none where the text is passed over.
 pub fn read_line(alloc: Global, at: u32, text: &[u8]) -> Result<Option<Line>, ScriptFault>
     ensures ok { IfOk result (λ line. line_at at text.now ≡ Ok line) }
-    ensures bad { (bad : BadLine) → result ≡ Err (ScriptFault.Bad bad) → line_at at text.now ≡ Err bad }
+    ensures bad { (bad : BadLine) → result ≡ Err (ScriptFault.Bad bad)
+        → line_at at text.now ≡ Err bad }
 {
     if is_blank(text) {
         return Ok(None);
@@ -32,7 +33,8 @@ pub fn read_line(alloc: Global, at: u32, text: &[u8]) -> Result<Option<Line>, Sc
 
 fn read_request(alloc: Global, at: u32, text: &[u8]) -> Result<Line, LineFault>
     ensures ok { IfOk result (λ line. request_of at text.now ≡ Ok line) }
-    ensures bad { (why : Why) → result ≡ Err (LineFault.Bad why) → request_of at text.now ≡ Err why }
+    ensures bad { (why : Why) → result ≡ Err (LineFault.Bad why)
+        → request_of at text.now ≡ Err why }
 {
     match read_value(alloc, text) {
         Ok(Some(value)) => line_in(alloc, at, &value),
@@ -43,7 +45,8 @@ fn read_request(alloc: Global, at: u32, text: &[u8]) -> Result<Line, LineFault>
 
 fn line_in(alloc: Global, at: u32, value: &Value) -> Result<Line, LineFault>
     ensures ok { IfOk result (λ line. line_of at (view value.now) ≡ Ok line) }
-    ensures bad { (why : Why) → result ≡ Err (LineFault.Bad why) → line_of at (view value.now) ≡ Err why }
+    ensures bad { (why : Why) → result ≡ Err (LineFault.Bad why)
+        → line_of at (view value.now) ≡ Err why }
     // Memory runs out only where the line is good.
     ensures memory { result ≡ Err LineFault.NoMemory → IsOk (line_of at (view value.now)) }
 {
@@ -87,7 +90,8 @@ fn verb_in(value: &Value) -> Option<Verb>
 
 fn act_in(alloc: Global, verb: Verb, value: &Value) -> Result<Act, LineFault>
     ensures ok { IfOk result (λ act. act_of verb (view value.now) ≡ Ok act) }
-    ensures bad { (why : Why) → result ≡ Err (LineFault.Bad why) → act_of verb (view value.now) ≡ Err why }
+    ensures bad { (why : Why) → result ≡ Err (LineFault.Bad why)
+        → act_of verb (view value.now) ≡ Err why }
     ensures memory { result ≡ Err LineFault.NoMemory → IsOk (act_of verb (view value.now)) }
 {
     match verb {

@@ -103,7 +103,8 @@ impl RamPostings {
     /// stays as it is.
     pub fn freeze(&self, alloc: Global) -> Result<Frozen, NoMemory>
         ensures rows { IfOk result (λ frozen. frozen.rows.items ≡ born_rows self.now) }
-        ensures inversion { IfOk result (λ frozen. IsInversion (map (λ row. row.doc) (born_rows self.now)) frozen.postings) }
+        ensures inversion { IfOk result (λ frozen. IsInversion
+            (map (λ row. row.doc) (born_rows self.now)) frozen.postings) }
     {
         freeze_entries(alloc, self.staged.as_slice(), self.next_mark, &self.lists)
     }

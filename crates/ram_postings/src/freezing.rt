@@ -51,7 +51,8 @@ fn unsorted_terms(
     numbers: &[Option<u32>],
 ) -> Result<Vec<TermPostings>, NoMemory>
     requires { NumbersRise numbers.now }
-    ensures apart { IfOk result (λ terms. IsDistinct (eq_by_cmp term_cmp) (map (λ entry. entry.term) terms.items)) }
+    ensures apart { IfOk result (λ terms. IsDistinct (eq_by_cmp term_cmp)
+        (map (λ entry. entry.term) terms.items)) }
     ensures each { IfOk result (λ terms. All IsTermPostings terms.items) }
     ensures others { IfOk result (λ terms. StandInNumbers numbers.now terms.items) }
     ensures ok { IfOk result (λ terms. AreRenumbered numbers.now lists.now.entries terms.items) }
@@ -74,7 +75,8 @@ fn sort_terms(terms: &mut Vec<TermPostings>)
     requires apart { IsDistinct (eq_by_cmp term_cmp) (map (λ entry. entry.term) terms.old.items) }
     requires each { All IsTermPostings terms.old.items }
     ensures ordered { IsPostings terms.new.items }
-    ensures same { (t : Term) (r x : ℕ) → posted terms.new.items t.field t.bytes r x ≡ posted terms.old.items t.field t.bytes r x }
+    ensures same { (t : Term) (r x : ℕ) → posted terms.new.items t.field t.bytes r x
+        ≡ posted terms.old.items t.field t.bytes r x }
 {
     terms.sort_unstable_by(
         |left: &TermPostings, right: &TermPostings| -> Ordering
@@ -107,8 +109,10 @@ pub fn freeze_entries(
     lists: &IndexMap<TermKey, Spots>,
 ) -> Result<Frozen, NoMemory>
     requires { IsBuffer staged.now next_mark lists.now.entries }
-    ensures rows { IfOk result (λ frozen. frozen.rows.items ≡ born_rows (map staged_of staged.now)) }
-    ensures inversion { IfOk result (λ frozen. IsInversion (map (λ row. row.doc) (born_rows (map staged_of staged.now))) frozen.postings) }
+    ensures rows { IfOk result (λ frozen. frozen.rows.items
+        ≡ born_rows (map staged_of staged.now)) }
+    ensures inversion { IfOk result (λ frozen. IsInversion
+        (map (λ row. row.doc) (born_rows (map staged_of staged.now))) frozen.postings) }
 {
     let rows = rows_of(alloc, staged)?;
     let numbers = numbers_of(alloc, staged, next_mark)?;

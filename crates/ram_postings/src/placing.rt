@@ -20,8 +20,10 @@ fn place_term(
 ) -> Result<(), NoMemory>
     requires { (r x : ℕ) → kept lists.old.entries entry.term r x ≡ true → r < mark }
     ensures others { SameButFor mark lists.old.entries lists.new.entries }
-    ensures other_terms { (t : Term) (x : ℕ) → (t ≡ entry.term → ⊥) → kept lists.new.entries t mark x ≡ kept lists.old.entries t mark x }
-    ensures ok { OnOk result ((x : ℕ) → kept lists.new.entries entry.term mark x ≡ posted_at entry.rows 0 x) }
+    ensures other_terms { (t : Term) (x : ℕ) → (t ≡ entry.term → ⊥)
+        → kept lists.new.entries t mark x ≡ kept lists.old.entries t mark x }
+    ensures ok { OnOk result ((x : ℕ) → kept lists.new.entries entry.term mark x
+        ≡ posted_at entry.rows 0 x) }
 {
     let TermPostings { term, rows } = entry;
     let key = TermKey::new(term);

@@ -28,7 +28,8 @@ pub fn put_renumbered(
     requires rise { NumbersRise numbers.now }
     requires spots { AreSpots spots.now }
     requires below { IsBelowNumbers list.old numbers.now }
-    ensures others { (r x : ℕ) → HasNoNumber numbers.now r → posted_at list.new r x ≡ posted_at list.old r x }
+    ensures others { (r x : ℕ) → HasNoNumber numbers.now r
+        → posted_at list.new r x ≡ posted_at list.old r x }
     ensures ok { OnOk result (IsRenumbered numbers.now (grouped spots.now) list.new) }
 {
     for spot in spots {

@@ -82,7 +82,8 @@ pub fn refused_text(alloc: Global, line: u32, refusal: Refusal) -> Result<Vec<u8
 
 /// The numbers of a hit, by name.
 fn number_members(alloc: Global, num: &[(Name, i64)]) -> Result<Map<String, Value>, AllocError>
-    ensures { IfOk result (λ found. members_view found.entries ≡ fold with_number no_members num.now) }
+    ensures { IfOk result (λ found. members_view found.entries
+        ≡ fold with_number no_members num.now) }
 {
     let mut found = Map::new(alloc);
     for (name, value) in num {

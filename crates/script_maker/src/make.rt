@@ -31,7 +31,8 @@ pub fn make_script(alloc: Global, seed: u32, lines: u32, callers: u32) -> Result
 fn drawn_lines(alloc: Global, seed: u32, lines: u32, callers: u32) -> Result<Vec<Line>, NoMemory>
     requires seed { seed < 2 ^ 31 }
     requires callers { (1 ≤ callers) × (callers ≤ 256) }
-    ensures { IfOk result (λ made. made.items ≡ map (made_line seed callers) (range_with_len 1 lines)) }
+    ensures { IfOk result (λ made. made.items
+        ≡ map (made_line seed callers) (range_with_len 1 lines)) }
 {
     let mut made = Vec::new(alloc);
     let mut number = seed;
@@ -62,7 +63,8 @@ fn made_act(alloc: Global, at: u32, caller: u8, draw: u32) -> Result<Act, NoMemo
 fn add_commits(lines: u32, callers: u32, made: &mut Vec<Line>) -> Result<(), NoMemory>
     requires lines { lines ≤ 1000000 }
     requires callers { callers ≤ 256 }
-    ensures { OnOk result (made.new.items ≡ made.old.items ++ map (last_commit lines) (range_with_len 0 callers)) }
+    ensures { OnOk result (made.new.items
+        ≡ made.old.items ++ map (last_commit lines) (range_with_len 0 callers)) }
 {
     for caller in 0..callers {
         made.push(Line {

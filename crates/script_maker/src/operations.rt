@@ -28,7 +28,8 @@ pub fn drawn_operation(alloc: Global, caller: u8, draw: u32) -> Result<Operation
 
 /// Gives the number `n` this value in the documents that have the tag that it chooses.
 fn set_number(alloc: Global, caller: u8, number: u32) -> Result<Operation, NoMemory>
-    ensures { IfOk result (λ operation. operation ≡ Operation.SetNumber (tag_term caller number) (codes "n") (pos number)) }
+    ensures { IfOk result (λ operation. operation
+        ≡ Operation.SetNumber (tag_term caller number) (codes "n") (pos number)) }
 {
     let term = tag_term(alloc, caller, number)?;
     let num = name_of(alloc, "n")?;

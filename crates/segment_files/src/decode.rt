@@ -25,7 +25,8 @@ fn row_list<'a>(
     number: u64,
     earlier: &BTreeSet<u64>,
 ) -> Result<(Vec<Row>, &'a [u8]), Broken>
-    ensures { Gives (λ x. (x.0.items, x.1.now)) result (items_at (row_at number (contains nat_cmp earlier.now)) (λ row. row.birth + 1) 1 count bytes.now) }
+    ensures { Gives (λ x. (x.0.items, x.1.now)) result (items_at
+        (row_at number (contains nat_cmp earlier.now)) (λ row. row.birth + 1) 1 count bytes.now) }
 {
     let mut rows = Vec::new(alloc);
     let mut last = 0;
@@ -49,7 +50,8 @@ fn rows_of(
     number: u64,
     earlier: &BTreeSet<u64>,
 ) -> Result<Vec<Row>, Broken>
-    ensures { Gives (λ rows. rows.items) result (rows_in id row_count number (contains nat_cmp earlier.now) bytes.now) }
+    ensures { Gives (λ rows. rows.items) result
+        (rows_in id row_count number (contains nat_cmp earlier.now) bytes.now) }
 {
     let own = rows_mark_at(bytes)?;
     let (own_id, counted) = u64_at(own)?;
@@ -76,7 +78,8 @@ fn placed_rows(
     number: u64,
     earlier: &BTreeSet<u64>,
 ) -> Result<List<Row>, FileFault>
-    ensures { GivesFile (λ x. x) result (placed (Rows id) bytes.now (rows_in id row_count number (contains nat_cmp earlier.now) bytes.now)) }
+    ensures { GivesFile (λ x. x) result (placed (Rows id) bytes.now
+        (rows_in id row_count number (contains nat_cmp earlier.now) bytes.now)) }
 {
     match rows_of(alloc, bytes, id, row_count, number, earlier) {
         Ok(rows) => Ok(List::from_vec(rows)),
@@ -98,11 +101,15 @@ pub fn decode_row(
     earlier: &BTreeSet<u64>,
 ) -> Result<List<Row>, FileFault>
     // What is read is spelled so, each byte of it.
-    ensures found { IfOk result (λ rows. IsSegment number row_count (contains nat_cmp earlier.now) rows × (bytes.now ≡ rows_file id rows)) }
+    ensures found { IfOk result (λ rows. IsSegment number row_count
+        (contains nat_cmp earlier.now) rows × (bytes.now ≡ rows_file id rows)) }
     // What is spelled so is read, unless memory runs out.
-    ensures only { (rows : List Row) → IsSegment number row_count (contains nat_cmp earlier.now) rows → bytes.now ≡ rows_file id rows → GivesFile (λ x. x) result (Ok rows) }
+    ensures only { (rows : List Row)
+        → IsSegment number row_count (contains nat_cmp earlier.now) rows
+        → bytes.now ≡ rows_file id rows → GivesFile (λ x. x) result (Ok rows) }
     // Which place is the first broken one.
-    ensures exact { GivesFile (λ x. x) result (placed (Rows id) bytes.now (rows_in id row_count number (contains nat_cmp earlier.now) bytes.now)) }
+    ensures exact { GivesFile (λ x. x) result (placed (Rows id) bytes.now
+        (rows_in id row_count number (contains nat_cmp earlier.now) bytes.now)) }
 {
     placed_rows(alloc, bytes, id, row_count, number, earlier)
 }

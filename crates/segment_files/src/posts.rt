@@ -33,7 +33,8 @@ fn put_posts(
 ) -> Result<(), NoMemory>
     requires ordered { IsPostings postings.now.terms }
     requires below { RowsBelow row_count postings.now }
-    ensures bytes { OnOk result (out.new.items ≡ out.old.items ++ posts_file id row_count postings.now) }
+    ensures bytes { OnOk result (out.new.items
+        ≡ out.old.items ++ posts_file id row_count postings.now) }
     ensures fits { OnOk result (AllByRecursion TermFits postings.now.terms) }
     ensures count { length postings.now.terms < 2 ^ 64 }
 {

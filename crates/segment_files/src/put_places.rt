@@ -54,7 +54,8 @@ pub(crate) fn count_rows(spots: &[Spot]) -> usize
 /// Appends a row and the positions of these places. There are fewer than 2^32, or memory runs out:
 /// the bytes of so many would be more than 16 gigabytes.
 fn put_posting(out: &mut Vec<u8>, row: u32, run: &[Spot]) -> Result<(), NoMemory>
-    ensures bytes { OnOk result (out.new.items ≡ out.old.items ++ posting (posting_in row run.now)) }
+    ensures bytes { OnOk result (out.new.items
+        ≡ out.old.items ++ posting (posting_in row run.now)) }
     ensures fits { OnOk result (PostingFits (posting_in row run.now)) }
 {
     if run.len() > u32::MAX as usize {
@@ -70,7 +71,8 @@ fn put_posting(out: &mut Vec<u8>, row: u32, run: &[Spot]) -> Result<(), NoMemory
 
 /// Appends the rows that the places are in, each with its positions.
 pub(crate) fn put_places(out: &mut Vec<u8>, spots: &[Spot]) -> Result<(), NoMemory>
-    ensures bytes { OnOk result (out.new.items ≡ out.old.items ++ flat_map posting (grouped spots.now)) }
+    ensures bytes { OnOk result (out.new.items
+        ≡ out.old.items ++ flat_map posting (grouped spots.now)) }
     ensures fits { OnOk result (AllByRecursion PostingFits (grouped spots.now)) }
 {
     let mut rest = spots;

@@ -50,7 +50,8 @@ fn is_free(taken: &Fields, name: &Name) -> bool
 
 /// Whether a field of this name may come after these, where these names are taken.
 fn may_come(pairs: &[(Name, Text)], taken: &Fields, name: &Name) -> bool
-    ensures { result ≡ may_name (map (λ pair. pair.0) taken.now) (left_by (λ pair. Some pair.0) None pairs.now) name.now }
+    ensures { result ≡ may_name (map (λ pair. pair.0) taken.now)
+        (left_by (λ pair. Some pair.0) None pairs.now) name.now }
 {
     comes_next(pairs, name) && is_free(taken, name)
 }
@@ -62,7 +63,8 @@ fn field_of<'a>(
     pairs: &[(Name, Text)],
     taken: &Fields,
 ) -> Result<((Name, Text), &'a [u8]), Broken>
-    ensures { Gives (λ x. (x.0, x.1.now)) result (field_at (map (λ pair. pair.0) taken.now) (left_by (λ pair. Some pair.0) None pairs.now) bytes.now) }
+    ensures { Gives (λ x. (x.0, x.1.now)) result (field_at (map (λ pair. pair.0) taken.now)
+        (left_by (λ pair. Some pair.0) None pairs.now) bytes.now) }
 {
     let (name, rest) = name_of(alloc, bytes)?;
     if !may_come(pairs, taken, &name) {
@@ -78,7 +80,8 @@ fn field_list<'a>(
     bytes: &'a [u8],
     taken: &Fields,
 ) -> Result<(Fields, &'a [u8]), Broken>
-    ensures { Gives (λ x. (x.0, x.1.now)) result (items_at (field_at (map (λ pair. pair.0) taken.now)) (λ pair. Some pair.0) None count bytes.now) }
+    ensures { Gives (λ x. (x.0, x.1.now)) result (items_at
+        (field_at (map (λ pair. pair.0) taken.now)) (λ pair. Some pair.0) None count bytes.now) }
 {
     let mut pairs = Vec::new(alloc);
     let mut rest = bytes;
@@ -96,7 +99,8 @@ fn numbered_of<'a>(
     bytes: &'a [u8],
     pairs: &[(Name, i64)],
 ) -> Result<((Name, i64), &'a [u8]), Broken>
-    ensures { Gives (λ x. (x.0, x.1.now)) result (numbered_at (left_by (λ pair. Some pair.0) None pairs.now) bytes.now) }
+    ensures { Gives (λ x. (x.0, x.1.now)) result
+        (numbered_at (left_by (λ pair. Some pair.0) None pairs.now) bytes.now) }
 {
     let (name, rest) = name_of(alloc, bytes)?;
     if !comes_next(pairs, &name) {
@@ -107,7 +111,8 @@ fn numbered_of<'a>(
 }
 
 fn number_list(alloc: Global, count: u64, bytes: &[u8]) -> Result<(Numbers, &[u8]), Broken>
-    ensures { Gives (λ x. (x.0, x.1.now)) result (items_at numbered_at (λ pair. Some pair.0) None count bytes.now) }
+    ensures { Gives (λ x. (x.0, x.1.now)) result
+        (items_at numbered_at (λ pair. Some pair.0) None count bytes.now) }
 {
     let mut pairs = Vec::new(alloc);
     let mut rest = bytes;
@@ -125,7 +130,8 @@ fn fields_of<'a>(
     bytes: &'a [u8],
     taken: &Fields,
 ) -> Result<(Fields, &'a [u8]), Broken>
-    ensures { Gives (λ x. (x.0, x.1.now)) result (fields_at (map (λ pair. pair.0) taken.now) bytes.now) }
+    ensures { Gives (λ x. (x.0, x.1.now)) result
+        (fields_at (map (λ pair. pair.0) taken.now) bytes.now) }
 {
     let (count, rest) = u32_at(bytes)?;
     field_list(alloc, count, rest, taken)
@@ -165,7 +171,8 @@ pub(crate) fn row_of<'a>(
     earlier: &BTreeSet<u64>,
     last: u64,
 ) -> Result<(Row, &'a [u8]), Broken>
-    ensures { Gives (λ x. (x.0, x.1.now)) result (row_at number (contains nat_cmp earlier.now) (last + 1) bytes.now) }
+    ensures { Gives (λ x. (x.0, x.1.now)) result
+        (row_at number (contains nat_cmp earlier.now) (last + 1) bytes.now) }
 {
     let (birth, rest) = u64_at(bytes)?;
     if birth <= last || number < birth || earlier.contains(&birth) {

@@ -30,7 +30,8 @@ fn read_positions<'a>(
     spots: &mut Spots,
 ) -> Result<&'a [u8], Broken>
     requires { AllByRecursion (λ g. g.row < row) spots.old }
-    ensures { PutsPositions (λ rest. rest.now) row spots.old spots.new result (positions_at count bytes.now) }
+    ensures { PutsPositions (λ rest. rest.now) row spots.old spots.new result
+        (positions_at count bytes.now) }
 {
     let mut low = 0u64;
     let mut rest = bytes;
@@ -53,7 +54,8 @@ fn read_posting<'a>(
     spots: &mut Spots,
 ) -> Result<(u32, &'a [u8]), Broken>
     requires { AllByRecursion (λ g. g.row < low) spots.old }
-    ensures { PutsPosting (λ x. x.1.now) (λ x. x.0) spots.old spots.new result (posting_at row_count low bytes.now) }
+    ensures { PutsPosting (λ x. x.1.now) (λ x. x.0) spots.old spots.new result
+        (posting_at row_count low bytes.now) }
 {
     let (row, counted) = u32_at(bytes)?;
     if (row as u64) < low || row_count <= row {

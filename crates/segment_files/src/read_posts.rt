@@ -41,7 +41,8 @@ fn posts_of(alloc: Global, bytes: &[u8], id: u64, row_count: u32) -> Result<Post
 /// The postings of a whole file of postings. Where it is broken, the place is told from the file's
 /// start.
 fn placed_posts(alloc: Global, bytes: &[u8], id: u64, row_count: u32) -> Result<Postings, FileFault>
-    ensures { GivesFile (λ x. x) result (placed (Posts id) bytes.now (posts_in id row_count bytes.now)) }
+    ensures { GivesFile (λ x. x) result (placed (Posts id) bytes.now
+        (posts_in id row_count bytes.now)) }
 {
     match posts_of(alloc, bytes, id, row_count) {
         Ok(postings) => Ok(postings),
@@ -60,11 +61,14 @@ pub fn decode_pst(
     row_count: u32,
 ) -> Result<Postings, FileFault>
     // What is read is spelled so, each byte of it.
-    ensures found { IfOk result (λ postings. PostingsFit row_count postings × (bytes.now ≡ posts_file id row_count postings)) }
+    ensures found { IfOk result (λ postings. PostingsFit row_count postings
+        × (bytes.now ≡ posts_file id row_count postings)) }
     // What is spelled so is read, unless memory runs out.
-    ensures only { (postings : Postings) → PostingsFit row_count postings → bytes.now ≡ posts_file id row_count postings → GivesFile (λ x. x) result (Ok postings) }
+    ensures only { (postings : Postings) → PostingsFit row_count postings
+        → bytes.now ≡ posts_file id row_count postings → GivesFile (λ x. x) result (Ok postings) }
     // Which place is the first broken one.
-    ensures exact { GivesFile (λ x. x) result (placed (Posts id) bytes.now (posts_in id row_count bytes.now)) }
+    ensures exact { GivesFile (λ x. x) result
+        (placed (Posts id) bytes.now (posts_in id row_count bytes.now)) }
 {
     placed_posts(alloc, bytes, id, row_count)
 }

@@ -60,7 +60,8 @@ fn entry_of<'a>(
     row_count: u32,
     entries: &[TermPostings],
 ) -> Result<(TermPostings, &'a [u8]), Broken>
-    ensures { Gives (λ x. (x.0, x.1.now)) result (term_at row_count (last_term entries.now) bytes.now) }
+    ensures { Gives (λ x. (x.0, x.1.now)) result
+        (term_at row_count (last_term entries.now) bytes.now) }
 {
     let (term, counted) = term_name_of(alloc, bytes, entries)?;
     let (count, rest) = u32_at(counted)?;

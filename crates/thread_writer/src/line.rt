@@ -38,7 +38,8 @@ fn analysed(alloc: Global, doc: &Document) -> Result<Analysed, Refused>
     ensures doc { IfOk result (λ analysed. analysed.doc ≡ doc.now) }
     ensures inversion { IfOk result (λ analysed. IsInversion (doc.now ∷ []) analysed.postings) }
     ensures fits { IfOk result (λ _. document_refusal doc.now ≡ None) }
-    ensures refusal { IfErr result (λ refused. RefusedExactly (told_for refused) (document_refusal doc.now)) }
+    ensures refusal { IfErr result (λ refused. RefusedExactly (told_for refused)
+        (document_refusal doc.now)) }
 {
     analyse(alloc, doc.clone_in(alloc)?)
 }
@@ -172,7 +173,8 @@ impl ThreadWriter {
         ensures writer { IsWriter queue.now self.new }
         ensures size { self.new.size ≡ self.old.size }
         ensures grows { Grows self.old.seat self.new.seat }
-        ensures numbered { IfNumbered result (λ n. Numbers queue.now operation.now n self.old self.new) }
+        ensures numbered { IfNumbered result
+            (λ n. Numbers queue.now operation.now n self.old self.new) }
         ensures stays { IfNotNumbered result (Stays queue.now self.old self.new) }
         ensures refusal { RefusedExactly result (refusal operation.now) }
         ensures closed { IfClosed result (SawClosed (the_view self.new.seat)) }

@@ -28,9 +28,11 @@ impl ThreadWriter {
         ensures size { self.new.size ≡ self.old.size }
         ensures grows { Grows self.old.seat self.new.seat }
         ensures own { own_of self.new.seat ≡ own_of self.old.seat }
-        ensures full { IfOk result (λ given. IsSome given ↔ (length self.old.rows ≡ self.old.size)) }
+        ensures full { IfOk result (λ given. IsSome given
+            ↔ (length self.old.rows ≡ self.old.size)) }
         ensures room { OnOk result (length self.new.rows < self.new.size) }
-        ensures gives { IfOk result (λ given. IfSome given (λ piece. Gives queue.now piece self.old self.new)) }
+        ensures gives { IfOk result (λ given. IfSome given
+            (λ piece. Gives queue.now piece self.old self.new)) }
         ensures none { IfOk result (λ given. IfNone given (self.new ≡ self.old)) }
         ensures stays { OnErr result (Stays queue.now self.old self.new) }
     {
@@ -46,7 +48,8 @@ impl ThreadWriter {
         requires updates { as_operations updates.old ≡ [] }
         ensures reads { Reads queue.now self.old self.new }
         ensures to { self.new.slice.to.at ≡ seen_of self.new.seat }
-        ensures ok { OnOk result (TakesSlice queue.now self.new.seat self.new.slice updates.old updates.new) }
+        ensures ok { OnOk result
+            (TakesSlice queue.now self.new.seat self.new.slice updates.old updates.new) }
     {
         slices_stay();
         self.slice.advance(queue, &mut self.seat);

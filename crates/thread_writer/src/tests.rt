@@ -140,7 +140,8 @@ fn told(
 ) -> Result<Told, Fail>
     requires { IsWriter queue.now writer.old }
     ensures writer { OnOk result (IsWriter queue.now writer.new) }
-    ensures full { IfOk result (λ told. IfFull told (λ need left. 0 < length (own_of writer.new.seat))) }
+    ensures full { IfOk result (λ told. IfFull told
+        (λ need left. 0 < length (own_of writer.new.seat))) }
 {
     let operation = operation_of(alloc, act, key)?;
     if writer.rows.rows() >= writer.size {

@@ -33,7 +33,8 @@ impl ThreadWriter {
         requires seat { IsSeat seat }
         requires own { own_of seat ≡ [] }
         requires buffer { (1 ≤ buffer) × (buffer ≤ 65536) }
-        ensures ready { (q : DeleteQueue) → IsSeatOf q seat → IsWriter q result × Did q (parts_of result) [] [] }
+        ensures ready { (q : DeleteQueue) → IsSeatOf q seat → IsWriter q result
+            × Did q (parts_of result) [] [] }
         ensures parts { (result.seat ≡ seat) × (result.size ≡ buffer) × (result.rows ≡ []) }
         ensures slice { result.slice.from.at ≡ seen_of seat }
     {
