@@ -121,13 +121,18 @@ fn last_of(log: &QueueLog, base: u64) -> (u64, u64)
 
 /// The last piece of a writer, which is made of its rest, in a round whose first operation has the
 /// number after `base`. None of the round's operations is in it: the packet has them all.
-fn last_piece(alloc: Global, base: u64, rest: &Rest) -> Result<Piece, NoMemory>
-    requires can { CanEnd rest.now }
-    ensures { IfOk result (IsLast base rest.now.rows) }
+fn last_piece(
+    alloc: Global,
+    base: u64,
+    worker: u64,
+    rows: RamPostings,
+) -> Result<Piece, NoMemory>
+    requires few { length rows ≤ 65536 }
+    ensures { IfOk result (IsLast base rows) }
 {
-    let frozen = rest.rows.freeze(alloc)?;
+    let frozen = rows.into_frozen(alloc)?;
     Ok(Piece {
-        worker: rest.worker,
+        worker,
         frozen,
         updates: Updates::new(alloc),
         cut: base,
@@ -141,8 +146,8 @@ fn pieces_of(alloc: Global, base: u64, rests: Vec<Rest>) -> Result<Vec<Piece>, N
 {
     let mut pieces = Vec::new(alloc);
     for rest in rests {
-        let last = last_piece(alloc, base, &rest)?;
-        let Rest { gave, .. } = rest;
+        let Rest { worker, rows, gave } = rest;
+        let last = last_piece(alloc, base, worker, rows)?;
         let mut gave = gave;
         pieces.append(&mut gave)?;
         pieces.push(last)?;

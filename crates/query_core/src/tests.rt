@@ -66,6 +66,15 @@ fn shown(alloc: Global, index: &PostingsIndex, query: &Query) -> Result<String, 
     Ok(shown)
 }
 
+fn shown_phrase(
+    alloc: Global,
+    index: &PostingsIndex,
+    field: &str,
+    text: &str,
+) -> Result<String, Fail> {
+    shown(alloc, index, &phrase(alloc, field, text)?)
+}
+
 /// The words of a phrase stand next to one another, in any case.
 #[test]
 fn phrases(rt: HostRuntime) -> Result<(), Fail> {
@@ -82,7 +91,7 @@ fn phrases(rt: HostRuntime) -> Result<(), Fail> {
         ("body", " ", ""),
     ];
     for (field, text, want) in cases {
-        let shown = shown(alloc, &index, &phrase(alloc, field, text)?)?;
+        let shown = shown_phrase(alloc, &index, field, text)?;
         assert_eq!(rt; shown.as_str(), want, "{field} {text}");
     }
     Ok(())
@@ -116,37 +125,90 @@ fn found_from(
     Ok(shown)
 }
 
+/// What the searches for these terms find, one after another, of which the first begins at `from`.
+fn found_in_turn(
+    alloc: Global,
+    index: &PostingsIndex,
+    terms: &[(&str, &str)],
+    from: usize,
+) -> Result<String, Fail> {
+    let mut place = from;
+    let mut all = String::new(alloc);
+    for (field, bytes) in terms {
+        let term = term_of(alloc, field, bytes)?;
+        let found = found_from(alloc, index, &term, &mut place)?;
+        write!(all, "{};", found.as_str())?;
+    }
+    Ok(all)
+}
+
 /// A term's rows are found wherever the search begins: one term after another in their order, and in
 /// the opposite order.
 #[test]
 fn searches_from_any_place(rt: HostRuntime) -> Result<(), Fail> {
     let alloc = rt.alloc();
     let index = index_of(alloc, ["red", "red blue", "blue", "green"].as_slice())?;
-    let cases = [
-        ("body", "azure", ""),
-        ("body", "blue", "1,2,"),
-        ("body", "green", "3,"),
-        ("body", "pink", ""),
-        ("body", "red", "0,1,"),
-        ("key", "0", "0,"),
-        ("key", "3", "3,"),
-        ("key", "4", ""),
+    let rising = [
+        ("body", "azure"),
+        ("body", "blue"),
+        ("body", "green"),
+        ("body", "pink"),
+        ("body", "red"),
+        ("key", "0"),
+        ("key", "3"),
+        ("key", "4"),
     ];
-    for first in [0, 1, 3, 6, 7, 8, 1000, usize::MAX] {
-        let mut rising = first;
-        for (field, bytes, want) in cases {
-            let term = term_of(alloc, field, bytes)?;
-            let found = found_from(alloc, &index, &term, &mut rising)?;
-            assert_eq!(rt; found.as_str(), want, "{bytes} after {first}");
-        }
-        let mut falling = first;
-        for (field, bytes, want) in cases.iter().rev() {
-            let term = term_of(alloc, field, bytes)?;
-            let found = found_from(alloc, &index, &term, &mut falling)?;
-            assert_eq!(rt; found.as_str(), *want, "{bytes} before {first}");
-        }
+    for from in [0, 1, 3, 6, 7, 8, 1000, usize::MAX] {
+        let found = found_in_turn(alloc, &index, &rising, from)?;
+        assert_eq!(rt; found.as_str(), ";1,2,;3,;;0,1,;0,;3,;;", "from {from}");
+    }
+    let falling = [
+        ("key", "4"),
+        ("key", "3"),
+        ("key", "0"),
+        ("body", "red"),
+        ("body", "pink"),
+        ("body", "green"),
+        ("body", "blue"),
+        ("body", "azure"),
+    ];
+    for from in [0, 1, 3, 6, 7, 8, 1000, usize::MAX] {
+        let found = found_in_turn(alloc, &index, &falling, from)?;
+        assert_eq!(rt; found.as_str(), ";3,;0,;0,1,;;3,;1,2,;;", "from {from}");
     }
     Ok(())
+}
+
+/// The word of a row among some thousand.
+fn word_at(alloc: Global, at: u32) -> Result<String, Fail> {
+    Ok(format!(in alloc; "w{}", at as u64 * 7 % 2000)?)
+}
+
+/// The index of that many documents, each with its own word.
+fn index_of_words(alloc: Global, count: u32) -> Result<PostingsIndex, Fail> {
+    let mut words = Vec::new(alloc);
+    for at in 0..count {
+        words.push(word_at(alloc, at)?)?;
+    }
+    let mut bodies = Vec::new(alloc);
+    for word in &words {
+        bodies.push(word.as_str())?;
+    }
+    index_of(alloc, bodies.as_slice())
+}
+
+/// The first of so many rows that the search for its word, which begins where the one before it
+/// ended, doesn't find alone.
+fn first_lost(alloc: Global, index: &PostingsIndex, count: u32) -> Result<Option<u32>, Fail> {
+    let mut place = 0;
+    for at in 0..count {
+        let term = term_of(alloc, "body", word_at(alloc, at)?.as_str())?;
+        let found = found_from(alloc, index, &term, &mut place)?;
+        if found.as_str() != format!(in alloc; "{at},")?.as_str() {
+            return Ok(Some(at));
+        }
+    }
+    Ok(None)
 }
 
 /// Among some thousand terms each is found, from the place where the search for the one before it
@@ -154,27 +216,27 @@ fn searches_from_any_place(rt: HostRuntime) -> Result<(), Fail> {
 #[test]
 fn searches_among_many_terms(rt: HostRuntime) -> Result<(), Fail> {
     let alloc = rt.alloc();
-    let mut bodies = Vec::new(alloc);
-    for at in 0..2000u32 {
-        bodies.push(format!(in alloc; "w{}", at * 7 % 2000)?)?;
-    }
-    let mut texts = Vec::new(alloc);
-    for body in &bodies {
-        texts.push(body.as_str())?;
-    }
-    let index = index_of(alloc, texts.as_slice())?;
-    let mut place = 0;
-    for at in 0..2000u32 {
-        let term = term_of(
-            alloc,
-            "body",
-            format!(in alloc; "w{}", at * 7 % 2000)?.as_str(),
-        )?;
-        let wanted = format!(in alloc; "{at},")?;
-        let found = found_from(alloc, &index, &term, &mut place)?;
-        assert_eq!(rt; found.as_str(), wanted.as_str());
-    }
+    let index = index_of_words(alloc, 2000)?;
+    assert_eq!(rt; first_lost(alloc, &index, 2000)?, None);
     Ok(())
+}
+
+fn shown_bool(
+    alloc: Global,
+    index: &PostingsIndex,
+    must: &[&str],
+    should: &[&str],
+    must_not: &[&str],
+) -> Result<String, Fail> {
+    let must = words(alloc, must)?;
+    let should = words(alloc, should)?;
+    let must_not = words(alloc, must_not)?;
+    let query = Query::Bool {
+        must,
+        should,
+        must_not,
+    };
+    shown(alloc, index, &query)
 }
 
 /// `should` counts where `must` is empty, and there alone; without both nothing matches.
@@ -193,15 +255,7 @@ fn bool_queries(rt: HostRuntime) -> Result<(), Fail> {
         (none, none, none, ""),
     ];
     for (must, should, must_not, want) in cases {
-        let must = words(alloc, must)?;
-        let should = words(alloc, should)?;
-        let must_not = words(alloc, must_not)?;
-        let query = Query::Bool {
-            must,
-            should,
-            must_not,
-        };
-        let shown = shown(alloc, &index, &query)?;
+        let shown = shown_bool(alloc, &index, must, should, must_not)?;
         assert_eq!(rt; shown.as_str(), want);
     }
     let shown = shown(alloc, &index, &Query::All)?;

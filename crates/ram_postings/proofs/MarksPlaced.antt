@@ -24,6 +24,13 @@ pub rows_step : (es : List Entry) (i : ℕ) (e : Entry) (old new : List Row) →
 rows_step es i e old new lt at was is =
     is ∙ ap (λ (f : Entry). old ++ row_of f.doc f.birth) at ∙ ap (λ (l : List Row). l ++ row_of (get_or es i e).doc (get_or es i e).birth) was ∙ sym (rows_more es i e lt)
 
+-- one more row, of the document that comes next
+pub rows_next : (es : List Entry) (e : Entry) (old new : List Row) → old ≡ born_rows (map staged_of es)
+    → new ≡ old ++ row_of e.doc e.birth → new ≡ born_rows (map staged_of (es ++ e ∷ []))
+rows_next es e old new was is =
+    is ∙ ap (λ (l : List Row). l ++ row_of e.doc e.birth) was
+    ∙ sym (ap born_rows (map-append staged_of es (e ∷ [])) ∙ rows_push (map staged_of es) (staged_of e))
+
 marks_push : (xs : List Entry) (y : Entry) → born_marks (xs ++ y ∷ []) ≡ born_marks xs ++ mark_of y.mark y.birth
 marks_push [] y = append-nil (mark_of y.mark y.birth)
 marks_push (x ∷ xs) y = ap (λ (l : List ℕ). mark_of x.mark x.birth ++ l) (marks_push xs y) ∙ sym (append_assoc (mark_of x.mark x.birth) (born_marks xs) (mark_of y.mark y.birth))

@@ -4,7 +4,7 @@ ghost use Rattle.ix_base.specs.Inversion.{IsInversion};
 ghost use Rattle.ram_postings.specs.Buffer.{waiting, born_rows, with_birth};
 
 use crate::entry::Entry;
-use crate::freezing::{Frozen, freeze_entries};
+use crate::freezing::{Frozen, freeze_entries, freeze_moved};
 use crate::placing::place_terms;
 use analysis::TermKey;
 use indexmap::IndexMap;
@@ -100,12 +100,28 @@ impl RamPostings {
     }
 
     /// The rows of the documents that have their number, and the inversion of them. The buffer
-    /// stays as it is.
+    /// stays as it is: the documents are copied. The only error is out of memory.
     pub fn freeze(&self, alloc: Global) -> Result<Frozen, NoMemory>
         ensures rows { IfOk result (λ frozen. frozen.rows.items ≡ born_rows self.now) }
-        ensures inversion { IfOk result (λ frozen. IsInversion
-            (map (λ row. row.doc) (born_rows self.now)) frozen.postings) }
+        ensures inversion { IfOk result (λ frozen.
+            IsInversion (map (λ row. row.doc) (born_rows self.now)) frozen.postings) }
     {
         freeze_entries(alloc, self.staged.as_slice(), self.next_mark, &self.lists)
+    }
+
+    /// What `freeze` returns, of a buffer that is used up: no document is copied. The only error is
+    /// out of memory; the documents are gone then too.
+    pub fn into_frozen(self, alloc: Global) -> Result<Frozen, NoMemory>
+        ensures rows { IfOk result (λ frozen. frozen.rows.items ≡ born_rows self) }
+        ensures inversion { IfOk result (λ frozen.
+            IsInversion (map (λ row. row.doc) (born_rows self)) frozen.postings) }
+    {
+        let RamPostings {
+            staged,
+            next_mark,
+            lists,
+            ..
+        } = self;
+        freeze_moved(alloc, staged, next_mark, &lists)
     }
 }

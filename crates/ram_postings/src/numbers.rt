@@ -1,14 +1,14 @@
 //! The rows of a buffer's documents.
-ghost use Rattle.std.specs.Prelude.{◌≡◌, ◌<◌, ◌^◌, map, length, All, AllPairs, IfOk};
-ghost use Rattle.ram_postings.specs.Buffer.{born_rows};
+ghost use Rattle.std.specs.Prelude.{◌≡◌, ◌<◌, ◌^◌, ◌++◌, map, length, All, AllPairs, IfOk, OnOk};
+ghost use Rattle.ram_postings.specs.Buffer.{born_rows, row_of};
 ghost use Rattle.ram_postings.specs.Kept.{staged_of, born_marks, ArePlaces};
 
 use crate::entry::Entry;
 use ix_base::{NoMemory, Row};
 use std::alloc::Global;
 
-/// The rows of those documents that have their number.
-pub fn rows_of(alloc: Global, staged: &[Entry]) -> Result<Vec<Row>, NoMemory>
+/// The rows of those documents that have their number, which are copied.
+pub fn copied_rows(alloc: Global, staged: &[Entry]) -> Result<Vec<Row>, NoMemory>
     ensures { IfOk result (λ rows. rows.items ≡ born_rows (map staged_of staged.now)) }
 {
     let mut rows = Vec::new(alloc);
@@ -19,6 +19,28 @@ pub fn rows_of(alloc: Global, staged: &[Entry]) -> Result<Vec<Row>, NoMemory>
                 doc: entry.doc.clone_in(alloc)?,
             })?;
         }
+    }
+    Ok(rows)
+}
+
+/// Puts a document that has its number behind the rows.
+fn move_row(rows: &mut Vec<Row>, entry: Entry) -> Result<(), NoMemory>
+    ensures { OnOk result (rows.new.items ≡ rows.old.items ++ row_of entry.doc entry.birth) }
+{
+    let Entry { doc, birth, .. } = entry;
+    if let Some(birth) = birth {
+        rows.push(Row { birth, doc })?;
+    }
+    Ok(())
+}
+
+/// The rows of those documents that have their number, which are moved.
+pub fn moved_rows(alloc: Global, staged: Vec<Entry>) -> Result<Vec<Row>, NoMemory>
+    ensures { IfOk result (λ rows. rows.items ≡ born_rows (map staged_of staged.items)) }
+{
+    let mut rows = Vec::with_capacity(alloc, staged.len())?;
+    for entry in staged {
+        move_row(&mut rows, entry)?;
     }
     Ok(rows)
 }

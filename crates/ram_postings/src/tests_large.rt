@@ -3,8 +3,8 @@ ghost use Rattle.std.specs.Prelude.{◌<◌, ◌+◌, ◌∷◌, [], All, length
 ghost use Rattle.ix_base.specs.Inversion.{IsInversion};
 ghost use Rattle.ram_postings.specs.Buffer.{born_rows};
 
-use crate::RamPostings;
-use crate::tests::{document_of, inverted, shown};
+use crate::tests::{document_of, inverted, shown, shown_frozen};
+use crate::{Frozen, RamPostings};
 use analysis::analyse;
 use ix_base::{Analysed, Document};
 use std::alloc::Global;
@@ -60,6 +60,14 @@ fn thousands_of_documents(rt: HostRuntime) -> Result<(), Fail> {
     assert_eq!(rt; (buffer.rows(), frozen.rows.len()), (2_000, 1_714));
     let found = shown(alloc, &frozen.postings)?;
     let expected = inverted(alloc, frozen.rows.as_slice())?;
-    assert_eq!(rt; found.as_str() == expected.as_str(), true);
+    assert!(rt; found.as_str() == expected.as_str());
+    assert!(rt; is_moved(alloc, buffer, &frozen)?);
     Ok(())
+}
+
+/// Whether the buffer freezes to the same where its documents are moved.
+fn is_moved(alloc: Global, buffer: RamPostings, frozen: &Frozen) -> Result<bool, Fail> {
+    let copied = shown_frozen(alloc, frozen)?;
+    let moved = shown_frozen(alloc, &buffer.into_frozen(alloc)?)?;
+    Ok(moved.as_str() == copied.as_str())
 }

@@ -1,8 +1,8 @@
 use Rattle.std.proofs.Common.{◌≡◌, ◌∙◌, List}
 use Rattle.ix_base.specs.declared.document.Row.{Row}
 use Rattle.ram_postings.proofs.MarksPlaced.{rows_step, row_some, row_none}
-use Rattle.ram_postings.proofs.numbers.rows_of.Goals as goal
-use Rattle.ram_postings.proofs.numbers.rows_of.Goals.{in-Some+in_ok-clone_in+in_ok-push, in_default}
+use Rattle.ram_postings.proofs.numbers.copied_rows.Goals as goal
+use Rattle.ram_postings.proofs.numbers.copied_rows.Goals.{in-Some+in_ok-clone_in+in_ok-push, in_default}
 
 pub loop-entry-preserved : goal.loop-entry-preserved
 loop-entry-preserved c =
