@@ -4,7 +4,7 @@ use crate::open::{head, open_commit, read_commit};
 use crate::tests_files::{
     Bytes, COMMIT, COMMIT_FIELDS, LIVE, LIVE_FIELDS, POSTS, POSTS_FIELDS, ROWS, ROWS_FIELDS,
     SMALL_POSTS, SMALL_POSTS_FIELDS, SMALL_ROWS, SMALL_ROWS_FIELDS, SMALL_VALUES,
-    SMALL_VALUES_FIELDS, VALUES, VALUES_FIELDS, exchanged, full, small, store_of,
+    SMALL_VALUES_FIELDS, VALUES, VALUES_FIELDS, exchanged, full, shown, small, store_of,
 };
 use ix_base::{Damaged, FileName};
 use ix_memory::MemoryStore;
@@ -87,95 +87,64 @@ fn wrong_change(
 }
 
 #[test]
-fn the_files_are_whole(rt: HostRuntime) {
+fn the_files_are_whole(rt: HostRuntime) -> Result<(), Fail> {
     let alloc = rt.alloc();
-    let Ok(mut store) = store_of(alloc, full()) else {
-        panic!(rt; "memory");
-    };
-    let Ok(opened) = open_commit(alloc, &mut store, 2) else {
-        panic!(rt; "the commit is whole");
-    };
-    assert_eq!(rt; opened.next_id, 2);
-    assert_eq!(rt; opened.entries.as_slice().len(), 1);
-    let segments = opened.segments.as_slice();
-    assert_eq!(rt; segments.len(), 1);
-    let segment = segments[0].segment();
-    assert_eq!(rt; segment.id, 1);
-    assert_eq!(rt; segment.rows.len(), 1);
-    assert_eq!(rt; segment.postings.terms.len(), 4);
-    let live = segments[0].live();
-    assert_eq!(rt; live.applied(), 2);
-    assert_eq!(rt; live.live_count(), 1);
-    let values = live.values(0);
-    assert_eq!(rt; values.len(), 1);
-    assert_eq!(rt; values[0].0.as_str(), "size");
-    assert_eq!(rt; values[0].1, 7);
+    let mut store = store_of(alloc, full()).ok().ok_or("memory")?;
+    let opened = open_commit(alloc, &mut store, 2)?;
+    assert_eq!(rt;
+        shown(alloc, &opened)?.as_str(),
+        "next 2, 1 of 2; 1 with 4 terms at 2: m11 size=7"
+    );
+    Ok(())
 }
 
 #[test]
-fn the_smallest_commit_is_whole(rt: HostRuntime) {
+fn the_smallest_commit_is_whole(rt: HostRuntime) -> Result<(), Fail> {
     let alloc = rt.alloc();
-    let Ok(mut store) = store_of(alloc, small()) else {
-        panic!(rt; "memory");
-    };
-    let Ok(head) = head(alloc, &mut store, 2) else {
-        panic!(rt; "the commit file is whole");
-    };
-    assert_eq!(rt; head.docs, 1);
-    let Ok(opened) = read_commit(alloc, &mut store, 2) else {
-        panic!(rt; "the commit is whole");
-    };
-    assert_eq!(rt; opened.segments.as_slice().len(), 1);
+    let mut store = store_of(alloc, small()).ok().ok_or("memory")?;
+    assert_eq!(rt; head(alloc, &mut store, 2)?.docs, 1);
+    let opened = read_commit(alloc, &mut store, 2)?;
+    assert_eq!(rt;
+        shown(alloc, &opened)?.as_str(),
+        "next 2, 1 of 2; 1 with 1 terms at 2: a11"
+    );
+    Ok(())
+}
+
+/// A file of the commit with all kinds of fields, whole, and where its fields begin.
+type File = (FileName, &'static [u8], &'static [u64]);
+
+/// The first of these files of a commit, cut at some length, that isn't told to be broken in the field
+/// that it ends in, and the length.
+fn wrong_file(alloc: Global, bytes: Bytes<'_>, files: &[File]) -> Option<(FileName, usize)> {
+    for (file, whole, fields) in files {
+        if let Some(len) = wrong_cut(alloc, bytes, *file, whole, fields) {
+            return Some((*file, len));
+        }
+    }
+    None
 }
 
 #[test]
 fn cut_files(rt: HostRuntime) {
-    let alloc = rt.alloc();
-    let cut = wrong_cut(alloc, full(), FileName::Commit(2), &COMMIT, &COMMIT_FIELDS);
-    assert_eq!(rt; cut, None);
-    let cut = wrong_cut(alloc, full(), FileName::Rows(1), &ROWS, &ROWS_FIELDS);
-    assert_eq!(rt; cut, None);
-    let cut = wrong_cut(alloc, full(), FileName::Posts(1), &POSTS, &POSTS_FIELDS);
-    assert_eq!(rt; cut, None);
-    let cut = wrong_cut(alloc, full(), FileName::Live(1, 2), &LIVE, &LIVE_FIELDS);
-    assert_eq!(rt; cut, None);
-    let cut = wrong_cut(
-        alloc,
-        full(),
-        FileName::Values(1, 2),
-        &VALUES,
-        &VALUES_FIELDS,
-    );
-    assert_eq!(rt; cut, None);
+    let files: [File; 5] = [
+        (FileName::Commit(2), &COMMIT, &COMMIT_FIELDS),
+        (FileName::Rows(1), &ROWS, &ROWS_FIELDS),
+        (FileName::Posts(1), &POSTS, &POSTS_FIELDS),
+        (FileName::Live(1, 2), &LIVE, &LIVE_FIELDS),
+        (FileName::Values(1, 2), &VALUES, &VALUES_FIELDS),
+    ];
+    assert_eq!(rt; wrong_file(rt.alloc(), full(), &files), None);
 }
 
 #[test]
 fn cut_files_of_the_smallest_commit(rt: HostRuntime) {
-    let alloc = rt.alloc();
-    let cut = wrong_cut(
-        alloc,
-        small(),
-        FileName::Rows(1),
-        &SMALL_ROWS,
-        &SMALL_ROWS_FIELDS,
-    );
-    assert_eq!(rt; cut, None);
-    let cut = wrong_cut(
-        alloc,
-        small(),
-        FileName::Posts(1),
-        &SMALL_POSTS,
-        &SMALL_POSTS_FIELDS,
-    );
-    assert_eq!(rt; cut, None);
-    let cut = wrong_cut(
-        alloc,
-        small(),
-        FileName::Values(1, 2),
-        &SMALL_VALUES,
-        &SMALL_VALUES_FIELDS,
-    );
-    assert_eq!(rt; cut, None);
+    let files: [File; 3] = [
+        (FileName::Rows(1), &SMALL_ROWS, &SMALL_ROWS_FIELDS),
+        (FileName::Posts(1), &SMALL_POSTS, &SMALL_POSTS_FIELDS),
+        (FileName::Values(1, 2), &SMALL_VALUES, &SMALL_VALUES_FIELDS),
+    ];
+    assert_eq!(rt; wrong_file(rt.alloc(), small(), &files), None);
 }
 
 #[test]
@@ -306,53 +275,37 @@ fn changed_value_files(rt: HostRuntime) -> Result<(), Fail> {
     Ok(())
 }
 
+/// The first broken place of the full commit where this file is gone.
+fn broken_without(alloc: Global, name: FileName) -> Result<Option<Damaged>, Fail> {
+    let mut store = store_of(alloc, full()).ok().ok_or("memory")?;
+    store.delete(name).ok().ok_or("memory")?;
+    Ok(broken_in(alloc, &mut store))
+}
+
 #[test]
-fn absent_files(rt: HostRuntime) {
-    let alloc = rt.alloc();
-    let names = [
+fn absent_files(rt: HostRuntime) -> Result<(), Fail> {
+    for file in [
         FileName::Rows(1),
         FileName::Posts(1),
         FileName::Live(1, 2),
         FileName::Values(1, 2),
-    ];
-    for name in names {
-        let Ok(mut store) = store_of(alloc, full()) else {
-            panic!(rt; "memory");
-        };
-        let Ok(()) = store.delete(name) else {
-            panic!(rt; "memory");
-        };
-        assert_eq!(rt;
-            broken_in(alloc, &mut store),
-            Some(Damaged { file: name, at: 0 })
-        );
+    ] {
+        let broken = broken_without(rt.alloc(), file)?;
+        assert_eq!(rt; broken, Some(Damaged { file, at: 0 }));
     }
+    Ok(())
 }
 
 /// A commit whose file is gone: a list doesn't show it, and a read finds it absent.
 #[test]
-fn absent_commit_file(rt: HostRuntime) {
+fn absent_commit_file(rt: HostRuntime) -> Result<(), Fail> {
     let alloc = rt.alloc();
-    let Ok(mut store) = store_of(alloc, full()) else {
-        panic!(rt; "memory");
-    };
-    let Ok(()) = store.delete(FileName::Commit(2)) else {
-        panic!(rt; "memory");
-    };
-    let gone = matches!(
-        open_commit(alloc, &mut store, 2),
-        Err(OpenFault::NoSuch { number: 2 })
-    );
-    assert!(rt; gone);
-    let damaged = match read_commit(alloc, &mut store, 2) {
-        Err(OpenFault::Damaged(damaged)) => Some(damaged),
-        _ => None,
-    };
-    assert_eq!(rt;
-        damaged,
-        Some(Damaged {
-            file: FileName::Commit(2),
-            at: 0
-        })
-    );
+    let file = FileName::Commit(2);
+    let mut store = store_of(alloc, full()).ok().ok_or("memory")?;
+    store.delete(file).ok().ok_or("memory")?;
+    let opened = open_commit(alloc, &mut store, 2);
+    assert!(rt; opened.err() == Some(OpenFault::NoSuch { number: 2 }));
+    let read = read_commit(alloc, &mut store, 2);
+    assert!(rt; read.err() == Some(OpenFault::Damaged(Damaged { file, at: 0 })));
+    Ok(())
 }

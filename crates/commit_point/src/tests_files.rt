@@ -1,9 +1,13 @@
 //! The files of two commits: in the row of the one there are texts, exact texts and numbers, and a
 //! number was set in it; the other is the smallest there is. These are the files that the formats show.
+use crate::open::Opened;
 use ix_base::FileName;
 use ix_memory::MemoryStore;
 use ix_outside::{Store, StoreFault};
+use segment_core::LiveSegment;
 use std::alloc::Global;
+use std::fmt::Write;
+use std::test::Fail;
 
 /// `segments_2`: one segment of one row.
 pub(crate) const COMMIT: [u8; 60] = [
@@ -150,4 +154,50 @@ pub(crate) fn store_of(alloc: Global, bytes: Bytes<'_>) -> Result<MemoryStore, S
     store.write(FileName::Values(1, 2), bytes.values)?;
     store.write(FileName::Commit(2), bytes.commit)?;
     Ok(store)
+}
+
+/// A commit that was read back: the next id, and its segments.
+pub(crate) fn shown(alloc: Global, opened: &Opened) -> Result<String, Fail> {
+    let mut out = String::new(alloc);
+    write!(out, "next {}", opened.next_id)?;
+    for entry in opened.entries.as_slice() {
+        write!(out, ", {} of {}", entry.id, entry.written)?;
+    }
+    for segment in opened.segments.as_slice() {
+        show_segment(&mut out, segment)?;
+    }
+    Ok(out)
+}
+
+/// A segment: its id, how many terms it has, the number up to which operations are in its live docs,
+/// and its rows.
+fn show_segment(out: &mut String, segment: &LiveSegment) -> Result<(), Fail> {
+    let (id, terms) = (segment.segment().id, segment.segment().postings.terms.len());
+    write!(
+        out,
+        "; {id} with {terms} terms at {}:",
+        segment.live().applied()
+    )?;
+    for at in 0..8 {
+        show_row(out, segment, at)?;
+    }
+    Ok(())
+}
+
+/// A row, if there is one at this place: its key, its birth, whether it is dead, and the numbers that
+/// were set.
+fn show_row(out: &mut String, segment: &LiveSegment, at: u32) -> Result<(), Fail> {
+    let rows = segment.segment().rows.as_slice();
+    if at as usize >= rows.len() {
+        return Ok(());
+    }
+    let row = &rows[at as usize];
+    write!(out, " {}{}", row.doc.key.as_str(), row.birth)?;
+    if !segment.live().is_live(at) {
+        write!(out, " dead")?;
+    }
+    for (name, value) in segment.live().values(at) {
+        write!(out, " {}={value}", name.as_str())?;
+    }
+    Ok(())
 }

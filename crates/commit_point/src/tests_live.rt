@@ -1,6 +1,7 @@
 //! A commit of which not every row is live, and whose segment an earlier commit wrote.
 use crate::fault::OpenFault;
 use crate::open::open_commit;
+use crate::tests_files::shown;
 use ix_base::{Damaged, FileName};
 use ix_memory::MemoryStore;
 use ix_outside::{Store, StoreFault};
@@ -59,43 +60,24 @@ fn store_of(alloc: Global, commit: &[u8]) -> Result<MemoryStore, StoreFault> {
 
 /// All operations up to the commit's number are in its live docs, whichever commit wrote them.
 #[test]
-fn a_segment_of_an_earlier_commit(rt: HostRuntime) {
+fn a_segment_of_an_earlier_commit(rt: HostRuntime) -> Result<(), Fail> {
     let alloc = rt.alloc();
-    let Ok(mut store) = store_of(alloc, &COMMIT) else {
-        panic!(rt; "memory");
-    };
-    let Ok(opened) = open_commit(alloc, &mut store, 3) else {
-        panic!(rt; "the commit is whole");
-    };
-    let entries = opened.entries.as_slice();
-    assert_eq!(rt; entries.len(), 1);
-    assert_eq!(rt; entries[0].written, 2);
-    let segments = opened.segments.as_slice();
-    assert_eq!(rt; segments.len(), 1);
-    assert_eq!(rt; segments[0].segment().rows.len(), 2);
-    let live = segments[0].live();
-    assert_eq!(rt; live.applied(), 3);
-    assert_eq!(rt; live.live_count(), 1);
-    assert!(rt; !live.is_live(0));
-    assert!(rt; live.is_live(1));
+    let mut store = store_of(alloc, &COMMIT).ok().ok_or("memory")?;
+    let opened = open_commit(alloc, &mut store, 3)?;
+    assert_eq!(rt;
+        shown(alloc, &opened)?.as_str(),
+        "next 2, 1 of 2; 1 with 0 terms at 3: a11 dead a22"
+    );
+    Ok(())
 }
 
 /// A row that isn't live doesn't count.
 #[test]
-fn live_rows_are_counted(rt: HostRuntime) {
+fn live_rows_are_counted(rt: HostRuntime) -> Result<(), Fail> {
     let alloc = rt.alloc();
-    let Ok(mut store) = store_of(alloc, &TWO) else {
-        panic!(rt; "memory");
-    };
-    let damaged = match open_commit(alloc, &mut store, 3) {
-        Err(OpenFault::Damaged(damaged)) => Some(damaged),
-        _ => None,
-    };
-    assert_eq!(rt;
-        damaged,
-        Some(Damaged {
-            file: FileName::Commit(3),
-            at: 16
-        })
-    );
+    let mut store = store_of(alloc, &TWO).ok().ok_or("memory")?;
+    let opened = open_commit(alloc, &mut store, 3);
+    let file = FileName::Commit(3);
+    assert!(rt; opened.err() == Some(OpenFault::Damaged(Damaged { file, at: 16 })));
+    Ok(())
 }

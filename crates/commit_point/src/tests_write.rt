@@ -6,7 +6,7 @@ ghost use Rattle.commit_point.specs.Writing.{CanWrite, WrittenUpTo};
 
 use crate::fault::CommitRefused;
 use crate::heads::Head;
-use crate::tests_files::small;
+use crate::tests_files::{Bytes, small};
 use crate::write::write_commit;
 use crate::written::Written;
 use ix_base::{Document, FileName, List, Name, Postings, Row, Spots, Term, TermPostings, Text};
@@ -168,6 +168,22 @@ fn has<S: Store>(alloc: Global, store: &mut S, name: FileName) -> bool {
     matches!(store.read(alloc, name), Ok(Some(_)))
 }
 
+/// The first of the files of the first commit that hasn't these bytes.
+fn first_other<S: Store>(alloc: Global, store: &mut S, bytes: Bytes<'_>) -> Option<FileName> {
+    for (name, bytes) in [
+        (FileName::Commit(2), bytes.commit),
+        (FileName::Rows(1), bytes.rows),
+        (FileName::Posts(1), bytes.posts),
+        (FileName::Live(1, 2), bytes.live),
+        (FileName::Values(1, 2), bytes.values),
+    ] {
+        if !holds(alloc, store, name, bytes) {
+            return Some(name);
+        }
+    }
+    None
+}
+
 /// Whether the file has these bytes.
 fn holds<S: Store>(alloc: Global, store: &mut S, name: FileName, bytes: &[u8]) -> bool {
     match store.read(alloc, name) {
@@ -176,12 +192,15 @@ fn holds<S: Store>(alloc: Global, store: &mut S, name: FileName, bytes: &[u8]) -
     }
 }
 
-/// The segments that the commit lists: the ids and rows of each, and which commit wrote its live docs.
-fn listed(alloc: Global, head: &Head) -> Result<String, Fail> {
+/// A commit: its number, rows and next id, and of each segment the id, the rows, and which commit
+/// wrote its live docs. Then how many files there are.
+fn listed<S: Store>(alloc: Global, store: &mut S, head: &Head) -> Result<String, Fail> {
     let mut out = String::new(alloc);
+    write!(out, "{} {} {}:", head.number, head.docs, head.next_id)?;
     for segment in head.segments.as_slice() {
-        write!(out, "{} {} {};", segment.id, segment.rows, segment.written)?;
+        write!(out, " {} {} {};", segment.id, segment.rows, segment.written)?;
     }
+    write!(out, " {} files", store.list(alloc)?.len())?;
     Ok(out)
 }
 
@@ -190,15 +209,9 @@ fn a_first_commit_byte_for_byte(rt: HostRuntime) -> Result<(), Fail> {
     let alloc = rt.alloc();
     let mut store = SteadyStore::new(alloc);
     let head = first(alloc, &mut store)?.ok_or("memory")?;
-    assert_eq!(rt; (head.number, head.docs, head.next_id), (2, 1, 2));
-    assert_eq!(rt; listed(alloc, &head)?.as_str(), "1 1 2;");
-    let bytes = small();
-    assert!(rt; holds(alloc, &mut store, FileName::Commit(2), bytes.commit));
-    assert!(rt; holds(alloc, &mut store, FileName::Rows(1), bytes.rows));
-    assert!(rt; holds(alloc, &mut store, FileName::Posts(1), bytes.posts));
-    assert!(rt; holds(alloc, &mut store, FileName::Live(1, 2), bytes.live));
-    assert!(rt; holds(alloc, &mut store, FileName::Values(1, 2), bytes.values));
-    assert_eq!(rt; store.list(alloc)?.len(), 5);
+    let listed = listed(alloc, &mut store, &head)?;
+    assert_eq!(rt; listed.as_str(), "2 1 2: 1 1 2; 5 files");
+    assert_eq!(rt; first_other(alloc, &mut store, small()), None);
     Ok(())
 }
 
@@ -224,23 +237,31 @@ fn a_second_commit_takes_twelve_calls(rt: HostRuntime) -> Result<(), Fail> {
     Ok(())
 }
 
+/// Whether all of these files are there.
+fn has_all<S: Store>(alloc: Global, store: &mut S, names: &[FileName]) -> bool {
+    for name in names {
+        if !has(alloc, store, *name) {
+            return false;
+        }
+    }
+    true
+}
+
 #[test]
 fn a_second_commit_writes_the_new_segment(rt: HostRuntime) -> Result<(), Fail> {
     let alloc = rt.alloc();
     let mut store = SteadyStore::new(alloc);
     first(alloc, &mut store)?.ok_or("memory")?;
     let head = second(alloc, &mut store, false)?.ok_or("memory")?;
-    assert_eq!(rt; (head.number, head.docs, head.next_id), (4, 2, 3));
-    assert_eq!(rt; listed(alloc, &head)?.as_str(), "1 1 2;2 1 4;");
-    assert_eq!(rt; store.list(alloc)?.len(), 10);
-    for name in [
+    let listed = listed(alloc, &mut store, &head)?;
+    assert_eq!(rt; listed.as_str(), "4 2 3: 1 1 2; 2 1 4; 10 files");
+    let written = [
         FileName::Rows(2),
         FileName::Posts(2),
         FileName::Live(2, 4),
         FileName::Values(2, 4),
-    ] {
-        assert!(rt; has(alloc, &mut store, name));
-    }
+    ];
+    assert!(rt; has_all(alloc, &mut store, &written));
     Ok(())
 }
 
@@ -252,13 +273,18 @@ fn a_killed_row_takes_eight_calls(rt: HostRuntime) -> Result<(), Fail> {
         let mut store = FuseStore::new(SteadyStore::new(alloc), passes);
         assert_eq!(rt; killed(alloc, &mut store)?.is_some(), done);
     }
+    Ok(())
+}
+
+#[test]
+fn a_killed_row_is_written_alone(rt: HostRuntime) -> Result<(), Fail> {
+    let alloc = rt.alloc();
     let mut store = SteadyStore::new(alloc);
     let head = killed(alloc, &mut store)?.ok_or("memory")?;
-    assert_eq!(rt; head.docs, 1);
-    assert_eq!(rt; listed(alloc, &head)?.as_str(), "1 2 4;");
-    assert_eq!(rt; store.list(alloc)?.len(), 3);
-    assert!(rt; has(alloc, &mut store, FileName::Live(1, 4)));
-    assert!(rt; has(alloc, &mut store, FileName::Values(1, 4)));
+    let listed = listed(alloc, &mut store, &head)?;
+    assert_eq!(rt; listed.as_str(), "4 1 2: 1 2 4; 3 files");
+    let written = [FileName::Live(1, 4), FileName::Values(1, 4)];
+    assert!(rt; has_all(alloc, &mut store, &written));
     Ok(())
 }
 
@@ -267,9 +293,8 @@ fn a_segment_without_a_live_row_is_not_listed(rt: HostRuntime) -> Result<(), Fai
     let alloc = rt.alloc();
     let mut store = SteadyStore::new(alloc);
     let head = second(alloc, &mut store, true)?.ok_or("memory")?;
-    assert_eq!(rt; head.docs, 1);
-    assert_eq!(rt; listed(alloc, &head)?.as_str(), "2 1 4;");
-    assert_eq!(rt; store.list(alloc)?.len(), 5);
+    let listed = listed(alloc, &mut store, &head)?;
+    assert_eq!(rt; listed.as_str(), "4 1 3: 2 1 4; 5 files");
     assert!(rt; !has(alloc, &mut store, FileName::Live(1, 4)));
     Ok(())
 }

@@ -5,7 +5,7 @@ ghost use Rattle.index_writer.specs.Trials.{IsUnderWay};
 
 use crate::script_lines::{Act, Line, Script, name_of, operation_of};
 use crate::working::{Answer, do_line, into_parts};
-use crate::{IndexWriter, RoundEnd, RoundParts, WriterFault, opened_go_on};
+use crate::{IndexWriter, MergeTurn, RoundEnd, RoundParts, WriterFault, opened_go_on};
 use commit_point::open_commit;
 use ix_base::Refusal;
 use ix_memory::MemoryStore;
@@ -60,7 +60,7 @@ fn begun(
 }
 
 /// A round of two writers that do the lines of a script.
-pub(crate) fn round<R: Threads + Sync>(
+fn round<R: Threads + Sync>(
     rt: &R,
     alloc: Global,
     writer: &mut IndexWriter<MemoryStore>,
@@ -128,7 +128,7 @@ fn show_row(alloc: Global, out: &mut String, segment: &LiveSegment, at: u32) -> 
 }
 
 /// Commits, and returns the number of the commit and how many rows it has.
-pub(crate) fn committed(writer: &mut IndexWriter<MemoryStore>) -> Result<(u64, u64), Fail>
+fn committed(writer: &mut IndexWriter<MemoryStore>) -> Result<(u64, u64), Fail>
     requires { IsSound writer.old.state }
     ensures { OnOk result (IsSound writer.new.state) }
 {
@@ -139,6 +139,97 @@ pub(crate) fn committed(writer: &mut IndexWriter<MemoryStore>) -> Result<(u64, u
     Ok((info.number, info.docs))
 }
 
+/// What a merge step did.
+fn merged(writer: &mut IndexWriter<MemoryStore>) -> Result<MergeTurn, Fail>
+    requires { IsSound writer.old.state }
+    ensures { OnOk result (IsSound writer.new.state) }
+{
+    if writer.next_id() > 1000 {
+        Err("many segments")?;
+    }
+    Ok(writer.merge_step()?)
+}
+
+/// A step in the history of a writer.
+#[derive(Clone, Copy)]
+pub(crate) enum Step<'a> {
+    /// A round of two writers that do the lines of a script.
+    Round(Script<'a>),
+    /// A merge, where one is due.
+    Merge,
+    /// The commit that is still to be written.
+    Commit,
+}
+
+/// How a round ended, and the commit that is to be written then.
+fn show_end(out: &mut String, end: RoundEnd, pending: Option<u64>) -> Result<(), Fail> {
+    match end {
+        RoundEnd::Committed(number) => write!(out, "committed {number}")?,
+        RoundEnd::Turned => out.push_str("turned")?,
+        RoundEnd::Ran => out.push_str("ran")?,
+    }
+    if let Some(number) = pending {
+        write!(out, ", {number} pending")?;
+    }
+    Ok(out.push_str("; ")?)
+}
+
+fn show_merge(out: &mut String, turn: MergeTurn) -> Result<(), Fail> {
+    match turn {
+        MergeTurn::Idle => out.push_str("idle; ")?,
+        MergeTurn::Merged => out.push_str("merged; ")?,
+    }
+    Ok(())
+}
+
+/// Goes a step, and shows what came of it.
+fn go_on<R: Threads + Sync>(
+    rt: &R,
+    alloc: Global,
+    out: &mut String,
+    writer: &mut IndexWriter<MemoryStore>,
+    step: Step<'_>,
+) -> Result<(), Fail>
+    requires { IsSound writer.old.state }
+    ensures { OnOk result (IsSound writer.new.state) }
+{
+    match step {
+        Step::Round(script) => {
+            let end = round(rt, alloc, writer, script)?;
+            show_end(out, end, writer.pending_commit())
+        }
+        Step::Merge => show_merge(out, merged(writer)?),
+        Step::Commit => {
+            let (number, docs) = committed(writer)?;
+            Ok(write!(out, "{docs} rows in {number}; ")?)
+        }
+    }
+}
+
+fn show_numbers(out: &mut String, writer: &IndexWriter<MemoryStore>) -> Result<(), Fail> {
+    let (upto, last, next) = (writer.upto(), writer.last(), writer.next_id());
+    Ok(write!(out, "{upto}, last commit {last}, next id {next}")?)
+}
+
+/// Goes these steps, and shows what came of each, with the last number, the last commit and the next
+/// id then.
+pub(crate) fn history<R: Threads + Sync>(
+    rt: &R,
+    alloc: Global,
+    writer: &mut IndexWriter<MemoryStore>,
+    steps: &[Step<'_>],
+) -> Result<String, Fail>
+    requires { IsSound writer.old.state }
+    ensures { OnOk result (IsSound writer.new.state) }
+{
+    let mut out = String::new(alloc);
+    for step in steps {
+        go_on(rt, alloc, &mut out, writer, *step)?;
+    }
+    show_numbers(&mut out, writer)?;
+    Ok(out)
+}
+
 /// Two writers, deletes across them, and a commit; then a round that isn't closed, and one whose
 /// commit has the rows of all three. The buffers hold two documents each.
 #[test]
@@ -146,30 +237,25 @@ fn three_rounds(rt: HostRuntime) -> Result<(), Fail> {
     use Act::*;
     let alloc = rt.alloc();
     let mut writer = IndexWriter::none(alloc, MemoryStore::new(alloc), 2, 8);
-    let script = [
-        (0, Add, "a"),
-        (1, Add, "b"),
-        (1, Delete, "a"),
-        (0, Add, "c"),
-        (0, Add, "d"),
-        (1, Commit, ""),
-        (0, Add, "e"),
+    let steps = [
+        Step::Round(&[
+            (0, Add, "a"),
+            (1, Add, "b"),
+            (1, Delete, "a"),
+            (0, Add, "c"),
+            (0, Add, "d"),
+            (1, Commit, ""),
+            (0, Add, "e"),
+        ]),
+        Step::Commit,
+        Step::Round(&[(1, Add, "f"), (0, Delete, "d")]),
+        Step::Round(&[(0, Delete, "f"), (1, Commit, "")]),
+        Step::Commit,
     ];
-    let end = round(&rt, alloc, &mut writer, &script)?;
-    assert_eq!(rt; end, RoundEnd::Committed(6));
-    assert_eq!(rt; writer.pending_commit(), Some(6));
-    assert_eq!(rt; committed(&mut writer)?, (6, 3));
-    let end = round(&rt, alloc, &mut writer, &[(1, Add, "f"), (0, Delete, "d")])?;
-    assert_eq!(rt; end, RoundEnd::Ran);
-    let end = round(
-        &rt,
-        alloc,
-        &mut writer,
-        &[(0, Delete, "f"), (1, Commit, "")],
-    )?;
-    assert_eq!(rt; end, RoundEnd::Committed(10));
-    assert_eq!(rt; committed(&mut writer)?, (10, 2));
-    assert_eq!(rt; (writer.last(), writer.next_id()), (10, 5));
+    assert_eq!(rt;
+        history(&rt, alloc, &mut writer, &steps)?.as_str(),
+        "committed 6, 6 pending; 3 rows in 6; ran; committed 10, 10 pending; 2 rows in 10; 10, last commit 10, next id 5"
+    );
     let mut store = writer.into_store();
     assert_eq!(rt; shown(alloc, &mut store, 6)?.as_str(), "4: 1 c4 2 d5 3 b2");
     assert_eq!(rt; shown(alloc, &mut store, 10)?.as_str(), "5: 1 c4 3 b2");
@@ -225,11 +311,12 @@ fn first_round(alloc: Global, writers: u32, buffer: u32) -> Result<RoundParts, F
     begun(alloc, &mut writer, writers)
 }
 
-/// Numbers, a refused document, full buffers that are given off, and a commit that closes the round.
-#[test]
-fn lines_of_a_round(rt: HostRuntime) -> Result<(), Fail> {
+/// Numbers, a refused document, full buffers that are given off, and a commit that closes the round,
+/// with buffers of this many documents.
+fn lines_with(alloc: Global, buffer: u32) -> Result<String, Fail>
+    requires { (1 ≤ buffer) × (buffer ≤ 65536) }
+{
     use Act::*;
-    let alloc = rt.alloc();
     let long = "k".repeat(alloc, 32_767)?;
     let script = [
         (0, Add, "a"),
@@ -243,13 +330,20 @@ fn lines_of_a_round(rt: HostRuntime) -> Result<(), Fail> {
         (0, Add, "f"),
         (1, Delete, "a"),
     ];
-    let mut parts = first_round(alloc, 2, 1)?;
-    let expected =
-        " 1 2 3 term 32767 4 5 6 7 closed closed; [0: a1] [0: b2]; [1: c3] [1: d5] [1: e6]";
-    assert_eq!(rt; shown_work(alloc, &mut parts, &script)?.as_str(), expected);
-    let mut parts = first_round(alloc, 2, 2)?;
-    let expected = " 1 2 3 term 32767 4 5 6 7 closed closed; [0: a1 b2]; [1: c3 d5]";
-    assert_eq!(rt; shown_work(alloc, &mut parts, &script)?.as_str(), expected);
+    let mut parts = first_round(alloc, 2, buffer)?;
+    shown_work(alloc, &mut parts, &script)
+}
+
+#[test]
+fn lines_of_a_round(rt: HostRuntime) -> Result<(), Fail> {
+    assert_eq!(rt;
+        lines_with(rt.alloc(), 1)?.as_str(),
+        " 1 2 3 term 32767 4 5 6 7 closed closed; [0: a1] [0: b2]; [1: c3] [1: d5] [1: e6]"
+    );
+    assert_eq!(rt;
+        lines_with(rt.alloc(), 2)?.as_str(),
+        " 1 2 3 term 32767 4 5 6 7 closed closed; [0: a1 b2]; [1: c3 d5]"
+    );
     Ok(())
 }
 
@@ -291,19 +385,31 @@ fn turned(rt: HostRuntime) -> Result<(), Fail> {
 fn closed_after_a_fault(rt: HostRuntime) -> Result<(), Fail> {
     use Act::*;
     let alloc = rt.alloc();
-    let mut calls = Vec::new(alloc);
-    calls.push(1)?;
+    let calls = vec![in alloc; 1u64]?;
     let store = MemoryStore::new(alloc).failing(calls);
     let mut writer = IndexWriter::none(alloc, store, 2, 8);
-    let script = [(0, Add, "a"), (1, Commit, "")];
-    let end = round(&rt, alloc, &mut writer, &script)?;
-    assert_eq!(rt; end, RoundEnd::Committed(2));
-    assert_eq!(rt; fault_of(&mut writer)?, WriterFault::Store);
-    assert!(rt; writer.is_closed());
-    assert_eq!(rt; fault_of(&mut writer)?, WriterFault::Closed);
+    let steps = [Step::Round(&[(0, Add, "a"), (1, Commit, "")])];
+    assert_eq!(rt;
+        history(&rt, alloc, &mut writer, &steps)?.as_str(),
+        "committed 2, 2 pending; 2, last commit 0, next id 2"
+    );
+    assert_eq!(rt;
+        faults_of(&mut writer)?,
+        [WriterFault::Store, WriterFault::Closed]
+    );
     assert_eq!(rt; begin_fault(&mut writer)?, WriterFault::Closed);
-    assert_eq!(rt; (writer.upto(), writer.last()), (2, 0));
+    assert!(rt; writer.is_closed());
     Ok(())
+}
+
+/// Why a commit isn't written, and why it isn't when it is tried again.
+fn faults_of(writer: &mut IndexWriter<MemoryStore>) -> Result<[WriterFault; 2], Fail>
+    requires { IsSound writer.old.state }
+    ensures { OnOk result (IsSound writer.new.state) }
+{
+    let first = fault_of(writer)?;
+    let second = fault_of(writer)?;
+    Ok([first, second])
 }
 
 /// Why a commit isn't written.
@@ -339,15 +445,20 @@ fn reopened(rt: HostRuntime) -> Result<(), Fail> {
     use Act::*;
     let alloc = rt.alloc();
     let mut writer = IndexWriter::none(alloc, MemoryStore::new(alloc), 65536, 8);
-    let script = [(0, Add, "a"), (1, Add, "b"), (1, Commit, "")];
-    let end = round(&rt, alloc, &mut writer, &script)?;
-    assert_eq!(rt; end, RoundEnd::Committed(3));
-    assert_eq!(rt; committed(&mut writer)?, (3, 2));
+    let first = [
+        Step::Round(&[(0, Add, "a"), (1, Add, "b"), (1, Commit, "")]),
+        Step::Commit,
+    ];
+    history(&rt, alloc, &mut writer, &first)?;
     let mut writer = opened_on(alloc, writer.into_store(), 3)?;
-    let script = [(1, Delete, "a"), (0, Add, "c"), (0, Commit, "")];
-    let end = round(&rt, alloc, &mut writer, &script)?;
-    assert_eq!(rt; end, RoundEnd::Committed(6));
-    assert_eq!(rt; committed(&mut writer)?, (6, 2));
+    let second = [
+        Step::Round(&[(1, Delete, "a"), (0, Add, "c"), (0, Commit, "")]),
+        Step::Commit,
+    ];
+    assert_eq!(rt;
+        history(&rt, alloc, &mut writer, &second)?.as_str(),
+        "committed 6, 6 pending; 2 rows in 6; 6, last commit 6, next id 4"
+    );
     let mut store = writer.into_store();
     assert_eq!(rt; shown(alloc, &mut store, 6)?.as_str(), "4: 2 b2 3 c5");
     assert_eq!(rt; shown(alloc, &mut store, 3)?.as_str(), "3: 1 a1 2 b2");

@@ -1,8 +1,8 @@
 //! Rounds whose writers have no rows, or none that lives, against what was worked out by hand.
 
+use crate::IndexWriter;
 use crate::script_lines::Act;
-use crate::tests::{committed, round, shown};
-use crate::{IndexWriter, RoundEnd};
+use crate::tests::{Step, history, shown};
 use ix_memory::MemoryStore;
 use std::test::*;
 
@@ -13,24 +13,24 @@ fn deletes_alone(rt: HostRuntime) -> Result<(), Fail> {
     use Act::*;
     let alloc = rt.alloc();
     let mut writer = IndexWriter::none(alloc, MemoryStore::new(alloc), 8, 8);
-    let script = [
-        (0, Add, "a"),
-        (0, Add, "b"),
-        (1, Delete, "a"),
-        (0, Add, "a"),
-        (0, Add, "c"),
-        (1, Commit, ""),
+    let steps = [
+        Step::Round(&[
+            (0, Add, "a"),
+            (0, Add, "b"),
+            (1, Delete, "a"),
+            (0, Add, "a"),
+            (0, Add, "c"),
+            (1, Commit, ""),
+        ]),
+        Step::Commit,
+        Step::Round(&[(1, Delete, "b")]),
+        Step::Round(&[(0, Delete, "c"), (1, Delete, "d"), (1, Commit, "")]),
+        Step::Commit,
     ];
-    let end = round(&rt, alloc, &mut writer, &script)?;
-    assert_eq!(rt; end, RoundEnd::Committed(6));
-    assert_eq!(rt; committed(&mut writer)?, (6, 3));
-    let end = round(&rt, alloc, &mut writer, &[(1, Delete, "b")])?;
-    assert_eq!(rt; end, RoundEnd::Ran);
-    let script = [(0, Delete, "c"), (1, Delete, "d"), (1, Commit, "")];
-    let end = round(&rt, alloc, &mut writer, &script)?;
-    assert_eq!(rt; end, RoundEnd::Committed(10));
-    assert_eq!(rt; committed(&mut writer)?, (10, 1));
-    assert_eq!(rt; (writer.last(), writer.next_id()), (10, 2));
+    assert_eq!(rt;
+        history(&rt, alloc, &mut writer, &steps)?.as_str(),
+        "committed 6, 6 pending; 3 rows in 6; ran; committed 10, 10 pending; 1 rows in 10; 10, last commit 10, next id 2"
+    );
     let mut store = writer.into_store();
     assert_eq!(rt; shown(alloc, &mut store, 6)?.as_str(), "2: 1 b2 a4 c5");
     assert_eq!(rt; shown(alloc, &mut store, 10)?.as_str(), "2: 1 a4");
@@ -44,14 +44,15 @@ fn dead_in_their_round(rt: HostRuntime) -> Result<(), Fail> {
     use Act::*;
     let alloc = rt.alloc();
     let mut writer = IndexWriter::none(alloc, MemoryStore::new(alloc), 8, 8);
-    let script = [(0, Add, "a"), (1, Add, "b"), (1, Delete, "a")];
-    let end = round(&rt, alloc, &mut writer, &script)?;
-    assert_eq!(rt; end, RoundEnd::Ran);
-    assert_eq!(rt; (writer.upto(), writer.next_id()), (3, 3));
-    let end = round(&rt, alloc, &mut writer, &[(0, Commit, "")])?;
-    assert_eq!(rt; end, RoundEnd::Committed(4));
-    assert_eq!(rt; committed(&mut writer)?, (4, 1));
-    assert_eq!(rt; (writer.last(), writer.next_id()), (4, 3));
+    let steps = [
+        Step::Round(&[(0, Add, "a"), (1, Add, "b"), (1, Delete, "a")]),
+        Step::Round(&[(0, Commit, "")]),
+        Step::Commit,
+    ];
+    assert_eq!(rt;
+        history(&rt, alloc, &mut writer, &steps)?.as_str(),
+        "ran; committed 4, 4 pending; 1 rows in 4; 4, last commit 4, next id 3"
+    );
     let mut store = writer.into_store();
     assert_eq!(rt; shown(alloc, &mut store, 4)?.as_str(), "3: 2 b2");
     Ok(())

@@ -3,7 +3,7 @@ ghost use Rattle.std.specs.Prelude.{◌≤◌};
 
 use crate::IndexWriter;
 use crate::script_lines::{Act, Script};
-use crate::tests::{committed, round, shown};
+use crate::tests::{Step, history, shown};
 use ix_memory::MemoryStore;
 use std::alloc::Global;
 use std::test::*;
@@ -21,10 +21,14 @@ fn rows_after<R: Threads + Sync>(
 {
     use Act::*;
     let mut writer = IndexWriter::none(alloc, MemoryStore::new(alloc), buffer, 8);
-    round(rt, alloc, &mut writer, &[(0, Add, "x"), (1, Commit, "")])?;
-    committed(&mut writer)?;
-    round(rt, alloc, &mut writer, script)?;
-    let (number, _docs) = committed(&mut writer)?;
+    let steps = [
+        Step::Round(&[(0, Add, "x"), (1, Commit, "")]),
+        Step::Commit,
+        Step::Round(script),
+        Step::Commit,
+    ];
+    history(rt, alloc, &mut writer, &steps)?;
+    let number = writer.upto();
     let mut store = writer.into_store();
     shown(alloc, &mut store, number)
 }
