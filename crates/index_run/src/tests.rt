@@ -4,6 +4,7 @@ use ix_base::{FileName, NoMemory};
 use ix_memory::{MemorySink, MemorySource, MemoryStore};
 use ix_outside::{EmptyGate, Store};
 use std::alloc::Global;
+use std::process::Abort;
 use std::sync::Wait;
 use std::test::*;
 use std::thread::Threads;
@@ -99,6 +100,13 @@ pub(crate) fn run_script<R: Threads + Wait + Sync, S: Store + Drop>(
     Ok(done.ok().ok_or("memory")?)
 }
 
+/// Compares how a run ended and what it wrote with this, and returns its store.
+pub(crate) fn ended<R: Abort, S: Drop>(rt: &R, done: Done<S>, status: u8, written: &str) -> S {
+    assert_eq!(*rt; done.status, status, "{written}");
+    assert_eq!(*rt; done.written.as_slice(), written.as_bytes(), "{written}");
+    done.store
+}
+
 #[test]
 fn reports(rt: HostRuntime) -> Result<(), Fail> {
     let alloc = rt.alloc();
@@ -177,8 +185,7 @@ fn reports(rt: HostRuntime) -> Result<(), Fail> {
     ];
     for (script, status, report) in cases {
         let done = run_script(&rt, alloc, script, MemoryStore::new(alloc))?;
-        assert_eq!(rt; done.status, status, "{report}");
-        assert_eq!(rt; done.written.as_slice(), report.as_bytes(), "{report}");
+        let _store = ended(&rt, done, status, report);
     }
     Ok(())
 }
@@ -209,40 +216,54 @@ fn long_terms_are_refused(rt: HostRuntime) -> Result<(), Fail> {
         ),
     ];
     for (more, report) in cases {
-        let done = run_with_long_term(&rt, alloc, more)?;
-        assert_eq!(rt; done.status, 0);
-        assert_eq!(rt; done.written.as_slice(), report.as_bytes());
+        let _store = ended(&rt, run_with_long_term(&rt, alloc, more)?, 0, report);
     }
     Ok(())
 }
 
+/// The store with one more file.
+fn with_file(store: MemoryStore, name: FileName, bytes: &[u8]) -> Result<MemoryStore, Fail> {
+    let mut store = store;
+    store.write(name, bytes).ok().ok_or("a write that fails")?;
+    Ok(store)
+}
+
+/// The store of a run that added a document and committed.
+fn one_document<R: Threads + Wait + Sync + Abort>(
+    rt: &R,
+    alloc: Global,
+) -> Result<MemoryStore, Fail> {
+    let done = run_script(rt, alloc, &[ADD_A1, COMMIT], MemoryStore::new(alloc))?;
+    let report = "{\"line\":1,\"seq\":1}\n{\"docs\":1,\"line\":2,\"seq\":2}\n";
+    Ok(ended(rt, done, 0, report))
+}
+
+const TWO_HITS: &str =
+    "{\"line\":1,\"seq\":3}\n{\"docs\":2,\"line\":2,\"seq\":4}\n{\"commit\":4,\"hits\":[{\"key\":\"a1\",\"num\":{}},{\"key\":\"a2\",\"num\":{}}],\"line\":3}\n";
+
+/// A second run goes on from the first one's commit; then that of the second one is cut.
 #[test]
-fn sessions_and_faults(rt: HostRuntime) -> Result<(), Fail> {
+fn sessions_and_damage(rt: HostRuntime) -> Result<(), Fail> {
     let alloc = rt.alloc();
-    let first = run_script(&rt, alloc, &[ADD_A1, COMMIT], MemoryStore::new(alloc))?;
-    let second = run_script(&rt, alloc, &[ADD_A2, COMMIT, ALL], first.store)?;
-    assert_eq!(rt; second.status, 0);
-    assert_eq!(rt;
-        second.written.as_slice(),
-        "{\"line\":1,\"seq\":3}\n{\"docs\":2,\"line\":2,\"seq\":4}\n{\"commit\":4,\"hits\":[{\"key\":\"a1\",\"num\":{}},{\"key\":\"a2\",\"num\":{}}],\"line\":3}\n".as_bytes()
-    );
-    let mut store = second.store;
-    assert_eq!(rt; store.write(FileName::Commit(4), b"IXCOM001"), Ok(()));
+    let store = one_document(&rt, alloc)?;
+    let second = run_script(&rt, alloc, &[ADD_A2, COMMIT, ALL], store)?;
+    let store = ended(&rt, second, 0, TWO_HITS);
+    let store = with_file(store, FileName::Commit(4), b"IXCOM001")?;
     let third = run_script(&rt, alloc, &[ALL], store)?;
-    assert_eq!(rt; third.status, 8);
-    assert_eq!(rt;
-        third.written.as_slice(),
-        b"{\"at\":8,\"file\":\"segments_4\",\"status\":8}\n".as_slice()
-    );
-    let mut store = third.store;
+    let report = "{\"at\":8,\"file\":\"segments_4\",\"status\":8}\n";
+    let _store = ended(&rt, third, 8, report);
+    Ok(())
+}
+
+/// No run goes on from a commit whose number is above 2^61.
+#[test]
+fn a_base_that_is_too_high(rt: HostRuntime) -> Result<(), Fail> {
+    let alloc = rt.alloc();
     let high = FileName::Commit(2_305_843_009_213_693_953);
-    assert_eq!(rt; store.write(high, b""), Ok(()));
-    let fourth = run_script(&rt, alloc, &[], store)?;
-    assert_eq!(rt; fourth.status, 10);
-    assert_eq!(rt;
-        fourth.written.as_slice(),
-        b"{\"base\":2305843009213693953,\"status\":10}\n".as_slice()
-    );
+    let store = with_file(MemoryStore::new(alloc), high, b"")?;
+    let done = run_script(&rt, alloc, &[], store)?;
+    let report = "{\"base\":2305843009213693953,\"status\":10}\n";
+    let _store = ended(&rt, done, 10, report);
     Ok(())
 }
 
@@ -250,38 +271,43 @@ fn sessions_and_faults(rt: HostRuntime) -> Result<(), Fail> {
 #[test]
 fn postings_are_gone(rt: HostRuntime) -> Result<(), Fail> {
     let alloc = rt.alloc();
-    let first = run_script(&rt, alloc, &[ADD_A1, COMMIT], MemoryStore::new(alloc))?;
-    let mut store = first.store;
+    let mut store = one_document(&rt, alloc)?;
     assert_eq!(rt; store.delete(FileName::Posts(1)), Ok(()));
     let second = run_script(&rt, alloc, &[ADD_A2], store)?;
-    assert_eq!(rt; second.status, 8);
-    assert_eq!(rt;
-        second.written.as_slice(),
-        b"{\"at\":0,\"file\":\"seg_1.pst\",\"status\":8}\n".as_slice()
-    );
+    let report = "{\"at\":0,\"file\":\"seg_1.pst\",\"status\":8}\n";
+    let _store = ended(&rt, second, 8, report);
     Ok(())
 }
 
+/// A run whose first read fails ends with status 5, and leaves nothing.
 #[test]
-fn failing_streams(rt: HostRuntime) -> Result<(), Fail> {
+fn a_failing_source(rt: HostRuntime) -> Result<(), Fail> {
     let alloc = rt.alloc();
-    let script = [ADD_A1, COMMIT];
     let store = MemoryStore::new(alloc);
     let reads = vec![in alloc; 1u64]?;
-    let first = run_over(&rt, alloc, &script, store, reads, Vec::new(alloc));
-    let first = first.ok().ok_or("memory")?;
-    assert_eq!(rt; first.status, 5);
-    assert_eq!(rt;
-        first.written.as_slice(),
-        b"{\"status\":5,\"why\":\"source\"}\n".as_slice()
-    );
-    let none = Vec::new(alloc);
+    let done = run_over(&rt, alloc, &[ADD_A1, COMMIT], store, reads, Vec::new(alloc))?;
+    let mut store = ended(&rt, done, 5, "{\"status\":5,\"why\":\"source\"}\n");
+    let names = store.list(alloc).ok().ok_or("a list that fails")?;
+    assert!(rt; names.is_empty(), "a file");
+    Ok(())
+}
+
+/// A run whose first write fails ends with status 6. What it committed is there.
+#[test]
+fn a_failing_sink(rt: HostRuntime) -> Result<(), Fail> {
+    let alloc = rt.alloc();
+    let store = MemoryStore::new(alloc);
     let writes = vec![in alloc; 1u64]?;
-    let second = run_over(&rt, alloc, &script, first.store, none, writes);
-    let second = second.ok().ok_or("memory")?;
-    assert_eq!(rt; second.status, 6);
-    assert_eq!(rt; second.written.as_slice(), b"".as_slice());
-    let third = run_script(&rt, alloc, &[ALL], second.store)?;
-    assert_eq!(rt; third.written.as_slice(), ONE_HIT.as_bytes());
+    let done = run_over(
+        &rt,
+        alloc,
+        &[ADD_A1, COMMIT],
+        store,
+        Vec::new(alloc),
+        writes,
+    )?;
+    let store = ended(&rt, done, 6, "");
+    let next = run_script(&rt, alloc, &[ALL], store)?;
+    let _store = ended(&rt, next, 0, ONE_HIT);
     Ok(())
 }

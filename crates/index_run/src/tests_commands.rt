@@ -1,10 +1,11 @@
 //! The commands that answer from a store, and the one that makes its script.
-use crate::tests::{ADD_A1, ADD_A2, COMMIT, Done, run_words};
+use crate::tests::{ADD_A1, ADD_A2, COMMIT, Done, ended, run_words};
 use commit_point::head;
 use ix_base::{FileName, NoMemory};
 use ix_memory::MemoryStore;
 use ix_outside::Store;
 use std::alloc::Global;
+use std::process::Abort;
 use std::sync::Wait;
 use std::test::*;
 use std::thread::Threads;
@@ -25,7 +26,7 @@ fn call<R: Threads + Wait + Sync, S: Store + Drop>(
 }
 
 /// A call that ends with this status and has written this. It returns the store.
-fn expect<R: Threads + Wait + Sync>(
+fn expect<R: Threads + Wait + Sync + Abort>(
     rt: &R,
     alloc: Global,
     words: &[&str],
@@ -34,11 +35,7 @@ fn expect<R: Threads + Wait + Sync>(
     written: &str,
     store: MemoryStore,
 ) -> Result<MemoryStore, Fail> {
-    let done = call(rt, alloc, words, input, store)?;
-    if done.status != status || done.written.as_slice() != written.as_bytes() {
-        return Err(Fail::new("another answer"));
-    }
-    Ok(done.store)
+    Ok(ended(rt, call(rt, alloc, words, input, store)?, status, written))
 }
 
 /// A store with the commit 2, which has one document.
@@ -55,60 +52,79 @@ fn one_document<R: Threads + Wait + Sync>(rt: &R, alloc: Global) -> Result<Memor
 
 const ONE_HIT: &str = "{\"commit\":2,\"hits\":[{\"key\":\"a1\",\"num\":{}}],\"line\":1}\n";
 
-/// Questions about the last commit and about named ones, and what is asked of a commit that isn't there.
+/// A question that all documents answer.
+const EVERYTHING: &str = "\"all\"\n";
+
+/// Questions about commits that aren't there, and words and queries that are refused.
+#[test]
+fn questions_without_an_answer(rt: HostRuntime) -> Result<(), Fail> {
+    let alloc = rt.alloc();
+    let all: &[&str] = &[EVERYTHING];
+    let wrong: &[&str] = &[EVERYTHING, "{\"term\":[\"key\"]}\n", "nothing\n"];
+    let bad = "{\"line\":2,\"status\":3,\"why\":\"query\"}\n";
+    let cases: [(&[&str], &[&str], u8, &str); 4] = [
+        (
+            &["ask", "--commit", "99"],
+            all,
+            9,
+            "{\"commit\":99,\"status\":9}\n",
+        ),
+        (
+            &["ask", "--commit", "0"],
+            all,
+            9,
+            "{\"commit\":0,\"status\":9}\n",
+        ),
+        (&["ask", "--commit", "99"], wrong, 3, bad),
+        (&["ask", "--commit", "2", "2"], all, 2, WORDS),
+    ];
+    let mut store = one_document(&rt, alloc)?;
+    for (words, questions, status, written) in cases {
+        store = expect(&rt, alloc, words, questions, status, written, store)?;
+    }
+    Ok(())
+}
+
+/// Questions about the last commit: no question, one that all answer, and some that nothing answers.
 #[test]
 fn questions(rt: HostRuntime) -> Result<(), Fail> {
     let alloc = rt.alloc();
-    let all: &[&str] = &["\"all\"\n"];
-    let mut store = one_document(&rt, alloc)?;
-    store = expect(&rt, alloc, &["ask"], all, 0, ONE_HIT, store)?;
-    let missing = "{\"commit\":99,\"status\":9}\n";
-    store = expect(
-        &rt,
-        alloc,
-        &["ask", "--commit", "99"],
-        all,
-        9,
-        missing,
-        store,
-    )?;
-    let none = "{\"commit\":0,\"status\":9}\n";
-    store = expect(&rt, alloc, &["ask", "--commit", "0"], all, 9, none, store)?;
-    let nothing =
-        "{\"commit\":2,\"hits\":[],\"line\":1}\n{\"commit\":2,\"hits\":[],\"line\":3}\n{\"commit\":2,\"hits\":[],\"line\":4}\n";
-    let without: &[&str] = &[
-        "{\"bool\":{\"not\":[{\"term\":[\"key\",\"zz\"]}]}}\n",
-        "\n",
-        "{\"bool\":{}}\n",
-        "{\"phrase\":[\"body\",\" \"]}",
+    let cases: [(&[&str], &str); 3] = [
+        (&[], ""),
+        (&[EVERYTHING], ONE_HIT),
+        (
+            &[
+                "{\"bool\":{\"not\":[{\"term\":[\"key\",\"zz\"]}]}}\n",
+                "\n",
+                "{\"bool\":{}}\n",
+                "{\"phrase\":[\"body\",\" \"]}",
+            ],
+            "{\"commit\":2,\"hits\":[],\"line\":1}\n{\"commit\":2,\"hits\":[],\"line\":3}\n{\"commit\":2,\"hits\":[],\"line\":4}\n",
+        ),
     ];
-    store = expect(&rt, alloc, &["ask"], without, 0, nothing, store)?;
-    store = call(&rt, alloc, &["run"], &[ADD_A2, COMMIT], store)?.store;
-    store = expect(
-        &rt,
-        alloc,
-        &["ask", "--commit", "2"],
-        all,
-        0,
-        ONE_HIT,
-        store,
-    )?;
+    let mut store = one_document(&rt, alloc)?;
+    for (questions, answers) in cases {
+        store = expect(&rt, alloc, &["ask"], questions, 0, answers, store)?;
+    }
+    Ok(())
+}
+
+/// Questions about the last commit and about the one before it.
+#[test]
+fn questions_about_two_commits(rt: HostRuntime) -> Result<(), Fail> {
+    let alloc = rt.alloc();
+    let store = one_document(&rt, alloc)?;
+    let mut store = call(&rt, alloc, &["run"], &[ADD_A2, COMMIT], store)?.store;
     let two =
         "{\"commit\":4,\"hits\":[{\"key\":\"a1\",\"num\":{}},{\"key\":\"a2\",\"num\":{}}],\"line\":1}\n";
-    store = expect(&rt, alloc, &["ask"], all, 0, two, store)?;
-    store = expect(&rt, alloc, &["ask"], &[], 0, "", store)?;
-    let bad = "{\"line\":2,\"status\":3,\"why\":\"query\"}\n";
-    let wrong: &[&str] = &["\"all\"\n", "{\"term\":[\"key\"]}\n", "nothing\n"];
-    store = expect(&rt, alloc, &["ask", "--commit", "99"], wrong, 3, bad, store)?;
-    let _store = expect(
-        &rt,
-        alloc,
-        &["ask", "--commit", "2", "2"],
-        all,
-        2,
-        WORDS,
-        store,
-    )?;
+    let cases: [(&[&str], &str); 3] = [
+        (&["ask"], two),
+        (&["ask", "--commit", "2"], ONE_HIT),
+        (&["ask", "--commit=4"], two),
+    ];
+    for (words, answer) in cases {
+        store = expect(&rt, alloc, words, &[EVERYTHING], 0, answer, store)?;
+    }
     Ok(())
 }
 
@@ -131,25 +147,23 @@ fn a_commit_with_a_damaged_segment(rt: HostRuntime) -> Result<(), Fail> {
     Ok(())
 }
 
-/// Lists of no commit, of two, and after a run whose second sync failed.
+/// A store without a commit lists none, and answers nothing.
+#[test]
+fn no_commit(rt: HostRuntime) -> Result<(), Fail> {
+    let alloc = rt.alloc();
+    let store = expect(&rt, alloc, &["list"], &[], 0, "", MemoryStore::new(alloc))?;
+    let none = "{\"commit\":0,\"status\":9}\n";
+    let _store = expect(&rt, alloc, &["ask"], &[], 9, none, store)?;
+    Ok(())
+}
+
+/// Lists of one commit, after a run whose second sync failed, and of two.
 #[test]
 fn lists(rt: HostRuntime) -> Result<(), Fail> {
     let alloc = rt.alloc();
-    let empty = expect(&rt, alloc, &["list"], &[], 0, "", MemoryStore::new(alloc))?;
-    let _empty = expect(
-        &rt,
-        alloc,
-        &["ask"],
-        &[],
-        9,
-        "{\"commit\":0,\"status\":9}\n",
-        empty,
-    )?;
-    let store = one_document(&rt, alloc)?;
     // The run lists the store, reads the five files of its commit, and then writes and syncs.
-    let mut calls = Vec::new(alloc);
-    calls.push(10)?;
-    let failing = store.failing(calls);
+    let calls = vec![in alloc; 10u64]?;
+    let failing = one_document(&rt, alloc)?.failing(calls);
     let done = call(&rt, alloc, &["run"], &[ADD_A2, COMMIT], failing)?;
     assert_eq!(rt; done.status, 7);
     let one = "{\"commit\":2,\"docs\":1}\n";
@@ -180,14 +194,16 @@ fn merges_of_two(rt: HostRuntime) -> Result<(), Fail> {
         MERGED,
         MemoryStore::new(alloc),
     )?;
-    let first = head(alloc, &mut store, 3).ok().ok_or("no commit 3")?;
-    assert_eq!(rt; first.next_id, 4);
-    assert_eq!(rt; first.segments.len(), 1);
-    assert_eq!(rt; first.segments.as_slice()[0].id, 3);
-    let second = head(alloc, &mut store, 5).ok().ok_or("no commit 5")?;
-    assert_eq!(rt; second.next_id, 4);
-    assert_eq!(rt; second.segments.len(), 1);
+    assert_eq!(rt; ids_in(alloc, &mut store, 3)?, (4, 1, 3));
+    assert_eq!(rt; ids_in(alloc, &mut store, 5)?, (4, 1, 3));
     Ok(())
+}
+
+/// The next id of a commit, how many segments it has, and the id of the first.
+fn ids_in(alloc: Global, store: &mut MemoryStore, number: u64) -> Result<(u64, usize, u64), Fail> {
+    let head = head(alloc, store, number).ok().ok_or("no such commit")?;
+    let first = head.segments.as_slice().first().ok_or("no segment")?;
+    Ok((head.next_id, head.segments.len(), first.id))
 }
 
 /// Made scripts, with summaries that were worked out by hand.

@@ -1,7 +1,7 @@
 //! The examples, as they stand in `examples/`, with the reports and answers that `examples/README.md`
 //! gives, each twice over one store. The scripts of the mailbox and of the catalogue are those that the
 //! two programs beside them make of their samples.
-use crate::tests::{Done, run_script, run_words};
+use crate::tests::{Done, ended, run_script, run_words};
 use ix_base::NoMemory;
 use ix_memory::MemoryStore;
 use std::alloc::Global;
@@ -70,7 +70,7 @@ const LETTERS: &str =
     "{\"c\": 0, \"op\": \"update\", \"field\": \"key\", \"term\": \"lunch-1@example.org\", \"doc\": {\"key\": \"lunch-1@example.org\", \"text\": {\"subject\": \"Lunch on Friday?\", \"body\": \"Shall we meet at noon? The place by the river has tables outside again.\\n\"}, \"exact\": {\"to:bob@example.org\": \"yes\", \"label:private\": \"yes\", \"from\": \"ann@example.org\"}, \"num\": {\"read\": 0, \"date\": 20240301}}}\n\
      {\"c\": 0, \"op\": \"set\", \"field\": \"key\", \"term\": \"lunch-1@example.org\", \"num\": \"read\", \"value\": 1}\n\
      {\"c\": 0, \"op\": \"update\", \"field\": \"key\", \"term\": \"lunch-2@example.org\", \"doc\": {\"key\": \"lunch-2@example.org\", \"text\": {\"subject\": \"RE: Lunch on Friday? Caf\\u00e9 or river?\", \"body\": \"Noon is fine. Shall we take the caf\\u00e9 in the Schlossstra\\u00dfe, if it rains?\\n\"}, \"exact\": {\"to:ann@example.org\": \"yes\", \"to:zoe@example.org\": \"yes\", \"label:private\": \"yes\", \"label:friends\": \"yes\", \"from\": \"bob@example.org\"}, \"num\": {\"read\": 0, \"date\": 20240301}}}\n\
-     {\"c\": 0, \"op\": \"update\", \"field\": \"key\", \"term\": \"invoice-17@example.com\", \"doc\": {\"key\": \"invoice-17@example.com\", \"text\": {\"subject\": \"Invoice 17\", \"body\": \"Two reams of paper and a bottle of ink, due on Friday in two weeks.\"}, \"exact\": {\"to:ann@example.org\": \"yes\", \"label:bills\": \"yes\", \"from\": \"shop@example.com\"}, \"num\": {\"read\": 0, \"date\": 20240302}}}\n\
+     {\"c\": 0, \"op\": \"update\", \"field\": \"key\", \"term\": \"invoice-17@example.com\", \"doc\": {\"key\": \"invoice-17@example.com\", \"text\": {\"subject\": \"Invoice 17\", \"body\": \"Three boxes of pens and a bottle of ink, due on Friday in two weeks.\"}, \"exact\": {\"to:ann@example.org\": \"yes\", \"label:bills\": \"yes\", \"from\": \"shop@example.com\"}, \"num\": {\"read\": 0, \"date\": 20240302}}}\n\
      {\"c\": 0, \"op\": \"set\", \"field\": \"key\", \"term\": \"invoice-17@example.com\", \"num\": \"read\", \"value\": 1}\n\
      {\"c\": 0, \"op\": \"delete\", \"field\": \"key\", \"term\": \"prize@example.net\"}\n\
      {\"c\": 0, \"op\": \"update\", \"field\": \"key\", \"term\": \"boat-1@example.org\", \"doc\": {\"key\": \"boat-1@example.org\", \"text\": {\"subject\": \"The boat\", \"body\": \"The old boat lies at the river again, painted green. Who comes along on Friday?\\n\"}, \"exact\": {\"to:ann@example.org\": \"yes\", \"to:bob@example.org\": \"yes\", \"label:friends\": \"yes\", \"from\": \"zoe@example.org\"}, \"num\": {\"read\": 0, \"date\": 20240304}}}\n\
@@ -155,9 +155,8 @@ fn examples_twice(rt: HostRuntime) -> Result<(), Fail> {
     ];
     for (script, report, again) in cases {
         let first = run_script(&rt, alloc, &[script], MemoryStore::new(alloc))?;
-        assert_eq!(rt; first.written.as_slice(), report.as_bytes(), "{report}");
-        let second = run_script(&rt, alloc, &[script], first.store)?;
-        assert_eq!(rt; second.written.as_slice(), again.as_bytes(), "{again}");
+        let store = ended(&rt, first, 0, report);
+        let _store = ended(&rt, run_script(&rt, alloc, &[script], store)?, 0, again);
     }
     Ok(())
 }
@@ -178,8 +177,7 @@ fn letters_twice(rt: HostRuntime) -> Result<(), Fail> {
             "{last}"
         );
         let found = asked(&rt, alloc, &["ask"], ON_LETTERS, done.store)?;
-        assert_eq!(rt; found.written.as_slice(), answers.as_bytes(), "{answers}");
-        store = found.store;
+        store = ended(&rt, found, 0, answers);
     }
     Ok(())
 }
@@ -195,8 +193,8 @@ fn catalogue_before_and_after(rt: HostRuntime) -> Result<(), Fail> {
     let last = b"{\"docs\":12,\"line\":9,\"seq\":22}\n";
     assert!(rt; after.written.as_slice().ends_with(last));
     let found = asked(&rt, alloc, &["ask"], ON_PENS, after.store)?;
-    assert_eq!(rt; found.written.as_slice(), PENS_LATER.as_bytes());
-    let found = asked(&rt, alloc, &["ask", "--commit", "13"], ON_PENS, found.store)?;
-    assert_eq!(rt; found.written.as_slice(), PENS_BEFORE.as_bytes());
+    let store = ended(&rt, found, 0, PENS_LATER);
+    let found = asked(&rt, alloc, &["ask", "--commit", "13"], ON_PENS, store)?;
+    let _store = ended(&rt, found, 0, PENS_BEFORE);
     Ok(())
 }

@@ -4,7 +4,7 @@
 //! The first has two rounds of 1,004 lines. A round adds 1,000 documents, numbered on from those of the
 //! round before, deletes the first of them, makes a commit, and searches it for all documents and
 //! for those whose number ends in 7.
-use crate::tests::{run_script, run_words};
+use crate::tests::{ended, run_script, run_words};
 use commit_point::head;
 use ix_base::{FileName, NoMemory};
 use ix_memory::MemoryStore;
@@ -143,26 +143,30 @@ fn members(alloc: Global, letter: &str, value: &str) -> Result<String, Fail> {
     Ok(list)
 }
 
+/// A script that adds a document with 300 names of each kind, of which these are the numbers.
+fn script_of_names(alloc: Global, num: &str) -> Result<String, Fail> {
+    let text = members(alloc, "t", "\"a b\"")?;
+    let exact = members(alloc, "e", "\"x\"")?;
+    Ok(format!(in alloc;
+        "{{\"c\":0,\"op\":\"add\",\"doc\":{{\"key\":\"m\",\"text\":{{{text}}},\"exact\":{{{exact}}},\"num\":{{{num}}}}}}}\n"
+    )?)
+}
+
 /// A document with 300 names of each kind; the next run begins on its commit.
 #[test]
 fn many_names(rt: HostRuntime) -> Result<(), Fail> {
     let alloc = rt.alloc();
-    let text = members(alloc, "t", "\"a b\"")?;
-    let exact = members(alloc, "e", "\"x\"")?;
     let num = members(alloc, "n", "-5")?;
-    let add = format!(in alloc;
-        "{{\"c\":0,\"op\":\"add\",\"doc\":{{\"key\":\"m\",\"text\":{{{text}}},\"exact\":{{{exact}}},\"num\":{{{num}}}}}}}\n"
-    )?;
+    let add = script_of_names(alloc, num.as_str())?;
     let script = [add.as_str(), "{\"c\":0,\"op\":\"commit\"}\n"];
     let first = run_script(&rt, alloc, &script, MemoryStore::new(alloc))?;
-    assert_eq!(rt; first.status, 0);
     let search =
         "{\"c\":0,\"op\":\"search\",\"query\":{\"bool\":{\"must\":[{\"phrase\":[\"t399\",\"a b\"]},{\"term\":[\"e399\",\"x\"]}]}}}\n";
     let second = run_script(&rt, alloc, &[search], first.store)?;
-    let report = format!(in alloc;
+    let found = format!(in alloc;
         "{{\"commit\":2,\"hits\":[{{\"key\":\"m\",\"num\":{{{num}}}}}],\"line\":1}}\n"
     )?;
-    assert_eq!(rt; second.written.as_slice(), report.as_bytes());
+    let _store = ended(&rt, second, 0, found.as_str());
     Ok(())
 }
 
@@ -176,12 +180,9 @@ fn many_commits(rt: HostRuntime) -> Result<(), Fail> {
         commits.as_str(),
     ];
     let first = run_script(&rt, alloc, &script, MemoryStore::new(alloc))?;
-    assert_eq!(rt; first.status, 0);
     let search = "{\"c\":0,\"op\":\"search\",\"query\":\"all\"}\n";
     let second = run_script(&rt, alloc, &[search], first.store)?;
-    assert_eq!(rt;
-        second.written.as_slice(),
-        b"{\"commit\":301,\"hits\":[{\"key\":\"m\",\"num\":{}}],\"line\":1}\n".as_slice()
-    );
+    let found = "{\"commit\":301,\"hits\":[{\"key\":\"m\",\"num\":{}}],\"line\":1}\n";
+    let _store = ended(&rt, second, 0, found);
     Ok(())
 }

@@ -1,5 +1,5 @@
 //! Whole runs of each operation over an empty store, against reports that were worked out by hand.
-use crate::tests::{ADD_A1, ALL, COMMIT, Done, run_script};
+use crate::tests::{ADD_A1, ALL, COMMIT, Done, ended, run_script};
 use commit_point::read_commit;
 use ix_memory::MemoryStore;
 use segment_core::LiveSegment;
@@ -55,19 +55,19 @@ fn first_live(segment: &LiveSegment) -> u64 {
 #[test]
 fn reports_of_operations(rt: HostRuntime) -> Result<(), Fail> {
     let alloc = rt.alloc();
-    let cases: [(&str, &[&str], &str); 8] = [
+    let cases: [(&[&str], &str); 8] = [
+        // A delete takes all that hold its term.
         (
-            "a delete takes all that hold its term",
             &[ADD_A1, ADD_A1, DELETE_A1, COMMIT],
             "{\"line\":1,\"seq\":1}\n{\"line\":2,\"seq\":2}\n{\"line\":3,\"seq\":3}\n{\"docs\":0,\"line\":4,\"seq\":4}\n",
         ),
+        // A delete before an add takes nothing.
         (
-            "a delete before an add takes nothing",
             &[DELETE_A1, ADD_A1, COMMIT],
             "{\"line\":1,\"seq\":1}\n{\"line\":2,\"seq\":2}\n{\"docs\":1,\"line\":3,\"seq\":3}\n",
         ),
+        // A delete by an exact field, before and after.
         (
-            "a delete by an exact field, before and after",
             &[
                 DELETE_TAG,
                 "{\"c\":0,\"op\":\"add\",\"doc\":{\"key\":\"d\",\"exact\":{\"tag\":\"t\"}}}\n",
@@ -76,18 +76,18 @@ fn reports_of_operations(rt: HostRuntime) -> Result<(), Fail> {
             ],
             "{\"line\":1,\"seq\":1}\n{\"line\":2,\"seq\":2}\n{\"line\":3,\"seq\":3}\n{\"docs\":0,\"line\":4,\"seq\":4}\n",
         ),
+        // The later set wins.
         (
-            "the later set wins",
             &[ADD_TAGGED, SET_BY_TAG, SET_BY_KEY, COMMIT, ALL],
             "{\"line\":1,\"seq\":1}\n{\"line\":2,\"seq\":2}\n{\"line\":3,\"seq\":3}\n{\"docs\":1,\"line\":4,\"seq\":4}\n{\"commit\":4,\"hits\":[{\"key\":\"a1\",\"num\":{\"price\":7}}],\"line\":5}\n",
         ),
+        // The later set wins, exchanged.
         (
-            "the later set wins, exchanged",
             &[ADD_TAGGED, SET_BY_KEY, SET_BY_TAG, COMMIT, ALL],
             "{\"line\":1,\"seq\":1}\n{\"line\":2,\"seq\":2}\n{\"line\":3,\"seq\":3}\n{\"docs\":1,\"line\":4,\"seq\":4}\n{\"commit\":4,\"hits\":[{\"key\":\"a1\",\"num\":{\"price\":5}}],\"line\":5}\n",
         ),
+        // A set takes its place by name.
         (
-            "a set takes its place by name",
             &[
                 "{\"c\":0,\"op\":\"add\",\"doc\":{\"key\":\"a1\",\"num\":{\"a\":1,\"z\":2}}}\n",
                 SET_BY_KEY,
@@ -96,8 +96,8 @@ fn reports_of_operations(rt: HostRuntime) -> Result<(), Fail> {
             ],
             "{\"line\":1,\"seq\":1}\n{\"line\":2,\"seq\":2}\n{\"docs\":1,\"line\":3,\"seq\":3}\n{\"commit\":3,\"hits\":[{\"key\":\"a1\",\"num\":{\"a\":1,\"price\":7,\"z\":2}}],\"line\":4}\n",
         ),
+        // A delete by a query keeps what doesn't match.
         (
-            "a delete by a query keeps what doesn't match",
             &[
                 ADD_A1,
                 "{\"c\":0,\"op\":\"add\",\"doc\":{\"key\":\"b1\",\"text\":{\"body\":\"Red fox\"}}}\n",
@@ -107,8 +107,8 @@ fn reports_of_operations(rt: HostRuntime) -> Result<(), Fail> {
             ],
             "{\"line\":1,\"seq\":1}\n{\"line\":2,\"seq\":2}\n{\"line\":3,\"seq\":3}\n{\"docs\":1,\"line\":4,\"seq\":4}\n{\"commit\":4,\"hits\":[{\"key\":\"a1\",\"num\":{}}],\"line\":5}\n",
         ),
+        // A delete by an empty bool query takes nothing, one by `all` takes everything.
         (
-            "a delete by an empty bool query takes nothing, one by `all` takes everything",
             &[
                 ADD_A1,
                 "{\"c\":0,\"op\":\"delete_query\",\"query\":{\"bool\":{}}}\n",
@@ -119,10 +119,8 @@ fn reports_of_operations(rt: HostRuntime) -> Result<(), Fail> {
             "{\"line\":1,\"seq\":1}\n{\"line\":2,\"seq\":2}\n{\"docs\":1,\"line\":3,\"seq\":3}\n{\"line\":4,\"seq\":4}\n{\"docs\":0,\"line\":5,\"seq\":5}\n",
         ),
     ];
-    for (what, script, report) in cases {
-        let done = run_lines(&rt, alloc, script)?;
-        assert_eq!(rt; done.status, 0, "{what}");
-        assert_eq!(rt; done.written.as_slice(), report.as_bytes(), "{what}");
+    for (script, report) in cases {
+        let _store = ended(&rt, run_lines(&rt, alloc, script)?, 0, report);
     }
     Ok(())
 }
@@ -132,13 +130,11 @@ fn an_update_replaces(rt: HostRuntime) -> Result<(), Fail> {
     let alloc = rt.alloc();
     let update =
         "{\"c\":0,\"op\":\"update\",\"field\":\"key\",\"term\":\"a1\",\"doc\":{\"key\":\"a1\",\"num\":{\"price\":7}}}\n";
-    let mut done = run_lines(&rt, alloc, &[ADD_A1, update, COMMIT, ALL])?;
-    assert_eq!(rt; done.status, 0);
-    assert_eq!(rt;
-        done.written.as_slice(),
-        "{\"line\":1,\"seq\":1}\n{\"line\":2,\"seq\":2}\n{\"docs\":1,\"line\":3,\"seq\":3}\n{\"commit\":3,\"hits\":[{\"key\":\"a1\",\"num\":{\"price\":7}}],\"line\":4}\n".as_bytes()
-    );
-    assert_eq!(rt; first_birth(alloc, &mut done.store, 3), 2);
+    let report =
+        "{\"line\":1,\"seq\":1}\n{\"line\":2,\"seq\":2}\n{\"docs\":1,\"line\":3,\"seq\":3}\n{\"commit\":3,\"hits\":[{\"key\":\"a1\",\"num\":{\"price\":7}}],\"line\":4}\n";
+    let done = run_lines(&rt, alloc, &[ADD_A1, update, COMMIT, ALL])?;
+    let mut store = ended(&rt, done, 0, report);
+    assert_eq!(rt; first_birth(alloc, &mut store, 3), 2);
     Ok(())
 }
 
@@ -185,10 +181,8 @@ fn a_long_update_is_refused(rt: HostRuntime) -> Result<(), Fail> {
         ),
     ];
     for (more, report, commit, birth) in cases {
-        let mut done = run_with_long_update(&rt, alloc, more)?;
-        assert_eq!(rt; done.status, 0);
-        assert_eq!(rt; done.written.as_slice(), report.as_bytes());
-        assert_eq!(rt; first_birth(alloc, &mut done.store, commit), birth);
+        let mut store = ended(&rt, run_with_long_update(&rt, alloc, more)?, 0, report);
+        assert_eq!(rt; first_birth(alloc, &mut store, commit), birth);
     }
     Ok(())
 }
@@ -213,9 +207,7 @@ fn a_long_query_is_refused(rt: HostRuntime) -> Result<(), Fail> {
         ("", "{\"line\":1,\"seq\":1}\n"),
     ];
     for (more, report) in cases {
-        let done = run_with_long_query(&rt, alloc, more)?;
-        assert_eq!(rt; done.status, 0);
-        assert_eq!(rt; done.written.as_slice(), report.as_bytes());
+        let _store = ended(&rt, run_with_long_query(&rt, alloc, more)?, 0, report);
     }
     Ok(())
 }

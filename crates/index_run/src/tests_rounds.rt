@@ -1,5 +1,5 @@
 //! Whole runs with several writers, small buffers and many rounds.
-use crate::tests::{ADD_A1, ADD_A2, ALL, COMMIT, Done, run_words};
+use crate::tests::{ADD_A1, ADD_A2, ALL, COMMIT, Done, ended, run_words};
 use ix_base::NoMemory;
 use ix_memory::MemoryStore;
 use ix_outside::Store;
@@ -32,12 +32,10 @@ fn a_caller_without_a_commit(rt: HostRuntime) -> Result<(), Fail> {
         "{\"c\":1,\"op\":\"search\",\"query\":\"all\"}\n",
     ];
     let words = ["run", "--threads", "2"];
+    let report =
+        "{\"line\":1,\"seq\":1}\n{\"docs\":1,\"line\":2,\"seq\":2}\n{\"commit\":0,\"hits\":[],\"line\":3}\n";
     let done = run_with(&rt, rt.alloc(), &words, &script)?;
-    assert_eq!(rt; done.status, 0);
-    assert_eq!(rt;
-        done.written.as_slice(),
-        b"{\"line\":1,\"seq\":1}\n{\"docs\":1,\"line\":2,\"seq\":2}\n{\"commit\":0,\"hits\":[],\"line\":3}\n".as_slice()
-    );
+    let _store = ended(&rt, done, 0, report);
     Ok(())
 }
 
@@ -46,12 +44,10 @@ fn a_caller_without_a_commit(rt: HostRuntime) -> Result<(), Fail> {
 fn buffers_of_one_document(rt: HostRuntime) -> Result<(), Fail> {
     let script = [ADD_A1, ADD_A2, COMMIT, DELETE_A1, COMMIT, ALL];
     let words = ["run", "--threads", "1", "--buffer", "1"];
+    let report =
+        "{\"line\":1,\"seq\":1}\n{\"line\":2,\"seq\":2}\n{\"docs\":2,\"line\":3,\"seq\":3}\n{\"line\":4,\"seq\":4}\n{\"docs\":1,\"line\":5,\"seq\":5}\n{\"commit\":5,\"hits\":[{\"key\":\"a2\",\"num\":{}}],\"line\":6}\n";
     let done = run_with(&rt, rt.alloc(), &words, &script)?;
-    assert_eq!(rt; done.status, 0);
-    assert_eq!(rt;
-        done.written.as_slice(),
-        b"{\"line\":1,\"seq\":1}\n{\"line\":2,\"seq\":2}\n{\"docs\":2,\"line\":3,\"seq\":3}\n{\"line\":4,\"seq\":4}\n{\"docs\":1,\"line\":5,\"seq\":5}\n{\"commit\":5,\"hits\":[{\"key\":\"a2\",\"num\":{}}],\"line\":6}\n".as_slice()
-    );
+    let _store = ended(&rt, done, 0, report);
     Ok(())
 }
 
@@ -71,7 +67,7 @@ fn the_same_whatever_the_buffer(rt: HostRuntime) -> Result<(), Fail> {
         ALL,
     ];
     let report =
-        b"{\"line\":1,\"seq\":1}\n{\"line\":2,\"seq\":2}\n{\"line\":3,\"seq\":3}\n{\"line\":4,\"seq\":4}\n{\"line\":5,\"seq\":5}\n{\"line\":6,\"seq\":6}\n{\"line\":7,\"seq\":7}\n{\"docs\":2,\"line\":8,\"seq\":8}\n{\"commit\":8,\"hits\":[{\"key\":\"a1\",\"num\":{\"price\":7}},{\"key\":\"b2\",\"num\":{\"n\":1}}],\"line\":9}\n";
+        "{\"line\":1,\"seq\":1}\n{\"line\":2,\"seq\":2}\n{\"line\":3,\"seq\":3}\n{\"line\":4,\"seq\":4}\n{\"line\":5,\"seq\":5}\n{\"line\":6,\"seq\":6}\n{\"line\":7,\"seq\":7}\n{\"docs\":2,\"line\":8,\"seq\":8}\n{\"commit\":8,\"hits\":[{\"key\":\"a1\",\"num\":{\"price\":7}},{\"key\":\"b2\",\"num\":{\"n\":1}}],\"line\":9}\n";
     let commands: [&[&str]; 4] = [
         &["run", "--threads", "1", "--buffer", "65536"],
         &["run", "--buffer", "1", "--threads", "1"],
@@ -80,8 +76,7 @@ fn the_same_whatever_the_buffer(rt: HostRuntime) -> Result<(), Fail> {
     ];
     for words in commands {
         let done = run_with(&rt, rt.alloc(), words, &script)?;
-        assert_eq!(rt; done.status, 0);
-        assert_eq!(rt; done.written.as_slice(), report.as_slice());
+        let _store = ended(&rt, done, 0, report);
     }
     Ok(())
 }
@@ -129,12 +124,7 @@ fn words_that_are_refused(rt: HostRuntime) -> Result<(), Fail> {
     ];
     for words in commands {
         let done = run_with(&rt, rt.alloc(), words, &[ADD_A1, COMMIT])?;
-        assert_eq!(rt; done.status, 2);
-        assert_eq!(rt;
-            done.written.as_slice(),
-            b"{\"status\":2,\"why\":\"words\"}\n".as_slice()
-        );
-        let mut store = done.store;
+        let mut store = ended(&rt, done, 2, "{\"status\":2,\"why\":\"words\"}\n");
         let names = store.list(rt.alloc()).ok().ok_or("a list that fails")?;
         assert!(rt; names.is_empty(), "a file");
     }

@@ -87,15 +87,22 @@ fn files_byte_for_byte(rt: HostRuntime) -> Result<(), Fail> {
         ),
     ];
     for (script, name, fields) in cases {
-        let done = run_script(&rt, alloc, &[script], MemoryStore::new(alloc))?;
-        let mut store = done.store;
-        let bytes = store.read(alloc, name).ok().ok_or("a read that fails")?;
-        let bytes = bytes.ok_or("an absent file")?;
-        let hex = hex_of(alloc, &bytes).ok().ok_or("memory")?;
-        let wanted = joined(alloc, fields).ok().ok_or("memory")?;
-        assert_eq!(rt; hex.as_slice(), wanted.as_slice(), "{fields}");
+        let store = run_script(&rt, alloc, &[script], MemoryStore::new(alloc))?.store;
+        let wanted = joined(alloc, fields)?;
+        assert_eq!(rt;
+            hex_in(alloc, store, name)?.as_slice(),
+            wanted.as_slice(),
+            "{fields}"
+        );
     }
     Ok(())
+}
+
+/// The bytes of a file, as hexadecimal digits.
+fn hex_in(alloc: Global, store: MemoryStore, name: FileName) -> Result<Vec<u8>, Fail> {
+    let mut store = store;
+    let bytes = store.read(alloc, name).ok().ok_or("a read that fails")?;
+    Ok(hex_of(alloc, bytes.ok_or("an absent file")?.as_slice())?)
 }
 
 /// How many rows of these segments are live.
@@ -107,6 +114,18 @@ fn live_rows(segments: &[LiveSegment]) -> u64 {
     count
 }
 
+/// How many rows a commit has, and its next id: as its commit file says, and as its files have them.
+fn rows_and_ids(
+    alloc: Global,
+    store: &mut MemoryStore,
+    number: u64,
+) -> Result<[(u64, u64); 2], Fail> {
+    let head = head(alloc, store, number).ok().ok_or("a fault")?;
+    let opened = open_commit(alloc, store, number).ok().ok_or("a fault")?;
+    let live = live_rows(opened.segments.as_slice());
+    Ok([(head.docs, head.next_id), (live, opened.next_id)])
+}
+
 /// The commits of two runs over one store, read back: the numbers of each and of its rows.
 #[test]
 fn commits_are_read_back(rt: HostRuntime) -> Result<(), Fail> {
@@ -116,13 +135,8 @@ fn commits_are_read_back(rt: HostRuntime) -> Result<(), Fail> {
     let numbers = list_commits(alloc, &mut store).ok().ok_or("a fault")?;
     assert_eq!(rt; numbers.as_slice(), [2u64, 4].as_slice());
     for (number, docs, next_id) in [(2u64, 1u64, 2u64), (4, 2, 3)] {
-        let read = head(alloc, &mut store, number).ok().ok_or("a fault")?;
-        assert_eq!(rt; (read.docs, read.next_id), (docs, next_id));
-        let opened = open_commit(alloc, &mut store, number)
-            .ok()
-            .ok_or("a fault")?;
-        assert_eq!(rt; opened.next_id, next_id);
-        assert_eq!(rt; live_rows(opened.segments.as_slice()), docs);
+        let found = rows_and_ids(alloc, &mut store, number)?;
+        assert_eq!(rt; found, [(docs, next_id), (docs, next_id)]);
     }
     let absent = OpenFault::NoSuch { number: 3 };
     assert!(rt; head(alloc, &mut store, 3).err() == Some(absent));

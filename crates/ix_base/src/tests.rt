@@ -179,15 +179,28 @@ fn show_operation(out: &mut String, operation: &Operation) -> Result<(), Fail> {
     }
 }
 
+/// What a copy of a text, of a name and of a phrase have.
+fn copied_text(alloc: Global, text: &str) -> Result<String, Fail> {
+    let copy = Text::copy_of(alloc, text)?.clone_in(alloc)?;
+    Ok(String::from_str(alloc, copy.as_str())?)
+}
+
+fn copied_name(alloc: Global, name: &str) -> Result<String, Fail> {
+    let copy = name_of(alloc, name)?.clone_in(alloc)?;
+    Ok(String::from_str(alloc, copy.as_str())?)
+}
+
+fn copied_phrase(alloc: Global, phrase: &str) -> Result<String, Fail> {
+    let copy = phrase_of(alloc, phrase)?.clone_in(alloc)?;
+    Ok(String::from_str(alloc, copy.as_text().as_str())?)
+}
+
 #[test]
 fn copies_of_texts(rt: HostRuntime) -> Result<(), Fail> {
     let alloc = rt.alloc();
-    let text = Text::copy_of(alloc, "Stra\u{DF}e")?;
-    assert_eq!(rt; text.clone_in(alloc)?.as_str(), "Stra\u{DF}e");
-    let name = name_of(alloc, "body")?;
-    assert_eq!(rt; name.clone_in(alloc)?.as_str(), "body");
-    let phrase = phrase_of(alloc, "quick fox")?;
-    assert_eq!(rt; phrase.clone_in(alloc)?.as_text().as_str(), "quick fox");
+    assert_eq!(rt; copied_text(alloc, "Stra\u{DF}e")?.as_str(), "Stra\u{DF}e");
+    assert_eq!(rt; copied_name(alloc, "body")?.as_str(), "body");
+    assert_eq!(rt; copied_phrase(alloc, "quick fox")?.as_str(), "quick fox");
     Ok(())
 }
 
@@ -201,25 +214,36 @@ fn names_have_1_to_255_bytes(rt: HostRuntime) -> Result<(), Fail> {
     Ok(())
 }
 
+/// What a copy of the document has.
+fn shown_document(alloc: Global, doc: &Document) -> Result<String, Fail> {
+    let mut out = String::new(alloc);
+    show_document(&mut out, &doc.clone_in(alloc)?)?;
+    Ok(out)
+}
+
+/// What a copy of a row has: its document and its birth.
+fn shown_row(alloc: Global, row: &Row) -> Result<String, Fail> {
+    let copy = row.clone_in(alloc)?;
+    let mut out = shown_document(alloc, &copy.doc)?;
+    write!(out, " birth {}", copy.birth)?;
+    Ok(out)
+}
+
+fn short_row(alloc: Global, birth: u64) -> Result<Row, Fail> {
+    let doc = Document::of_key(alloc, text_of(alloc, "a2")?);
+    Ok(Row { birth, doc })
+}
+
 #[test]
 fn copies_of_documents(rt: HostRuntime) -> Result<(), Fail> {
     let alloc = rt.alloc();
-    let mut out = String::new(alloc);
-    show_document(&mut out, &letter(alloc)?.clone_in(alloc)?)?;
+    let want = "a1 text body=Quick FOX exact tag=x num price=-7";
+    assert_eq!(rt; shown_document(alloc, &letter(alloc)?)?.as_str(), want);
+    let row = short_row(alloc, 9)?;
     assert_eq!(rt;
-        out.as_str(),
-        "a1 text body=Quick FOX exact tag=x num price=-7"
+        shown_row(alloc, &row)?.as_str(),
+        "a2 text exact num birth 9"
     );
-
-    let row = Row {
-        birth: 9,
-        doc: Document::of_key(alloc, text_of(alloc, "a2")?),
-    };
-    let row = row.clone_in(alloc)?;
-    out.clear();
-    show_document(&mut out, &row.doc)?;
-    assert_eq!(rt; row.birth, 9);
-    assert_eq!(rt; out.as_str(), "a2 text exact num");
     Ok(())
 }
 
@@ -298,15 +322,21 @@ fn analysed_letter(alloc: Global) -> Result<Analysed, Fail> {
     Ok(Analysed { doc, postings })
 }
 
+/// What a copy of the postings and the document has.
+fn shown_analysed(alloc: Global, analysed: &Analysed) -> Result<String, Fail> {
+    let copy = analysed.clone_in(alloc)?;
+    let mut out = String::new(alloc);
+    show_postings(alloc, &mut out, &copy.postings)?;
+    show_document(&mut out, &copy.doc)?;
+    Ok(out)
+}
+
 #[test]
 fn copies_of_postings(rt: HostRuntime) -> Result<(), Fail> {
     let alloc = rt.alloc();
-    let analysed = analysed_letter(alloc)?.clone_in(alloc)?;
-    let mut out = String::new(alloc);
-    show_postings(alloc, &mut out, &analysed.postings)?;
-    show_document(&mut out, &analysed.doc)?;
+    let analysed = analysed_letter(alloc)?;
     let want = "key:a1 3@[0, 2];a1 text body=Quick FOX exact tag=x num price=-7";
-    assert_eq!(rt; out.as_str(), want);
+    assert_eq!(rt; shown_analysed(alloc, &analysed)?.as_str(), want);
     Ok(())
 }
 
