@@ -89,23 +89,40 @@ fn script_and_report(alloc: Global) -> Result<(String, String), NoMemory> {
     Ok((script, report))
 }
 
+/// Four questions for all documents of the last commit, one a line, and their answers.
+fn asked_four_times(alloc: Global) -> Result<(String, String), NoMemory> {
+    let found = hits(alloc, 2000, true)?;
+    let mut answers = String::new(alloc);
+    for line in 1..5 {
+        answers.push_str(&format!(in alloc;
+            "{{\"commit\":2004,\"hits\":[{found}],\"line\":{line}}}\n"
+        )?)?;
+    }
+    Ok(("\"all\"\n".repeat(alloc, 4)?, answers))
+}
+
+/// How many bytes the rows of a segment have.
+fn bytes_of_rows(alloc: Global, store: &mut MemoryStore, id: u64) -> Result<usize, Fail> {
+    let rows = store.read(alloc, FileName::Rows(id));
+    let rows = rows.ok().ok_or("a read that fails")?;
+    Ok(rows.ok_or("an absent file")?.len())
+}
+
+/// The report, a file of more than a megabyte, and answers of more than 200,000 bytes.
 #[test]
 fn many_documents(rt: HostRuntime) -> Result<(), Fail> {
     let alloc = rt.alloc();
-    let (script, report) = script_and_report(alloc).ok().ok_or("memory")?;
+    let (script, report) = script_and_report(alloc)?;
     let done = run_script(&rt, alloc, &[script.as_str()], MemoryStore::new(alloc))?;
-    assert_eq!(rt; done.status, 0);
+    let mut store = ended(&rt, done, 0, report.as_str());
     assert!(rt;
-        done.written.as_slice() == report.as_bytes(),
-        "another report"
+        bytes_of_rows(alloc, &mut store, 2)? > 1_000_000,
+        "a small file"
     );
-    let mut store = done.store;
-    let rows = store
-        .read(alloc, FileName::Rows(2))
-        .ok()
-        .ok_or("a read that fails")?;
-    let rows = rows.ok_or("an absent file")?;
-    assert!(rt; rows.len() > 1_000_000, "a small file");
+    let (questions, answers) = asked_four_times(alloc)?;
+    let (none, input) = (Vec::new(alloc), [questions.as_str()]);
+    let asked = run_words(&rt, alloc, &["ask"], &input, store, none, Vec::new(alloc))?;
+    let _store = ended(&rt, asked, 0, answers.as_str());
     Ok(())
 }
 
@@ -114,17 +131,13 @@ fn many_documents(rt: HostRuntime) -> Result<(), Fail> {
 #[test]
 fn many_documents_merged(rt: HostRuntime) -> Result<(), Fail> {
     let alloc = rt.alloc();
-    let (script, report) = script_and_report(alloc).ok().ok_or("memory")?;
+    let (script, report) = script_and_report(alloc)?;
     let words = ["run", "--threads", "1", "--merge", "2"];
     let none = Vec::new(alloc);
     let store = MemoryStore::new(alloc);
     let script = [script.as_str()];
     let done = run_words(&rt, alloc, &words, &script, store, none, Vec::new(alloc))?;
-    assert!(rt;
-        done.written.as_slice() == report.as_bytes(),
-        "another report"
-    );
-    let mut store = done.store;
+    let mut store = ended(&rt, done, 0, report.as_str());
     let last = head(alloc, &mut store, 2004).ok().ok_or("a fault")?;
     assert_eq!(rt; last.docs, 1998);
     assert_eq!(rt; last.segments.len(), 1);

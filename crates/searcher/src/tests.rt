@@ -181,33 +181,59 @@ fn no_segment_no_hit(rt: HostRuntime) -> Result<(), Fail> {
     Ok(())
 }
 
-/// A thousand rows with every other birth from this one on. Their numbers are their births.
-fn thousand_rows(alloc: Global, from: u32) -> Result<Vec<Row>, Fail> {
+/// 1,500 rows with every other birth from this one on. Their numbers are their births.
+fn many_rows(alloc: Global, from: u32) -> Result<Vec<Row>, Fail> {
     let mut rows = Vec::new(alloc);
-    for i in 0..1000u32 {
+    for i in 0..1500u32 {
         let birth = u64::from(from) + 2 * u64::from(i);
         rows.push(row_of(alloc, birth, "k", "word", birth as i64)?)?;
     }
     Ok(rows)
 }
 
-/// The hits of rows with the births from 1 to 2000.
-fn two_thousand(alloc: Global) -> Result<String, Fail> {
+/// The hits of rows with the births from 1 to this one.
+fn hits_up_to(alloc: Global, last: u32) -> Result<String, Fail> {
     let mut wanted = String::new(alloc);
-    for birth in 1..2001u32 {
+    for birth in 1..=last {
         write!(wanted, "k pages {birth};")?;
     }
     Ok(wanted)
 }
 
 #[test]
-fn two_thousand_hits(rt: HostRuntime) -> Result<(), Fail> {
+fn three_thousand_hits(rt: HostRuntime) -> Result<(), Fail> {
     let alloc = rt.alloc();
-    let even = thousand_rows(alloc, 2)?;
-    let odd = thousand_rows(alloc, 1)?;
+    let even = many_rows(alloc, 2)?;
+    let odd = many_rows(alloc, 1)?;
     let searcher = searcher_of(alloc, even, odd)?;
     let shown = shown(alloc, &searcher, &term(alloc, "body", "word")?)?;
-    assert_eq!(rt; shown.as_str(), two_thousand(alloc)?.as_str());
+    assert_eq!(rt; shown.as_str(), hits_up_to(alloc, 3000)?.as_str());
+    Ok(())
+}
+
+/// A segment of one row, whose number is its birth.
+fn one_row(alloc: Global, id: u64, birth: u32) -> Result<LiveSegment, Fail> {
+    let row = row_of(alloc, u64::from(birth), "k", "word", i64::from(birth))?;
+    segment_of(alloc, id, vec![in alloc; row]?)
+}
+
+/// So many segments of one row each: the first has the last birth.
+fn many_segments(alloc: Global, count: u32) -> Result<Searcher, Fail> {
+    let mut segments = Vec::new(alloc);
+    for at in 0..count {
+        segments.push(one_row(alloc, u64::from(at) + 1, count - at)?)?;
+    }
+    Ok(Searcher {
+        segments: List::from_vec(segments),
+    })
+}
+
+#[test]
+fn hits_of_many_segments(rt: HostRuntime) -> Result<(), Fail> {
+    let alloc = rt.alloc();
+    let searcher = many_segments(alloc, 300)?;
+    let shown = shown(alloc, &searcher, &term(alloc, "body", "word")?)?;
+    assert_eq!(rt; shown.as_str(), hits_up_to(alloc, 300)?.as_str());
     Ok(())
 }
 
