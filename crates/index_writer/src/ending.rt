@@ -1,6 +1,6 @@
 //! What came back of a round, put together: the pieces of all its writers, and the packet of all its
 //! operations.
-ghost use Rattle.std.specs.Prelude.{◌≡◌, List, map, length, IfOk, OnOk};
+ghost use Rattle.std.specs.Prelude.{◌≡◌, ◌≤◌, List, map, length, IfOk, OnOk};
 ghost use Rattle.std.specs.List.{AllByRecursion};
 ghost use Rattle.ix_base.specs.Words.{head_kind};
 ghost use Rattle.delete_queue.specs.Log.{entries_of, last_head_or, last_number};

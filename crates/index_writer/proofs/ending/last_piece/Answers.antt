@@ -12,7 +12,7 @@ returns c =
       rows = rows;
       inversion =
           subst (λ (rs : List Row). IsInversion (map (λ (row : Row). row.doc) rs) frozen.postings) (sym rows) c.in_ok-frozen.ensures.inversion;
-      few = omega (arith, ap length rows, born_few c.args.rest.now.rows, c.requires);
+      few = omega (arith, ap length rows, born_few c.args.rows, c.requires.few);
       updates = c.new.ensures;
       cut = refl;
     }
