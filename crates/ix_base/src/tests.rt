@@ -180,8 +180,8 @@ fn show_operation(out: &mut String, operation: &Operation) -> Result<(), Fail> {
 }
 
 /// What a copy of a text, of a name and of a phrase have.
-fn copied_text(alloc: Global, text: &str) -> Result<String, Fail> {
-    let copy = Text::copy_of(alloc, text)?.clone_in(alloc)?;
+fn copied_text(alloc: Global, text: &Text) -> Result<String, Fail> {
+    let copy = text.clone_in(alloc)?;
     Ok(String::from_str(alloc, copy.as_str())?)
 }
 
@@ -198,7 +198,8 @@ fn copied_phrase(alloc: Global, phrase: &str) -> Result<String, Fail> {
 #[test]
 fn copies_of_texts(rt: HostRuntime) -> Result<(), Fail> {
     let alloc = rt.alloc();
-    assert_eq!(rt; copied_text(alloc, "Stra\u{DF}e")?.as_str(), "Stra\u{DF}e");
+    let text = Text::copy_of(alloc, "Stra\u{DF}e")?;
+    assert_eq!(rt; copied_text(alloc, &text)?.as_str(), "Stra\u{DF}e");
     assert_eq!(rt; copied_name(alloc, "body")?.as_str(), "body");
     assert_eq!(rt; copied_phrase(alloc, "quick fox")?.as_str(), "quick fox");
     Ok(())
