@@ -221,13 +221,6 @@ fn long_terms_are_refused(rt: HostRuntime) -> Result<(), Fail> {
     Ok(())
 }
 
-/// The store with one more file.
-fn with_file(store: MemoryStore, name: FileName, bytes: &[u8]) -> Result<MemoryStore, Fail> {
-    let mut store = store;
-    store.write(name, bytes).ok().ok_or("a write that fails")?;
-    Ok(store)
-}
-
 /// The store of a run that added a document and committed.
 fn one_document<R: Threads + Wait + Sync + Abort>(
     rt: &R,
@@ -247,8 +240,8 @@ fn sessions_and_damage(rt: HostRuntime) -> Result<(), Fail> {
     let alloc = rt.alloc();
     let store = one_document(&rt, alloc)?;
     let second = run_script(&rt, alloc, &[ADD_A2, COMMIT, ALL], store)?;
-    let store = ended(&rt, second, 0, TWO_HITS);
-    let store = with_file(store, FileName::Commit(4), b"IXCOM001")?;
+    let mut store = ended(&rt, second, 0, TWO_HITS);
+    assert_eq!(rt; store.write(FileName::Commit(4), b"IXCOM001"), Ok(()));
     let third = run_script(&rt, alloc, &[ALL], store)?;
     let report = "{\"at\":8,\"file\":\"segments_4\",\"status\":8}\n";
     let _store = ended(&rt, third, 8, report);
@@ -260,7 +253,8 @@ fn sessions_and_damage(rt: HostRuntime) -> Result<(), Fail> {
 fn a_base_that_is_too_high(rt: HostRuntime) -> Result<(), Fail> {
     let alloc = rt.alloc();
     let high = FileName::Commit(2_305_843_009_213_693_953);
-    let store = with_file(MemoryStore::new(alloc), high, b"")?;
+    let mut store = MemoryStore::new(alloc);
+    assert_eq!(rt; store.write(high, b""), Ok(()));
     let done = run_script(&rt, alloc, &[], store)?;
     let report = "{\"base\":2305843009213693953,\"status\":10}\n";
     let _store = ended(&rt, done, 10, report);
