@@ -221,8 +221,8 @@ fn long_terms_are_refused(rt: HostRuntime) -> Result<(), Fail> {
     Ok(())
 }
 
-/// The store of a run that added a document and committed.
-fn one_document<R: Threads + Wait + Sync + Abort>(
+/// The store of a run that added a document and committed: it has the commit 2.
+pub fn one_document<R: Threads + Wait + Sync + Abort>(
     rt: &R,
     alloc: Global,
 ) -> Result<MemoryStore, Fail> {
@@ -248,12 +248,12 @@ fn sessions_and_damage(rt: HostRuntime) -> Result<(), Fail> {
     Ok(())
 }
 
-/// No run goes on from a commit whose number is above 2^61.
+/// No run goes on from a commit whose number is above 2^61, though one below it is whole.
 #[test]
 fn a_base_that_is_too_high(rt: HostRuntime) -> Result<(), Fail> {
     let alloc = rt.alloc();
     let high = FileName::Commit(2_305_843_009_213_693_953);
-    let mut store = MemoryStore::new(alloc);
+    let mut store = one_document(&rt, alloc)?;
     assert_eq!(rt; store.write(high, b""), Ok(()));
     let done = run_script(&rt, alloc, &[], store)?;
     let report = "{\"base\":2305843009213693953,\"status\":10}\n";

@@ -1,5 +1,5 @@
 //! The commands that answer from a store, and the one that makes its script.
-use crate::tests::{ADD_A1, ADD_A2, COMMIT, Done, ended, run_words};
+use crate::tests::{ADD_A1, ADD_A2, COMMIT, Done, ended, one_document, run_words};
 use commit_point::head;
 use ix_base::{FileName, NoMemory};
 use ix_memory::MemoryStore;
@@ -36,18 +36,6 @@ fn expect<R: Threads + Wait + Sync + Abort>(
     store: MemoryStore,
 ) -> Result<MemoryStore, Fail> {
     Ok(ended(rt, call(rt, alloc, words, input, store)?, status, written))
-}
-
-/// A store with the commit 2, which has one document.
-fn one_document<R: Threads + Wait + Sync>(rt: &R, alloc: Global) -> Result<MemoryStore, Fail> {
-    let done = call(
-        rt,
-        alloc,
-        &["run"],
-        &[ADD_A1, COMMIT],
-        MemoryStore::new(alloc),
-    )?;
-    Ok(done.store)
 }
 
 const ONE_HIT: &str = "{\"commit\":2,\"hits\":[{\"key\":\"a1\",\"num\":{}}],\"line\":1}\n";

@@ -121,11 +121,16 @@ fn last_of(log: &QueueLog, base: u64) -> (u64, u64)
 
 /// The last piece of a writer, which is made of its rest, in a round whose first operation has the
 /// number after `base`. None of the round's operations is in it: the packet has them all.
-fn last_piece(alloc: Global, base: u64, worker: u64, rows: RamPostings) -> Result<Piece, NoMemory>
+fn last_piece(
+    alloc: Global,
+    base: u64,
+    worker: u64,
+    mut rows: RamPostings,
+) -> Result<Piece, NoMemory>
     requires few { length rows ≤ 65536 }
     ensures { IfOk result (IsLast base rows) }
 {
-    let frozen = rows.into_frozen(alloc)?;
+    let frozen = rows.take_frozen()?;
     Ok(Piece {
         worker,
         frozen,

@@ -170,19 +170,19 @@ impl Merge {
         Ok(self.progress(segments, places.as_slice()))
     }
 
-    /// The segment that the sources are merged into.
-    fn merged(&self, segments: &[LiveSegment], id: u64) -> Result<Option<LiveSegment>, NoMemory>
-        requires { CanFinish self.now segments.now }
-        ensures { (sources : ListOf Lived) (applied : ℕ)
-            → Sources segments.now self.now.ids.items sources → AreAt applied sources
+    /// The segment that the sources are merged into. After an error nothing is changed.
+    fn merged(&mut self, segments: &[LiveSegment], id: u64) -> Result<Option<LiveSegment>, NoMemory>
+        requires { CanFinish self.old segments.now }
+        ensures ok { (sources : ListOf Lived) (applied : ℕ)
+            → Sources segments.now self.old.ids.items sources → AreAt applied sources
             → IfOk result (Merged sources id applied) }
+        ensures err { OnErr result (self.new ≡ self.old) }
     {
         let places = places_of(self.alloc, segments, self.ids.as_slice())?;
         if places.is_empty() {
             return Ok(None);
         }
         let applied = source_at(segments, places.as_slice(), 0).live().applied();
-        let Frozen { rows, postings } = self.buffer.freeze(self.alloc)?;
         let live = carried(
             self.alloc,
             segments,
@@ -193,6 +193,7 @@ impl Merge {
         if live.live_count() == 0 {
             return Ok(None);
         }
+        let Frozen { rows, postings } = self.buffer.take_frozen()?;
         let rows = List::from_vec(rows);
         let segment = Segment { id, rows, postings };
         Ok(Some(LiveSegment::new(segment, live)))
@@ -202,7 +203,7 @@ impl Merge {
     /// its live rows are those of the sources, as they are now. `None` exactly where no row of them
     /// is live.
     pub fn finish(
-        self,
+        mut self,
         segments: &[LiveSegment],
         id: u64,
     ) -> Result<Option<LiveSegment>, MergeRefused>

@@ -16,11 +16,8 @@ pub fn holding_in(alloc: Global, postings: &Postings, term: &Term) -> Result<Vec
     ensures { IfOk result (λ rows. AreRowsWhere (λ docs. IsInversion docs postings.now)
         (holds_term term.now.field term.now.bytes) rows.items) }
 {
-    let entries = postings.terms.as_slice();
-    match find_term(entries, term) {
-        Some(i) => entries[i].rows.rows(alloc),
-        None => Ok(Vec::new(alloc)),
-    }
+    let mut place = 0;
+    holding_from_in(alloc, postings, term, &mut place)
 }
 
 /// The same as `holding_in`, with the search for the term begun at a place of the postings, which is

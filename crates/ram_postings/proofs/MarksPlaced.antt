@@ -1,9 +1,9 @@
 -- The rows of marks, and the marks of rows.
-use Rattle.std.proofs.Common.{◌≡◌, ℕ, zero, suc, ◌<◌, ◌+◌, Option, Some, None, List, [], ◌∷◌, ◌++◌, length, map, take, get_or, set, ◌⊎◌, inl, inr, refl, sym, ap, ◌∙◌, subst, arith}
+use Rattle.std.proofs.Common.{◌≡◌, ℕ, zero, suc, ◌<◌, ◌≤◌, ◌+◌, Option, Some, None, List, [], ◌∷◌, ◌++◌, length, map, take, get_or, set, ◌⊎◌, inl, inr, refl, sym, ap, ◌∙◌, subst, arith}
 use Rattle.std.specs.List.{AllPairs, slice_get}
 use Rattle.std.proofs.lemmas.Bool.{cases_eq}
 use Rattle.std.proofs.lemmas.Option.{slice_get_within, get_or_from_slice_get}
-use Rattle.std.proofs.lemmas.List.{append_assoc, append-nil, map-append, take_more, length-take, length-take-le, get_or-take}
+use Rattle.std.proofs.lemmas.List.{append_assoc, length-append, append-nil, map-append, take_more, length-take, length-take-le, get_or-take}
 use Rattle.ix_base.specs.Documents.{Document}
 use Rattle.ix_base.specs.declared.document.Row.{Row}
 use Rattle.ram_postings.specs.Buffer.{row_of, born_rows}
@@ -11,25 +11,17 @@ use Rattle.ram_postings.specs.Kept.{staged_of, mark_of, born_marks, number_of, A
 use Rattle.ram_postings.specs.declared.entry.Entry.{Entry}
 use Rattle.ram_postings.proofs.BornRows.{rows_push}
 
-rows_more : (es : List Entry) (i : ℕ) (d : Entry) → i < length es
-    → born_rows (map staged_of (take (i + 1) es)) ≡ born_rows (map staged_of (take i es)) ++ row_of (get_or es i d).doc (get_or es i d).birth
-rows_more es i d lt =
-    let e : Entry = get_or es i d in
-    ap (λ (l : List Entry). born_rows (map staged_of l)) (take_more es i d lt)
-    ∙ ap born_rows (map-append staged_of (take i es) (e ∷ []))
-    ∙ rows_push (map staged_of (take i es)) (staged_of e)
-
-pub rows_step : (es : List Entry) (i : ℕ) (e : Entry) (old new : List Row) → i < length es → e ≡ get_or es i e → old ≡ born_rows (map staged_of (take i es))
-    → new ≡ old ++ row_of e.doc e.birth → new ≡ born_rows (map staged_of (take (i + 1) es))
-rows_step es i e old new lt at was is =
-    is ∙ ap (λ (f : Entry). old ++ row_of f.doc f.birth) at ∙ ap (λ (l : List Row). l ++ row_of (get_or es i e).doc (get_or es i e).birth) was ∙ sym (rows_more es i e lt)
-
 -- one more row, of the document that comes next
 pub rows_next : (es : List Entry) (e : Entry) (old new : List Row) → old ≡ born_rows (map staged_of es)
     → new ≡ old ++ row_of e.doc e.birth → new ≡ born_rows (map staged_of (es ++ e ∷ []))
 rows_next es e old new was is =
     is ∙ ap (λ (l : List Row). l ++ row_of e.doc e.birth) was
     ∙ sym (ap born_rows (map-append staged_of es (e ∷ [])) ∙ rows_push (map staged_of es) (staged_of e))
+
+-- a document is one row at most
+pub one_row : (doc : Document) (o : Option ℕ) (rows : List Row) → length (rows ++ row_of doc o) ≤ length rows + 1
+one_row doc None rows = omega (arith, length-append rows [])
+one_row doc (Some n) rows = omega (arith, length-append rows (record { birth = n; doc = doc } ∷ []))
 
 marks_push : (xs : List Entry) (y : Entry) → born_marks (xs ++ y ∷ []) ≡ born_marks xs ++ mark_of y.mark y.birth
 marks_push [] y = append-nil (mark_of y.mark y.birth)
@@ -43,12 +35,6 @@ pub marks_step : (es : List Entry) (i : ℕ) (e : Entry) (old new : List ℕ) �
     → new ≡ old ++ mark_of e.mark e.birth → new ≡ born_marks (take (i + 1) es)
 marks_step es i e old new lt at was is =
     is ∙ ap (λ (f : Entry). old ++ mark_of f.mark f.birth) at ∙ ap (λ (l : List ℕ). l ++ mark_of (get_or es i e).mark (get_or es i e).birth) was ∙ sym (marks_more es i e lt)
-
-pub row_some : (doc copy : Document) (o : Option ℕ) (n : ℕ) (rows : List Row) → o ≡ Some n → copy ≡ doc → rows ++ record { birth = n; doc = copy } ∷ [] ≡ rows ++ row_of doc o
-row_some doc copy o n rows e d = ap (λ (x : Document). rows ++ record { birth = n; doc = x } ∷ []) d ∙ ap (λ (p : Option ℕ). rows ++ row_of doc p) (sym e)
-
-pub row_none : (doc : Document) (o : Option ℕ) (rows : List Row) → o ≡ None → rows ≡ rows ++ row_of doc o
-row_none doc o rows e = sym (append-nil rows) ∙ ap (λ (p : Option ℕ). rows ++ row_of doc p) (sym e)
 
 pub mark_some : (m : ℕ) (o : Option ℕ) (n : ℕ) (marks : List ℕ) → o ≡ Some n → marks ++ m ∷ [] ≡ marks ++ mark_of m o
 mark_some m o n marks e = ap (λ (p : Option ℕ). marks ++ mark_of m p) (sym e)

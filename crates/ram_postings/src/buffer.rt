@@ -4,13 +4,15 @@ ghost use Rattle.ix_base.specs.Inversion.{IsInversion};
 ghost use Rattle.ram_postings.specs.Buffer.{waiting, born_rows, with_birth};
 
 use crate::entry::Entry;
-use crate::freezing::{Frozen, freeze_entries, freeze_moved};
+use crate::freezing::{Frozen, postings_of};
+use crate::numbers::moved_rows;
 use crate::placing::place_terms;
 use analysis::TermKey;
 use indexmap::IndexMap;
 use ix_base::{Analysed, NoMemory, Spots};
 use std::alloc::Global;
 use std::marker::Model;
+use std::mem;
 
 /// The place of a document in its buffer, from 0.
 #[derive(Clone, Copy, Debug, PartialEq, Eq)]
@@ -99,29 +101,21 @@ impl RamPostings {
         self.staged.len() as u32
     }
 
-    /// The rows of the documents that have their number, and the inversion of them. The buffer
-    /// stays as it is: the documents are copied. The only error is out of memory.
-    pub fn freeze(&self, alloc: Global) -> Result<Frozen, NoMemory>
-        ensures rows { IfOk result (λ frozen. frozen.rows.items ≡ born_rows self.now) }
+    /// Takes out the rows of the documents that have their number, and the inversion of them. The
+    /// documents are moved, and the buffer then has none. The only error is out of memory: the buffer
+    /// is as before.
+    pub fn take_frozen(&mut self) -> Result<Frozen, NoMemory>
+        ensures rows { IfOk result (λ frozen. frozen.rows.items ≡ born_rows self.old) }
         ensures inversion { IfOk result (λ frozen.
-            IsInversion (map (λ row. row.doc) (born_rows self.now)) frozen.postings) }
+            IsInversion (map (λ row. row.doc) (born_rows self.old)) frozen.postings) }
+        ensures ok { OnOk result (self.new ≡ []) }
+        ensures err { OnErr result (self.new ≡ self.old) }
     {
-        freeze_entries(alloc, self.staged.as_slice(), self.next_mark, &self.lists)
-    }
-
-    /// What `freeze` returns, of a buffer that is used up: no document is copied. The only error is
-    /// out of memory; the documents are gone then too.
-    pub fn into_frozen(self, alloc: Global) -> Result<Frozen, NoMemory>
-        ensures rows { IfOk result (λ frozen. frozen.rows.items ≡ born_rows self) }
-        ensures inversion { IfOk result (λ frozen.
-            IsInversion (map (λ row. row.doc) (born_rows self)) frozen.postings) }
-    {
-        let RamPostings {
-            staged,
-            next_mark,
-            lists,
-            ..
-        } = self;
-        freeze_moved(alloc, staged, next_mark, &lists)
+        let alloc = self.alloc;
+        let postings = postings_of(alloc, self.staged.as_slice(), self.next_mark, &self.lists)?;
+        let rows = Vec::with_capacity(alloc, self.staged.len())?;
+        let taken = mem::replace(self, RamPostings::new(alloc));
+        let rows = moved_rows(rows, taken.staged);
+        Ok(Frozen { rows, postings })
     }
 }

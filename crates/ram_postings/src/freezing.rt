@@ -9,7 +9,7 @@ ghost use Rattle.ram_postings.specs.Buffer.{born_rows};
 ghost use Rattle.ram_postings.specs.Kept.{staged_of, NumbersRise, IsRenumbered, StandsInNumbers, AreRenumbered, StandInNumbers, IsBuffer};
 
 use crate::entry::Entry;
-use crate::numbers::{copied_rows, moved_rows, numbers_of};
+use crate::numbers::numbers_of;
 use crate::renumbering::put_renumbered;
 use analysis::{TermKey, compare_terms};
 use indexmap::IndexMap;
@@ -102,7 +102,7 @@ fn terms_of(
 }
 
 /// The inversion of the rows of those documents that have their number.
-fn postings_of(
+pub fn postings_of(
     alloc: Global,
     staged: &[Entry],
     next_mark: u32,
@@ -117,41 +117,4 @@ fn postings_of(
     Ok(Postings {
         terms: List::from_vec(terms),
     })
-}
-
-/// The rows of those documents that have their number, and the inversion of them. The documents are
-/// copied.
-pub fn freeze_entries(
-    alloc: Global,
-    staged: &[Entry],
-    next_mark: u32,
-    lists: &IndexMap<TermKey, Spots>,
-) -> Result<Frozen, NoMemory>
-    requires { IsBuffer staged.now next_mark lists.now.entries }
-    ensures rows { IfOk result (λ frozen.
-        frozen.rows.items ≡ born_rows (map staged_of staged.now)) }
-    ensures inversion { IfOk result (λ frozen. IsInversion
-        (map (λ row. row.doc) (born_rows (map staged_of staged.now))) frozen.postings) }
-{
-    let rows = copied_rows(alloc, staged)?;
-    let postings = postings_of(alloc, staged, next_mark, lists)?;
-    Ok(Frozen { rows, postings })
-}
-
-/// The same of entries that nobody needs any more: the documents are moved.
-pub fn freeze_moved(
-    alloc: Global,
-    staged: Vec<Entry>,
-    next_mark: u32,
-    lists: &IndexMap<TermKey, Spots>,
-) -> Result<Frozen, NoMemory>
-    requires { IsBuffer staged.items next_mark lists.now.entries }
-    ensures rows { IfOk result (λ frozen.
-        frozen.rows.items ≡ born_rows (map staged_of staged.items)) }
-    ensures inversion { IfOk result (λ frozen. IsInversion
-        (map (λ row. row.doc) (born_rows (map staged_of staged.items))) frozen.postings) }
-{
-    let postings = postings_of(alloc, staged.as_slice(), next_mark, lists)?;
-    let rows = moved_rows(alloc, staged)?;
-    Ok(Frozen { rows, postings })
 }

@@ -1,5 +1,5 @@
 //! The rows of a buffer's documents.
-ghost use Rattle.std.specs.Prelude.{◌≡◌, ◌<◌, ◌^◌, ◌++◌, map, length, All, AllPairs, IfOk, OnOk};
+ghost use Rattle.std.specs.Prelude.{◌≡◌, ◌<◌, ◌≤◌, ◌^◌, ◌++◌, [], map, length, vec_capacity, All, AllPairs, IfOk};
 ghost use Rattle.ram_postings.specs.Buffer.{born_rows, row_of};
 ghost use Rattle.ram_postings.specs.Kept.{staged_of, born_marks, ArePlaces};
 
@@ -7,42 +7,28 @@ use crate::entry::Entry;
 use ix_base::{NoMemory, Row};
 use std::alloc::Global;
 
-/// The rows of those documents that have their number, which are copied.
-pub fn copied_rows(alloc: Global, staged: &[Entry]) -> Result<Vec<Row>, NoMemory>
-    ensures { IfOk result (λ rows. rows.items ≡ born_rows (map staged_of staged.now)) }
-{
-    let mut rows = Vec::new(alloc);
-    for entry in staged {
-        if let Some(birth) = entry.birth {
-            rows.push(Row {
-                birth,
-                doc: entry.doc.clone_in(alloc)?,
-            })?;
-        }
-    }
-    Ok(rows)
-}
-
-/// Puts a document that has its number behind the rows.
-fn move_row(rows: &mut Vec<Row>, entry: Entry) -> Result<(), NoMemory>
-    ensures { OnOk result (rows.new.items ≡ rows.old.items ++ row_of entry.doc entry.birth) }
+/// Puts a document that has its number behind the rows, which have room for one. It takes no memory.
+fn move_row(rows: &mut Vec<Row>, entry: Entry)
+    requires { length rows.old.items < vec_capacity rows.old }
+    ensures rows { rows.new.items ≡ rows.old.items ++ row_of entry.doc entry.birth }
+    ensures capacity { vec_capacity rows.new ≡ vec_capacity rows.old }
 {
     let Entry { doc, birth, .. } = entry;
     if let Some(birth) = birth {
-        rows.push(Row { birth, doc })?;
+        rows.push_reserved(Row { birth, doc });
     }
-    Ok(())
 }
 
-/// The rows of those documents that have their number, which are moved.
-pub fn moved_rows(alloc: Global, staged: Vec<Entry>) -> Result<Vec<Row>, NoMemory>
-    ensures { IfOk result (λ rows. rows.items ≡ born_rows (map staged_of staged.items)) }
+/// The rows of those documents that have their number, which are moved into a list that has room for
+/// all. It takes no memory.
+pub fn moved_rows(mut rows: Vec<Row>, staged: Vec<Entry>) -> Vec<Row>
+    requires { (rows.items ≡ []) × (length staged.items ≤ vec_capacity rows) }
+    ensures { result.items ≡ born_rows (map staged_of staged.items) }
 {
-    let mut rows = Vec::with_capacity(alloc, staged.len())?;
     for entry in staged {
-        move_row(&mut rows, entry)?;
+        move_row(&mut rows, entry);
     }
-    Ok(rows)
+    rows
 }
 
 /// The marks of those documents that have their number.

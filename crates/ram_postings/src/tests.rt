@@ -78,11 +78,11 @@ pub fn shown_frozen(alloc: Global, frozen: &Frozen) -> Result<String, Fail> {
 #[test]
 fn nothing_staged(rt: HostRuntime) -> Result<(), Fail> {
     let alloc = rt.alloc();
-    let buffer = RamPostings::new(alloc);
+    let mut buffer = RamPostings::new(alloc);
     assert_eq!(rt; buffer.rows(), 0);
-    assert_eq!(rt; shown_frozen(alloc, &buffer.freeze(alloc)?)?.as_str(), "");
-    let moved = buffer.into_frozen(alloc)?;
-    assert_eq!(rt; shown_frozen(alloc, &moved)?.as_str(), "");
+    let frozen = buffer.take_frozen()?;
+    assert_eq!(rt; shown_frozen(alloc, &frozen)?.as_str(), "");
+    assert_eq!(rt; buffer.rows(), 0);
     Ok(())
 }
 
@@ -107,15 +107,31 @@ fn with_void_between(alloc: Global) -> Result<RamPostings, Fail> {
 #[test]
 fn void_document_between(rt: HostRuntime) -> Result<(), Fail> {
     let alloc = rt.alloc();
-    let buffer = with_void_between(alloc)?;
+    let mut buffer = with_void_between(alloc)?;
     assert_eq!(rt; buffer.rows(), 3);
+    let frozen = buffer.take_frozen()?;
     let expected =
         "a4 c9 body:dog 0@1, 1@1,;body:fish 0@0,2, 1@4,;body:saw 1@2,;body:the 1@0,3,;key:a 0@0,;key:c 1@0,;tag:red 0@0, 1@0,;";
+    assert_eq!(rt; shown_frozen(alloc, &frozen)?.as_str(), expected);
+    Ok(())
+}
+
+/// A buffer whose rows were taken out is empty, and takes documents again: nothing of the earlier
+/// ones is left in it.
+#[test]
+fn taken_and_filled_again(rt: HostRuntime) -> Result<(), Fail> {
+    let alloc = rt.alloc();
+    let mut buffer = with_void_between(alloc)?;
+    let earlier = buffer.take_frozen()?;
+    assert_eq!(rt; (buffer.rows(), earlier.rows.len()), (0, 2));
+    let row = buffer.stage(analyse(alloc, document_of(alloc, "d", "an owl", "blue")?)?)?;
+    assert_eq!(rt; row.0, 0);
+    buffer.born(row, 10);
+    let frozen = buffer.take_frozen()?;
     assert_eq!(rt;
-        shown_frozen(alloc, &buffer.freeze(alloc)?)?.as_str(),
-        expected
+        shown_frozen(alloc, &frozen)?.as_str(),
+        "d10 body:an 0@0,;body:owl 0@1,;key:d 0@0,;tag:blue 0@0,;"
     );
-    let moved = buffer.into_frozen(alloc)?;
-    assert_eq!(rt; shown_frozen(alloc, &moved)?.as_str(), expected);
+    assert_eq!(rt; buffer.rows(), 0);
     Ok(())
 }

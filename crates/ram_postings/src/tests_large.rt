@@ -3,8 +3,8 @@ ghost use Rattle.std.specs.Prelude.{◌<◌, ◌+◌, ◌∷◌, [], All, length
 ghost use Rattle.ix_base.specs.Inversion.{IsInversion};
 ghost use Rattle.ram_postings.specs.Buffer.{born_rows};
 
-use crate::tests::{document_of, inverted, shown, shown_frozen};
-use crate::{Frozen, RamPostings};
+use crate::RamPostings;
+use crate::tests::{document_of, inverted, shown};
 use analysis::analyse;
 use ix_base::{Analysed, Document};
 use std::alloc::Global;
@@ -55,19 +55,12 @@ fn drawn_buffer(alloc: Global, count: u32) -> Result<RamPostings, Fail> {
 #[test]
 fn thousands_of_documents(rt: HostRuntime) -> Result<(), Fail> {
     let alloc = rt.alloc();
-    let buffer = drawn_buffer(alloc, 2_000)?;
-    let frozen = buffer.freeze(alloc)?;
-    assert_eq!(rt; (buffer.rows(), frozen.rows.len()), (2_000, 1_714));
+    let mut buffer = drawn_buffer(alloc, 2_000)?;
+    assert_eq!(rt; buffer.rows(), 2_000);
+    let frozen = buffer.take_frozen()?;
+    assert_eq!(rt; (buffer.rows(), frozen.rows.len()), (0, 1_714));
     let found = shown(alloc, &frozen.postings)?;
     let expected = inverted(alloc, frozen.rows.as_slice())?;
     assert!(rt; found.as_str() == expected.as_str());
-    assert!(rt; is_moved(alloc, buffer, &frozen)?);
     Ok(())
-}
-
-/// Whether the buffer freezes to the same where its documents are moved.
-fn is_moved(alloc: Global, buffer: RamPostings, frozen: &Frozen) -> Result<bool, Fail> {
-    let copied = shown_frozen(alloc, frozen)?;
-    let moved = shown_frozen(alloc, &buffer.into_frozen(alloc)?)?;
-    Ok(moved.as_str() == copied.as_str())
 }

@@ -13,7 +13,7 @@ use Rattle.delete_slice.specs.Taken.{AreWithin, TakesSlice}
 use Rattle.row_fates.specs.Fate.{BornBy, BirthsRise}
 use Rattle.frozen_packet.specs.declared.updates.Updates.{Updates}
 use Rattle.frozen_packet.specs.Updates.{as_operations}
-use Rattle.ram_postings.specs.Buffer.{born_rows}
+use Rattle.ram_postings.specs.Buffer.{Staged, born_rows}
 use Rattle.thread_writer.specs.declared.piece.Piece.{Piece}
 use Rattle.thread_writer.specs.declared.writer.ThreadWriter.{ThreadWriter}
 use Rattle.thread_writer.specs.Lines.{Reads}
@@ -61,6 +61,10 @@ read_stays q old new r = record {
   rows = ap born_rows r.rows;
   history = did_same q (parts_of old) (parts_of new) r.grows (ap numbered_own r.own) (ap born_rows r.rows);
 }
+
+-- the same of a buffer that has the same rows
+pub reads_rows : (q : DeleteQueue) (old new : ThreadWriter) (rows : List Staged) → rows ≡ new.rows → Reads q old new → Reads q old (record new { rows = rows })
+reads_rows q old new rows same r = record { seat = r.seat; grows = r.grows; own = r.own; slice = r.slice; from = r.from; rows = same ∙ r.rows; size = r.size }
 
 -- what was made of the buffer and of the slice, read to its end, is a piece
 is_piece : NumbersEndAtLast → (q : DeleteQueue) (old read : ThreadWriter) (begun : Updates) (p : Piece) → IsWriter q old → Reads q old read

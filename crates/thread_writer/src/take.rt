@@ -12,7 +12,6 @@ use delete_queue::DeleteQueue;
 use delete_slice::{Slice, numbers_end_at_last, slices_stay};
 use frozen_packet::Updates;
 use ix_base::NoMemory;
-use ram_postings::RamPostings;
 
 impl ThreadWriter {
     /// Gives the buffer off as a piece where it is full: where it holds as many documents as it may,
@@ -69,9 +68,8 @@ impl ThreadWriter {
         numbers_end_at_last();
         let mut updates = Updates::new(self.alloc);
         self.read_slice(queue, &mut updates)?;
-        let frozen = self.rows.freeze(self.alloc)?;
+        let frozen = self.rows.take_frozen()?;
         let cut = queue.last_number(&self.seat);
-        self.rows = RamPostings::new(self.alloc);
         self.slice = Slice::start(&self.seat);
         Ok(Piece {
             worker: self.seat.number(),

@@ -39,8 +39,8 @@ carried-requires-clause-rows c =
           (ap (map (row_of c.requires.sources)) c.as_slice-4.ensures.value ∙ c.requires.read.staged.origins),
     )
 
-pub returns-then-live_count-eq0 : goal.returns-then-live_count-eq0
-returns-then-live_count-eq0 c sources applied found at =
+pub returns-then-live_count-eq0-clause-ok : goal.returns-then-live_count-eq0-clause-ok
+returns-then-live_count-eq0-clause-ok c sources applied found at =
     let segs : List Lived = c.args.segments.now in
     let places : List ℕ = c.in_ok-places.places.items in
     let e = c.in_ok-places.ensures sources (subst (λ (ids : List ℕ). Sources segs ids sources) (sym c.as_slice.ensures.value) found) in
@@ -63,8 +63,8 @@ new-requires c =
     long ∙ (lengths c.args.self.now c.requires.sources c.requires.read.rows c.requires.read.staged ∙ ap length (sym rows_are)) in
     record { rows = same; few = omega (arith, ap length rows_are, c.requires.read.staged.few) }
 
-pub returns : goal.returns
-returns c sources applied found at =
+pub returns-clause-ok : goal.returns-clause-ok
+returns-clause-ok c sources applied found at =
     let segs : List Lived = c.args.segments.now in
     let places : List ℕ = c.in_ok-places.places.items in
     let merge : Merge = c.args.self.now in
