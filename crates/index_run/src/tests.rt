@@ -2,7 +2,7 @@
 use crate::call::top;
 use ix_base::{FileName, NoMemory};
 use ix_memory::{MemorySink, MemorySource, MemoryStore};
-use ix_outside::{EmptyGate, Store};
+use ix_outside::{EmptyGate, Gate, Store};
 use std::alloc::Global;
 use std::process::Abort;
 use std::sync::Wait;
@@ -31,6 +31,45 @@ pub(crate) struct Done<S> {
     pub(crate) store: S,
 }
 
+/// A call of the program with these words, over these streams and this store, watched by this gate.
+fn run_top<R: Threads + Wait + Sync, S: Store + Drop, G: Gate>(
+    rt: &R,
+    alloc: Global,
+    words: &[&str],
+    mut input: MemorySource,
+    mut out: MemorySink,
+    store: S,
+    gate: &G,
+) -> Result<Done<S>, NoMemory> {
+    let mut texts = Vec::new(alloc);
+    for word in words {
+        texts.push(String::from_str(alloc, word)?)?;
+    }
+    let ended = top(
+        rt,
+        alloc,
+        texts.as_slice(),
+        &mut input,
+        &mut out,
+        store,
+        gate,
+    );
+    Ok(Done {
+        status: ended.status,
+        written: out.into_bytes(),
+        store: ended.store,
+    })
+}
+
+/// The bytes of a script.
+fn joined(alloc: Global, script: &[&str]) -> Result<Vec<u8>, NoMemory> {
+    let mut bytes = Vec::new(alloc);
+    for line in script {
+        bytes.extend_from_slice(line.as_bytes())?;
+    }
+    Ok(bytes)
+}
+
 /// A run of the script over the store, with these words.
 pub(crate) fn run_words<R: Threads + Wait + Sync, S: Store + Drop>(
     rt: &R,
@@ -41,30 +80,23 @@ pub(crate) fn run_words<R: Threads + Wait + Sync, S: Store + Drop>(
     failing_reads: Vec<u64>,
     failing_writes: Vec<u64>,
 ) -> Result<Done<S>, NoMemory> {
-    let mut bytes = Vec::new(alloc);
-    for line in script {
-        bytes.extend_from_slice(line.as_bytes())?;
-    }
-    let mut texts = Vec::new(alloc);
-    for word in words {
-        texts.push(String::from_str(alloc, word)?)?;
-    }
-    let mut input = MemorySource::failing(bytes, failing_reads);
-    let mut out = MemorySink::failing(alloc, 1_048_576, failing_writes)?;
-    let ended = top(
-        rt,
-        alloc,
-        texts.as_slice(),
-        &mut input,
-        &mut out,
-        store,
-        &EmptyGate,
-    );
-    Ok(Done {
-        status: ended.status,
-        written: out.into_bytes(),
-        store: ended.store,
-    })
+    let input = MemorySource::failing(joined(alloc, script)?, failing_reads);
+    let out = MemorySink::failing(alloc, 1_048_576, failing_writes)?;
+    run_top(rt, alloc, words, input, out, store, &EmptyGate)
+}
+
+/// A run of the script by so many threads over an empty store, which this gate watches.
+pub(crate) fn run_watched<R: Threads + Wait + Sync, G: Gate>(
+    rt: &R,
+    alloc: Global,
+    threads: &str,
+    script: &[&str],
+    gate: &G,
+) -> Result<Done<MemoryStore>, NoMemory> {
+    let words = ["run", "--threads", threads];
+    let input = MemorySource::failing(joined(alloc, script)?, Vec::new(alloc));
+    let out = MemorySink::failing(alloc, 65_536, Vec::new(alloc))?;
+    run_top(rt, alloc, &words, input, out, MemoryStore::new(alloc), gate)
 }
 
 /// A run of the script over the store, by one worker: the lines get their numbers in the order of the

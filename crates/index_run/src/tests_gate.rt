@@ -1,8 +1,7 @@
 //! Whole runs that are watched, and what they leave in the store.
-use crate::call::top;
-use crate::tests::run_script;
+use crate::tests::{run_script, run_watched};
 use ix_base::NoMemory;
-use ix_memory::{MemorySink, MemorySource, MemoryStore, RecordingGate};
+use ix_memory::{MemoryStore, RecordingGate};
 use ix_outside::Store;
 use std::alloc::Global;
 use std::sync::Wait;
@@ -22,27 +21,7 @@ fn watched_run<R: Threads + Wait + Sync>(
         letters.as_str(),
         "\"}}}\n{\"c\":0,\"op\":\"commit\"}\n{\"c\":0,\"op\":\"search\",\"query\":\"all\"}\n{\"c\":1,\"op\":\"add\",\"doc\":{\"key\":\"b1\"}}\n",
     ];
-    let mut bytes = Vec::new(alloc);
-    for part in script {
-        bytes.extend_from_slice(part.as_bytes())?;
-    }
-    let mut words = Vec::new(alloc);
-    for word in ["run", "--threads", "1"] {
-        words.push(String::from_str(alloc, word)?)?;
-    }
-    let mut input = MemorySource::failing(bytes, Vec::new(alloc));
-    let mut out = MemorySink::failing(alloc, 65536, Vec::new(alloc))?;
-    let store = MemoryStore::new(alloc);
-    let ended = top(
-        rt,
-        alloc,
-        words.as_slice(),
-        &mut input,
-        &mut out,
-        store,
-        gate,
-    );
-    Ok(ended.status)
+    Ok(run_watched(rt, alloc, "1", &script, gate)?.status)
 }
 
 /// The gate hears of each write and commit line before it is tried, and of each number once: not of

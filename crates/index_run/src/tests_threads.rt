@@ -2,12 +2,12 @@
 //! rest of the report is folded from them on a plain list of documents.
 ghost use Rattle.std.specs.Prelude.{◌≤◌};
 
-use crate::call::top;
 use crate::doing::{self, do_script};
 use crate::plain_fold::{Kept, Options, check_run, numbers_in, place_of};
 use crate::plain_script::{Act, Leaf, Line, Query, Term, document_of, script_of};
 use crate::telling::Form;
-use ix_memory::{GroupsGate, MeetingGate, MemorySink, MemorySource, MemoryStore};
+use crate::tests::run_watched;
+use ix_memory::{GroupsGate, MeetingGate, MemoryStore};
 use ix_outside::{EmptyGate, Gate};
 use script_maker::make_script;
 use std::alloc::Global;
@@ -126,28 +126,13 @@ fn watched<R: Threads + Wait + Sync, G: Gate>(
     lines: &[Line],
     gate: &G,
 ) -> Result<Vec<u8>, Fail> {
-    let mut words = Vec::new(alloc);
-    for word in ["run", "--threads", threads] {
-        words.push(String::from_str(alloc, word)?)?;
-    }
-    let mut bytes = Vec::new(alloc);
-    bytes.extend_from_slice(script_of(alloc, lines)?.as_bytes())?;
-    let mut input = MemorySource::failing(bytes, Vec::new(alloc));
-    let mut out = MemorySink::failing(alloc, 65536, Vec::new(alloc))?;
-    let store = MemoryStore::new(alloc);
-    let ended = top(
-        rt,
-        alloc,
-        words.as_slice(),
-        &mut input,
-        &mut out,
-        store,
-        gate,
-    );
-    if ended.status != 0 {
+    let script = script_of(alloc, lines)?;
+    let done = run_watched(rt, alloc, threads, &[script.as_str()], gate);
+    let done = done.ok().ok_or("memory")?;
+    if done.status != 0 {
         Err("another status")?;
     }
-    Ok(out.into_bytes())
+    Ok(done.written)
 }
 
 /// Two callers meet: each line is under way before the other is told. One worker after the other, in
