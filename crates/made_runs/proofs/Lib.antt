@@ -1,6 +1,5 @@
 pub mod Chosen
 pub mod Later
-pub mod ByKeys
 pub mod Folded
 pub mod Tagged
 pub mod Apart

@@ -20,7 +20,7 @@ use Rattle.script_maker.specs.Operations.{drawn_operation}
 use Rattle.made_runs.specs.Apart.{KeepsTo, KeepsToOwn}
 use Rattle.made_runs.specs.Ends.{CallersCommit, EndsInCommit}
 use Rattle.made_runs.specs.Own.{IsOwn, MadeApart}
-use Rattle.made_runs.proofs.ByKeys.{Decided}
+use Rattle.run_log.specs.ByKeys.{Decided}
 use Rattle.made_runs.proofs.Chosen.{filter_none}
 use Rattle.made_runs.proofs.Numbers.{KeepsCounted, draw_small, drawn_counts, commit_counts, operations_count}
 use Rattle.made_runs.proofs.Own.{drawn_keeps, commit_keeps, own_stays}

@@ -6,5 +6,6 @@ pub mod TellingLaws
 pub mod NumberLaws
 pub mod CommitLaws
 pub mod LogLaws
+pub mod ByKeys
 pub mod CountLaws
 pub mod Laws

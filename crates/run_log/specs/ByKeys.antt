@@ -1,7 +1,7 @@
 -- Lists that have the elements of each key in the same order have the same elements.
-use Rattle.std.proofs.Common.{◌≡◌, ◌≢◌, ◌⊎◌, ◌∙◌, ℕ, Bool, true, false, cond, eqb, eq-eqb, ne_eqb, List, [], ◌∷◌, ◌++◌, map, refl, sym, ap, subst, inl, inr, IsPermutation}
+use Rattle.std.proofs.Common.{◌≡◌, ◌≢◌, ◌⊎◌, ◌∙◌, ℕ, Bool, true, false, cond, eqb, eq-eqb, ne_eqb, List, [], ◌∷◌, ◌++◌, length, map, refl, sym, ap, subst, inl, inr, arith, IsPermutation}
 use Rattle.std.proofs.lemmas.Bool.Decides.{eqb_tells}
-use Rattle.std.proofs.lemmas.List.{map-append}
+use Rattle.std.proofs.lemmas.List.{length-append, map-append}
 use Rattle.std.proofs.lemmas.List.Elements.{filter-append}
 use Rattle.std.proofs.lemmas.List.Sorted.{IsPermutation-refl, IsPermutation-cons, IsPermutation-sym, IsPermutation-trans, IsPermutation-middle}
 use Rattle.std.specs.List.{filter, AllByRecursion}
@@ -27,6 +27,11 @@ reordered_map {X} {Y} f _ _ (next x xs front back rest) =
     subst (λ (l : List Y). Reordered (f x ∷ map f xs) l) (sym (map-append f front (x ∷ back)))
     (next (f x) (map f xs) (map f front) (map f back)
     (subst (λ (l : List Y). Reordered (map f xs) l) (map-append f front back) (reordered_map f xs (front ++ back) rest)))
+
+pub reordered_length : {X : Type 0} (xs ys : List X) → Reordered xs ys → length xs ≡ length ys
+reordered_length _ _ done = refl
+reordered_length _ _ (next x xs front back rest) =
+    omega (arith, reordered_length xs (front ++ back) rest, length-append front back, length-append front (x ∷ back))
 
 -- what is true of each element is true of each in another order
 pub each_reordered : {X : Type 0} (P : X → Type 0) (xs ys : List X) → Reordered xs ys → AllByRecursion P xs → AllByRecursion P ys
