@@ -35,7 +35,7 @@ pub fn outcomes_of(
 {
     let mut lasts = [base; 256];
     let mut told = replies_of(alloc, shares)?;
-    let mut outcomes = Vec::new(alloc);
+    let mut outcomes = Vec::with_capacity(alloc, places.len())?;
     for place in places {
         outcomes.push(outcome_of(place, &mut lasts, &mut told, commits))?;
     }

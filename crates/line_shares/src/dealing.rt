@@ -26,8 +26,8 @@ pub fn deal(alloc: Global, threads: u32, lines: List<Line>) -> Result<Dealt, NoM
     ensures shares { IfOk result (λ dealt. AreShares threads lines dealt.shares.items) }
     ensures fresh { IfOk result (λ dealt. AllByRecursion IsFresh dealt.shares.items) }
 {
-    let mut places = Vec::new(alloc);
-    let mut tasks = no_tasks(alloc, threads)?;
+    let mut places = Vec::with_capacity(alloc, lines.len())?;
+    let mut tasks = no_tasks(alloc, threads, lines.as_slice())?;
     for line in lines.into_vec() {
         deal_line(threads, line, &mut places, &mut tasks)?;
     }
@@ -37,15 +37,29 @@ pub fn deal(alloc: Global, threads: u32, lines: List<Line>) -> Result<Dealt, NoM
     })
 }
 
-/// A list of tasks for each of so many workers, without a task in it.
-fn no_tasks(alloc: Global, threads: u32) -> Result<Vec<Vec<Task>>, NoMemory>
+/// A list of tasks for each of so many workers, without a task in it, and with room for those of the
+/// worker's lines.
+fn no_tasks(alloc: Global, threads: u32, lines: &[Line]) -> Result<Vec<Vec<Task>>, NoMemory>
+    requires { 1 ≤ threads }
     ensures { IfOk result (λ tasks. AreNoTasks threads tasks.items) }
 {
     let mut tasks = Vec::new(alloc);
-    for _worker in 0..threads {
-        tasks.push(Vec::new(alloc))?;
+    for worker in 0..threads {
+        let room = line_count(threads, worker, lines);
+        tasks.push(Vec::with_capacity(alloc, room)?)?;
     }
     Ok(tasks)
+}
+
+/// How many of the lines are this worker's.
+fn line_count(threads: u32, worker: u32, lines: &[Line]) -> usize
+    requires { 1 ≤ threads }
+    ensures { result ≤ length lines.now }
+{
+    lines
+        .iter()
+        .filter(|line| u32::from(line.caller) % threads == worker)
+        .count()
 }
 
 /// Deals one line more out: its place, and what its worker is to do.

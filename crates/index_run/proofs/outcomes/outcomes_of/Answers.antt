@@ -19,10 +19,10 @@ loop-place-init c =
           let all = ap length gives.0 in
           omega arith;
       way = λ lines log can.
-          subst (λ (ps : List Place). IsUnderWay base lines log ps commits lasts told c.new-outcomes.result.items)
+          subst (λ (ps : List Place). IsUnderWay base lines log ps commits lasts told c.in_ok-outcomes.outcomes.items)
           (sym gives.0)
           (subst (λ (os : List Outcome). IsUnderWay base lines log c.args.places.items commits lasts told os)
-          (sym c.new-outcomes.ensures.items)
+          (sym c.in_ok-outcomes.ensures.items)
           (way_first base lines log c.args.places.items c.args.shares.items commits told can c.in_ok-told.ensures));
     }
 

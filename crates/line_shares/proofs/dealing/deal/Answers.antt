@@ -10,7 +10,7 @@ use Rattle.line_shares.proofs.dealing.deal.Goals as goal
 
 pub loop-line-init : goal.loop-line-init
 loop-line-init c = record {
-  places = c.new-places.ensures.items;
+  places = c.in_ok-places.ensures.items;
   count = c.in_ok-tasks.ensures.0;
   tasks = tasks_first c.args.threads 0 c.in_ok-tasks.tasks.items c.in_ok-tasks.ensures.1;
 }

@@ -6,6 +6,6 @@ use Rattle.line_shares.proofs.dealing.no_tasks.Given as goal
 
 abbrev pub invariant-loop-worker : goal.invariant-loop-worker
 invariant-loop-worker l = record {
-  count : length l.tasks.items ≡ l._worker;
+  count : length l.tasks.items ≡ l.worker;
   none : AllByRecursion (λ (own : Vec Task). own.items ≡ []) l.tasks.items;
 }
