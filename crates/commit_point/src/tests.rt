@@ -47,7 +47,7 @@ fn spells_one_segment(rt: HostRuntime) -> Result<(), Fail> {
         segments: List::from_vec(vec![in alloc; segment]?),
     };
     let commit = encode_commit(alloc, &head).ok().ok_or("memory")?;
-    assert_eq!(rt; commit.as_slice(), COMMIT.as_slice());
+    assert!(rt; commit.as_slice() == COMMIT.as_slice());
     Ok(())
 }
 
@@ -57,16 +57,16 @@ fn reads_one_segment(rt: HostRuntime) -> Result<(), Fail> {
     let head = decode_commit(alloc, &COMMIT, 2)
         .ok()
         .ok_or("the bytes are a commit file")?;
-    assert_eq!(rt; head.docs, 1);
-    assert_eq!(rt; head.next_id, 2);
-    assert_eq!(rt;
-        head.segments.as_slice(),
-        [HeadSegment {
-            id: 1,
-            rows: 1,
-            written: 2
-        }]
-        .as_slice()
+    assert!(rt; head.docs == 1);
+    assert!(rt; head.next_id == 2);
+    assert!(rt;
+        head.segments.as_slice()
+            == [HeadSegment {
+                id: 1,
+                rows: 1,
+                written: 2
+            }]
+            .as_slice()
     );
     Ok(())
 }
@@ -90,11 +90,11 @@ fn reads_many_segments(rt: HostRuntime) -> Result<(), Fail> {
         segments: List::from_vec(segments),
     };
     let bytes = encode_commit(alloc, &head).ok().ok_or("memory")?;
-    assert_eq!(rt; bytes.len(), 40 + 300 * 20);
+    assert!(rt; bytes.len() == 40 + 300 * 20);
     let read = decode_commit(alloc, &bytes, 2)
         .ok()
         .ok_or("the bytes are a commit file")?;
-    assert_eq!(rt; read.segments.as_slice(), head.segments.as_slice());
+    assert!(rt; read.segments.as_slice() == head.segments.as_slice());
     Ok(())
 }
 
@@ -102,7 +102,7 @@ fn reads_many_segments(rt: HostRuntime) -> Result<(), Fail> {
 fn cut_files_name_the_field(rt: HostRuntime) {
     let alloc = rt.alloc();
     for len in 0..60 {
-        assert_eq!(rt; broken_place(alloc, &COMMIT[..len]), field_at(len as u64));
+        assert!(rt; broken_place(alloc, &COMMIT[..len]) == field_at(len as u64));
     }
 }
 
@@ -118,13 +118,10 @@ fn changed_files_name_the_field(rt: HostRuntime) -> Result<(), Fail> {
         (59, 3, 52),
         (39, 2, 60),
     ] {
-        assert_eq!(rt;
-            broken_place(alloc, &changed(alloc, &COMMIT, at, to)?),
-            Some(place)
-        );
+        assert!(rt; broken_place(alloc, &changed(alloc, &COMMIT, at, to)?) == Some(place));
     }
     let mut longer = Vec::from_slice(alloc, &COMMIT)?;
     longer.push(0)?;
-    assert_eq!(rt; broken_place(alloc, &longer), Some(60));
+    assert!(rt; broken_place(alloc, &longer) == Some(60));
     Ok(())
 }

@@ -91,9 +91,8 @@ fn the_files_are_whole(rt: HostRuntime) -> Result<(), Fail> {
     let alloc = rt.alloc();
     let mut store = store_of(alloc, full()).ok().ok_or("memory")?;
     let opened = open_commit(alloc, &mut store, 2)?;
-    assert_eq!(rt;
-        shown(alloc, &opened)?.as_str(),
-        "next 2, 1 of 2; 1 with 4 terms at 2: m11 size=7"
+    assert!(rt;
+        shown(alloc, &opened)?.as_str() == "next 2, 1 of 2; 1 with 4 terms at 2: m11 size=7"
     );
     Ok(())
 }
@@ -102,12 +101,9 @@ fn the_files_are_whole(rt: HostRuntime) -> Result<(), Fail> {
 fn the_smallest_commit_is_whole(rt: HostRuntime) -> Result<(), Fail> {
     let alloc = rt.alloc();
     let mut store = store_of(alloc, small()).ok().ok_or("memory")?;
-    assert_eq!(rt; head(alloc, &mut store, 2)?.docs, 1);
+    assert!(rt; head(alloc, &mut store, 2)?.docs == 1);
     let opened = read_commit(alloc, &mut store, 2)?;
-    assert_eq!(rt;
-        shown(alloc, &opened)?.as_str(),
-        "next 2, 1 of 2; 1 with 1 terms at 2: a11"
-    );
+    assert!(rt; shown(alloc, &opened)?.as_str() == "next 2, 1 of 2; 1 with 1 terms at 2: a11");
     Ok(())
 }
 
@@ -134,7 +130,7 @@ fn cut_files(rt: HostRuntime) {
         (FileName::Live(1, 2), &LIVE, &LIVE_FIELDS),
         (FileName::Values(1, 2), &VALUES, &VALUES_FIELDS),
     ];
-    assert_eq!(rt; wrong_file(rt.alloc(), full(), &files), None);
+    assert!(rt; wrong_file(rt.alloc(), full(), &files) == None);
 }
 
 #[test]
@@ -144,7 +140,7 @@ fn cut_files_of_the_smallest_commit(rt: HostRuntime) {
         (FileName::Posts(1), &SMALL_POSTS, &SMALL_POSTS_FIELDS),
         (FileName::Values(1, 2), &SMALL_VALUES, &SMALL_VALUES_FIELDS),
     ];
-    assert_eq!(rt; wrong_file(rt.alloc(), small(), &files), None);
+    assert!(rt; wrong_file(rt.alloc(), small(), &files) == None);
 }
 
 #[test]
@@ -169,7 +165,7 @@ fn changed_commit_files(rt: HostRuntime) -> Result<(), Fail> {
         (60, 0, 60),
     ];
     let change = wrong_change(alloc, full(), FileName::Commit(2), &COMMIT, &cases)?;
-    assert_eq!(rt; change, None);
+    assert!(rt; change == None);
     Ok(())
 }
 
@@ -194,7 +190,7 @@ fn changed_row_files(rt: HostRuntime) -> Result<(), Fail> {
         (97, 0, 97),
     ];
     let change = wrong_change(alloc, full(), FileName::Rows(1), &ROWS, &cases)?;
-    assert_eq!(rt; change, None);
+    assert!(rt; change == None);
     Ok(())
 }
 
@@ -223,7 +219,7 @@ fn changed_posting_files(rt: HostRuntime) -> Result<(), Fail> {
         (147, 0, 147),
     ];
     let change = wrong_change(alloc, full(), FileName::Posts(1), &POSTS, &cases)?;
-    assert_eq!(rt; change, None);
+    assert!(rt; change == None);
     Ok(())
 }
 
@@ -243,7 +239,7 @@ fn changed_live_files(rt: HostRuntime) -> Result<(), Fail> {
         (29, 0, 29),
     ];
     let change = wrong_change(alloc, full(), FileName::Live(1, 2), &LIVE, &cases)?;
-    assert_eq!(rt; change, None);
+    assert!(rt; change == None);
     Ok(())
 }
 
@@ -267,11 +263,11 @@ fn changed_value_files(rt: HostRuntime) -> Result<(), Fail> {
         (56, 0, 56),
     ];
     let change = wrong_change(alloc, full(), FileName::Values(1, 2), &VALUES, &cases)?;
-    assert_eq!(rt; change, None);
+    assert!(rt; change == None);
     // One number is counted, and none is there.
     let none = [(35, 1, 36)];
     let change = wrong_change(alloc, small(), FileName::Values(1, 2), &SMALL_VALUES, &none)?;
-    assert_eq!(rt; change, None);
+    assert!(rt; change == None);
     Ok(())
 }
 
@@ -291,7 +287,7 @@ fn absent_files(rt: HostRuntime) -> Result<(), Fail> {
         FileName::Values(1, 2),
     ] {
         let broken = broken_without(rt.alloc(), file)?;
-        assert_eq!(rt; broken, Some(Damaged { file, at: 0 }));
+        assert!(rt; broken == Some(Damaged { file, at: 0 }));
     }
     Ok(())
 }

@@ -64,9 +64,8 @@ fn a_segment_of_an_earlier_commit(rt: HostRuntime) -> Result<(), Fail> {
     let alloc = rt.alloc();
     let mut store = store_of(alloc, &COMMIT).ok().ok_or("memory")?;
     let opened = open_commit(alloc, &mut store, 3)?;
-    assert_eq!(rt;
-        shown(alloc, &opened)?.as_str(),
-        "next 2, 1 of 2; 1 with 0 terms at 3: a11 dead a22"
+    assert!(rt;
+        shown(alloc, &opened)?.as_str() == "next 2, 1 of 2; 1 with 0 terms at 3: a11 dead a22"
     );
     Ok(())
 }

@@ -132,5 +132,5 @@ fn take_words(
     if let Entry::Turn = entry {
         return Ok(());
     }
-    updates.take(alloc, number, &entry)
+    updates.take(number, entry)
 }

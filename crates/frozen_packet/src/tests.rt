@@ -46,8 +46,7 @@ fn take_next(alloc: Global, updates: &mut Updates, number: u64) -> Result<(), No
     requires positive { 0 < number }
     ensures { OnOk result (NumberedWithin 0 number (as_operations updates.new)) }
 {
-    let entry = entry(alloc, number)?;
-    updates.take(alloc, number, &entry)
+    updates.take(number, entry(alloc, number)?)
 }
 
 /// The entries 1 to 8, taken.
@@ -83,15 +82,15 @@ fn eight_entries(rt: HostRuntime) {
     let Ok(terms) = shown(alloc, &packet.updates) else {
         panic!(rt; "memory");
     };
-    assert_eq!(rt; terms.as_str(), "a6b1");
-    assert_eq!(rt; packet.updates.queries().len(), 1);
+    assert!(rt; terms.as_str() == "a6b1");
+    assert!(rt; packet.updates.queries().len() == 1);
     for delete in packet.updates.queries() {
-        assert_eq!(rt; delete.number, 3);
+        assert!(rt; delete.number == 3);
     }
-    assert_eq!(rt; packet.updates.settings().len(), 1);
+    assert!(rt; packet.updates.settings().len() == 1);
     for setting in packet.updates.settings() {
-        assert_eq!(rt; (setting.number, setting.value), (4, -7));
-        assert_eq!(rt; setting.term.bytes.as_str(), "a");
-        assert_eq!(rt; setting.num.as_str(), "n");
+        assert!(rt; (setting.number, setting.value) == (4, -7));
+        assert!(rt; setting.term.bytes.as_str() == "a");
+        assert!(rt; setting.num.as_str() == "n");
     }
 }

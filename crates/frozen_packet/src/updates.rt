@@ -1,5 +1,5 @@
 //! Coalesced updates.
-ghost use Rattle.std.specs.Prelude.{◌≡◌, ◌↔◌, [], IsTrue, IfOk, OnOk, OnErr};
+ghost use Rattle.std.specs.Prelude.{◌≡◌, ◌↔◌, [], IsTrue, OnOk, OnErr};
 ghost use Rattle.frozen_packet.specs.Updates.{as_operations, KeepsBounds, NumberedUpTo, Takes};
 
 use crate::deleted_terms::DeletedTerms;
@@ -78,47 +78,23 @@ impl Updates {
     /// Takes one more entry, whose number is not below those taken before. The updates then make of
     /// every row what they made of it before, and then what the entry makes of it. Adds, commits and
     /// turns change nothing. After an error all is as before.
-    pub fn take(&mut self, alloc: Global, number: u64, entry: &Entry) -> Result<(), NoMemory>
+    pub fn take(&mut self, number: u64, entry: Entry) -> Result<(), NoMemory>
         requires { NumberedUpTo number (as_operations self.old) }
-        ensures takes { OnOk result (Takes self.old number entry.now self.new) }
+        ensures takes { OnOk result (Takes self.old number entry self.new) }
         ensures bounds { OnOk result (KeepsBounds self.old number self.new) }
         ensures upto { OnOk result (NumberedUpTo number (as_operations self.new)) }
         ensures err { OnErr result (self.new ≡ self.old) }
     {
         match entry {
             Entry::Add | Entry::Commit | Entry::Turn => Ok(()),
-            Entry::Update(term) | Entry::DeleteTerm(term) => self.deletes.put(alloc, term, number),
-            Entry::DeleteQuery(query) => {
-                let query = query.clone_in(alloc)?;
-                self.queries.push(QueryDelete { number, query })
-            }
-            Entry::SetNumber { term, num, value } => {
-                let setting = setting_of(alloc, number, term, num, value)?;
-                self.settings.push(setting)
-            }
+            Entry::Update(term) | Entry::DeleteTerm(term) => self.deletes.put(term, number),
+            Entry::DeleteQuery(query) => self.queries.push(QueryDelete { number, query }),
+            Entry::SetNumber { term, num, value } => self.settings.push(Setting {
+                number,
+                term,
+                num,
+                value,
+            }),
         }
     }
-}
-
-/// The setting of these parts.
-fn setting_of(
-    alloc: Global,
-    number: u64,
-    term: &Term,
-    num: &Name,
-    value: &i64,
-) -> Result<Setting, NoMemory>
-    ensures { IfOk result (λ made. made ≡ record {
-      number = number;
-      term = term.now;
-      num = num.now;
-      value = value.now;
-    }) }
-{
-    Ok(Setting {
-        number,
-        term: term.clone_in(alloc)?,
-        num: num.clone_in(alloc)?,
-        value: *value,
-    })
 }

@@ -153,7 +153,7 @@ fn lists(rt: HostRuntime) -> Result<(), Fail> {
     let calls = vec![in alloc; 10u64]?;
     let failing = one_document(&rt, alloc)?.failing(calls);
     let done = call(&rt, alloc, &["run"], &[ADD_A2, COMMIT], failing)?;
-    assert_eq!(rt; done.status, 7);
+    assert!(rt; done.status == 7);
     let one = "{\"commit\":2,\"docs\":1}\n";
     let store = expect(&rt, alloc, &["list"], &["no query\n"], 0, one, done.store)?;
     let store = call(&rt, alloc, &["run"], &[ADD_A2, COMMIT], store)?.store;
@@ -182,8 +182,8 @@ fn merges_of_two(rt: HostRuntime) -> Result<(), Fail> {
         MERGED,
         MemoryStore::new(alloc),
     )?;
-    assert_eq!(rt; ids_in(alloc, &mut store, 3)?, (4, 1, 3));
-    assert_eq!(rt; ids_in(alloc, &mut store, 5)?, (4, 1, 3));
+    assert!(rt; ids_in(alloc, &mut store, 3)? == (4, 1, 3));
+    assert!(rt; ids_in(alloc, &mut store, 5)? == (4, 1, 3));
     Ok(())
 }
 

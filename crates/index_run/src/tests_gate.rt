@@ -33,10 +33,10 @@ fn the_gate_hears_of_each_line(rt: HostRuntime) {
     let Ok(status) = watched_run(&rt, alloc, &gate) else {
         panic!(rt; "memory");
     };
-    assert_eq!(rt; status, 0);
-    assert_eq!(rt; gate.count(), 7);
+    assert!(rt; status == 0);
+    assert!(rt; gate.count() == 7);
     for (place, wanted) in [1, 101, 2, 3, 302, 5, 503, 0].iter().enumerate() {
-        assert_eq!(rt; gate.heard(place), *wanted);
+        assert!(rt; gate.heard(place) == *wanted);
     }
 }
 
@@ -60,7 +60,7 @@ fn files_of_a_run(rt: HostRuntime) -> Result<(), Fail> {
     for (script, files) in cases {
         let mut done = run_script(&rt, alloc, script, MemoryStore::new(alloc))?;
         let names = done.store.list(alloc).ok().ok_or("a list that fails")?;
-        assert_eq!(rt; names.len(), files);
+        assert!(rt; names.len() == files);
     }
     Ok(())
 }

@@ -89,9 +89,8 @@ fn files_byte_for_byte(rt: HostRuntime) -> Result<(), Fail> {
     for (script, name, fields) in cases {
         let store = run_script(&rt, alloc, &[script], MemoryStore::new(alloc))?.store;
         let wanted = joined(alloc, fields)?;
-        assert_eq!(rt;
-            hex_in(alloc, store, name)?.as_slice(),
-            wanted.as_slice(),
+        assert!(rt;
+            hex_in(alloc, store, name)?.as_slice() == wanted.as_slice(),
             "{fields}"
         );
     }
@@ -133,10 +132,10 @@ fn commits_are_read_back(rt: HostRuntime) -> Result<(), Fail> {
     let first = run_script(&rt, alloc, &[SHORT], MemoryStore::new(alloc))?;
     let mut store = run_script(&rt, alloc, &[FULL], first.store)?.store;
     let numbers = list_commits(alloc, &mut store).ok().ok_or("a fault")?;
-    assert_eq!(rt; numbers.as_slice(), [2u64, 4].as_slice());
+    assert!(rt; numbers.as_slice() == [2u64, 4].as_slice());
     for (number, docs, next_id) in [(2u64, 1u64, 2u64), (4, 2, 3)] {
         let found = rows_and_ids(alloc, &mut store, number)?;
-        assert_eq!(rt; found, [(docs, next_id), (docs, next_id)]);
+        assert!(rt; found == [(docs, next_id), (docs, next_id)]);
     }
     let absent = OpenFault::NoSuch { number: 3 };
     assert!(rt; head(alloc, &mut store, 3).err() == Some(absent));

@@ -152,10 +152,9 @@ fn two_callers_meet(rt: HostRuntime) -> Result<(), Fail> {
     ];
     let report = watched(&rt, rt.alloc(), "2", &lines, &gate)?;
     assert!(rt; !gate.is_late());
-    assert_eq!(rt; gate.counts(), (2, 2));
-    assert_eq!(rt;
-        report.as_slice(),
-        b"{\"line\":1,\"seq\":2}\n{\"line\":2,\"seq\":1}\n".as_slice()
+    assert!(rt; gate.counts() == (2, 2));
+    assert!(rt;
+        report.as_slice() == b"{\"line\":1,\"seq\":2}\n{\"line\":2,\"seq\":1}\n".as_slice()
     );
     Ok(())
 }
@@ -176,10 +175,10 @@ fn four_callers_meet(rt: HostRuntime) -> Result<(), Fail> {
     assert!(rt; !gate.is_late());
     let text = str::from_utf8(report.as_slice()).ok().ok_or("no text")?;
     let numbers = numbers_in(rt.alloc(), text)?;
-    assert_eq!(rt; numbers.len(), 32);
+    assert!(rt; numbers.len() == 32);
     for number in 1..=32u64 {
         let place = place_of(numbers.as_slice(), number).ok_or("a number that is missing")?;
-        assert_eq!(rt; place as u64 / 4, (number - 1) / 4);
+        assert!(rt; place as u64 / 4 == (number - 1) / 4);
     }
     Ok(())
 }

@@ -252,13 +252,13 @@ fn three_rounds(rt: HostRuntime) -> Result<(), Fail> {
         Step::Round(&[(0, Delete, "f"), (1, Commit, "")]),
         Step::Commit,
     ];
-    assert_eq!(rt;
-        history(&rt, alloc, &mut writer, &steps)?.as_str(),
-        "committed 6, 6 pending; 3 rows in 6; ran; committed 10, 10 pending; 2 rows in 10; 10, last commit 10, next id 5"
+    assert!(rt;
+        history(&rt, alloc, &mut writer, &steps)?.as_str()
+            == "committed 6, 6 pending; 3 rows in 6; ran; committed 10, 10 pending; 2 rows in 10; 10, last commit 10, next id 5"
     );
     let mut store = writer.into_store();
-    assert_eq!(rt; shown(alloc, &mut store, 6)?.as_str(), "4: 1 c4 2 d5 3 b2");
-    assert_eq!(rt; shown(alloc, &mut store, 10)?.as_str(), "5: 1 c4 3 b2");
+    assert!(rt; shown(alloc, &mut store, 6)?.as_str() == "4: 1 c4 2 d5 3 b2");
+    assert!(rt; shown(alloc, &mut store, 10)?.as_str() == "5: 1 c4 3 b2");
     Ok(())
 }
 
@@ -336,13 +336,13 @@ fn lines_with(alloc: Global, buffer: u32) -> Result<String, Fail>
 
 #[test]
 fn lines_of_a_round(rt: HostRuntime) -> Result<(), Fail> {
-    assert_eq!(rt;
-        lines_with(rt.alloc(), 1)?.as_str(),
-        " 1 2 3 term 32767 4 5 6 7 closed closed; [0: a1] [0: b2]; [1: c3] [1: d5] [1: e6]"
+    assert!(rt;
+        lines_with(rt.alloc(), 1)?.as_str()
+            == " 1 2 3 term 32767 4 5 6 7 closed closed; [0: a1] [0: b2]; [1: c3] [1: d5] [1: e6]"
     );
-    assert_eq!(rt;
-        lines_with(rt.alloc(), 2)?.as_str(),
-        " 1 2 3 term 32767 4 5 6 7 closed closed; [0: a1 b2]; [1: c3 d5]"
+    assert!(rt;
+        lines_with(rt.alloc(), 2)?.as_str()
+            == " 1 2 3 term 32767 4 5 6 7 closed closed; [0: a1 b2]; [1: c3 d5]"
     );
     Ok(())
 }
@@ -370,13 +370,13 @@ fn turned(rt: HostRuntime) -> Result<(), Fail> {
     let mut parts = begun(alloc, &mut writer, 2)?;
     assert!(rt; fill(alloc, &mut parts, 4159)?);
     let told_first = told(alloc, &mut parts, (0, Delete, "abcdef"))?;
-    assert_eq!(rt; told_first, Answer::Closed);
+    assert!(rt; told_first == Answer::Closed);
     let told_second = told(alloc, &mut parts, (1, Add, "a"))?;
-    assert_eq!(rt; told_second, Answer::Closed);
+    assert!(rt; told_second == Answer::Closed);
     let end = ended(&rt, &mut writer, parts)?;
-    assert_eq!(rt; end, RoundEnd::Turned);
-    assert_eq!(rt; (writer.upto(), writer.next_id()), (4159, 1));
-    assert_eq!(rt; writer.pending_commit(), None);
+    assert!(rt; end == RoundEnd::Turned);
+    assert!(rt; (writer.upto(), writer.next_id()) == (4159, 1));
+    assert!(rt; writer.pending_commit() == None);
     Ok(())
 }
 
@@ -389,15 +389,12 @@ fn closed_after_a_fault(rt: HostRuntime) -> Result<(), Fail> {
     let store = MemoryStore::new(alloc).failing(calls);
     let mut writer = IndexWriter::none(alloc, store, 2, 8);
     let steps = [Step::Round(&[(0, Add, "a"), (1, Commit, "")])];
-    assert_eq!(rt;
-        history(&rt, alloc, &mut writer, &steps)?.as_str(),
-        "committed 2, 2 pending; 2, last commit 0, next id 2"
+    assert!(rt;
+        history(&rt, alloc, &mut writer, &steps)?.as_str()
+            == "committed 2, 2 pending; 2, last commit 0, next id 2"
     );
-    assert_eq!(rt;
-        faults_of(&mut writer)?,
-        [WriterFault::Store, WriterFault::Closed]
-    );
-    assert_eq!(rt; begin_fault(&mut writer)?, WriterFault::Closed);
+    assert!(rt; faults_of(&mut writer)? == [WriterFault::Store, WriterFault::Closed]);
+    assert!(rt; begin_fault(&mut writer)? == WriterFault::Closed);
     assert!(rt; writer.is_closed());
     Ok(())
 }
@@ -455,13 +452,13 @@ fn reopened(rt: HostRuntime) -> Result<(), Fail> {
         Step::Round(&[(1, Delete, "a"), (0, Add, "c"), (0, Commit, "")]),
         Step::Commit,
     ];
-    assert_eq!(rt;
-        history(&rt, alloc, &mut writer, &second)?.as_str(),
-        "committed 6, 6 pending; 2 rows in 6; 6, last commit 6, next id 4"
+    assert!(rt;
+        history(&rt, alloc, &mut writer, &second)?.as_str()
+            == "committed 6, 6 pending; 2 rows in 6; 6, last commit 6, next id 4"
     );
     let mut store = writer.into_store();
-    assert_eq!(rt; shown(alloc, &mut store, 6)?.as_str(), "4: 2 b2 3 c5");
-    assert_eq!(rt; shown(alloc, &mut store, 3)?.as_str(), "3: 1 a1 2 b2");
+    assert!(rt; shown(alloc, &mut store, 6)?.as_str() == "4: 2 b2 3 c5");
+    assert!(rt; shown(alloc, &mut store, 3)?.as_str() == "3: 1 a1 2 b2");
     Ok(())
 }
 

@@ -21,13 +21,13 @@ fn deleted_after_a_merge(rt: HostRuntime) -> Result<(), Fail> {
         Step::Merge,
         Step::Commit,
     ];
-    assert_eq!(rt;
-        history(&rt, alloc, &mut writer, &steps)?.as_str(),
-        "committed 3, 3 pending; merged; 2 rows in 3; committed 5, 5 pending; idle; 1 rows in 5; 5, last commit 5, next id 4"
+    assert!(rt;
+        history(&rt, alloc, &mut writer, &steps)?.as_str()
+            == "committed 3, 3 pending; merged; 2 rows in 3; committed 5, 5 pending; idle; 1 rows in 5; 5, last commit 5, next id 4"
     );
     let mut store = writer.into_store();
-    assert_eq!(rt; shown(alloc, &mut store, 3)?.as_str(), "4: 3 a1 b2");
-    assert_eq!(rt; shown(alloc, &mut store, 5)?.as_str(), "4: 3 b2");
+    assert!(rt; shown(alloc, &mut store, 3)?.as_str() == "4: 3 a1 b2");
+    assert!(rt; shown(alloc, &mut store, 5)?.as_str() == "4: 3 b2");
     Ok(())
 }
 
@@ -53,13 +53,13 @@ fn ties_by_smaller_id(rt: HostRuntime) -> Result<(), Fail> {
         Step::Merge,
         Step::Commit,
     ];
-    assert_eq!(rt;
-        history(&rt, alloc, &mut writer, &steps)?.as_str(),
-        "committed 6, 6 pending; merged; 3 rows in 6; committed 7, 7 pending; merged; 3 rows in 7; 7, last commit 7, next id 6"
+    assert!(rt;
+        history(&rt, alloc, &mut writer, &steps)?.as_str()
+            == "committed 6, 6 pending; merged; 3 rows in 6; committed 7, 7 pending; merged; 3 rows in 7; 7, last commit 7, next id 6"
     );
     let mut store = writer.into_store();
-    assert_eq!(rt; shown(alloc, &mut store, 6)?.as_str(), "5: 3 d4 4 a1 c3");
-    assert_eq!(rt; shown(alloc, &mut store, 7)?.as_str(), "6: 5 a1 c3 d4");
+    assert!(rt; shown(alloc, &mut store, 6)?.as_str() == "5: 3 d4 4 a1 c3");
+    assert!(rt; shown(alloc, &mut store, 7)?.as_str() == "6: 5 a1 c3 d4");
     Ok(())
 }
 
@@ -82,12 +82,12 @@ fn no_row_is_live(rt: HostRuntime) -> Result<(), Fail> {
         Step::Commit,
         Step::Merge,
     ];
-    assert_eq!(rt;
-        history(&rt, alloc, &mut writer, &steps)?.as_str(),
-        "committed 6, 6 pending; merged; 1 rows in 6; idle; 6, last commit 6, next id 4"
+    assert!(rt;
+        history(&rt, alloc, &mut writer, &steps)?.as_str()
+            == "committed 6, 6 pending; merged; 1 rows in 6; idle; 6, last commit 6, next id 4"
     );
     let mut store = writer.into_store();
-    assert_eq!(rt; shown(alloc, &mut store, 6)?.as_str(), "4: 3 c3");
+    assert!(rt; shown(alloc, &mut store, 6)?.as_str() == "4: 3 c3");
     Ok(())
 }
 
@@ -107,11 +107,11 @@ fn dead_in_its_round(rt: HostRuntime) -> Result<(), Fail> {
         Step::Merge,
         Step::Commit,
     ];
-    assert_eq!(rt;
-        history(&rt, alloc, &mut writer, &steps)?.as_str(),
-        "committed 4, 4 pending; merged; 1 rows in 4; 4, last commit 4, next id 4"
+    assert!(rt;
+        history(&rt, alloc, &mut writer, &steps)?.as_str()
+            == "committed 4, 4 pending; merged; 1 rows in 4; 4, last commit 4, next id 4"
     );
     let mut store = writer.into_store();
-    assert_eq!(rt; shown(alloc, &mut store, 4)?.as_str(), "4: 3 b2");
+    assert!(rt; shown(alloc, &mut store, 4)?.as_str() == "4: 3 b2");
     Ok(())
 }

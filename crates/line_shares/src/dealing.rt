@@ -1,7 +1,7 @@
 //! Dealing the lines out.
-ghost use Rattle.std.specs.Prelude.{◌≡◌, ◌≤◌, ◌<◌, ◌↔◌, ℕ, List as ListOf, [], ◌∷◌, ◌++◌, length, map, IfOk, OnOk};
+ghost use Rattle.std.specs.Prelude.{◌≡◌, ◌≤◌, ◌<◌, ◌↔◌, ◌%◌, ◌==◌, ℕ, List as ListOf, [], ◌∷◌, ◌++◌, length, map, IfOk, OnOk};
 ghost use Rattle.std.specs.Prelude.{IsTrue};
-ghost use Rattle.std.specs.List.{AllByRecursion, AllZip};
+ghost use Rattle.std.specs.List.{filter, AllByRecursion, AllZip};
 ghost use Rattle.op_script.specs.declared.script.Line.{Line};
 ghost use Rattle.line_shares.specs.Dealing.{AreNoTasks, AreTasks, IsShareOf};
 ghost use Rattle.line_shares.specs.Shares.{AreDone, AreShares, IsFresh, kind_of_operation, place_of};
@@ -51,10 +51,11 @@ fn no_tasks(alloc: Global, threads: u32, lines: &[Line]) -> Result<Vec<Vec<Task>
     Ok(tasks)
 }
 
-/// How many of the lines are this worker's.
+/// How many of the lines are this worker's: those of the callers c with c mod `threads` the worker.
 fn line_count(threads: u32, worker: u32, lines: &[Line]) -> usize
     requires { 1 ≤ threads }
-    ensures { result ≤ length lines.now }
+    ensures { result
+        ≡ length (filter (λ line. line.caller % threads == worker) lines.now) }
 {
     lines
         .iter()

@@ -187,7 +187,7 @@ fn words_by_hand(rt: HostRuntime) {
         let Ok(found) = answer_at(rt.alloc(), text) else {
             panic!(rt; "memory");
         };
-        assert_eq!(rt; found.as_str(), want, "at {text}");
+        assert!(rt; found.as_str() == want, "at {text}");
     }
 }
 
@@ -197,7 +197,7 @@ fn no_words_by_hand(rt: HostRuntime) {
         let Ok(found) = answer_at(rt.alloc(), text) else {
             panic!(rt; "memory");
         };
-        assert_eq!(rt; found.as_str(), "none", "at {text}");
+        assert!(rt; found.as_str() == "none", "at {text}");
     }
 }
 

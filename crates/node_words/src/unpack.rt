@@ -44,7 +44,7 @@ fn is_zero_from(bytes: &[u8], at: usize) -> bool
 fn bytes_of(alloc: Global, words: &[u64]) -> Result<Vec<u8>, NoMemory>
     ensures { IfOk result (λ bytes. bytes.items ≡ flat_map be64 words.now) }
 {
-    let mut bytes = Vec::new(alloc);
+    let mut bytes = Vec::with_capacity(alloc, words.len().saturating_mul(8))?;
     for word in words {
         put_u64(&mut bytes, *word)?;
     }

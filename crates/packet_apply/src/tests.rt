@@ -63,11 +63,11 @@ fn segment_of(alloc: Global, birth: u64, packet: &Packet) -> Result<LiveSegment,
 }
 
 /// Takes one more entry, under the same number as those before it.
-fn take_more(alloc: Global, updates: &mut Updates, number: u64, entry: Entry) -> Result<(), Fail>
+fn take_more(updates: &mut Updates, number: u64, entry: Entry) -> Result<(), Fail>
     requires { NumberedUpTo number (as_operations updates.old) }
     ensures { OnOk result (NumberedUpTo number (as_operations updates.new)) }
 {
-    updates.take(alloc, number, &entry)?;
+    updates.take(number, entry)?;
     Ok(())
 }
 
@@ -83,8 +83,8 @@ fn setting(alloc: Global) -> Result<Entry, Fail> {
 fn two_updates(alloc: Global, number: u64) -> Result<Updates, Fail> {
     let mut updates = Updates::new(alloc);
     let deleted = Entry::DeleteTerm(key_term(alloc, "a")?);
-    take_more(alloc, &mut updates, number, deleted)?;
-    take_more(alloc, &mut updates, number, setting(alloc)?)?;
+    take_more(&mut updates, number, deleted)?;
+    take_more(&mut updates, number, setting(alloc)?)?;
     Ok(updates)
 }
 
@@ -137,10 +137,10 @@ fn shown_after(alloc: Global, birth: u64, number: u64) -> Result<String, Fail> {
 #[test]
 fn packets_at_each_number(rt: HostRuntime) -> Result<(), Fail> {
     let alloc = rt.alloc();
-    assert_eq!(rt; shown_after(alloc, 1, 6)?.as_str(), "9+0+0");
-    assert_eq!(rt; shown_after(alloc, 1, 7)?.as_str(), "9+0+0");
-    assert_eq!(rt; shown_after(alloc, 1, 8)?.as_str(), "9-0+4");
-    assert_eq!(rt; shown_after(alloc, 8, 8)?.as_str(), "9+0+0");
+    assert!(rt; shown_after(alloc, 1, 6)?.as_str() == "9+0+0");
+    assert!(rt; shown_after(alloc, 1, 7)?.as_str() == "9+0+0");
+    assert!(rt; shown_after(alloc, 1, 8)?.as_str() == "9-0+4");
+    assert!(rt; shown_after(alloc, 8, 8)?.as_str() == "9+0+0");
     Ok(())
 }
 
@@ -171,7 +171,7 @@ fn all_segments_in_order(rt: HostRuntime) -> Result<(), Fail> {
     let packet = packet_of(alloc, 8)?;
     let segments = two_segments(alloc, &packet)?;
     let all = apply_all(&rt, alloc, segments.as_slice(), &packet)?;
-    assert_eq!(rt; counts(alloc, all.as_slice())?.as_str(), "1,2,");
+    assert!(rt; counts(alloc, all.as_slice())?.as_str() == "1,2,");
     Ok(())
 }
 
@@ -209,10 +209,10 @@ fn thousands_of_rows(rt: HostRuntime) -> Result<(), Fail> {
     let packet = packet_of(alloc, 8)?;
     let mut segment = large_segment(alloc, &packet)?;
     let made = apply(alloc, &segment, &packet)?;
-    assert_eq!(rt; made.live_count(), 1000);
+    assert!(rt; made.live_count() == 1000);
     segment.set_live(made);
     let again = apply(alloc, &segment, &packet)?;
-    assert_eq!(rt; again.live_count(), 1000);
+    assert!(rt; again.live_count() == 1000);
     Ok(())
 }
 
@@ -236,6 +236,6 @@ fn many_segments_at_once(rt: HostRuntime) -> Result<(), Fail> {
     let segments = many_segments(alloc, &packet)?;
     let all = apply_all(&rt, alloc, segments.as_slice(), &packet)?;
     let wanted = "1,".repeat(alloc, 150)?;
-    assert_eq!(rt; counts(alloc, all.as_slice())?.as_str(), wanted.as_str());
+    assert!(rt; counts(alloc, all.as_slice())?.as_str() == wanted.as_str());
     Ok(())
 }

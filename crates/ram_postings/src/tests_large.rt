@@ -56,9 +56,9 @@ fn drawn_buffer(alloc: Global, count: u32) -> Result<RamPostings, Fail> {
 fn thousands_of_documents(rt: HostRuntime) -> Result<(), Fail> {
     let alloc = rt.alloc();
     let mut buffer = drawn_buffer(alloc, 2_000)?;
-    assert_eq!(rt; buffer.rows(), 2_000);
+    assert!(rt; buffer.rows() == 2_000);
     let frozen = buffer.take_frozen()?;
-    assert_eq!(rt; (buffer.rows(), frozen.rows.len()), (0, 1_714));
+    assert!(rt; (buffer.rows(), frozen.rows.len()) == (0, 1_714));
     let found = shown(alloc, &frozen.postings)?;
     let expected = inverted(alloc, frozen.rows.as_slice())?;
     assert!(rt; found.as_str() == expected.as_str());

@@ -144,19 +144,19 @@ fn each_question_is_answered(rt: HostRuntime) -> Result<(), Fail> {
     let alloc = rt.alloc();
     let mut store = both_commits(alloc)?;
     let last = ask(alloc, &mut store, None, &[all(1), all(3)])?;
-    assert_eq!(rt;
-        last.as_slice(),
-        "{\"commit\":4,\"hits\":[{\"key\":\"a1\",\"num\":{}},{\"key\":\"a2\",\"num\":{}}],\"line\":1}\n\
+    assert!(rt;
+        last.as_slice()
+            == "{\"commit\":4,\"hits\":[{\"key\":\"a1\",\"num\":{}},{\"key\":\"a2\",\"num\":{}}],\"line\":1}\n\
          {\"commit\":4,\"hits\":[{\"key\":\"a1\",\"num\":{}},{\"key\":\"a2\",\"num\":{}}],\"line\":3}\n"
-            .as_bytes()
+                .as_bytes()
     );
     let first = ask(alloc, &mut store, Some(2), &[all(1)])?;
-    assert_eq!(rt;
-        first.as_slice(),
-        "{\"commit\":2,\"hits\":[{\"key\":\"a1\",\"num\":{}}],\"line\":1}\n".as_bytes()
+    assert!(rt;
+        first.as_slice()
+            == "{\"commit\":2,\"hits\":[{\"key\":\"a1\",\"num\":{}}],\"line\":1}\n".as_bytes()
     );
     let none = ask(alloc, &mut store, None, &[])?;
-    assert_eq!(rt; none.len(), 0);
+    assert!(rt; none.len() == 0);
     Ok(())
 }
 
@@ -166,11 +166,11 @@ fn what_matches_is_shown(rt: HostRuntime) -> Result<(), Fail> {
     let mut store = both_commits(alloc)?;
     let questions = [of_key(alloc, 2, "a2")?, of_key(alloc, 5, "a9")?];
     let answered = ask(alloc, &mut store, Some(4), &questions)?;
-    assert_eq!(rt;
-        answered.as_slice(),
-        "{\"commit\":4,\"hits\":[{\"key\":\"a2\",\"num\":{}}],\"line\":2}\n\
+    assert!(rt;
+        answered.as_slice()
+            == "{\"commit\":4,\"hits\":[{\"key\":\"a2\",\"num\":{}}],\"line\":2}\n\
          {\"commit\":4,\"hits\":[],\"line\":5}\n"
-            .as_bytes()
+                .as_bytes()
     );
     Ok(())
 }
@@ -182,8 +182,8 @@ fn several_questions_read_the_commit_once(rt: HostRuntime) -> Result<(), Fail> {
     let alloc = rt.alloc();
     let mut store = first_commit(alloc)?.failing(vec![in alloc; 7]?);
     let answered = ask(alloc, &mut store, None, &[all(1), all(2), all(3)])?;
-    assert_eq!(rt; answered.len(), 3 * 53);
-    assert_eq!(rt; store.list(alloc).err(), Some(StoreFault::Failed));
+    assert!(rt; answered.len() == 3 * 53);
+    assert!(rt; store.list(alloc).err() == Some(StoreFault::Failed));
     Ok(())
 }
 
@@ -197,11 +197,10 @@ fn a_list_reads_commit_files_alone(rt: HostRuntime) -> Result<(), Fail> {
     put(alloc, &mut store, FileName::Commit(2), COMMIT_2, 100)?;
     let mut store = store.failing(vec![in alloc; 4]?);
     let listed = list(alloc, &mut store)?;
-    assert_eq!(rt;
-        listed.as_slice(),
-        "{\"commit\":2,\"docs\":1}\n{\"commit\":4,\"docs\":2}\n".as_bytes()
+    assert!(rt;
+        listed.as_slice() == "{\"commit\":2,\"docs\":1}\n{\"commit\":4,\"docs\":2}\n".as_bytes()
     );
-    assert_eq!(rt; store.list(alloc).err(), Some(StoreFault::Failed));
+    assert!(rt; store.list(alloc).err() == Some(StoreFault::Failed));
     Ok(())
 }
 
@@ -227,7 +226,7 @@ fn two_thousand_commits_are_listed(rt: HostRuntime) -> Result<(), Fail> {
         write!(wanted, "{{\"commit\":{number},\"docs\":0}}\n")?;
     }
     let listed = list(alloc, &mut store)?;
-    assert_eq!(rt; listed.as_slice(), wanted.as_bytes());
+    assert!(rt; listed.as_slice() == wanted.as_bytes());
     Ok(())
 }
 
@@ -236,12 +235,12 @@ fn commits_that_are_not_there(rt: HostRuntime) -> Result<(), Fail> {
     let alloc = rt.alloc();
     let mut store = first_commit(alloc)?;
     let named = ask(alloc, &mut store, Some(99), &[all(1)]).err();
-    assert_eq!(rt; named, Some(OpenFault::NoSuch { number: 99 }));
+    assert!(rt; named == Some(OpenFault::NoSuch { number: 99 }));
     let mut empty = MemoryStore::new(alloc);
     let last = ask(alloc, &mut empty, None, &[]).err();
-    assert_eq!(rt; last, Some(OpenFault::NoSuch { number: 0 }));
+    assert!(rt; last == Some(OpenFault::NoSuch { number: 0 }));
     let listed = list(alloc, &mut empty)?;
-    assert_eq!(rt; listed.len(), 0);
+    assert!(rt; listed.len() == 0);
     Ok(())
 }
 
@@ -250,9 +249,8 @@ fn commits_are_listed(rt: HostRuntime) -> Result<(), Fail> {
     let alloc = rt.alloc();
     let mut store = both_commits(alloc)?;
     let listed = list(alloc, &mut store)?;
-    assert_eq!(rt;
-        listed.as_slice(),
-        "{\"commit\":2,\"docs\":1}\n{\"commit\":4,\"docs\":2}\n".as_bytes()
+    assert!(rt;
+        listed.as_slice() == "{\"commit\":2,\"docs\":1}\n{\"commit\":4,\"docs\":2}\n".as_bytes()
     );
     Ok(())
 }
@@ -267,18 +265,15 @@ fn damage_is_told_where_it_is_read(rt: HostRuntime) -> Result<(), Fail> {
         file: FileName::Posts(1),
         at: 49,
     };
-    assert_eq!(rt; fault, Some(OpenFault::Damaged(posts)));
+    assert!(rt; fault == Some(OpenFault::Damaged(posts)));
     let listed = list(alloc, &mut store)?;
-    assert_eq!(rt; listed.as_slice(), "{\"commit\":2,\"docs\":1}\n".as_bytes());
+    assert!(rt; listed.as_slice() == "{\"commit\":2,\"docs\":1}\n".as_bytes());
     put(alloc, &mut store, FileName::Commit(2), COMMIT_2, 30)?;
     let commit = Damaged {
         file: FileName::Commit(2),
         at: 24,
     };
-    assert_eq!(rt;
-        list(alloc, &mut store).err(),
-        Some(ListFault::Damaged(commit))
-    );
+    assert!(rt; list(alloc, &mut store).err() == Some(ListFault::Damaged(commit)));
     Ok(())
 }
 
@@ -287,11 +282,11 @@ fn damage_is_told_where_it_is_read(rt: HostRuntime) -> Result<(), Fail> {
 fn failing_stores(rt: HostRuntime) -> Result<(), Fail> {
     let alloc = rt.alloc();
     let mut store = first_commit(alloc)?.failing(vec![in alloc; 1, 3, 5, 6]?);
-    assert_eq!(rt; list(alloc, &mut store).err(), Some(ListFault::Store));
-    assert_eq!(rt; list(alloc, &mut store).err(), Some(ListFault::Store));
+    assert!(rt; list(alloc, &mut store).err() == Some(ListFault::Store));
+    assert!(rt; list(alloc, &mut store).err() == Some(ListFault::Store));
     let fault = ask(alloc, &mut store, None, &[all(1)]).err();
-    assert_eq!(rt; fault, Some(OpenFault::Store));
+    assert!(rt; fault == Some(OpenFault::Store));
     let fault = ask(alloc, &mut store, None, &[all(1)]).err();
-    assert_eq!(rt; fault, Some(OpenFault::Store));
+    assert!(rt; fault == Some(OpenFault::Store));
     Ok(())
 }

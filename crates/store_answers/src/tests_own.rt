@@ -97,21 +97,18 @@ fn rows_since_a_commit(rt: HostRuntime) -> Result<(), Fail> {
     let alloc = rt.alloc();
     let mut store = two_commits(alloc)?;
     let since = own_hits(alloc, &mut store, 9, 4)?;
-    assert_eq!(rt; shown(alloc, since.as_slice())?.as_str(), "b1;b2 n -2;");
+    assert!(rt; shown(alloc, since.as_slice())?.as_str() == "b1;b2 n -2;");
     let all = own_hits(alloc, &mut store, 9, 0)?;
-    assert_eq!(rt;
-        shown(alloc, all.as_slice())?.as_str(),
-        "a1;a3 n 7;b1;b2 n -2;"
-    );
+    assert!(rt; shown(alloc, all.as_slice())?.as_str() == "a1;a3 n 7;b1;b2 n -2;");
     let first = own_hits(alloc, &mut store, 4, 0)?;
-    assert_eq!(rt; shown(alloc, first.as_slice())?.as_str(), "a1;a2;a3;");
+    assert!(rt; shown(alloc, first.as_slice())?.as_str() == "a1;a2;a3;");
     let none = own_hits(alloc, &mut store, 9, 9)?;
-    assert_eq!(rt; none.len(), 0);
+    assert!(rt; none.len() == 0);
     let gone = Damaged {
         file: FileName::Commit(5),
         at: 0,
     };
     let fault = own_hits(alloc, &mut store, 5, 4).err();
-    assert_eq!(rt; fault, Some(OpenFault::Damaged(gone)));
+    assert!(rt; fault == Some(OpenFault::Damaged(gone)));
     Ok(())
 }

@@ -1,4 +1,4 @@
-use Rattle.std.proofs.Common.{◌≡◌, ◌∙◌, inl, inr, ℕ, ◌<◌, ◌≤◌, List, [], ◌∷◌, ◌++◌, map, sym, ap, subst, arith}
+use Rattle.std.proofs.Common.{◌≡◌, ◌∙◌, inl, inr, ℕ, ◌<◌, ◌≤◌, List, [], ◌∷◌, ◌++◌, map, refl, sym, ap, subst, arith}
 use Rattle.std.specs.BTreeMap.{insert_entry}
 use Rattle.std.proofs.lemmas.Result.{on_ok_weaker}
 use Rattle.ix_base.specs.Inversion.{term_cmp}
@@ -21,7 +21,7 @@ pub returns-in-Update-clause-takes : goal.returns-in-Update-clause-takes
 returns-in-Update-clause-takes c =
     let u = c.args.self.now in
     let term : Term = c.in-Update.term in
-    let entry : entry_operation c.args.number c.args.entry.now ≡ (c.args.number, o.DeleteTerm term) ∷ [] =
+    let entry : entry_operation c.args.number c.args.entry ≡ (c.args.number, o.DeleteTerm term) ∷ [] =
     elim c.in-Update.is [ inl e ↦ ap (entry_operation c.args.number) e | inr e ↦ ap (entry_operation c.args.number) e ] in
     let others : List Numbered = map query_delete u.queries ++ map setting u.settings in
     on_ok_weaker c.put.result
@@ -52,64 +52,63 @@ returns-in-Update-clause-upto c =
 
 -- ---- a delete by query
 
-pub returns-in_ok-query-in-DeleteQuery-clause-takes : goal.returns-in_ok-query-in-DeleteQuery-clause-takes
-returns-in_ok-query-in-DeleteQuery-clause-takes c =
+pub returns-in-DeleteQuery-clause-takes : goal.returns-in-DeleteQuery-clause-takes
+returns-in-DeleteQuery-clause-takes c =
     let u = c.args.self.now in
     let n : ℕ = c.args.number in
     let q : Query = c.in-DeleteQuery.query in
-    let copy : c.in_ok-query-in-DeleteQuery.query ≡ q = c.in_ok-query-in-DeleteQuery.ensures in
-    let entry : entry_operation n c.args.entry.now ≡ (n, o.DeleteQuery q) ∷ [] = ap (entry_operation n) c.in-DeleteQuery.is in
+    let entry : entry_operation n c.args.entry ≡ (n, o.DeleteQuery q) ∷ [] = ap (entry_operation n) c.in-DeleteQuery.is in
     on_ok_weaker c.push.result
-    (λ (e : c.push.new.self ≡ u.queries ++ record { number = n; query = c.in_ok-query-in-DeleteQuery.query } ∷ []).
-    query_taken u.deletes u.queries c.push.new.self u.settings n q (entry_operation n c.args.entry.now)
-    (e ∙ ap (λ (x : Query). u.queries ++ record { number = n; query = x } ∷ []) copy) entry)
+    (λ (e : c.push.new.self ≡ u.queries ++ record { number = n; query = c.in-DeleteQuery.query } ∷ []).
+    query_taken u.deletes u.queries c.push.new.self u.settings n q (entry_operation n c.args.entry) e entry)
     c.push.ensures.ok
 
-pub returns-in_ok-query-in-DeleteQuery-clause-bounds : goal.returns-in_ok-query-in-DeleteQuery-clause-bounds
-returns-in_ok-query-in-DeleteQuery-clause-bounds c =
+pub returns-in-DeleteQuery-clause-bounds : goal.returns-in-DeleteQuery-clause-bounds
+returns-in-DeleteQuery-clause-bounds c =
     let u = c.args.self.now in
     on_ok_weaker c.push.result
-    (λ (e : c.push.new.self ≡ u.queries ++ record { number = c.args.number; query = c.in_ok-query-in-DeleteQuery.query } ∷ []).
-    λ after upto h lt le. query_numbers (Bounded after upto) u.deletes u.queries c.push.new.self u.settings c.args.number c.in_ok-query-in-DeleteQuery.query e (lt, le) h)
+    (λ (e : c.push.new.self ≡ u.queries ++ record { number = c.args.number; query = c.in-DeleteQuery.query } ∷ []).
+    λ after upto h lt le. query_numbers (Bounded after upto) u.deletes u.queries c.push.new.self u.settings c.args.number c.in-DeleteQuery.query e (lt, le) h)
     c.push.ensures.ok
 
-pub returns-in_ok-query-in-DeleteQuery-clause-upto : goal.returns-in_ok-query-in-DeleteQuery-clause-upto
-returns-in_ok-query-in-DeleteQuery-clause-upto c =
+pub returns-in-DeleteQuery-clause-upto : goal.returns-in-DeleteQuery-clause-upto
+returns-in-DeleteQuery-clause-upto c =
     let u = c.args.self.now in
     let n : ℕ = c.args.number in
     on_ok_weaker c.push.result
-    (λ (e : c.push.new.self ≡ u.queries ++ record { number = n; query = c.in_ok-query-in-DeleteQuery.query } ∷ []).
-    query_numbers (λ k. k ≤ n) u.deletes u.queries c.push.new.self u.settings n c.in_ok-query-in-DeleteQuery.query e (omega arith) c.requires)
+    (λ (e : c.push.new.self ≡ u.queries ++ record { number = n; query = c.in-DeleteQuery.query } ∷ []).
+    query_numbers (λ k. k ≤ n) u.deletes u.queries c.push.new.self u.settings n c.in-DeleteQuery.query e (omega arith) c.requires)
     c.push.ensures.ok
 
 -- ---- a setting
 
-pub returns-in_ok-setting-in-SetNumber-clause-takes : goal.returns-in_ok-setting-in-SetNumber-clause-takes
-returns-in_ok-setting-in-SetNumber-clause-takes c =
+pub returns-in-SetNumber-clause-takes : goal.returns-in-SetNumber-clause-takes
+returns-in-SetNumber-clause-takes c =
     let u = c.args.self.now in
     let n : ℕ = c.args.number in
-    let entry : entry_operation n c.args.entry.now ≡ (n, o.SetNumber c.in-SetNumber.term c.in-SetNumber.num c.in-SetNumber.value) ∷ [] = ap (entry_operation n) c.in-SetNumber.is in
+    let x : Setting = record { number = n; term = c.in-SetNumber.term; num = c.in-SetNumber.num; value = c.in-SetNumber.value } in
+    let entry : entry_operation n c.args.entry ≡ setting x ∷ [] = ap (entry_operation n) c.in-SetNumber.is in
     on_ok_weaker c.push-in-SetNumber.result
-    (λ (e : c.push-in-SetNumber.new.self ≡ u.settings ++ c.in_ok-setting-in-SetNumber.setting ∷ []).
-    setting_taken u.deletes u.queries u.settings c.push-in-SetNumber.new.self n c.in-SetNumber.term c.in-SetNumber.num c.in-SetNumber.value (entry_operation n c.args.entry.now)
-    (e ∙ ap (λ (x : Setting). u.settings ++ x ∷ []) c.in_ok-setting-in-SetNumber.ensures) entry)
+    (λ (e : c.push-in-SetNumber.new.self ≡ u.settings ++ x ∷ []).
+    setting_taken u.deletes u.queries u.settings c.push-in-SetNumber.new.self n x.term x.num x.value (entry_operation n c.args.entry) e entry)
     c.push-in-SetNumber.ensures.ok
 
-pub returns-in_ok-setting-in-SetNumber-clause-bounds : goal.returns-in_ok-setting-in-SetNumber-clause-bounds
-returns-in_ok-setting-in-SetNumber-clause-bounds c =
-    let u = c.args.self.now in
-    on_ok_weaker c.push-in-SetNumber.result
-    (λ (e : c.push-in-SetNumber.new.self ≡ u.settings ++ c.in_ok-setting-in-SetNumber.setting ∷ []).
-    λ after upto h lt le. setting_numbers (Bounded after upto) u.deletes u.queries u.settings c.push-in-SetNumber.new.self c.args.number c.in_ok-setting-in-SetNumber.setting
-    (ap (λ (x : Setting). x.number) c.in_ok-setting-in-SetNumber.ensures) e (lt, le) h)
-    c.push-in-SetNumber.ensures.ok
-
-pub returns-in_ok-setting-in-SetNumber-clause-upto : goal.returns-in_ok-setting-in-SetNumber-clause-upto
-returns-in_ok-setting-in-SetNumber-clause-upto c =
+pub returns-in-SetNumber-clause-bounds : goal.returns-in-SetNumber-clause-bounds
+returns-in-SetNumber-clause-bounds c =
     let u = c.args.self.now in
     let n : ℕ = c.args.number in
+    let x : Setting = record { number = n; term = c.in-SetNumber.term; num = c.in-SetNumber.num; value = c.in-SetNumber.value } in
     on_ok_weaker c.push-in-SetNumber.result
-    (λ (e : c.push-in-SetNumber.new.self ≡ u.settings ++ c.in_ok-setting-in-SetNumber.setting ∷ []).
-    setting_numbers (λ k. k ≤ n) u.deletes u.queries u.settings c.push-in-SetNumber.new.self n c.in_ok-setting-in-SetNumber.setting
-    (ap (λ (x : Setting). x.number) c.in_ok-setting-in-SetNumber.ensures) e (omega arith) c.requires)
+    (λ (e : c.push-in-SetNumber.new.self ≡ u.settings ++ x ∷ []).
+    λ after upto h lt le. setting_numbers (Bounded after upto) u.deletes u.queries u.settings c.push-in-SetNumber.new.self n x refl e (lt, le) h)
+    c.push-in-SetNumber.ensures.ok
+
+pub returns-in-SetNumber-clause-upto : goal.returns-in-SetNumber-clause-upto
+returns-in-SetNumber-clause-upto c =
+    let u = c.args.self.now in
+    let n : ℕ = c.args.number in
+    let x : Setting = record { number = n; term = c.in-SetNumber.term; num = c.in-SetNumber.num; value = c.in-SetNumber.value } in
+    on_ok_weaker c.push-in-SetNumber.result
+    (λ (e : c.push-in-SetNumber.new.self ≡ u.settings ++ x ∷ []).
+    setting_numbers (λ k. k ≤ n) u.deletes u.queries u.settings c.push-in-SetNumber.new.self n x refl e (omega arith) c.requires)
     c.push-in-SetNumber.ensures.ok
