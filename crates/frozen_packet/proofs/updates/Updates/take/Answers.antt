@@ -1,6 +1,9 @@
-use Rattle.std.proofs.Common.{◌≡◌, ◌∙◌, inl, inr, ℕ, ◌<◌, ◌≤◌, List, [], ◌∷◌, ◌++◌, map, refl, sym, ap, subst, arith}
+use Rattle.std.proofs.Common.{◌≡◌, ◌∙◌, inl, inr, ℕ, ℤ, ◌<◌, ◌≤◌, List, [], ◌∷◌, ◌++◌, map, refl, sym, ap, subst, arith, rules}
 use Rattle.std.specs.BTreeMap.{insert_entry}
+use Rattle.std.proofs.lemmas.Int.{to_z-of_z}
 use Rattle.std.proofs.lemmas.Result.{on_ok_weaker}
+use mir.Syntax.{w64}
+use mir.Val.{SFits, of_z, to_z}
 use Rattle.ix_base.specs.Inversion.{term_cmp}
 use Rattle.ix_base.specs.declared.document.Operation.TheVariants as o
 use Rattle.ix_base.specs.declared.document.Term.{Term}
@@ -86,18 +89,21 @@ pub returns-in-SetNumber-clause-takes : goal.returns-in-SetNumber-clause-takes
 returns-in-SetNumber-clause-takes c =
     let u = c.args.self.now in
     let n : ℕ = c.args.number in
-    let x : Setting = record { number = n; term = c.in-SetNumber.term; num = c.in-SetNumber.num; value = c.in-SetNumber.value } in
-    let entry : entry_operation n c.args.entry ≡ setting x ∷ [] = ap (entry_operation n) c.in-SetNumber.is in
+    let made : ℤ → Setting = λ z. record { number = n; term = c.in-SetNumber.term; num = c.in-SetNumber.num; value = z } in
+    let fits : SFits w64 c.in-SetNumber.value = search rules in
+    let back : to_z w64 (of_z w64 c.in-SetNumber.value) ≡ c.in-SetNumber.value = to_z-of_z w64 c.in-SetNumber.value fits in
+    let entry : entry_operation n c.args.entry ≡ setting (made c.in-SetNumber.value) ∷ [] = ap (entry_operation n) c.in-SetNumber.is in
     on_ok_weaker c.push-in-SetNumber.result
-    (λ (e : c.push-in-SetNumber.new.self ≡ u.settings ++ x ∷ []).
-    setting_taken u.deletes u.queries u.settings c.push-in-SetNumber.new.self n x.term x.num x.value (entry_operation n c.args.entry) e entry)
+    (λ (e : c.push-in-SetNumber.new.self ≡ u.settings ++ made (to_z w64 (of_z w64 c.in-SetNumber.value)) ∷ []).
+    setting_taken u.deletes u.queries u.settings c.push-in-SetNumber.new.self n c.in-SetNumber.term c.in-SetNumber.num c.in-SetNumber.value (entry_operation n c.args.entry)
+    (e ∙ ap (λ (z : ℤ). u.settings ++ made z ∷ []) back) entry)
     c.push-in-SetNumber.ensures.ok
 
 pub returns-in-SetNumber-clause-bounds : goal.returns-in-SetNumber-clause-bounds
 returns-in-SetNumber-clause-bounds c =
     let u = c.args.self.now in
     let n : ℕ = c.args.number in
-    let x : Setting = record { number = n; term = c.in-SetNumber.term; num = c.in-SetNumber.num; value = c.in-SetNumber.value } in
+    let x : Setting = record { number = n; term = c.in-SetNumber.term; num = c.in-SetNumber.num; value = to_z w64 (of_z w64 c.in-SetNumber.value) } in
     on_ok_weaker c.push-in-SetNumber.result
     (λ (e : c.push-in-SetNumber.new.self ≡ u.settings ++ x ∷ []).
     λ after upto h lt le. setting_numbers (Bounded after upto) u.deletes u.queries u.settings c.push-in-SetNumber.new.self n x refl e (lt, le) h)
@@ -107,7 +113,7 @@ pub returns-in-SetNumber-clause-upto : goal.returns-in-SetNumber-clause-upto
 returns-in-SetNumber-clause-upto c =
     let u = c.args.self.now in
     let n : ℕ = c.args.number in
-    let x : Setting = record { number = n; term = c.in-SetNumber.term; num = c.in-SetNumber.num; value = c.in-SetNumber.value } in
+    let x : Setting = record { number = n; term = c.in-SetNumber.term; num = c.in-SetNumber.num; value = to_z w64 (of_z w64 c.in-SetNumber.value) } in
     on_ok_weaker c.push-in-SetNumber.result
     (λ (e : c.push-in-SetNumber.new.self ≡ u.settings ++ x ∷ []).
     setting_numbers (λ k. k ≤ n) u.deletes u.queries u.settings c.push-in-SetNumber.new.self n x refl e (omega arith) c.requires)
