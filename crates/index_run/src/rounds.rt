@@ -1,5 +1,5 @@
 //! The rounds of a run: each is begun, done by its workers, ended and committed.
-ghost use Rattle.std.specs.Prelude.{◌≡◌, ◌≤◌, ◌<◌, ℕ, List, map, IfOk, OnOk, OnErr, Err, None, true, false};
+ghost use Rattle.std.specs.Prelude.{◌≡◌, ◌≤◌, ◌<◌, ℕ, List, map, IfOk, OnOk, OnErr, IsTrue, Err, None, true, false};
 ghost use Rattle.std.specs.List.{AllByRecursion};
 ghost use Rattle.ix_outside.specs.Causes.{Rose};
 ghost use Rattle.op_script.specs.declared.script.Line.{Line};
@@ -37,6 +37,7 @@ fn begin_round<S: Store>(writer: &mut IndexWriter<S>, threads: u32) -> Result<Ro
     ensures on { OnOk result (writer.new.state ≡ record writer.old.state { out = true }) }
     ensures sound { IsSound writer.new.state }
     ensures store { writer.new.store ≡ writer.old.store }
+    ensures closed { result ≡ Err WriterFault.Closed → IsTrue writer.old.state.closed }
     ensures outside { result ≡ Err WriterFault.Store → ⊥ }
 {
     if writer.upto() > MOST || writer.next_id() > MOST {
@@ -103,6 +104,7 @@ fn end_round<R: Threads + Sync, S: Store>(
         → IfOk result (λ end. EndsMerged told end writer.old.state writer.new.state) }
     ensures sound { IsSound writer.new.state }
     ensures store { writer.new.store ≡ writer.old.store }
+    ensures closed { result ≡ Err WriterFault.Closed → ⊥ }
     ensures outside { result ≡ Err WriterFault.Store → ⊥ }
     // What closes a queue was linked by one of its writers.
     ensures open { OnOk result (IsStuck parts → ⊥) }
