@@ -38,9 +38,10 @@ impl Slice {
         ensures ok { OnOk result (TakesSlice queue.now seat.new self.now updates.old updates.new) }
         ensures err { OnErr result (TakesSome queue.now seat.new self.now updates.old updates.new) }
     {
+        let mut words = Vec::new(alloc);
         let mut place = self.from;
         while place.at < self.to.at {
-            place = take_next(alloc, queue, seat, place, updates)?;
+            place = take_next(alloc, queue, seat, place, &mut words, updates)?;
         }
         Ok(())
     }
@@ -69,13 +70,14 @@ impl Slice {
     }
 }
 
-/// Takes the entry after a place that the seat has seen, and returns the place of that entry. After
-/// an error the updates are unchanged.
+/// Takes the entry after a place that the seat has seen, and returns the place of that entry. `words`
+/// is room for the entry's words, whatever it holds. After an error the updates are unchanged.
 fn take_next(
     alloc: Global,
     queue: &DeleteQueue,
     seat: &mut Seat,
     place: Place,
+    words: &mut Vec<u64>,
     updates: &mut Updates,
 ) -> Result<Place, NoMemory>
     requires seat { IsSeatOf queue.now seat.old }
@@ -89,7 +91,7 @@ fn take_next(
     ensures err { OnErr result (updates.new ≡ updates.old) }
 {
     let found = queue.after(seat, place);
-    let mut words = Vec::from_elem(alloc, 0u64, found.words as usize)?;
+    words.resize(found.words as usize, 0)?;
     queue.read(seat, found.place, words.as_mut_slice());
     take_words(alloc, found.number, words.as_slice(), updates)?;
     Ok(found.place)
