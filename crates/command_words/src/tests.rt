@@ -68,7 +68,7 @@ fn accepted(rt: HostRuntime) -> Result<(), Fail> {
     ];
     for (line, want) in cases {
         let found = answer(alloc, line)?;
-        assert_eq!(rt; found.as_str(), want, "at {line}");
+        assert!(rt; found.as_str() == want, "at {line}");
     }
     Ok(())
 }
@@ -131,7 +131,7 @@ fn refused(rt: HostRuntime) -> Result<(), Fail> {
     ];
     for line in cases {
         let found = answer(alloc, line)?;
-        assert_eq!(rt; found.as_str(), "fault", "at {line}");
+        assert!(rt; found.as_str() == "fault", "at {line}");
     }
     Ok(())
 }

@@ -199,9 +199,9 @@ fn copied_phrase(alloc: Global, phrase: &str) -> Result<String, Fail> {
 fn copies_of_texts(rt: HostRuntime) -> Result<(), Fail> {
     let alloc = rt.alloc();
     let text = Text::copy_of(alloc, "Stra\u{DF}e")?;
-    assert_eq!(rt; copied_text(alloc, &text)?.as_str(), "Stra\u{DF}e");
-    assert_eq!(rt; copied_name(alloc, "body")?.as_str(), "body");
-    assert_eq!(rt; copied_phrase(alloc, "quick fox")?.as_str(), "quick fox");
+    assert!(rt; copied_text(alloc, &text)?.as_str() == "Stra\u{DF}e");
+    assert!(rt; copied_name(alloc, "body")?.as_str() == "body");
+    assert!(rt; copied_phrase(alloc, "quick fox")?.as_str() == "quick fox");
     Ok(())
 }
 
@@ -210,7 +210,7 @@ fn names_have_1_to_255_bytes(rt: HostRuntime) -> Result<(), Fail> {
     let alloc = rt.alloc();
     for (count, want) in [(0, false), (1, true), (255, true), (256, false)] {
         let text = text_of(alloc, "a".repeat(alloc, count)?.as_str())?;
-        assert_eq!(rt; Name::new(text).is_some(), want, "a name of {count}");
+        assert!(rt; Name::new(text).is_some() == want, "a name of {count}");
     }
     Ok(())
 }
@@ -239,12 +239,9 @@ fn short_row(alloc: Global, birth: u64) -> Result<Row, Fail> {
 fn copies_of_documents(rt: HostRuntime) -> Result<(), Fail> {
     let alloc = rt.alloc();
     let want = "a1 text body=Quick FOX exact tag=x num price=-7";
-    assert_eq!(rt; shown_document(alloc, &letter(alloc)?)?.as_str(), want);
+    assert!(rt; shown_document(alloc, &letter(alloc)?)?.as_str() == want);
     let row = short_row(alloc, 9)?;
-    assert_eq!(rt;
-        shown_row(alloc, &row)?.as_str(),
-        "a2 text exact num birth 9"
-    );
+    assert!(rt; shown_row(alloc, &row)?.as_str() == "a2 text exact num birth 9");
     Ok(())
 }
 
@@ -290,7 +287,7 @@ fn copies_of_operations(rt: HostRuntime) -> Result<(), Fail> {
         (5, "commit"),
     ];
     for (kind, want) in cases {
-        assert_eq!(rt; shown_copy(rt.alloc(), kind)?.as_str(), want);
+        assert!(rt; shown_copy(rt.alloc(), kind)?.as_str() == want);
     }
     Ok(())
 }
@@ -310,7 +307,7 @@ fn copies_of_queries(rt: HostRuntime) -> Result<(), Fail> {
         out.push_str(" ")?;
     }
     let want = "all +(key:a1)(+|(all)-(body~a b))|(all)- ";
-    assert_eq!(rt; out.as_str(), want);
+    assert!(rt; out.as_str() == want);
     Ok(())
 }
 
@@ -337,7 +334,7 @@ fn copies_of_postings(rt: HostRuntime) -> Result<(), Fail> {
     let alloc = rt.alloc();
     let analysed = analysed_letter(alloc)?;
     let want = "key:a1 3@[0, 2];a1 text body=Quick FOX exact tag=x num price=-7";
-    assert_eq!(rt; shown_analysed(alloc, &analysed)?.as_str(), want);
+    assert!(rt; shown_analysed(alloc, &analysed)?.as_str() == want);
     Ok(())
 }
 
@@ -347,9 +344,9 @@ fn lists_of_numbers(rt: HostRuntime) -> Result<(), Fail> {
     let mut list = List::<u32>::new(alloc);
     list.push(7)?;
     list.push(5)?;
-    assert_eq!(rt; list.len(), 2);
-    assert_eq!(rt; list.as_slice(), [7, 5].as_slice());
-    assert_eq!(rt; list.into_vec().as_slice(), [7, 5].as_slice());
+    assert!(rt; list.len() == 2);
+    assert!(rt; list.as_slice() == [7, 5].as_slice());
+    assert!(rt; list.into_vec().as_slice() == [7, 5].as_slice());
     Ok(())
 }
 
@@ -368,8 +365,8 @@ fn names_of_files(rt: HostRuntime) {
         ),
     ];
     for (name, text) in cases {
-        assert_eq!(rt; name.text().as_str(), text);
-        assert_eq!(rt; FileName::parse(text), Some(name));
+        assert!(rt; name.text().as_str() == text);
+        assert!(rt; FileName::parse(text) == Some(name));
     }
 }
 
@@ -396,7 +393,7 @@ fn foreign_names(rt: HostRuntime) {
         "seg_1_2_3.val",
     ];
     for text in cases {
-        assert_eq!(rt; FileName::parse(text), None, "{text}");
+        assert!(rt; FileName::parse(text) == None, "{text}");
     }
 }
 
@@ -407,7 +404,7 @@ fn written_numbers(rt: HostRuntime) -> Result<(), Fail> {
     put_u64(&mut out, 258)?;
     put_i64(&mut out, -2)?;
     let want = b"\0\0\x01\x02\0\0\0\0\0\0\x01\x02\xff\xff\xff\xff\xff\xff\xff\xfe";
-    assert_eq!(rt; out.as_slice(), want.as_slice());
+    assert!(rt; out.as_slice() == want.as_slice());
     Ok(())
 }
 
@@ -417,35 +414,35 @@ fn written_texts(rt: HostRuntime) -> Result<(), Fail> {
     let mut out = Vec::new(alloc);
     put_text(&mut out, "a b")?;
     put_name(&mut out, &name_of(alloc, "n")?)?;
-    assert_eq!(rt; out.as_slice(), b"\0\0\0\x03a b\0\0\0\x01n".as_slice());
+    assert!(rt; out.as_slice() == b"\0\0\0\x03a b\0\0\0\x01n".as_slice());
     Ok(())
 }
 
 #[test]
 fn numbers_that_are_read(rt: HostRuntime) {
     let bytes = b"\xff\xff\xff\xff\xff\xff\xff\xfe!";
-    assert_eq!(rt; byte_at(bytes), Ok((255, &bytes[1..])));
-    assert_eq!(rt; u32_at(bytes), Ok((4294967295, &bytes[4..])));
-    assert_eq!(rt; u64_at(bytes), Ok((18446744073709551614, &bytes[8..])));
-    assert_eq!(rt; i64_at(bytes), Ok((-2, &bytes[8..])));
+    assert!(rt; byte_at(bytes) == Ok((255, &bytes[1..])));
+    assert!(rt; u32_at(bytes) == Ok((4294967295, &bytes[4..])));
+    assert!(rt; u64_at(bytes) == Ok((18446744073709551614, &bytes[8..])));
+    assert!(rt; i64_at(bytes) == Ok((-2, &bytes[8..])));
 }
 
 #[test]
 fn numbers_cut_short(rt: HostRuntime) {
     let bytes = b"\0\0\0";
-    assert_eq!(rt; byte_at(b""), Err(BrokenField { left: 0 }));
-    assert_eq!(rt; u32_at(bytes), Err(BrokenField { left: 3 }));
-    assert_eq!(rt; u64_at(bytes), Err(BrokenField { left: 3 }));
-    assert_eq!(rt; i64_at(bytes), Err(BrokenField { left: 3 }));
+    assert!(rt; byte_at(b"") == Err(BrokenField { left: 0 }));
+    assert!(rt; u32_at(bytes) == Err(BrokenField { left: 3 }));
+    assert!(rt; u64_at(bytes) == Err(BrokenField { left: 3 }));
+    assert!(rt; i64_at(bytes) == Err(BrokenField { left: 3 }));
 }
 
 /// The last name is empty: a text that is no name.
 #[test]
 fn texts_that_are_read(rt: HostRuntime) {
     let bytes = b"\0\0\0\x03a b!";
-    assert_eq!(rt; text_at(bytes), Ok(("a b", &bytes[7..])));
-    assert_eq!(rt; name_at(bytes), Ok(("a b", &bytes[7..])));
-    assert_eq!(rt; text_at(&bytes[..6]), Err(BrokenField { left: 6 }));
-    assert_eq!(rt; text_at(b"\0\0\0\x01\xff"), Err(BrokenField { left: 5 }));
-    assert_eq!(rt; name_at(b"\0\0\0\0!"), Err(BrokenField { left: 5 }));
+    assert!(rt; text_at(bytes) == Ok(("a b", &bytes[7..])));
+    assert!(rt; name_at(bytes) == Ok(("a b", &bytes[7..])));
+    assert!(rt; text_at(&bytes[..6]) == Err(BrokenField { left: 6 }));
+    assert!(rt; text_at(b"\0\0\0\x01\xff") == Err(BrokenField { left: 5 }));
+    assert!(rt; name_at(b"\0\0\0\0!") == Err(BrokenField { left: 5 }));
 }

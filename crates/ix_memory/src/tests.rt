@@ -10,13 +10,13 @@ fn reads_fail_by_number(rt: HostRuntime) {
     let calls = vec![in rt.alloc(); 2u64].expect(&rt, "memory");
     let mut source = MemorySource::failing(bytes, calls);
     let mut buffer = [0u8; 4];
-    assert_eq!(rt; source.read(&mut buffer), Ok(4));
-    assert_eq!(rt; &buffer, b"abcd");
-    assert_eq!(rt; source.read(&mut buffer), Err(Failed));
-    assert_eq!(rt; source.read(&mut buffer), Ok(2));
-    assert_eq!(rt; &buffer, b"efcd");
-    assert_eq!(rt; source.read(&mut buffer), Ok(0));
-    assert_eq!(rt; source.faults(), 1);
+    assert!(rt; source.read(&mut buffer) == Ok(4));
+    assert!(rt; &buffer == b"abcd");
+    assert!(rt; source.read(&mut buffer) == Err(Failed));
+    assert!(rt; source.read(&mut buffer) == Ok(2));
+    assert!(rt; &buffer == b"efcd");
+    assert!(rt; source.read(&mut buffer) == Ok(0));
+    assert!(rt; source.faults() == 1);
 }
 
 #[test]
@@ -24,13 +24,13 @@ fn steady_reads(rt: HostRuntime) {
     let bytes = b"abc".to_vec(rt.alloc()).expect(&rt, "memory");
     let mut source = SteadySource::new(bytes);
     let mut buffer = [0u8; 2];
-    assert_eq!(rt; source.read(&mut buffer), Ok(2));
-    assert_eq!(rt; source.read(&mut buffer), Ok(1));
-    assert_eq!(rt; source.read(&mut buffer), Ok(0));
-    assert_eq!(rt; source.faults(), 0);
+    assert!(rt; source.read(&mut buffer) == Ok(2));
+    assert!(rt; source.read(&mut buffer) == Ok(1));
+    assert!(rt; source.read(&mut buffer) == Ok(0));
+    assert!(rt; source.faults() == 0);
     let whole = b"xyz".to_vec(rt.alloc()).expect(&rt, "memory");
     let mut other = MemorySource::new(rt.alloc(), whole);
-    assert_eq!(rt; other.read(&mut buffer), Ok(2));
+    assert!(rt; other.read(&mut buffer) == Ok(2));
 }
 
 #[test]
@@ -39,13 +39,13 @@ fn writes_fail_by_number_and_without_room(rt: HostRuntime) {
     let Ok(mut sink) = MemorySink::failing(rt.alloc(), 5, calls) else {
         panic!(rt; "memory");
     };
-    assert_eq!(rt; sink.write(b"abc"), Ok(3));
-    assert_eq!(rt; sink.write(b"d"), Err(Failed));
-    assert_eq!(rt; sink.write(b"xyz"), Ok(2));
-    assert_eq!(rt; sink.write(b""), Ok(0));
-    assert_eq!(rt; sink.write(b"q"), Err(Failed));
-    assert_eq!(rt; sink.faults(), 2);
-    assert_eq!(rt; sink.into_bytes().as_slice(), b"abcxy".as_slice());
+    assert!(rt; sink.write(b"abc") == Ok(3));
+    assert!(rt; sink.write(b"d") == Err(Failed));
+    assert!(rt; sink.write(b"xyz") == Ok(2));
+    assert!(rt; sink.write(b"") == Ok(0));
+    assert!(rt; sink.write(b"q") == Err(Failed));
+    assert!(rt; sink.faults() == 2);
+    assert!(rt; sink.into_bytes().as_slice() == b"abcxy".as_slice());
 }
 
 /// Whether the file has these bytes.
@@ -65,17 +65,14 @@ fn lacks<S: Store>(alloc: Global, store: &mut S, name: FileName) -> bool {
 fn store_calls_fail_by_number(rt: HostRuntime) {
     let calls = vec![in rt.alloc(); 2u64, 3].expect(&rt, "memory");
     let mut store = MemoryStore::new(rt.alloc()).failing(calls);
-    assert_eq!(rt; store.write(FileName::Rows(1), b"rows"), Ok(()));
-    assert_eq!(rt; store.delete(FileName::Rows(1)), Err(StoreFault::Failed));
-    assert_eq!(rt; store.sync_all(), Err(StoreFault::Failed));
+    assert!(rt; store.write(FileName::Rows(1), b"rows") == Ok(()));
+    assert!(rt; store.delete(FileName::Rows(1)) == Err(StoreFault::Failed));
+    assert!(rt; store.sync_all() == Err(StoreFault::Failed));
     assert!(rt; has(rt.alloc(), &mut store, FileName::Rows(1), b"rows"));
-    assert_eq!(rt;
-        store.rename(FileName::Rows(2), FileName::Rows(3)),
-        Err(StoreFault::Failed)
-    );
-    assert_eq!(rt; store.sync(FileName::Rows(2)), Err(StoreFault::Failed));
-    assert_eq!(rt; store.delete(FileName::Rows(2)), Ok(()));
-    assert_eq!(rt; store.faults(), 4);
+    assert!(rt; store.rename(FileName::Rows(2), FileName::Rows(3)) == Err(StoreFault::Failed));
+    assert!(rt; store.sync(FileName::Rows(2)) == Err(StoreFault::Failed));
+    assert!(rt; store.delete(FileName::Rows(2)) == Ok(()));
+    assert!(rt; store.faults() == 4);
 }
 
 #[test]
@@ -85,17 +82,11 @@ fn lists_each_name_once(rt: HostRuntime) {
     let Ok(mut store) = MemoryStore::with_files(rt.alloc(), files) else {
         panic!(rt; "memory");
     };
-    assert_eq!(rt; store.write(FileName::Pending(2), b"two"), Ok(()));
-    assert_eq!(rt; store.write(FileName::Commit(2), b"old"), Ok(()));
-    assert_eq!(rt;
-        store.rename(FileName::Pending(2), FileName::Commit(2)),
-        Ok(())
-    );
+    assert!(rt; store.write(FileName::Pending(2), b"two") == Ok(()));
+    assert!(rt; store.write(FileName::Commit(2), b"old") == Ok(()));
+    assert!(rt; store.rename(FileName::Pending(2), FileName::Commit(2)) == Ok(()));
     let names = store.list(rt.alloc()).unwrap_or(Vec::new(rt.alloc()));
-    assert_eq!(rt;
-        names.as_slice(),
-        [FileName::Commit(1), FileName::Commit(2)].as_slice()
-    );
+    assert!(rt; names.as_slice() == [FileName::Commit(1), FileName::Commit(2)].as_slice());
     assert!(rt; has(rt.alloc(), &mut store, FileName::Commit(2), b"two"));
 }
 
@@ -140,7 +131,7 @@ fn crash_leaves_what_was_chosen(rt: HostRuntime) {
                 "at {choice}"
             ),
         }
-        assert_eq!(rt; left.faults(), 0);
+        assert!(rt; left.faults() == 0);
     }
 }
 
@@ -151,30 +142,30 @@ fn steady_calls(rt: HostRuntime) {
     let Ok(mut store) = SteadyStore::with_files(rt.alloc(), files) else {
         panic!(rt; "memory");
     };
-    assert_eq!(rt; store.delete(FileName::Commit(1)), Ok(()));
+    assert!(rt; store.delete(FileName::Commit(1)) == Ok(()));
     let Ok(mut left) = store.crash(rt.alloc(), 1) else {
         panic!(rt; "memory");
     };
     assert!(rt; has(rt.alloc(), &mut left, FileName::Commit(1), b"old"));
-    assert_eq!(rt; store.sync_all(), Ok(()));
+    assert!(rt; store.sync_all() == Ok(()));
     let Ok(mut left) = store.crash(rt.alloc(), 1) else {
         panic!(rt; "memory");
     };
     assert!(rt; lacks(rt.alloc(), &mut left, FileName::Commit(1)));
     let mut empty = SteadyStore::new(rt.alloc());
-    assert_eq!(rt; empty.rename(FileName::Rows(1), FileName::Rows(2)), Ok(()));
+    assert!(rt; empty.rename(FileName::Rows(1), FileName::Rows(2)) == Ok(()));
     assert!(rt; lacks(rt.alloc(), &mut empty, FileName::Rows(2)));
 }
 
 #[test]
 fn fuse_burns(rt: HostRuntime) {
     let mut store = FuseStore::new(MemoryStore::new(rt.alloc()), 1);
-    assert_eq!(rt; store.write(FileName::Posts(1), b"posts"), Ok(()));
-    assert_eq!(rt; store.delete(FileName::Posts(1)), Err(StoreFault::Failed));
-    assert_eq!(rt; store.sync_all(), Err(StoreFault::Failed));
-    assert_eq!(rt; store.faults(), 2);
+    assert!(rt; store.write(FileName::Posts(1), b"posts") == Ok(()));
+    assert!(rt; store.delete(FileName::Posts(1)) == Err(StoreFault::Failed));
+    assert!(rt; store.sync_all() == Err(StoreFault::Failed));
+    assert!(rt; store.faults() == 2);
     let mut inner = store.into_inner();
-    assert_eq!(rt; inner.faults(), 0);
+    assert!(rt; inner.faults() == 0);
     assert!(rt; has(rt.alloc(), &mut inner, FileName::Posts(1), b"posts"));
 }
 
@@ -195,17 +186,17 @@ fn stores_keep_a_large_file(rt: HostRuntime) {
     let alloc = rt.alloc();
     let bytes = Vec::from_elem(alloc, 7u8, 100_000).expect(&rt, "memory");
     let mut memory = MemoryStore::new(alloc);
-    assert_eq!(rt; keeps_large(alloc, &mut memory, bytes.as_slice()), Ok(true));
+    assert!(rt; keeps_large(alloc, &mut memory, bytes.as_slice()) == Ok(true));
     let Ok(mut left) = memory.crash(alloc, 1) else {
         panic!(rt; "memory");
     };
     assert!(rt; has(alloc, &mut left, FileName::Rows(1), bytes.as_slice()));
     let mut steady = SteadyStore::new(alloc);
-    assert_eq!(rt; keeps_large(alloc, &mut steady, bytes.as_slice()), Ok(true));
+    assert!(rt; keeps_large(alloc, &mut steady, bytes.as_slice()) == Ok(true));
     let Ok(mut left) = steady.crash(alloc, 1) else {
         panic!(rt; "memory");
     };
     assert!(rt; has(alloc, &mut left, FileName::Rows(1), bytes.as_slice()));
     let mut fuse = FuseStore::new(MemoryStore::new(alloc), 100);
-    assert_eq!(rt; keeps_large(alloc, &mut fuse, bytes.as_slice()), Ok(true));
+    assert!(rt; keeps_large(alloc, &mut fuse, bytes.as_slice()) == Ok(true));
 }

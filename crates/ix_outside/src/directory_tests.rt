@@ -37,20 +37,14 @@ fn missing_directory_is_a_failure(rt: HostRuntime) {
         panic!(rt; "memory");
     };
     let rows = FileName::Rows(1);
-    assert_eq!(rt; store.list(rt.alloc()).err(), Some(StoreFault::Failed));
-    assert_eq!(rt;
-        store.read(rt.alloc(), rows).err(),
-        Some(StoreFault::Failed)
-    );
-    assert_eq!(rt; store.write(rows, b"rows"), Err(StoreFault::Failed));
-    assert_eq!(rt; store.sync(rows), Err(StoreFault::Failed));
-    assert_eq!(rt;
-        store.rename(rows, FileName::Rows(2)),
-        Err(StoreFault::Failed)
-    );
-    assert_eq!(rt; store.delete(rows), Err(StoreFault::Failed));
-    assert_eq!(rt; store.sync_all(), Err(StoreFault::Failed));
-    assert_eq!(rt; store.faults(), 7);
+    assert!(rt; store.list(rt.alloc()).err() == Some(StoreFault::Failed));
+    assert!(rt; store.read(rt.alloc(), rows).err() == Some(StoreFault::Failed));
+    assert!(rt; store.write(rows, b"rows") == Err(StoreFault::Failed));
+    assert!(rt; store.sync(rows) == Err(StoreFault::Failed));
+    assert!(rt; store.rename(rows, FileName::Rows(2)) == Err(StoreFault::Failed));
+    assert!(rt; store.delete(rows) == Err(StoreFault::Failed));
+    assert!(rt; store.sync_all() == Err(StoreFault::Failed));
+    assert!(rt; store.faults() == 7);
     assert!(rt; !fs::exists(&rt, path).expect(&rt, "an answer"));
 }
 
@@ -71,10 +65,10 @@ fn foreign_names_are_passed_over(rt: HostRuntime) {
         panic!(rt; "memory");
     };
     assert!(rt; store.list(rt.alloc()).is_ok_and(|names| names.is_empty()));
-    assert_eq!(rt; store.write(FileName::Commit(2), b"two"), Ok(()));
+    assert!(rt; store.write(FileName::Commit(2), b"two") == Ok(()));
     let names = store.list(rt.alloc()).unwrap_or(Vec::new(rt.alloc()));
-    assert_eq!(rt; names.as_slice(), [FileName::Commit(2)].as_slice());
-    assert_eq!(rt; store.faults(), 0);
+    assert!(rt; names.as_slice() == [FileName::Commit(2)].as_slice());
+    assert!(rt; store.faults() == 0);
     fs::remove_dir_all(&rt, path).expect(&rt, "to remove it");
 }
 
@@ -88,11 +82,8 @@ fn too_long_a_file_is_a_failure(rt: HostRuntime) {
     let Some(mut store) = store_at(&rt, path) else {
         panic!(rt; "memory");
     };
-    assert_eq!(rt;
-        store.read(rt.alloc(), FileName::Rows(1)).err(),
-        Some(StoreFault::Failed)
-    );
-    assert_eq!(rt; store.faults(), 1);
+    assert!(rt; store.read(rt.alloc(), FileName::Rows(1)).err() == Some(StoreFault::Failed));
+    assert!(rt; store.faults() == 1);
     fs::remove_dir_all(&rt, path).expect(&rt, "to remove it");
 }
 
@@ -105,15 +96,15 @@ fn only_files_are_listed_and_a_name_must_be_text(rt: HostRuntime) {
     let mut store = DirStore::new(system, path);
     let names = store.list(rt.alloc()).unwrap_or(Vec::new(rt.alloc()));
     let files = [FileName::Commit(1), FileName::Pending(5), FileName::Rows(6)];
-    assert_eq!(rt; names.as_slice(), files.as_slice());
+    assert!(rt; names.as_slice() == files.as_slice());
     let path = String::from_str(rt.alloc(), ".").expect(&rt, "memory");
     let system = OddDirectory::new(
         rt.clone().expect(&rt, "memory"),
         b"segments_1\0segments_\xff\0",
     );
     let mut store = DirStore::new(system, path);
-    assert_eq!(rt; store.list(rt.alloc()).err(), Some(StoreFault::Failed));
-    assert_eq!(rt; store.faults(), 1);
+    assert!(rt; store.list(rt.alloc()).err() == Some(StoreFault::Failed));
+    assert!(rt; store.faults() == 1);
 }
 
 /// A new, empty directory at this path.
@@ -147,10 +138,10 @@ fn what_is_asked_of_the_system_in_which_order(rt: HostRuntime) {
         panic!(rt; "memory");
     };
     let (rows, pending, commit) = (FileName::Rows(1), FileName::Pending(1), FileName::Commit(1));
-    assert_eq!(rt; store.write(rows, b"old"), Ok(()));
-    assert_eq!(rt; store.write(rows, b"one"), Ok(()));
-    assert_eq!(rt; store.sync(rows), Ok(()));
-    assert_eq!(rt; store.sync(rows), Ok(()));
+    assert!(rt; store.write(rows, b"old") == Ok(()));
+    assert!(rt; store.write(rows, b"one") == Ok(()));
+    assert!(rt; store.sync(rows) == Ok(()));
+    assert!(rt; store.sync(rows) == Ok(()));
     assert!(rt;
         recorded(
             &rt,
@@ -158,10 +149,10 @@ fn what_is_asked_of_the_system_in_which_order(rt: HostRuntime) {
             "make seg_1.row\nwrite seg_1.row\nmake seg_1.row\nremove seg_1.row\nmake seg_1.row\nwrite seg_1.row\nsync seg_1.row\nopen ix_outside_order\nsync ix_outside_order\nopen seg_1.row\nsync seg_1.row\n"
         )
     );
-    assert_eq!(rt; store.write(pending, b"two"), Ok(()));
-    assert_eq!(rt; store.rename(pending, commit), Ok(()));
-    assert_eq!(rt; store.sync(commit), Ok(()));
-    assert_eq!(rt; store.sync_all(), Ok(()));
+    assert!(rt; store.write(pending, b"two") == Ok(()));
+    assert!(rt; store.rename(pending, commit) == Ok(()));
+    assert!(rt; store.sync(commit) == Ok(()));
+    assert!(rt; store.sync_all() == Ok(()));
     assert!(rt;
         recorded(
             &rt,
@@ -171,14 +162,14 @@ fn what_is_asked_of_the_system_in_which_order(rt: HostRuntime) {
     );
     assert!(rt; has(rt.alloc(), &mut store, commit, b"two"));
     assert!(rt; lacks(rt.alloc(), &mut store, pending));
-    assert_eq!(rt; store.delete(rows), Ok(()));
-    assert_eq!(rt; store.delete(rows), Ok(()));
+    assert!(rt; store.delete(rows) == Ok(()));
+    assert!(rt; store.delete(rows) == Ok(()));
     assert!(rt; lacks(rt.alloc(), &mut store, rows));
     assert!(rt; recorded(&rt, &journal, "open segments_1\nremove seg_1.row\n"));
-    assert_eq!(rt; store.faults(), 0);
-    assert_eq!(rt; store.sync(rows), Err(StoreFault::Failed));
-    assert_eq!(rt; store.rename(rows, pending), Err(StoreFault::Failed));
-    assert_eq!(rt; store.faults(), 2);
+    assert!(rt; store.faults() == 0);
+    assert!(rt; store.sync(rows) == Err(StoreFault::Failed));
+    assert!(rt; store.rename(rows, pending) == Err(StoreFault::Failed));
+    assert!(rt; store.faults() == 2);
     assert!(rt; recorded(&rt, &journal, ""));
     fs::remove_dir_all(&rt, path).expect(&rt, "to remove it");
 }
@@ -192,11 +183,11 @@ fn after_64_files_a_write_syncs(rt: HostRuntime) {
         panic!(rt; "memory");
     };
     for id in 1..65u64 {
-        assert_eq!(rt; store.write(FileName::Rows(id), b"x"), Ok(()));
+        assert!(rt; store.write(FileName::Rows(id), b"x") == Ok(()));
     }
     let lines = journal.take_lines(rt.alloc());
     assert!(rt; !lines.as_str().contains("sync"));
-    assert_eq!(rt; store.write(FileName::Rows(65), b"x"), Ok(()));
+    assert!(rt; store.write(FileName::Rows(65), b"x") == Ok(()));
     assert!(rt;
         recorded(
             &rt,
@@ -222,20 +213,17 @@ fn large_files_in_short_steps(rt: HostRuntime) {
     ) else {
         panic!(rt; "memory");
     };
-    assert_eq!(rt; recorded.write(FileName::Rows(1), bytes.as_slice()), Ok(()));
-    assert_eq!(rt; recorded.sync(FileName::Rows(1)), Ok(()));
-    assert_eq!(rt; plain.write(FileName::Pending(2), bytes.as_slice()), Ok(()));
-    assert_eq!(rt; plain.sync(FileName::Pending(2)), Ok(()));
+    assert!(rt; recorded.write(FileName::Rows(1), bytes.as_slice()) == Ok(()));
+    assert!(rt; recorded.sync(FileName::Rows(1)) == Ok(()));
+    assert!(rt; plain.write(FileName::Pending(2), bytes.as_slice()) == Ok(()));
+    assert!(rt; plain.sync(FileName::Pending(2)) == Ok(()));
     for name in [FileName::Rows(1), FileName::Pending(2)] {
         assert!(rt; has(rt.alloc(), &mut recorded, name, bytes.as_slice()));
         assert!(rt; has(rt.alloc(), &mut plain, name, bytes.as_slice()));
     }
     let mut names = plain.list(rt.alloc()).unwrap_or(Vec::new(rt.alloc()));
     names.sort_unstable();
-    assert_eq!(rt;
-        names.as_slice(),
-        [FileName::Pending(2), FileName::Rows(1)].as_slice()
-    );
+    assert!(rt; names.as_slice() == [FileName::Pending(2), FileName::Rows(1)].as_slice());
     fs::remove_dir_all(&rt, path).expect(&rt, "to remove it");
 }
 
@@ -248,14 +236,11 @@ fn a_read_takes_the_length_that_is_told(rt: HostRuntime) {
         panic!(rt; "memory");
     };
     let rows = FileName::Rows(1);
-    assert_eq!(rt; store.write(rows, b"longer"), Ok(()));
+    assert!(rt; store.write(rows, b"longer") == Ok(()));
     journal.tell_length(4);
     assert!(rt; has(rt.alloc(), &mut store, rows, b"long"));
     journal.tell_length(7);
-    assert_eq!(rt;
-        store.read(rt.alloc(), rows).err(),
-        Some(StoreFault::Failed)
-    );
+    assert!(rt; store.read(rt.alloc(), rows).err() == Some(StoreFault::Failed));
     fs::remove_dir_all(&rt, path).expect(&rt, "to remove it");
 }
 
@@ -275,7 +260,7 @@ fn want_of_memory_after_an_effect_is_a_fault(rt: HostRuntime) {
         let Some(mut store) = recorded_at(&rt, path, &journal) else {
             panic!(rt; "memory");
         };
-        assert_eq!(rt; store.write(rows, b"one"), Ok(()));
+        assert!(rt; store.write(rows, b"one") == Ok(()));
         journal.fail(verb, ErrorKind::OutOfMemory);
         for answer in [
             store.sync(rows),
@@ -287,7 +272,7 @@ fn want_of_memory_after_an_effect_is_a_fault(rt: HostRuntime) {
         ] {
             assert!(rt; answer != Err(StoreFault::NoMemory), "{verb}");
         }
-        assert_eq!(rt; store.faults(), faults, "{verb}");
+        assert!(rt; store.faults() == faults, "{verb}");
     }
     fs::remove_dir_all(&rt, path).expect(&rt, "to remove it");
 }
@@ -301,19 +286,16 @@ fn reads_tell_want_of_memory_and_failed_syncs_are_kept_in_mind(rt: HostRuntime) 
     let Some(mut store) = recorded_at(&rt, path, &journal) else {
         panic!(rt; "memory");
     };
-    assert_eq!(rt; store.write(rows, b"one"), Ok(()));
+    assert!(rt; store.write(rows, b"one") == Ok(()));
     journal.fail("open", ErrorKind::OutOfMemory);
-    assert_eq!(rt;
-        store.read(rt.alloc(), rows).err(),
-        Some(StoreFault::NoMemory)
-    );
-    assert_eq!(rt; store.faults(), 0);
+    assert!(rt; store.read(rt.alloc(), rows).err() == Some(StoreFault::NoMemory));
+    assert!(rt; store.faults() == 0);
     journal.fail("sync", ErrorKind::Other);
-    assert_eq!(rt; store.sync(rows), Err(StoreFault::Failed));
+    assert!(rt; store.sync(rows) == Err(StoreFault::Failed));
     journal.fail("", ErrorKind::Other);
-    assert_eq!(rt; store.sync(rows), Err(StoreFault::Failed));
-    assert_eq!(rt; store.sync_all(), Err(StoreFault::Failed));
-    assert_eq!(rt; store.faults(), 3);
+    assert!(rt; store.sync(rows) == Err(StoreFault::Failed));
+    assert!(rt; store.sync_all() == Err(StoreFault::Failed));
+    assert!(rt; store.faults() == 3);
     assert!(rt; has(rt.alloc(), &mut store, rows, b"one"));
     fs::remove_dir_all(&rt, path).expect(&rt, "to remove it");
 }
@@ -333,22 +315,19 @@ fn links_are_not_followed_and_directories_are_no_files(rt: HostRuntime) {
     assert!(rt; store.list(rt.alloc()).is_ok_and(|names| names.is_empty()));
     for name in [link, lost, commit] {
         assert!(rt; lacks(rt.alloc(), &mut store, name));
-        assert_eq!(rt; store.delete(name), Ok(()));
+        assert!(rt; store.delete(name) == Ok(()));
     }
-    assert_eq!(rt; store.faults(), 0);
-    assert_eq!(rt; store.sync(link), Err(StoreFault::Failed));
-    assert_eq!(rt;
-        store.rename(link, FileName::Rows(3)),
-        Err(StoreFault::Failed)
-    );
-    assert_eq!(rt; store.write(commit, b"x"), Err(StoreFault::Failed));
-    assert_eq!(rt; store.faults(), 3);
-    assert_eq!(rt; store.write(link, b"near"), Ok(()));
-    assert_eq!(rt; store.write(lost, b"there"), Ok(()));
-    assert_eq!(rt; store.rename(lost, link), Ok(()));
+    assert!(rt; store.faults() == 0);
+    assert!(rt; store.sync(link) == Err(StoreFault::Failed));
+    assert!(rt; store.rename(link, FileName::Rows(3)) == Err(StoreFault::Failed));
+    assert!(rt; store.write(commit, b"x") == Err(StoreFault::Failed));
+    assert!(rt; store.faults() == 3);
+    assert!(rt; store.write(link, b"near") == Ok(()));
+    assert!(rt; store.write(lost, b"there") == Ok(()));
+    assert!(rt; store.rename(lost, link) == Ok(()));
     assert!(rt; has(rt.alloc(), &mut store, link, b"there"));
     let target = fs::read(&rt, "ix_outside_kinds/target").expect(&rt, "a file");
-    assert_eq!(rt; target.as_slice(), b"far".as_slice());
+    assert!(rt; target.as_slice() == b"far".as_slice());
     assert!(rt; !fs::exists(&rt, "ix_outside_kinds/nothing").expect(&rt, "an answer"));
     fs::remove_dir_all(&rt, path).expect(&rt, "to remove it");
 }

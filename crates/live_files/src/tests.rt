@@ -83,9 +83,9 @@ fn spells_one_live_row(rt: HostRuntime) -> Result<(), Fail> {
     let alloc = rt.alloc();
     let docs = LiveDocs::new(alloc, 1, 0).ok().ok_or("memory")?;
     let live = encode_liv(alloc, 1, 2, 1, &docs).ok().ok_or("memory")?;
-    assert_eq!(rt; live.as_slice(), LIVE.as_slice());
+    assert!(rt; live.as_slice() == LIVE.as_slice());
     let values = encode_val(alloc, 1, 2, 1, &docs).ok().ok_or("memory")?;
-    assert_eq!(rt; values.as_slice(), VALUES.as_slice());
+    assert!(rt; values.as_slice() == VALUES.as_slice());
     Ok(())
 }
 
@@ -95,12 +95,12 @@ fn reads_one_live_row(rt: HostRuntime) -> Result<(), Fail> {
     let live = decode_liv(alloc, &LIVE, 1, 2, 1)
         .ok()
         .ok_or("the bytes are live bits")?;
-    assert_eq!(rt; live.len(), 1);
+    assert!(rt; live.len() == 1);
     assert!(rt; live[0]);
     let values = decode_val(alloc, &VALUES, 1, 2, 1)
         .ok()
         .ok_or("the bytes are set numbers")?;
-    assert_eq!(rt; values.len(), 0);
+    assert!(rt; values.len() == 0);
     Ok(())
 }
 
@@ -108,16 +108,10 @@ fn reads_one_live_row(rt: HostRuntime) -> Result<(), Fail> {
 fn cut_files_name_the_field(rt: HostRuntime) {
     let alloc = rt.alloc();
     for len in 0..29 {
-        assert_eq!(rt;
-            live_place(alloc, &LIVE[..len], 1),
-            field_at(&FIELDS, len as u64)
-        );
+        assert!(rt; live_place(alloc, &LIVE[..len], 1) == field_at(&FIELDS, len as u64));
     }
     for len in 0..36 {
-        assert_eq!(rt;
-            values_place(alloc, &VALUES[..len], 1),
-            field_at(&FIELDS, len as u64)
-        );
+        assert!(rt; values_place(alloc, &VALUES[..len], 1) == field_at(&FIELDS, len as u64));
     }
 }
 
@@ -135,15 +129,12 @@ fn changed_live_bits_name_the_field(rt: HostRuntime) -> Result<(), Fail> {
         (28, 2, 28),
     ];
     for (at, to, place) in cases {
-        assert_eq!(rt;
-            live_place(alloc, &changed(alloc, &LIVE, at, to)?, 1),
-            Some(place)
-        );
+        assert!(rt; live_place(alloc, &changed(alloc, &LIVE, at, to)?, 1) == Some(place));
     }
-    assert_eq!(rt; live_place(alloc, &LIVE, 2), Some(24));
+    assert!(rt; live_place(alloc, &LIVE, 2) == Some(24));
     let mut longer = Vec::from_slice(alloc, &LIVE)?;
     longer.push(0)?;
-    assert_eq!(rt; live_place(alloc, &longer, 1), Some(29));
+    assert!(rt; live_place(alloc, &longer, 1) == Some(29));
     Ok(())
 }
 
@@ -160,15 +151,12 @@ fn changed_values_name_the_field(rt: HostRuntime) -> Result<(), Fail> {
         (28, 0xff, 36),
     ];
     for (at, to, place) in cases {
-        assert_eq!(rt;
-            values_place(alloc, &changed(alloc, &VALUES, at, to)?, 1),
-            Some(place)
-        );
+        assert!(rt; values_place(alloc, &changed(alloc, &VALUES, at, to)?, 1) == Some(place));
     }
-    assert_eq!(rt; values_place(alloc, &VALUES, 2), Some(24));
+    assert!(rt; values_place(alloc, &VALUES, 2) == Some(24));
     let mut longer = Vec::from_slice(alloc, &VALUES)?;
     longer.push(0)?;
-    assert_eq!(rt; values_place(alloc, &longer, 1), Some(36));
+    assert!(rt; values_place(alloc, &longer, 1) == Some(36));
     Ok(())
 }
 
@@ -185,9 +173,9 @@ fn bits_of_19_rows(rt: HostRuntime) -> Result<(), Fail> {
     for (bytes, place) in cases {
         let mut file = file_of(alloc, b"IXLIV001", 19)?;
         file.extend_from_slice(&bytes)?;
-        assert_eq!(rt; live_place(alloc, &file, 19), place);
+        assert!(rt; live_place(alloc, &file, 19) == place);
         file.truncate(30);
-        assert_eq!(rt; live_place(alloc, &file, 19), Some(30));
+        assert!(rt; live_place(alloc, &file, 19) == Some(30));
     }
     Ok(())
 }
@@ -209,7 +197,7 @@ fn values_rise(rt: HostRuntime) -> Result<(), Fail> {
         put_u64(&mut file, 2)?;
         put_set(&mut file, row, &name_of(alloc, name)?, 1)?;
         put_set(&mut file, next_row, &name_of(alloc, next_name)?, 2)?;
-        assert_eq!(rt; values_place(alloc, &file, 2), place);
+        assert!(rt; values_place(alloc, &file, 2) == place);
     }
     Ok(())
 }
@@ -236,17 +224,17 @@ fn many_rows(alloc: Global) -> Result<LiveDocs, Fail>
 fn many_bits_both_ways(rt: HostRuntime) -> Result<(), Fail> {
     let alloc = rt.alloc();
     let docs = many_rows(alloc)?;
-    assert_eq!(rt; docs.live_count(), 15);
+    assert!(rt; docs.live_count() == 15);
     let mut file = file_of(alloc, b"IXLIV001", 19)?;
     file.extend_from_slice(&[0x7d, 0xfe, 0x05])?;
     let written = encode_liv(alloc, 1, 2, 19, &docs).ok().ok_or("memory")?;
-    assert_eq!(rt; written.as_slice(), file.as_slice());
+    assert!(rt; written.as_slice() == file.as_slice());
     let live = decode_liv(alloc, &file, 1, 2, 19)
         .ok()
         .ok_or("the bytes are live bits")?;
-    assert_eq!(rt; live.len(), 19);
+    assert!(rt; live.len() == 19);
     for row in 0..19u32 {
-        assert_eq!(rt; live[row as usize], docs.is_live(row));
+        assert!(rt; live[row as usize] == docs.is_live(row));
     }
     Ok(())
 }
@@ -262,15 +250,15 @@ fn many_values_both_ways(rt: HostRuntime) -> Result<(), Fail> {
         put_set(&mut file, row, &name_of(alloc, name)?, value)?;
     }
     let written = encode_val(alloc, 1, 2, 19, &docs).ok().ok_or("memory")?;
-    assert_eq!(rt; written.as_slice(), file.as_slice());
+    assert!(rt; written.as_slice() == file.as_slice());
     let values = decode_val(alloc, &file, 1, 2, 19)
         .ok()
         .ok_or("the bytes are set numbers")?;
-    assert_eq!(rt; values.len(), 4);
+    assert!(rt; values.len() == 4);
     for (i, (row, name, value)) in cases.iter().enumerate() {
-        assert_eq!(rt; values[i].0, *row);
-        assert_eq!(rt; values[i].1.as_str(), *name);
-        assert_eq!(rt; values[i].2, *value);
+        assert!(rt; values[i].0 == *row);
+        assert!(rt; values[i].1.as_str() == *name);
+        assert!(rt; values[i].2 == *value);
     }
     Ok(())
 }
@@ -294,12 +282,12 @@ fn read_back(alloc: Global, live: &[u8], values: &[u8]) -> Result<LiveDocs, Fail
 fn live_docs_both_ways(rt: HostRuntime) -> Result<(), Fail> {
     let alloc = rt.alloc();
     let docs = many_rows(alloc)?;
-    assert_eq!(rt; docs.live_count(), 15);
+    assert!(rt; docs.live_count() == 15);
     let live = encode_liv(alloc, 1, 2, 19, &docs).ok().ok_or("memory")?;
     let values = encode_val(alloc, 1, 2, 19, &docs).ok().ok_or("memory")?;
     let back = read_back(alloc, &live, &values)?;
-    assert_eq!(rt; back.applied(), 5);
-    assert_eq!(rt; back.live_count(), 15);
+    assert!(rt; back.applied() == 5);
+    assert!(rt; back.live_count() == 15);
     assert!(rt; back.same_marks(&docs));
     Ok(())
 }

@@ -102,10 +102,10 @@ fn hostile_scripts(rt: HostRuntime) -> Result<(), Fail> {
     ];
     for (text, want) in cases {
         let found = answer(alloc, text.as_bytes())?;
-        assert_eq!(rt; found.as_str(), want, "at {text}");
+        assert!(rt; found.as_str() == want, "at {text}");
     }
     let found = answer(alloc, b"\xff")?;
-    assert_eq!(rt; found.as_str(), "1 Json");
+    assert!(rt; found.as_str() == "1 Json");
     Ok(())
 }
 
@@ -174,7 +174,7 @@ fn operations(rt: HostRuntime) -> Result<(), Fail> {
     for (members, want) in cases {
         let text = format!(in alloc; "{{\"c\":0,{members}}}")?;
         let found = answer(alloc, text.as_bytes())?;
-        assert_eq!(rt; found.as_str(), want, "at {members}");
+        assert!(rt; found.as_str() == want, "at {members}");
     }
     Ok(())
 }
@@ -199,7 +199,7 @@ fn values(rt: HostRuntime) -> Result<(), Fail> {
             "{{\"c\":0,\"op\":\"set\",\"field\":\"key\",\"term\":\"a\",\"num\":\"n\",\"value\":{value}}}"
         )?;
         let found = answer(alloc, text.as_bytes())?;
-        assert_eq!(rt; found.as_str(), want, "at {value}");
+        assert!(rt; found.as_str() == want, "at {value}");
     }
     Ok(())
 }
@@ -246,7 +246,7 @@ fn documents(rt: HostRuntime) -> Result<(), Fail> {
     for (members, want) in cases {
         let text = format!(in alloc; "{{\"c\":0,\"op\":\"add\",\"doc\":{{{members}}}}}")?;
         let found = answer(alloc, text.as_bytes())?;
-        assert_eq!(rt; found.as_str(), want, "at {members}");
+        assert!(rt; found.as_str() == want, "at {members}");
     }
     Ok(())
 }
@@ -307,11 +307,11 @@ fn limits(rt: HostRuntime) -> Result<(), Fail> {
     let alloc = rt.alloc();
     for (depth, want) in [(127, "1 Query"), (128, "1 Json"), (200, "1 Json")] {
         let found = answer(alloc, nested(alloc, depth)?.as_bytes())?;
-        assert_eq!(rt; found.as_str(), want, "nested {depth} deep");
+        assert!(rt; found.as_str() == want, "nested {depth} deep");
     }
     for (depth, want) in [(42, "1 lines"), (43, "1 Json")] {
         let found = answer(alloc, bools(alloc, depth)?.as_bytes())?;
-        assert_eq!(rt; found.as_str(), want, "{depth} bools");
+        assert!(rt; found.as_str() == want, "{depth} bools");
     }
     for (count, len, want) in [
         (1, 255, "1 lines"),
@@ -320,11 +320,11 @@ fn limits(rt: HostRuntime) -> Result<(), Fail> {
         (65_536, 1, "1 Doc"),
     ] {
         let found = answer(alloc, numbered(alloc, count, len)?.as_bytes())?;
-        assert_eq!(rt; found.as_str(), want, "{count} numbers, {len} bytes");
+        assert!(rt; found.as_str() == want, "{count} numbers, {len} bytes");
     }
     for (len, want) in [(255, "1 lines"), (256, "1 Name")] {
         let found = answer(alloc, named(alloc, len)?.as_bytes())?;
-        assert_eq!(rt; found.as_str(), want, "{len} bytes");
+        assert!(rt; found.as_str() == want, "{len} bytes");
     }
     Ok(())
 }

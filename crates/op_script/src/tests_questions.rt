@@ -105,10 +105,10 @@ fn questions(rt: HostRuntime) -> Result<(), Fail> {
     ];
     for (text, want) in cases {
         let found = answer(alloc, text.as_bytes())?;
-        assert_eq!(rt; found.as_str(), want, "at {text}");
+        assert!(rt; found.as_str() == want, "at {text}");
     }
     let found = answer(alloc, b"\"all\"\n\"\xff\"")?;
-    assert_eq!(rt; found.as_str(), "2 Json");
+    assert!(rt; found.as_str() == "2 Json");
     Ok(())
 }
 
@@ -132,9 +132,9 @@ fn nested_questions(rt: HostRuntime) -> Result<(), Fail> {
     let want = within(alloc, 42, "+(", "all", ")|-")?;
     let want = format!(in alloc; "1 {want};")?;
     let text = within(alloc, 42, "{\"bool\":{\"must\":[", "\"all\"", "]}}")?;
-    assert_eq!(rt; answer(alloc, text.as_bytes())?.as_str(), want.as_str());
+    assert!(rt; answer(alloc, text.as_bytes())?.as_str() == want.as_str());
     let text = within(alloc, 43, "{\"bool\":{\"must\":[", "\"all\"", "]}}")?;
-    assert_eq!(rt; answer(alloc, text.as_bytes())?.as_str(), "1 Json");
+    assert!(rt; answer(alloc, text.as_bytes())?.as_str() == "1 Json");
     Ok(())
 }
 
@@ -159,8 +159,8 @@ fn longest_input_of_questions(rt: HostRuntime) -> Result<(), Fail> {
     let alloc = rt.alloc();
     let mut text = vec![in alloc; b'\n'; 67_108_864]?;
     text[0] = b'{';
-    assert_eq!(rt; answer(alloc, text.as_slice())?.as_str(), "1 Json");
+    assert!(rt; answer(alloc, text.as_slice())?.as_str() == "1 Json");
     text.push(b'\n')?;
-    assert_eq!(rt; answer(alloc, text.as_slice())?.as_str(), "0 Long");
+    assert!(rt; answer(alloc, text.as_slice())?.as_str() == "0 Long");
     Ok(())
 }

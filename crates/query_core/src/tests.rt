@@ -80,7 +80,7 @@ fn shown_phrase(
 fn phrases(rt: HostRuntime) -> Result<(), Fail> {
     let alloc = rt.alloc();
     let index = index_of(alloc, ["quick brown fox", "Quick FOX"].as_slice())?;
-    assert_eq!(rt; index.rows(), 2);
+    assert!(rt; index.rows() == 2);
     let cases = [
         ("body", "quick fox", "1,"),
         ("body", "FOX quick", ""),
@@ -92,7 +92,7 @@ fn phrases(rt: HostRuntime) -> Result<(), Fail> {
     ];
     for (field, text, want) in cases {
         let shown = shown_phrase(alloc, &index, field, text)?;
-        assert_eq!(rt; shown.as_str(), want, "{field} {text}");
+        assert!(rt; shown.as_str() == want, "{field} {text}");
     }
     Ok(())
 }
@@ -104,10 +104,10 @@ fn foldings(rt: HostRuntime) -> Result<(), Fail> {
     let index = index_of(alloc, ["Stra\u{DF}e", "STRASSE"].as_slice())?;
     for (bytes, want) in [("strasse", "0,1,"), ("Strasse", "")] {
         let shown = shown(alloc, &index, &term(alloc, "body", bytes)?)?;
-        assert_eq!(rt; shown.as_str(), want, "term {bytes}");
+        assert!(rt; shown.as_str() == want, "term {bytes}");
     }
     let shown = shown(alloc, &index, &phrase(alloc, "body", "stra\u{DF}e")?)?;
-    assert_eq!(rt; shown.as_str(), "0,1,");
+    assert!(rt; shown.as_str() == "0,1,");
     Ok(())
 }
 
@@ -160,7 +160,7 @@ fn searches_from_any_place(rt: HostRuntime) -> Result<(), Fail> {
     ];
     for from in [0, 1, 3, 6, 7, 8, 1000, usize::MAX] {
         let found = found_in_turn(alloc, &index, &rising, from)?;
-        assert_eq!(rt; found.as_str(), ";1,2,;3,;;0,1,;0,;3,;;", "from {from}");
+        assert!(rt; found.as_str() == ";1,2,;3,;;0,1,;0,;3,;;", "from {from}");
     }
     let falling = [
         ("key", "4"),
@@ -174,7 +174,7 @@ fn searches_from_any_place(rt: HostRuntime) -> Result<(), Fail> {
     ];
     for from in [0, 1, 3, 6, 7, 8, 1000, usize::MAX] {
         let found = found_in_turn(alloc, &index, &falling, from)?;
-        assert_eq!(rt; found.as_str(), ";3,;0,;0,1,;;3,;1,2,;;", "from {from}");
+        assert!(rt; found.as_str() == ";3,;0,;0,1,;;3,;1,2,;;", "from {from}");
     }
     Ok(())
 }
@@ -217,7 +217,7 @@ fn first_lost(alloc: Global, index: &PostingsIndex, count: u32) -> Result<Option
 fn searches_among_many_terms(rt: HostRuntime) -> Result<(), Fail> {
     let alloc = rt.alloc();
     let index = index_of_words(alloc, 2000)?;
-    assert_eq!(rt; first_lost(alloc, &index, 2000)?, None);
+    assert!(rt; first_lost(alloc, &index, 2000)? == None);
     Ok(())
 }
 
@@ -256,9 +256,9 @@ fn bool_queries(rt: HostRuntime) -> Result<(), Fail> {
     ];
     for (must, should, must_not, want) in cases {
         let shown = shown_bool(alloc, &index, must, should, must_not)?;
-        assert_eq!(rt; shown.as_str(), want);
+        assert!(rt; shown.as_str() == want);
     }
     let shown = shown(alloc, &index, &Query::All)?;
-    assert_eq!(rt; shown.as_str(), "0,1,2,3,");
+    assert!(rt; shown.as_str() == "0,1,2,3,");
     Ok(())
 }

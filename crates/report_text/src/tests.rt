@@ -57,8 +57,8 @@ fn faults(rt: HostRuntime) {
         ),
     ];
     for (fault, status, line) in cases {
-        assert_eq!(rt; fault.status(), status);
-        assert_eq!(rt; fault.text().as_str(), line);
+        assert!(rt; fault.status() == status);
+        assert!(rt; fault.text().as_str() == line);
     }
 }
 
@@ -98,8 +98,8 @@ fn bad_lines(rt: HostRuntime) {
     ];
     for (line, why, text) in cases {
         let fault = Fault::BadLine(BadLine { line, why });
-        assert_eq!(rt; fault.status(), 3);
-        assert_eq!(rt; fault.text().as_str(), text);
+        assert!(rt; fault.status() == 3);
+        assert!(rt; fault.text().as_str() == text);
     }
 }
 
@@ -107,26 +107,17 @@ fn bad_lines(rt: HostRuntime) {
 fn numbered_and_refused(rt: HostRuntime) -> Result<(), Fail> {
     let alloc = rt.alloc();
     let write = write_text(alloc, 1, 3).ok().ok_or("memory")?;
-    assert_eq!(rt; write.as_slice(), b"{\"line\":1,\"seq\":3}\n".as_slice());
+    assert!(rt; write.as_slice() == b"{\"line\":1,\"seq\":3}\n".as_slice());
     let commit = commit_text(alloc, 1, 2, 4).ok().ok_or("memory")?;
-    assert_eq!(rt;
-        commit.as_slice(),
-        b"{\"docs\":1,\"line\":2,\"seq\":4}\n".as_slice()
-    );
+    assert!(rt; commit.as_slice() == b"{\"docs\":1,\"line\":2,\"seq\":4}\n".as_slice());
     let term = refused_text(alloc, 2, Refusal::Term { size: 32767 })
         .ok()
         .ok_or("memory")?;
-    assert_eq!(rt;
-        term.as_slice(),
-        b"{\"line\":2,\"refused\":\"term\",\"size\":32767}\n".as_slice()
-    );
+    assert!(rt; term.as_slice() == b"{\"line\":2,\"refused\":\"term\",\"size\":32767}\n".as_slice());
     let query = refused_text(alloc, 7, Refusal::Query { size: 65536 })
         .ok()
         .ok_or("memory")?;
-    assert_eq!(rt;
-        query.as_slice(),
-        b"{\"line\":7,\"refused\":\"query\",\"size\":65536}\n".as_slice()
-    );
+    assert!(rt; query.as_slice() == b"{\"line\":7,\"refused\":\"query\",\"size\":65536}\n".as_slice());
     Ok(())
 }
 
@@ -134,15 +125,9 @@ fn numbered_and_refused(rt: HostRuntime) -> Result<(), Fail> {
 fn commits_and_summaries(rt: HostRuntime) -> Result<(), Fail> {
     let alloc = rt.alloc();
     let listed = listed_text(alloc, 2, 1).ok().ok_or("memory")?;
-    assert_eq!(rt;
-        listed.as_slice(),
-        b"{\"commit\":2,\"docs\":1}\n".as_slice()
-    );
+    assert!(rt; listed.as_slice() == b"{\"commit\":2,\"docs\":1}\n".as_slice());
     let most = listed_text(alloc, u64::MAX, 0).ok().ok_or("memory")?;
-    assert_eq!(rt;
-        most.as_slice(),
-        b"{\"commit\":18446744073709551615,\"docs\":0}\n".as_slice()
-    );
+    assert!(rt; most.as_slice() == b"{\"commit\":18446744073709551615,\"docs\":0}\n".as_slice());
     let summary = Summary {
         commits: 1,
         docs: 7,
@@ -150,10 +135,7 @@ fn commits_and_summaries(rt: HostRuntime) -> Result<(), Fail> {
         sum: 12_350,
     };
     let text = summary_text(alloc, summary).ok().ok_or("memory")?;
-    assert_eq!(rt;
-        text.as_slice(),
-        b"{\"commits\":1,\"docs\":7,\"lines\":11,\"sum\":12350}\n".as_slice()
-    );
+    assert!(rt; text.as_slice() == b"{\"commits\":1,\"docs\":7,\"lines\":11,\"sum\":12350}\n".as_slice());
     Ok(())
 }
 
@@ -182,16 +164,16 @@ fn summaries_of_runs(rt: HostRuntime) -> Result<(), Fail> {
         lines: 12,
         sum: 12_350,
     };
-    assert_eq!(rt; summary_of(alloc, &seven)?, wanted);
-    assert_eq!(rt; Summary::of_run(3, 5, &[]).docs, 0);
-    assert_eq!(rt; summary_of(alloc, &[])?.sum, 0);
-    assert_eq!(rt; summary_of(alloc, &[7, -3])?.sum, 4);
-    assert_eq!(rt; summary_of(alloc, &[-1])?.sum, 0);
+    assert!(rt; summary_of(alloc, &seven)? == wanted);
+    assert!(rt; Summary::of_run(3, 5, &[]).docs == 0);
+    assert!(rt; summary_of(alloc, &[])?.sum == 0);
+    assert!(rt; summary_of(alloc, &[7, -3])?.sum == 4);
+    assert!(rt; summary_of(alloc, &[-1])?.sum == 0);
     let most = i64::MAX;
-    assert_eq!(rt; summary_of(alloc, &[most, most, 1])?.sum, u64::MAX);
-    assert_eq!(rt; summary_of(alloc, &[most, most, 2])?.sum, u64::MAX);
+    assert!(rt; summary_of(alloc, &[most, most, 1])?.sum == u64::MAX);
+    assert!(rt; summary_of(alloc, &[most, most, 2])?.sum == u64::MAX);
     let many = summary_of(alloc, &[most, most, most, i64::MIN, i64::MIN])?;
-    assert_eq!(rt; many.sum, 9_223_372_036_854_775_805);
+    assert!(rt; many.sum == 9_223_372_036_854_775_805);
     Ok(())
 }
 
@@ -199,10 +181,7 @@ fn summaries_of_runs(rt: HostRuntime) -> Result<(), Fail> {
 fn searches(rt: HostRuntime) -> Result<(), Fail> {
     let alloc = rt.alloc();
     let none = search_text(alloc, 0, &[], 4).ok().ok_or("memory")?;
-    assert_eq!(rt;
-        none.as_slice(),
-        b"{\"commit\":0,\"hits\":[],\"line\":4}\n".as_slice()
-    );
+    assert!(rt; none.as_slice() == b"{\"commit\":0,\"hits\":[],\"line\":4}\n".as_slice());
     let mut hits = hits_of(alloc, MAILS)?;
     if hits.len() != 3 {
         panic!(rt; "hits");
@@ -210,17 +189,11 @@ fn searches(rt: HostRuntime) -> Result<(), Fail> {
     let one = search_text(alloc, 5, &hits.as_slice()[1..2], 8)
         .ok()
         .ok_or("memory")?;
-    assert_eq!(rt;
-        one.as_slice(),
-        "{\"commit\":5,\"hits\":[{\"key\":\"bob/1\",\"num\":{\"date\":20240301,\"size\":298}}],\"line\":8}\n".as_bytes()
-    );
+    assert!(rt; one.as_slice() == "{\"commit\":5,\"hits\":[{\"key\":\"bob/1\",\"num\":{\"date\":20240301,\"size\":298}}],\"line\":8}\n".as_bytes());
     hits.reverse();
     let two = search_text(alloc, 5, hits.as_slice(), 9)
         .ok()
         .ok_or("memory")?;
-    assert_eq!(rt;
-        two.as_slice(),
-        "{\"commit\":5,\"hits\":[{\"key\":\"say \\\"\u{e9}\\n\\\"\",\"num\":{\"n\":-7}},{\"key\":\"bob/1\",\"num\":{\"date\":20240301,\"size\":298}},{\"key\":\"ann/1\",\"num\":{\"date\":20240301,\"size\":412}}],\"line\":9}\n".as_bytes()
-    );
+    assert!(rt; two.as_slice() == "{\"commit\":5,\"hits\":[{\"key\":\"say \\\"\u{e9}\\n\\\"\",\"num\":{\"n\":-7}},{\"key\":\"bob/1\",\"num\":{\"date\":20240301,\"size\":298}},{\"key\":\"ann/1\",\"num\":{\"date\":20240301,\"size\":412}}],\"line\":9}\n".as_bytes());
     Ok(())
 }

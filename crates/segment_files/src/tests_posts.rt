@@ -83,7 +83,7 @@ fn spells_one_key(rt: HostRuntime) -> Result<(), Fail> {
         terms: List::from_vec(vec![in alloc; entry]?),
     };
     let file = encode_pst(alloc, 1, 1, &postings).ok().ok_or("memory")?;
-    assert_eq!(rt; file.as_slice(), POSTS.as_slice());
+    assert!(rt; file.as_slice() == POSTS.as_slice());
     Ok(())
 }
 
@@ -93,14 +93,14 @@ fn reads_one_key(rt: HostRuntime) -> Result<(), Fail> {
     let postings = decode_pst(alloc, &POSTS, 1, 1)
         .ok()
         .ok_or("the bytes are postings")?;
-    assert_eq!(rt; postings.terms.len(), 1);
+    assert!(rt; postings.terms.len() == 1);
     for entry in postings.terms.as_slice() {
-        assert_eq!(rt; entry.term.field.as_str(), "key");
-        assert_eq!(rt; entry.term.bytes.as_str(), "a1");
+        assert!(rt; entry.term.field.as_str() == "key");
+        assert!(rt; entry.term.bytes.as_str() == "a1");
         let places = entry.rows.as_slice();
-        assert_eq!(rt; places.len(), 1);
-        assert_eq!(rt; places[0].row, 0);
-        assert_eq!(rt; places[0].position, 0);
+        assert!(rt; places.len() == 1);
+        assert!(rt; places[0].row == 0);
+        assert!(rt; places[0].position == 0);
     }
     assert!(rt; goes_both_ways(alloc, &POSTS, 1, 1)?);
     Ok(())
@@ -110,10 +110,7 @@ fn reads_one_key(rt: HostRuntime) -> Result<(), Fail> {
 fn cut_posts_name_the_field(rt: HostRuntime) {
     let alloc = rt.alloc();
     for len in 0..57 {
-        assert_eq!(rt;
-            posts_place(alloc, &POSTS[..len], 1, 1),
-            field_at(&POSTS_FIELDS, len as u64)
-        );
+        assert!(rt; posts_place(alloc, &POSTS[..len], 1, 1) == field_at(&POSTS_FIELDS, len as u64));
     }
 }
 
@@ -138,16 +135,13 @@ fn changed_posts_name_the_field(rt: HostRuntime) -> Result<(), Fail> {
         (52, 2, 57),
     ];
     for (at, to, place) in cases {
-        assert_eq!(rt;
-            posts_place(alloc, &changed(alloc, &POSTS, at, to)?, 1, 1),
-            Some(place)
-        );
+        assert!(rt; posts_place(alloc, &changed(alloc, &POSTS, at, to)?, 1, 1) == Some(place));
     }
-    assert_eq!(rt; posts_place(alloc, &POSTS, 2, 1), Some(8));
-    assert_eq!(rt; posts_place(alloc, &POSTS, 1, 2), Some(16));
+    assert!(rt; posts_place(alloc, &POSTS, 2, 1) == Some(8));
+    assert!(rt; posts_place(alloc, &POSTS, 1, 2) == Some(16));
     let mut longer = Vec::from_slice(alloc, &POSTS)?;
     longer.push(0)?;
-    assert_eq!(rt; posts_place(alloc, &longer, 1, 1), Some(57));
+    assert!(rt; posts_place(alloc, &longer, 1, 1) == Some(57));
     Ok(())
 }
 
@@ -163,7 +157,7 @@ fn names_have_255_bytes_at_most(rt: HostRuntime) -> Result<(), Fail> {
         put_u32(&mut file, 0)?;
         put_u32(&mut file, 1)?;
         put_one(&mut file, 0, 0)?;
-        assert_eq!(rt; posts_place(alloc, &file, 1, 1), place);
+        assert!(rt; posts_place(alloc, &file, 1, 1) == place);
     }
     Ok(())
 }
@@ -184,7 +178,7 @@ fn terms_rise(rt: HostRuntime) -> Result<(), Fail> {
         put_one(&mut file, 0, 0)?;
         put_term(&mut file, next_field, next_bytes, 1)?;
         put_one(&mut file, 0, 0)?;
-        assert_eq!(rt; posts_place(alloc, &file, 1, 1), place);
+        assert!(rt; posts_place(alloc, &file, 1, 1) == place);
     }
     Ok(())
 }
@@ -204,7 +198,7 @@ fn rows_rise(rt: HostRuntime) -> Result<(), Fail> {
         put_term(&mut file, b'a', b'b', 2)?;
         put_one(&mut file, first, 7)?;
         put_one(&mut file, second, 0)?;
-        assert_eq!(rt; posts_place(alloc, &file, 1, 2), place);
+        assert!(rt; posts_place(alloc, &file, 1, 2) == place);
     }
     Ok(())
 }
@@ -223,7 +217,7 @@ fn positions_rise(rt: HostRuntime) -> Result<(), Fail> {
         let mut file = file_of(alloc, 1, 1)?;
         put_term(&mut file, b'a', b'b', 1)?;
         put_two(&mut file, 0, first, second)?;
-        assert_eq!(rt; posts_place(alloc, &file, 1, 1), place);
+        assert!(rt; posts_place(alloc, &file, 1, 1) == place);
     }
     Ok(())
 }
