@@ -12,4 +12,3 @@ pub mod Loading
 pub mod LiveReads
 pub mod Opening
 pub mod Telling
-pub mod Trials

@@ -24,14 +24,3 @@ pub use open::{Opened, head, open_commit, read_commit};
 pub use prepare::{is_alive, version};
 pub use write::write_commit;
 pub use written::Written;
-
-#[cfg(test)]
-mod tests;
-#[cfg(test)]
-mod tests_damage;
-#[cfg(test)]
-mod tests_files;
-#[cfg(test)]
-mod tests_live;
-#[cfg(test)]
-mod tests_write;

@@ -8,8 +8,6 @@ mod laws;
 mod log_laws;
 mod merging;
 mod published;
-#[cfg(test)]
-mod tests;
 
 pub use laws::{merges_stand, rounds_meet, rounds_stand};
 pub use log_laws::{last_heads, rounds_are_ordered};

@@ -1,9 +1,8 @@
 mod Begins
-mod Gathering
+pub mod Gathering
 mod Opening
 mod Taking
 mod Committing
 mod MergedState
 mod Following
-mod AtWork
 mod Opened

@@ -5,4 +5,3 @@ pub mod Storing
 pub mod Merging
 pub mod Laws
 pub mod Working
-pub mod Trials

@@ -11,19 +11,7 @@ mod fault;
 mod laws;
 mod merging;
 mod round;
-#[cfg(test)]
-mod script_lines;
 mod state;
-#[cfg(test)]
-mod tests;
-#[cfg(test)]
-mod tests_deletes;
-#[cfg(test)]
-mod tests_merging;
-#[cfg(test)]
-mod tests_operations;
-#[cfg(test)]
-mod working;
 mod writer;
 
 pub use fault::{EndRefused, OpenRefused, WriterFault};

@@ -6,8 +6,6 @@
 
 mod dealing;
 mod place;
-#[cfg(test)]
-mod tests;
 
 pub use dealing::{Dealt, all_done, deal};
 pub use place::{Kind, Place};

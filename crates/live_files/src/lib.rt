@@ -15,6 +15,3 @@ pub use live::encode_liv;
 pub use read_live::decode_liv;
 pub use read_values::decode_val;
 pub use values::encode_val;
-
-#[cfg(test)]
-mod tests;

@@ -22,8 +22,3 @@ pub use questions::{Question, Questions};
 pub use read::{MOST_BYTES, read_script};
 pub use read_questions::read_queries;
 pub use script::{Act, BadLine, Line, Script, ScriptFault, Why};
-
-#[cfg(test)]
-mod tests;
-#[cfg(test)]
-mod tests_questions;

@@ -6,4 +6,3 @@ mod WholeBuffer
 mod MarksPlaced
 mod FrozenTerms
 mod FrozenRows
-mod LowBirths

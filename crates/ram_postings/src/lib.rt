@@ -11,10 +11,6 @@ mod freezing;
 mod numbers;
 mod placing;
 mod renumbering;
-#[cfg(test)]
-mod tests;
-#[cfg(test)]
-mod tests_large;
 
 pub use buffer::{RamPostings, RowId};
 pub use freezing::Frozen;

@@ -4,7 +4,5 @@
 mod found;
 mod searcher;
 mod shown;
-#[cfg(test)]
-mod tests;
 
 pub use searcher::Searcher;

@@ -6,10 +6,6 @@ mod applying;
 mod building;
 mod live_segment;
 mod segment;
-#[cfg(test)]
-mod tests;
-#[cfg(test)]
-mod tests_live;
 
 pub use applying::apply_updates;
 pub use building::build;

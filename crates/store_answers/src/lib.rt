@@ -10,8 +10,3 @@ mod own;
 pub use asking::ask;
 pub use listing::{ListFault, list};
 pub use own::own_hits;
-
-#[cfg(test)]
-mod tests;
-#[cfg(test)]
-mod tests_own;

@@ -1,0 +1,313 @@
+//! Rounds of pieces and their packets, against what was worked out by hand.
+ghost use Rattle.std.specs.Prelude.{◌≡◌, true, All, IfOk};
+ghost use Rattle.std.specs.List.{AllByRecursion};
+ghost use Rattle.segment_core.specs.LiveRows.{CanBuild};
+ghost use Rattle.packet_apply.specs.Packets.{Meets};
+ghost use Rattle.flush_control.specs.Published.{HasInversion};
+
+use analysis::invert;
+use flush_control::{MergeTurn, Published};
+use frozen_packet::{Packet, Updates};
+use ix_base::{Document, Fields, List, Name, Numbers, Row, Term, Text};
+use node_words::Entry;
+use ram_postings::Frozen;
+use segment_core::LiveSegment;
+use std::alloc::Global;
+use std::fmt::Write;
+use std::test::*;
+use std::thread::Threads;
+use thread_writer::Piece;
+
+/// What an entry does to the rows with its key: it deletes them, or sets the number `n` in them.
+#[derive(Clone, Copy)]
+enum Act {
+    Delete,
+    Set(i64),
+}
+
+/// Entries by number, and what each does to the rows with a key.
+type Entries<'a> = &'a [(u64, Act, &'a str)];
+
+/// A piece: its rows by birth, with a key each, its entries, and its cut.
+#[derive(Clone, Copy)]
+struct Given<'a> {
+    rows: &'a [(u64, &'a str)],
+    entries: Entries<'a>,
+    cut: u64,
+}
+
+fn text_of(alloc: Global, text: &str) -> Result<Text, Fail> {
+    Ok(Text::new(String::from_str(alloc, text)?).ok_or("long")?)
+}
+
+fn name_of(alloc: Global, text: &str) -> Result<Name, Fail> {
+    Ok(Name::new(text_of(alloc, text)?).ok_or("no name")?)
+}
+
+fn row_of(alloc: Global, birth: u64, key: &str) -> Result<Row, Fail> {
+    let none = Numbers::none(alloc);
+    let fields = Fields::none(alloc);
+    let doc = Document::new(text_of(alloc, key)?, Fields::none(alloc), fields, none);
+    let doc = doc.ok_or("names that stand twice")?;
+    Ok(Row { birth, doc })
+}
+
+fn entry_of(alloc: Global, act: Act, key: &str) -> Result<Entry, Fail> {
+    let field = name_of(alloc, "key")?;
+    let bytes = text_of(alloc, key)?;
+    let term = Term { field, bytes };
+    let num = name_of(alloc, "n")?;
+    match act {
+        Act::Delete => Ok(Entry::DeleteTerm(term)),
+        Act::Set(value) => Ok(Entry::SetNumber { term, num, value }),
+    }
+}
+
+fn updates_of(alloc: Global, entries: &[(u64, Act, &str)]) -> Result<Updates, Fail> {
+    let mut updates = Updates::new(alloc);
+    let mut last = 0;
+    for (number, act, key) in entries {
+        if *number < last {
+            Err("numbers don't rise")?;
+        }
+        last = *number;
+        updates.take(last, entry_of(alloc, *act, key)?)?;
+    }
+    Ok(updates)
+}
+
+fn frozen_of(alloc: Global, given: &[(u64, &str)]) -> Result<Frozen, Fail>
+    ensures { IfOk result (λ frozen. CanBuild frozen.rows.items frozen.postings) }
+{
+    let mut rows = Vec::new(alloc);
+    for (birth, key) in given {
+        rows.push(row_of(alloc, *birth, key)?)?;
+    }
+    if rows.len() > 8 {
+        Err("many rows")?;
+    }
+    let postings = invert(alloc, rows.as_slice())?;
+    Ok(Frozen { rows, postings })
+}
+
+fn piece_of(alloc: Global, given: Given) -> Result<Piece, Fail>
+    ensures { IfOk result HasInversion }
+{
+    Ok(Piece {
+        worker: 0,
+        frozen: frozen_of(alloc, given.rows)?,
+        updates: updates_of(alloc, given.entries)?,
+        cut: given.cut,
+    })
+}
+
+fn pieces_of(alloc: Global, given: &[Given]) -> Result<Vec<Piece>, Fail>
+    ensures { IfOk result (λ pieces. AllByRecursion HasInversion pieces.items) }
+{
+    let mut pieces = Vec::new(alloc);
+    for piece in given {
+        pieces.push(piece_of(alloc, *piece)?)?;
+    }
+    Ok(pieces)
+}
+
+/// Whether the packet meets all segments.
+fn meets(segments: &[LiveSegment], packet: &Packet) -> bool
+    ensures { result ≡ true → All (Meets packet.now) segments.now }
+{
+    for segment in segments {
+        let applied = segment.live().applied();
+        if applied < packet.after || packet.upto < applied {
+            return false;
+        }
+    }
+    true
+}
+
+/// Takes the pieces, and applies a packet of these entries, which goes up to this number.
+fn do_round<R: Threads + Sync>(
+    rt: &R,
+    alloc: Global,
+    index: &mut Published,
+    pieces: Vec<Piece>,
+    entries: Entries,
+    upto: u64,
+) -> Result<(), Fail>
+    requires { AllByRecursion HasInversion pieces.items }
+{
+    let after = index.upto;
+    let updates = updates_of(alloc, entries)?;
+    if index.next_id > 5000 || pieces.len() > 5000 {
+        Err("many segments")?;
+    }
+    index.take_round(alloc, pieces)?;
+    let packet = Packet {
+        after,
+        upto,
+        updates,
+    };
+    if !meets(index.segments.as_slice(), &packet) {
+        Err("the packet doesn't meet the segments")?;
+    }
+    Ok(index.apply_up(rt, alloc, &packet)?)
+}
+
+/// A row of a segment where it is live: its key and birth, and the number that was set.
+fn show_row(alloc: Global, out: &mut String, segment: &LiveSegment, at: u32) -> Result<(), Fail> {
+    let rows = segment.segment().rows.as_slice();
+    if at as usize >= rows.len() || !segment.live().is_live(at) {
+        return Ok(());
+    }
+    let row = &rows[at as usize];
+    write!(out, " {}{}", row.doc.key.as_str(), row.birth)?;
+    match segment.live().value(at, &name_of(alloc, "n")?) {
+        Some(value) => write!(out, "={value}")?,
+        None => {}
+    }
+    Ok(())
+}
+
+/// The number up to which operations are in the index and the next id; then each segment's id, how
+/// many rows it has, the number up to which operations are in it, and its live rows.
+fn shown(alloc: Global, index: &Published) -> Result<String, Fail> {
+    let mut out = String::new(alloc);
+    write!(out, "{} {}", index.upto, index.next_id)?;
+    for segment in index.segments.as_slice() {
+        let rows = segment.segment().rows.len();
+        let applied = segment.live().applied();
+        write!(out, "; {}:{rows}@{applied}", segment.segment().id)?;
+        for at in 0..8 {
+            show_row(alloc, &mut out, segment, at)?;
+        }
+    }
+    Ok(out)
+}
+
+/// A round of three pieces: of the second no row is live at its cut, and the row of the third is
+/// deleted by an operation after its cut. Then a round without a piece.
+#[test]
+fn two_rounds(rt: HostRuntime) -> Result<(), Fail> {
+    use Act::*;
+    let alloc = rt.alloc();
+    let mut index = Published {
+        segments: List::new(alloc),
+        next_id: 1,
+        upto: 0,
+    };
+    let first = Given {
+        rows: &[(1, "a"), (3, "b")],
+        entries: &[(2, Set(7), "a")],
+        cut: 3,
+    };
+    let second = Given {
+        rows: &[(4, "c")],
+        entries: &[(5, Delete, "c")],
+        cut: 5,
+    };
+    let third = Given {
+        rows: &[(6, "d")],
+        entries: &[],
+        cut: 6,
+    };
+    let entries = [
+        (2, Set(7), "a"),
+        (5, Delete, "c"),
+        (7, Delete, "d"),
+        (8, Set(4), "b"),
+    ];
+    let pieces = pieces_of(alloc, &[first, second, third])?;
+    do_round(&rt, alloc, &mut index, pieces, &entries, 9)?;
+    let after = "9 3; 1:2@9 a1=7 b3=4; 2:1@9";
+    assert!(rt; shown(alloc, &index)?.as_str() == after);
+    let none = pieces_of(alloc, &[])?;
+    do_round(&rt, alloc, &mut index, none, &[(10, Delete, "a")], 10)?;
+    let after = "10 3; 1:2@10 b3=4; 2:1@10";
+    assert!(rt; shown(alloc, &index)?.as_str() == after);
+    Ok(())
+}
+
+/// Last pieces, with no operations in them: their cut is before the round's first number. Of the
+/// first the row that was born before a delete is gone. The second has no row, and takes no id. The
+/// row of the third is deleted by the packet: it is a segment without a live row.
+#[test]
+fn last_pieces(rt: HostRuntime) -> Result<(), Fail> {
+    use Act::*;
+    let alloc = rt.alloc();
+    let mut index = Published {
+        segments: List::new(alloc),
+        next_id: 1,
+        upto: 4,
+    };
+    let first = Given {
+        rows: &[(5, "a"), (7, "a"), (9, "b")],
+        entries: &[],
+        cut: 4,
+    };
+    let second = Given {
+        rows: &[],
+        entries: &[],
+        cut: 4,
+    };
+    let third = Given {
+        rows: &[(8, "c")],
+        entries: &[],
+        cut: 4,
+    };
+    let entries = [(6, Delete, "a"), (10, Set(3), "b"), (11, Delete, "c")];
+    let pieces = pieces_of(alloc, &[first, second, third])?;
+    do_round(&rt, alloc, &mut index, pieces, &entries, 11)?;
+    let after = "11 3; 1:3@11 a7 b9=3; 2:1@11";
+    assert!(rt; shown(alloc, &index)?.as_str() == after);
+    Ok(())
+}
+
+/// 2,000 pieces of a row each, and in each the same delete, which came after half of the rows.
+fn many_of(alloc: Global) -> Result<Vec<Piece>, Fail>
+    ensures { IfOk result (λ pieces. AllByRecursion HasInversion pieces.items) }
+{
+    let mut pieces = Vec::new(alloc);
+    for birth in 1..2001 {
+        let given = Given {
+            rows: &[(birth, "a")],
+            entries: &[(1001, Act::Delete, "a")],
+            cut: 2000,
+        };
+        pieces.push(piece_of(alloc, given)?)?;
+    }
+    Ok(pieces)
+}
+
+/// Of half of the pieces no row is live, and they take no id.
+#[test]
+fn many_pieces(rt: HostRuntime) -> Result<(), Fail> {
+    let alloc = rt.alloc();
+    let mut index = Published {
+        segments: List::new(alloc),
+        next_id: 1,
+        upto: 0,
+    };
+    let pieces = many_of(alloc)?;
+    let entries = [(1001, Act::Delete, "a")];
+    do_round(&rt, alloc, &mut index, pieces, &entries, 2000)?;
+    assert!(rt; (index.upto, index.next_id) == (2000, 1001));
+    let mut counts = 0;
+    for segment in index.segments.as_slice() {
+        counts |= segment.live().live_count();
+    }
+    assert!(rt; (index.segments.len(), counts) == (1000, 1));
+    Ok(())
+}
+
+/// Where there are no segments, none is merged.
+#[test]
+fn nothing_to_merge(rt: HostRuntime) -> Result<(), Fail> {
+    let alloc = rt.alloc();
+    let mut index = Published {
+        segments: List::new(alloc),
+        next_id: 1,
+        upto: 0,
+    };
+    assert!(rt; index.merge_turn(alloc, 2)? == MergeTurn::Idle);
+    assert!(rt; (index.upto, index.next_id) == (0, 1));
+    Ok(())
+}

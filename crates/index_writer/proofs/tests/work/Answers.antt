@@ -1,4 +1,0 @@
-use Rattle.index_writer.proofs.tests.work.Goals as goal
-
-pub told-requires : goal.told-requires
-told-requires c = (c.requires.0, c.loop-line.invariant c.requires.0 c.requires.1)

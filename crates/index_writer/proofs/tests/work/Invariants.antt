@@ -1,6 +1,0 @@
-use Rattle.std.proofs.Common.{ℕ}
-use Rattle.index_writer.specs.Trials.{IsUnderWay}
-use Rattle.index_writer.proofs.tests.work.Given as goal
-
-abbrev pub invariant-loop-line : goal.invariant-loop-line
-invariant-loop-line l = (base : ℕ) → IsUnderWay base l.fn.parts → IsUnderWay base l.parts

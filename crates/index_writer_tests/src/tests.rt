@@ -1,0 +1,480 @@
+//! Rounds of two writers and their commits, against what was worked out by hand.
+ghost use Rattle.std.specs.Prelude.{◌≡◌, ◌≤◌, ℕ, None, false, true, IfOk, OnOk};
+ghost use Rattle.index_writer.specs.Ready.{IsSound};
+ghost use Rattle.index_writer_tests.specs.Trials.{IsUnderWay};
+
+use crate::script_lines::{Act, Line, Script, name_of, operation_of};
+use crate::working::{Answer, do_line, into_parts};
+use commit_point::open_commit;
+use index_writer::{IndexWriter, MergeTurn, RoundEnd, RoundParts, WriterFault, opened_go_on};
+use ix_base::Refusal;
+use ix_memory::MemoryStore;
+use segment_core::LiveSegment;
+use std::alloc::Global;
+use std::fmt::Write;
+use std::test::*;
+use std::thread::Threads;
+use thread_writer::Piece;
+
+/// Does a line of a script.
+fn told(alloc: Global, parts: &mut RoundParts, line: Line) -> Result<Answer, Fail>
+    requires { (base : ℕ) × IsUnderWay base parts.old }
+    ensures { OnOk result ((base : ℕ) → IsUnderWay base parts.old → IsUnderWay base parts.new) }
+{
+    let (worker, act, key) = line;
+    if worker >= parts.writers.len() {
+        Err("a writer")?;
+    }
+    let operation = operation_of(alloc, act, key)?;
+    Ok(do_line(parts, worker, &operation))
+}
+
+/// Does the lines of a script.
+fn work(alloc: Global, parts: &mut RoundParts, script: Script) -> Result<(), Fail>
+    requires { (base : ℕ) × IsUnderWay base parts.old }
+    ensures { OnOk result ((base : ℕ) → IsUnderWay base parts.old → IsUnderWay base parts.new) }
+{
+    for line in script {
+        told(alloc, parts, *line)?;
+    }
+    Ok(())
+}
+
+/// A round that begins.
+fn begun(
+    alloc: Global,
+    writer: &mut IndexWriter<MemoryStore>,
+    writers: u32,
+) -> Result<RoundParts, Fail>
+    requires sound { IsSound writer.old.state }
+    requires writers { (1 ≤ writers) × (writers ≤ 16) }
+    requires out { writer.old.state.out ≡ false }
+    requires few { (writer.old.state.published.upto ≤ 1000)
+        × (writer.old.state.published.next_id ≤ 1000) }
+    ensures parts { IfOk result (IsUnderWay writer.new.state.published.upto) }
+    ensures sound { IsSound writer.new.state }
+    ensures out { OnOk result (writer.new.state.out ≡ true) }
+    ensures pending { writer.new.state.pending ≡ writer.old.state.pending }
+{
+    Ok(into_parts(alloc, writer.begin_round(writers)?)?)
+}
+
+/// A round of two writers that do the lines of a script.
+fn round<R: Threads + Sync>(
+    rt: &R,
+    alloc: Global,
+    writer: &mut IndexWriter<MemoryStore>,
+    script: Script,
+) -> Result<RoundEnd, Fail>
+    requires { IsSound writer.old.state }
+    ensures { OnOk result (IsSound writer.new.state) }
+{
+    if writer.in_round() || writer.pending_commit().is_some() {
+        Err("a round or a commit before")?;
+    }
+    if writer.upto() > 1000 || writer.next_id() > 1000 {
+        Err("many operations")?;
+    }
+    let mut parts = begun(alloc, writer, 2)?;
+    work(alloc, &mut parts, script)?;
+    ended(rt, writer, parts)
+}
+
+/// How a round ends.
+fn ended<R: Threads + Sync>(
+    rt: &R,
+    writer: &mut IndexWriter<MemoryStore>,
+    parts: RoundParts,
+) -> Result<RoundEnd, Fail>
+    requires sound { IsSound writer.old.state }
+    requires out { writer.old.state.out ≡ true }
+    requires pending { writer.old.state.pending ≡ None }
+    requires parts { IsUnderWay writer.old.state.published.upto parts }
+    ensures { OnOk result (IsSound writer.new.state) }
+{
+    match writer.end_round(rt, parts) {
+        Ok(end) => Ok(end),
+        Err(refused) => Err(refused.fault)?,
+    }
+}
+
+/// The live rows of the commit of this number, of each segment its id and then its rows with their
+/// births, and the number `n` where it was set.
+pub(crate) fn shown(alloc: Global, store: &mut MemoryStore, number: u64) -> Result<String, Fail> {
+    let mut out = String::new(alloc);
+    let opened = open_commit(alloc, store, number)?;
+    write!(out, "{}:", opened.next_id)?;
+    for segment in opened.segments.as_slice() {
+        write!(out, " {}", segment.segment().id)?;
+        for at in 0..8 {
+            show_row(alloc, &mut out, segment, at)?;
+        }
+    }
+    Ok(out)
+}
+
+fn show_row(alloc: Global, out: &mut String, segment: &LiveSegment, at: u32) -> Result<(), Fail> {
+    let rows = segment.segment().rows.as_slice();
+    if at as usize >= rows.len() || !segment.live().is_live(at) {
+        return Ok(());
+    }
+    let row = &rows[at as usize];
+    write!(out, " {}{}", row.doc.key.as_str(), row.birth)?;
+    match segment.live().value(at, &name_of(alloc, "n")?) {
+        Some(value) => write!(out, "={value}")?,
+        None => {}
+    }
+    Ok(())
+}
+
+/// Commits, and returns the number of the commit and how many rows it has.
+fn committed(writer: &mut IndexWriter<MemoryStore>) -> Result<(u64, u64), Fail>
+    requires { IsSound writer.old.state }
+    ensures { OnOk result (IsSound writer.new.state) }
+{
+    if writer.pending_commit().is_none() {
+        Err("no commit to be written")?;
+    }
+    let info = writer.commit()?;
+    Ok((info.number, info.docs))
+}
+
+/// What a merge step did.
+fn merged(writer: &mut IndexWriter<MemoryStore>) -> Result<MergeTurn, Fail>
+    requires { IsSound writer.old.state }
+    ensures { OnOk result (IsSound writer.new.state) }
+{
+    if writer.next_id() > 1000 {
+        Err("many segments")?;
+    }
+    Ok(writer.merge_step()?)
+}
+
+/// A step in the history of a writer.
+#[derive(Clone, Copy)]
+pub(crate) enum Step<'a> {
+    /// A round of two writers that do the lines of a script.
+    Round(Script<'a>),
+    /// A merge, where one is due.
+    Merge,
+    /// The commit that is still to be written.
+    Commit,
+}
+
+/// How a round ended, and the commit that is to be written then.
+fn show_end(out: &mut String, end: RoundEnd, pending: Option<u64>) -> Result<(), Fail> {
+    match end {
+        RoundEnd::Committed(number) => write!(out, "committed {number}")?,
+        RoundEnd::Turned => out.push_str("turned")?,
+        RoundEnd::Ran => out.push_str("ran")?,
+    }
+    if let Some(number) = pending {
+        write!(out, ", {number} pending")?;
+    }
+    Ok(out.push_str("; ")?)
+}
+
+fn show_merge(out: &mut String, turn: MergeTurn) -> Result<(), Fail> {
+    match turn {
+        MergeTurn::Idle => out.push_str("idle; ")?,
+        MergeTurn::Merged => out.push_str("merged; ")?,
+    }
+    Ok(())
+}
+
+/// Goes a step, and shows what came of it.
+fn go_on<R: Threads + Sync>(
+    rt: &R,
+    alloc: Global,
+    out: &mut String,
+    writer: &mut IndexWriter<MemoryStore>,
+    step: Step<'_>,
+) -> Result<(), Fail>
+    requires { IsSound writer.old.state }
+    ensures { OnOk result (IsSound writer.new.state) }
+{
+    match step {
+        Step::Round(script) => {
+            let end = round(rt, alloc, writer, script)?;
+            show_end(out, end, writer.pending_commit())
+        }
+        Step::Merge => show_merge(out, merged(writer)?),
+        Step::Commit => {
+            let (number, docs) = committed(writer)?;
+            Ok(write!(out, "{docs} rows in {number}; ")?)
+        }
+    }
+}
+
+fn show_numbers(out: &mut String, writer: &IndexWriter<MemoryStore>) -> Result<(), Fail> {
+    let (upto, last, next) = (writer.upto(), writer.last(), writer.next_id());
+    Ok(write!(out, "{upto}, last commit {last}, next id {next}")?)
+}
+
+/// Goes these steps, and shows what came of each, with the last number, the last commit and the next
+/// id then.
+pub(crate) fn history<R: Threads + Sync>(
+    rt: &R,
+    alloc: Global,
+    writer: &mut IndexWriter<MemoryStore>,
+    steps: &[Step<'_>],
+) -> Result<String, Fail>
+    requires { IsSound writer.old.state }
+    ensures { OnOk result (IsSound writer.new.state) }
+{
+    let mut out = String::new(alloc);
+    for step in steps {
+        go_on(rt, alloc, &mut out, writer, *step)?;
+    }
+    show_numbers(&mut out, writer)?;
+    Ok(out)
+}
+
+/// Two writers, deletes across them, and a commit; then a round that isn't closed, and one whose
+/// commit has the rows of all three. The buffers hold two documents each.
+#[test]
+fn three_rounds(rt: HostRuntime) -> Result<(), Fail> {
+    use Act::*;
+    let alloc = rt.alloc();
+    let mut writer = IndexWriter::none(alloc, MemoryStore::new(alloc), 2, 8);
+    let steps = [
+        Step::Round(&[
+            (0, Add, "a"),
+            (1, Add, "b"),
+            (1, Delete, "a"),
+            (0, Add, "c"),
+            (0, Add, "d"),
+            (1, Commit, ""),
+            (0, Add, "e"),
+        ]),
+        Step::Commit,
+        Step::Round(&[(1, Add, "f"), (0, Delete, "d")]),
+        Step::Round(&[(0, Delete, "f"), (1, Commit, "")]),
+        Step::Commit,
+    ];
+    assert!(rt;
+        history(&rt, alloc, &mut writer, &steps)?.as_str()
+            == "committed 6, 6 pending; 3 rows in 6; ran; committed 10, 10 pending; 2 rows in 10; 10, last commit 10, next id 5"
+    );
+    let mut store = writer.into_store();
+    assert!(rt; shown(alloc, &mut store, 6)?.as_str() == "4: 1 c4 2 d5 3 b2");
+    assert!(rt; shown(alloc, &mut store, 10)?.as_str() == "5: 1 c4 3 b2");
+    Ok(())
+}
+
+/// Shows what a line is told.
+fn show_answer(out: &mut String, answer: Answer) -> Result<(), Fail> {
+    match answer {
+        Answer::Numbered(number) => write!(out, " {number}")?,
+        Answer::Refused(Refusal::Term { size }) => write!(out, " term {size}")?,
+        Answer::Refused(Refusal::Query { size }) => write!(out, " query {size}")?,
+        Answer::Closed => write!(out, " closed")?,
+        Answer::NoMemory => write!(out, " memory")?,
+    }
+    Ok(())
+}
+
+/// What a writer gave off: of each piece its rows with their births.
+fn show_pieces(out: &mut String, pieces: &[Piece]) -> Result<(), Fail> {
+    write!(out, ";")?;
+    for piece in pieces {
+        write!(out, " [{}:", piece.worker)?;
+        for row in piece.frozen.rows.as_slice() {
+            write!(out, " {}{}", row.doc.key.as_str(), row.birth)?;
+        }
+        write!(out, "]")?;
+    }
+    Ok(())
+}
+
+/// What the lines of a script are told, and what each writer gave off.
+fn shown_work(alloc: Global, parts: &mut RoundParts, script: Script) -> Result<String, Fail>
+    requires { (base : ℕ) × IsUnderWay base parts.old }
+{
+    let mut out = String::new(alloc);
+    for line in script {
+        show_answer(&mut out, told(alloc, parts, *line)?)?;
+    }
+    for pieces in parts.pieces.as_slice() {
+        show_pieces(&mut out, pieces.as_slice())?;
+    }
+    Ok(out)
+}
+
+/// A round of a writer without a commit, whose thread writers have buffers of this size.
+fn first_round(alloc: Global, writers: u32, buffer: u32) -> Result<RoundParts, Fail>
+    requires writers { (1 ≤ writers) × (writers ≤ 16) }
+    requires buffer { (1 ≤ buffer) × (buffer ≤ 65536) }
+    ensures { IfOk result (λ parts. (base : ℕ) × IsUnderWay base parts) }
+{
+    let mut writer = IndexWriter::none(alloc, MemoryStore::new(alloc), buffer, 8);
+    begun(alloc, &mut writer, writers)
+}
+
+/// Numbers, a refused document, full buffers that are given off, and a commit that closes the round,
+/// with buffers of this many documents.
+fn lines_with(alloc: Global, buffer: u32) -> Result<String, Fail>
+    requires { (1 ≤ buffer) × (buffer ≤ 65536) }
+{
+    use Act::*;
+    let long = "k".repeat(alloc, 32_767)?;
+    let script = [
+        (0, Add, "a"),
+        (0, Add, "b"),
+        (1, Add, "c"),
+        (0, Add, long.as_str()),
+        (0, Delete, "a"),
+        (1, Add, "d"),
+        (1, Add, "e"),
+        (1, Commit, ""),
+        (0, Add, "f"),
+        (1, Delete, "a"),
+    ];
+    let mut parts = first_round(alloc, 2, buffer)?;
+    shown_work(alloc, &mut parts, &script)
+}
+
+#[test]
+fn lines_of_a_round(rt: HostRuntime) -> Result<(), Fail> {
+    assert!(rt;
+        lines_with(rt.alloc(), 1)?.as_str()
+            == " 1 2 3 term 32767 4 5 6 7 closed closed; [0: a1] [0: b2]; [1: c3] [1: d5] [1: e6]"
+    );
+    assert!(rt;
+        lines_with(rt.alloc(), 2)?.as_str()
+            == " 1 2 3 term 32767 4 5 6 7 closed closed; [0: a1 b2]; [1: c3 d5]"
+    );
+    Ok(())
+}
+
+/// Deletes by the first writer, which are to have the numbers from 1: each of three words with its
+/// next word. Returns whether each has its number.
+fn fill(alloc: Global, parts: &mut RoundParts, count: u64) -> Result<bool, Fail>
+    requires { (base : ℕ) × IsUnderWay base parts.old }
+    ensures { OnOk result ((base : ℕ) → IsUnderWay base parts.old → IsUnderWay base parts.new) }
+{
+    let mut right = true;
+    for number in 1..=count {
+        let told = told(alloc, parts, (0, Act::Delete, "abcde"))?;
+        right = right && told == Answer::Numbered(number);
+    }
+    Ok(right)
+}
+
+/// A writer whose part of the queue is full ends the round by a turn, without a number.
+#[test]
+fn turned(rt: HostRuntime) -> Result<(), Fail> {
+    use Act::*;
+    let alloc = rt.alloc();
+    let mut writer = IndexWriter::none(alloc, MemoryStore::new(alloc), 2, 8);
+    let mut parts = begun(alloc, &mut writer, 2)?;
+    assert!(rt; fill(alloc, &mut parts, 4159)?);
+    let told_first = told(alloc, &mut parts, (0, Delete, "abcdef"))?;
+    assert!(rt; told_first == Answer::Closed);
+    let told_second = told(alloc, &mut parts, (1, Add, "a"))?;
+    assert!(rt; told_second == Answer::Closed);
+    let end = ended(&rt, &mut writer, parts)?;
+    assert!(rt; end == RoundEnd::Turned);
+    assert!(rt; (writer.upto(), writer.next_id()) == (4159, 1));
+    assert!(rt; writer.pending_commit() == None);
+    Ok(())
+}
+
+/// A writer whose first write fails is closed then, with the number that it had.
+#[test]
+fn closed_after_a_fault(rt: HostRuntime) -> Result<(), Fail> {
+    use Act::*;
+    let alloc = rt.alloc();
+    let calls = vec![in alloc; 1u64]?;
+    let store = MemoryStore::new(alloc).failing(calls);
+    let mut writer = IndexWriter::none(alloc, store, 2, 8);
+    let steps = [Step::Round(&[(0, Add, "a"), (1, Commit, "")])];
+    assert!(rt;
+        history(&rt, alloc, &mut writer, &steps)?.as_str()
+            == "committed 2, 2 pending; 2, last commit 0, next id 2"
+    );
+    assert!(rt; faults_of(&mut writer)? == [WriterFault::Store, WriterFault::Closed]);
+    assert!(rt; begin_fault(&mut writer)? == WriterFault::Closed);
+    assert!(rt; writer.is_closed());
+    Ok(())
+}
+
+/// Why a commit isn't written, and why it isn't when it is tried again.
+fn faults_of(writer: &mut IndexWriter<MemoryStore>) -> Result<[WriterFault; 2], Fail>
+    requires { IsSound writer.old.state }
+    ensures { OnOk result (IsSound writer.new.state) }
+{
+    let first = fault_of(writer)?;
+    let second = fault_of(writer)?;
+    Ok([first, second])
+}
+
+/// Why a commit isn't written.
+fn fault_of(writer: &mut IndexWriter<MemoryStore>) -> Result<WriterFault, Fail>
+    requires { IsSound writer.old.state }
+    ensures { OnOk result (IsSound writer.new.state) }
+{
+    if writer.pending_commit().is_none() {
+        Err("no commit to be written")?;
+    }
+    match writer.commit() {
+        Ok(_) => Err("a commit")?,
+        Err(fault) => Ok(fault),
+    }
+}
+
+/// Why a round isn't begun.
+fn begin_fault(writer: &mut IndexWriter<MemoryStore>) -> Result<WriterFault, Fail>
+    requires { IsSound writer.old.state }
+{
+    if writer.in_round() || writer.upto() > 1000 || writer.next_id() > 1000 {
+        Err("a round before")?;
+    }
+    match writer.begin_round(1) {
+        Ok(_) => Err("a round")?,
+        Err(fault) => Ok(fault),
+    }
+}
+
+/// A writer on a commit that was read back goes on from it.
+#[test]
+fn reopened(rt: HostRuntime) -> Result<(), Fail> {
+    use Act::*;
+    let alloc = rt.alloc();
+    let mut writer = IndexWriter::none(alloc, MemoryStore::new(alloc), 65536, 8);
+    let first = [
+        Step::Round(&[(0, Add, "a"), (1, Add, "b"), (1, Commit, "")]),
+        Step::Commit,
+    ];
+    history(&rt, alloc, &mut writer, &first)?;
+    let mut writer = opened_on(alloc, writer.into_store(), 3)?;
+    let second = [
+        Step::Round(&[(1, Delete, "a"), (0, Add, "c"), (0, Commit, "")]),
+        Step::Commit,
+    ];
+    assert!(rt;
+        history(&rt, alloc, &mut writer, &second)?.as_str()
+            == "committed 6, 6 pending; 2 rows in 6; 6, last commit 6, next id 4"
+    );
+    let mut store = writer.into_store();
+    assert!(rt; shown(alloc, &mut store, 6)?.as_str() == "4: 2 b2 3 c5");
+    assert!(rt; shown(alloc, &mut store, 3)?.as_str() == "3: 1 a1 2 b2");
+    Ok(())
+}
+
+/// A writer on the commit of this number.
+fn opened_on(
+    alloc: Global,
+    store: MemoryStore,
+    number: u64,
+) -> Result<IndexWriter<MemoryStore>, Fail>
+    ensures { IfOk result (λ writer. IsSound writer.state) }
+{
+    opened_go_on();
+    let mut store = store;
+    let opened = open_commit(alloc, &mut store, number)?;
+    match IndexWriter::open(alloc, store, opened, 1, 8) {
+        Ok(writer) => Ok(writer),
+        Err(_) => Err("out of memory")?,
+    }
+}

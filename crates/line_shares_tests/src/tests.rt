@@ -1,0 +1,154 @@
+//! Lines dealt out, against what was worked out by hand.
+ghost use Rattle.std.specs.Prelude.{◌≤◌};
+
+use ix_base::{Document, List, Operation, Query, Text};
+use line_shares::{Dealt, Kind, Place, all_done, deal};
+use op_script::{Act, Line};
+use round_work::{Share, Task};
+use std::alloc::Global;
+use std::fmt::Write;
+use std::test::*;
+
+/// An add of a document of this key.
+fn adding(alloc: Global, key: &str) -> Result<Act, Fail> {
+    let key = Text::new(String::from_str(alloc, key)?).ok_or("long")?;
+    Ok(Act::Do(Operation::Add(Document::of_key(alloc, key))))
+}
+
+/// Shows a line's place, its caller and what it does.
+fn show_place(out: &mut String, place: &Place) -> Result<(), Fail> {
+    write!(out, " {}.{}", place.line, place.caller)?;
+    match &place.kind {
+        Kind::Search(Query::All) => write!(out, " all")?,
+        Kind::Search(_) => write!(out, " other")?,
+        Kind::Write => write!(out, " write")?,
+        Kind::Commit => write!(out, " commit")?,
+    }
+    Ok(())
+}
+
+/// Shows a task's place, and what it is to do.
+fn show_task(out: &mut String, task: &Task) -> Result<(), Fail> {
+    match &task.operation {
+        Operation::Add(doc) => write!(out, " {} {}", task.line, doc.key.as_str())?,
+        Operation::Commit => write!(out, " {} commit", task.line)?,
+        _ => write!(out, " {} other", task.line)?,
+    }
+    Ok(())
+}
+
+/// What these lines are dealt out as, to so many workers: the places, and the tasks of each share.
+fn dealt(alloc: Global, threads: u32, lines: Vec<Line>) -> Result<String, Fail>
+    requires { (1 ≤ threads) × (threads ≤ 16) }
+{
+    let mut out = String::new(alloc);
+    let Dealt { places, shares } = deal(alloc, threads, List::from_vec(lines))?;
+    for place in &places {
+        show_place(&mut out, place)?;
+    }
+    for share in &shares {
+        write!(out, ";")?;
+        for task in share.tasks() {
+            show_task(&mut out, task)?;
+        }
+        write!(out, " {}", share.replies().len())?;
+    }
+    Ok(out)
+}
+
+/// Five lines of three callers, with a line between them that is passed over.
+fn five_lines(alloc: Global) -> Result<Vec<Line>, Fail> {
+    let mut lines = Vec::new(alloc);
+    let acts = [
+        (1, 0, adding(alloc, "a1")?),
+        (2, 1, Act::Search(Query::All)),
+        (3, 2, Act::Do(Operation::Commit)),
+        (5, 1, adding(alloc, "b1")?),
+        (6, 0, Act::Do(Operation::DeleteQuery(Query::All))),
+    ];
+    for (line, caller, act) in acts {
+        lines.push(Line { line, caller, act })?;
+    }
+    Ok(lines)
+}
+
+/// Callers 0 and 2 have the first of two workers, and caller 1 the other.
+#[test]
+fn five_lines_of_three_callers(rt: HostRuntime) -> Result<(), Fail> {
+    let shown = dealt(rt.alloc(), 2, five_lines(rt.alloc())?)?;
+    let expected =
+        " 1.0 write 2.1 all 3.2 commit 5.1 write 6.0 write; 1 a1 3 commit 6 other 0; 5 b1 0";
+    assert!(rt; shown.as_str() == expected);
+    Ok(())
+}
+
+#[test]
+fn no_lines(rt: HostRuntime) -> Result<(), Fail> {
+    let shown = dealt(rt.alloc(), 3, Vec::new(rt.alloc()))?;
+    assert!(rt; shown.as_str() == "; 0; 0; 0");
+    Ok(())
+}
+
+/// Searches give no worker a task. The largest caller is one of sixteen workers' too.
+#[test]
+fn searches_alone(rt: HostRuntime) -> Result<(), Fail> {
+    let mut lines = Vec::new(rt.alloc());
+    for caller in [0, 255] {
+        let act = Act::Search(Query::All);
+        lines.push(Line {
+            line: 7,
+            caller,
+            act,
+        })?;
+    }
+    let shown = dealt(rt.alloc(), 2, lines)?;
+    assert!(rt; shown.as_str() == " 7.0 all 7.255 all; 0; 0");
+    Ok(())
+}
+
+/// Fresh shares are done where they have no task.
+#[test]
+fn fresh_shares_are_done(rt: HostRuntime) -> Result<(), Fail> {
+    let mut shares = Vec::new(rt.alloc());
+    assert!(rt; all_done(shares.as_slice()));
+    shares.push(Share::new(rt.alloc(), Vec::new(rt.alloc())))?;
+    assert!(rt; all_done(shares.as_slice()));
+    let line = 1;
+    let operation = Operation::Commit;
+    let task = Task { line, operation };
+    shares.push(Share::new(rt.alloc(), vec![in rt.alloc(); task]?))?;
+    assert!(rt; !all_done(shares.as_slice()));
+    Ok(())
+}
+
+/// Whether the tasks stand where they should: they are the lines of the callers c with c mod 16 = worker,
+/// of 4,096 lines by 256 callers in turn, which are numbered from 1.
+fn are_in_place(tasks: &[Task], worker: u32) -> bool {
+    for (at, task) in tasks.iter().enumerate() {
+        if at >= 256 || task.line != at as u32 * 16 + worker % 16 + 1 {
+            return false;
+        }
+    }
+    true
+}
+
+/// Thousands of lines by all 256 callers to sixteen workers: each has 256 of them, in their order.
+#[test]
+fn all_callers_to_sixteen_workers(rt: HostRuntime) -> Result<(), Fail> {
+    let mut lines = Vec::new(rt.alloc());
+    for at in 0..4096u32 {
+        lines.push(Line {
+            line: at + 1,
+            caller: (at % 256) as u8,
+            act: adding(rt.alloc(), "a1")?,
+        })?;
+    }
+    let Dealt { places, shares } = deal(rt.alloc(), 16, List::from_vec(lines))?;
+    assert!(rt; places.len() == 4096);
+    assert!(rt; shares.len() == 16);
+    for (worker, share) in shares.iter().enumerate() {
+        assert!(rt; share.tasks().len() == 256);
+        assert!(rt; are_in_place(share.tasks(), worker.min(15) as u32));
+    }
+    Ok(())
+}

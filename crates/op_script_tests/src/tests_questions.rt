@@ -1,0 +1,166 @@
+use ix_base::Query;
+use op_script::{ScriptFault, read_queries};
+use std::alloc::Global;
+use std::fmt::Write;
+use std::test::Fail;
+
+/// Writes a query that is nested at most so deep.
+fn show_query(out: &mut String, query: &Query, depth: u32) -> Result<(), Fail> {
+    match query {
+        Query::All => out.push_str("all")?,
+        Query::Term(term) => {
+            let field = term.field.as_str();
+            let bytes = term.bytes.as_str();
+            write!(out, "{field}:{bytes}")?;
+        }
+        Query::Phrase(field, text) => {
+            let field = field.as_str();
+            let text = text.as_text().as_str();
+            write!(out, "{field}~{text}")?;
+        }
+        Query::Bool {
+            must,
+            should,
+            must_not,
+        } => {
+            let depth = depth.checked_sub(1).ok_or("too deep")?;
+            for (mark, queries) in [("+", must), ("|", should), ("-", must_not)] {
+                out.push_str(mark)?;
+                for query in queries.as_slice() {
+                    out.push_str("(")?;
+                    show_query(out, query, depth)?;
+                    out.push_str(")")?;
+                }
+            }
+        }
+    }
+    Ok(())
+}
+
+/// The questions with their lines, or the bad line and its reason.
+fn answer(alloc: Global, bytes: &[u8]) -> Result<String, Fail> {
+    let mut text = String::new(alloc);
+    match read_queries(alloc, bytes) {
+        Ok(questions) => {
+            for question in questions.lines.as_slice() {
+                let line = question.line;
+                write!(text, "{line} ")?;
+                show_query(&mut text, &question.query, 42)?;
+                text.push_str(";")?;
+            }
+        }
+        Err(ScriptFault::Bad(bad)) => {
+            let line = bad.line;
+            let why = bad.why;
+            write!(text, "{line} {why:?}")?;
+        }
+        Err(ScriptFault::NoMemory) => text.push_str("no memory")?,
+    }
+    Ok(text)
+}
+
+/// Inputs, and what is to be said of each.
+#[test]
+fn questions(rt: HostRuntime) -> Result<(), Fail> {
+    let alloc = rt.alloc();
+    let cases = [
+        ("", ""),
+        (" \t\r\n\r\n\n", ""),
+        ("\"all\"", "1 all;"),
+        ("\"all\"\n", "1 all;"),
+        (
+            "\r\n \t\n \"all\" \r\n\n{\"term\":[\"key\",\"a1\"]}",
+            "3 all;5 key:a1;",
+        ),
+        (
+            "{\"bool\":{\"not\":[{\"term\":[\"key\",\"zz\"]}]}}\n{\"bool\":{}}\n{\"phrase\":[\"body\",\" \"]}",
+            "1 +|-(key:zz);2 +|-;3 body~ ;",
+        ),
+        (
+            "{\"bool\":{\"should\":[\"all\"],\"must\":[{\"phrase\":[\"body\",\"quick fox\"]},\"all\"]}}",
+            "1 +(body~quick fox)(all)|(all)-;",
+        ),
+        ("{\"term\":[\"a\",\"b\"],\"term\":[\"c\",\"\"]}", "1 c:;"),
+        ("{", "1 Json"),
+        ("\"all", "1 Json"),
+        ("all", "1 Json"),
+        ("\"all\" \"all\"", "1 Json"),
+        ("\"\\ud800\"", "1 Json"),
+        ("\"All\"", "1 Query"),
+        ("null", "1 Query"),
+        ("7", "1 Query"),
+        ("[\"all\"]", "1 Query"),
+        ("{}", "1 Query"),
+        ("{\"query\":\"all\"}", "1 Query"),
+        ("{\"c\":0,\"op\":\"search\",\"query\":\"all\"}", "1 Query"),
+        ("{\"c\":0,\"op\":\"commit\"}", "1 Query"),
+        (
+            "{\"term\":[\"a\",\"b\"],\"phrase\":[\"c\",\"d\"]}",
+            "1 Query",
+        ),
+        ("{\"term\":[\"\",\"a\"]}", "1 Query"),
+        ("\"all\"\n\n{}\n{", "3 Query"),
+        ("\"all\"\n{\n{}", "2 Json"),
+        ("\n\"all\"\n \n7", "4 Query"),
+    ];
+    for (text, want) in cases {
+        let found = answer(alloc, text.as_bytes())?;
+        assert!(rt; found.as_str() == want, "at {text}");
+    }
+    let found = answer(alloc, b"\"all\"\n\"\xff\"")?;
+    assert!(rt; found.as_str() == "2 Json");
+    Ok(())
+}
+
+/// A text between so many others, each of which opens and closes.
+fn within(alloc: Global, depth: u32, open: &str, text: &str, close: &str) -> Result<String, Fail> {
+    let mut whole = String::new(alloc);
+    for _ in 0..depth {
+        whole.push_str(open)?;
+    }
+    whole.push_str(text)?;
+    for _ in 0..depth {
+        whole.push_str(close)?;
+    }
+    Ok(whole)
+}
+
+/// A query may hold another 42 deep, since each `bool` is three JSON values deep.
+#[test]
+fn nested_questions(rt: HostRuntime) -> Result<(), Fail> {
+    let alloc = rt.alloc();
+    let want = within(alloc, 42, "+(", "all", ")|-")?;
+    let want = format!(in alloc; "1 {want};")?;
+    let text = within(alloc, 42, "{\"bool\":{\"must\":[", "\"all\"", "]}}")?;
+    assert!(rt; answer(alloc, text.as_bytes())?.as_str() == want.as_str());
+    let text = within(alloc, 43, "{\"bool\":{\"must\":[", "\"all\"", "]}}")?;
+    assert!(rt; answer(alloc, text.as_bytes())?.as_str() == "1 Json");
+    Ok(())
+}
+
+/// Thousands of questions, each after a blank line.
+#[test]
+fn many_questions(rt: HostRuntime) -> Result<(), Fail> {
+    let alloc = rt.alloc();
+    let mut text = String::new(alloc);
+    let mut want = String::new(alloc);
+    for number in 1..=20_000u32 {
+        write!(text, "\n{{\"term\":[\"key\",\"k{number}\"]}}\n")?;
+        let line = 2 * number;
+        write!(want, "{line} key:k{number};")?;
+    }
+    assert!(rt; answer(alloc, text.as_bytes())?.as_str() == want.as_str());
+    Ok(())
+}
+
+/// The longest input, whose first line is bad, and one of a byte more, which is bad as a whole.
+#[test]
+fn longest_input_of_questions(rt: HostRuntime) -> Result<(), Fail> {
+    let alloc = rt.alloc();
+    let mut text = vec![in alloc; b'\n'; 67_108_864]?;
+    text[0] = b'{';
+    assert!(rt; answer(alloc, text.as_slice())?.as_str() == "1 Json");
+    text.push(b'\n')?;
+    assert!(rt; answer(alloc, text.as_slice())?.as_str() == "0 Long");
+    Ok(())
+}

@@ -1,0 +1,137 @@
+//! Three documents, the second of them void, and the rows and places of the other two.
+ghost use Rattle.std.specs.Prelude.{◌<◌, ◌^◌, length};
+
+use analysis::{analyse, invert};
+use ix_base::{Document, Fields, Name, Numbers, Postings, Row, Spots, TermPostings, Text};
+use ram_postings::{Frozen, RamPostings};
+use std::alloc::Global;
+use std::fmt::Write;
+use std::test::Fail;
+
+fn text_of(alloc: Global, text: &str) -> Result<Text, Fail> {
+    Ok(Text::new(String::from_str(alloc, text)?).ok_or("long")?)
+}
+
+fn fields_of(alloc: Global, name: &str, text: &str) -> Result<Fields, Fail> {
+    let name = Name::new(text_of(alloc, name)?).ok_or("name")?;
+    Ok(Fields::from_vec(vec![in alloc; (name, text_of(alloc, text)?)]?))
+}
+
+pub fn document_of(alloc: Global, key: &str, body: &str, tag: &str) -> Result<Document, Fail> {
+    let text = fields_of(alloc, "body", body)?;
+    let exact = fields_of(alloc, "tag", tag)?;
+    let doc = Document::new(text_of(alloc, key)?, text, exact, Numbers::none(alloc));
+    Ok(doc.ok_or("names aren't apart")?)
+}
+
+fn show_positions(out: &mut String, positions: &[u32]) -> Result<(), Fail> {
+    for position in positions {
+        write!(out, "{position},")?;
+    }
+    Ok(())
+}
+
+fn show_row(alloc: Global, out: &mut String, places: &Spots, row: u32) -> Result<(), Fail> {
+    write!(out, " {row}@")?;
+    let positions = places.positions(alloc, row)?;
+    show_positions(out, positions.as_slice())
+}
+
+fn show_entry(alloc: Global, out: &mut String, entry: &TermPostings) -> Result<(), Fail> {
+    let field = entry.term.field.as_str();
+    let bytes = entry.term.bytes.as_str();
+    write!(out, "{field}:{bytes}")?;
+    let rows = entry.rows.rows(alloc)?;
+    for row in rows.as_slice() {
+        show_row(alloc, out, &entry.rows, *row)?;
+    }
+    write!(out, ";")?;
+    Ok(())
+}
+
+pub fn shown(alloc: Global, postings: &Postings) -> Result<String, Fail> {
+    let mut joined = String::new(alloc);
+    for entry in postings.terms.as_slice() {
+        show_entry(alloc, &mut joined, entry)?;
+    }
+    Ok(joined)
+}
+
+pub fn inverted(alloc: Global, rows: &[Row]) -> Result<String, Fail>
+    requires { length rows.now < 2 ^ 32 }
+{
+    shown(alloc, &invert(alloc, rows)?)
+}
+
+/// The rows with their births, and then the places of the terms in them.
+pub fn shown_frozen(alloc: Global, frozen: &Frozen) -> Result<String, Fail> {
+    let mut out = String::new(alloc);
+    for row in frozen.rows.as_slice() {
+        write!(out, "{}{} ", row.doc.key.as_str(), row.birth)?;
+    }
+    let places = shown(alloc, &frozen.postings)?;
+    write!(out, "{}", places.as_str())?;
+    Ok(out)
+}
+
+/// No document: nothing is there, and nothing is in the postings.
+#[test]
+fn nothing_staged(rt: HostRuntime) -> Result<(), Fail> {
+    let alloc = rt.alloc();
+    let mut buffer = RamPostings::new(alloc);
+    assert!(rt; buffer.rows() == 0);
+    let frozen = buffer.take_frozen()?;
+    assert!(rt; shown_frozen(alloc, &frozen)?.as_str() == "");
+    assert!(rt; buffer.rows() == 0);
+    Ok(())
+}
+
+/// Three documents, of which the second one gets no number.
+fn with_void_between(alloc: Global) -> Result<RamPostings, Fail> {
+    let mut buffer = RamPostings::new(alloc);
+    let first = buffer.stage(analyse(alloc, document_of(alloc, "a", "fish dog fish", "red")?)?)?;
+    let second = buffer.stage(analyse(alloc, document_of(alloc, "b", "fish owl", "blue")?)?)?;
+    let third = buffer.stage(analyse(
+        alloc,
+        document_of(alloc, "c", "the dog saw the fish", "red")?,
+    )?)?;
+    if (first.0, second.0, third.0) != (0, 1, 2) {
+        Err("other places")?;
+    }
+    buffer.born(first, 4);
+    buffer.born(third, 9);
+    Ok(buffer)
+}
+
+/// A void document keeps its place and is in no row; its own terms are in no postings.
+#[test]
+fn void_document_between(rt: HostRuntime) -> Result<(), Fail> {
+    let alloc = rt.alloc();
+    let mut buffer = with_void_between(alloc)?;
+    assert!(rt; buffer.rows() == 3);
+    let frozen = buffer.take_frozen()?;
+    let expected =
+        "a4 c9 body:dog 0@1, 1@1,;body:fish 0@0,2, 1@4,;body:saw 1@2,;body:the 1@0,3,;key:a 0@0,;key:c 1@0,;tag:red 0@0, 1@0,;";
+    assert!(rt; shown_frozen(alloc, &frozen)?.as_str() == expected);
+    Ok(())
+}
+
+/// A buffer whose rows were taken out is empty, and takes documents again: nothing of the earlier
+/// ones is left in it.
+#[test]
+fn taken_and_filled_again(rt: HostRuntime) -> Result<(), Fail> {
+    let alloc = rt.alloc();
+    let mut buffer = with_void_between(alloc)?;
+    let earlier = buffer.take_frozen()?;
+    assert!(rt; (buffer.rows(), earlier.rows.len()) == (0, 2));
+    let row = buffer.stage(analyse(alloc, document_of(alloc, "d", "an owl", "blue")?)?)?;
+    assert!(rt; row.0 == 0);
+    buffer.born(row, 10);
+    let frozen = buffer.take_frozen()?;
+    assert!(rt;
+        shown_frozen(alloc, &frozen)?.as_str()
+            == "d10 body:an 0@0,;body:owl 0@1,;key:d 0@0,;tag:blue 0@0,;"
+    );
+    assert!(rt; buffer.rows() == 0);
+    Ok(())
+}

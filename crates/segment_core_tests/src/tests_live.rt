@@ -1,0 +1,124 @@
+//! Segments built of three rows, with updates that were worked out by hand.
+ghost use Rattle.std.specs.Prelude.{IfOk, OnOk};
+ghost use Rattle.frozen_packet.specs.Updates.{as_operations, NumberedUpTo};
+ghost use Rattle.segment_core.specs.LiveRows.{CanBuild};
+
+use crate::tests::{name_of, row_of, term_of};
+use analysis::invert;
+use frozen_packet::Updates;
+use ix_base::Query;
+use node_words::Entry;
+use ram_postings::Frozen;
+use segment_core::{LiveSegment, build};
+use std::alloc::Global;
+use std::fmt::Write;
+use std::test::*;
+
+/// Rows born by the operations 3, 5 and 7.
+fn three_rows(alloc: Global) -> Result<Frozen, Fail>
+    ensures { IfOk result (λ frozen. CanBuild frozen.rows.items frozen.postings) }
+{
+    let mut rows = Vec::new(alloc);
+    rows.push(row_of(alloc, 3, "k1", "the fox")?)?;
+    rows.push(row_of(alloc, 5, "k2", "a fox")?)?;
+    rows.push(row_of(alloc, 7, "k3", "no dog")?)?;
+    let postings = invert(alloc, rows.as_slice())?;
+    Ok(Frozen { rows, postings })
+}
+
+/// Takes one more entry, under the same number as those before it.
+fn take_more(updates: &mut Updates, number: u64, entry: Entry) -> Result<(), Fail>
+    requires { NumberedUpTo number (as_operations updates.old) }
+    ensures { OnOk result (NumberedUpTo number (as_operations updates.new)) }
+{
+    updates.take(number, entry)?;
+    Ok(())
+}
+
+/// A number that is set in the second row.
+fn setting(alloc: Global) -> Result<Entry, Fail> {
+    let term = term_of(alloc, "key", "k2")?;
+    let num = name_of(alloc, "n")?;
+    let value = 5;
+    Ok(Entry::SetNumber { term, num, value })
+}
+
+/// Operations of one number: a delete of the first row, a number set in the second, and an update of
+/// the third.
+fn three_updates(alloc: Global, number: u64) -> Result<Updates, Fail> {
+    let first = Entry::DeleteTerm(term_of(alloc, "key", "k1")?);
+    let third = Entry::Update(term_of(alloc, "key", "k3")?);
+    let mut updates = Updates::new(alloc);
+    take_more(&mut updates, number, first)?;
+    take_more(&mut updates, number, setting(alloc)?)?;
+    take_more(&mut updates, number, third)?;
+    Ok(updates)
+}
+
+/// The segment of the three rows with these updates.
+fn built(alloc: Global, updates: &Updates) -> Result<Option<LiveSegment>, Fail> {
+    let frozen = three_rows(alloc)?;
+    Ok(build(alloc, 9, frozen, updates, 8)?)
+}
+
+/// A row of a segment: `+` where it is live, `-` where it isn't, and then the number `n` that was set.
+fn show_row(alloc: Global, out: &mut String, segment: &LiveSegment, row: u32) -> Result<(), Fail> {
+    let name = name_of(alloc, "n")?;
+    if (row as usize) < segment.segment().rows.len() {
+        let sign = if segment.live().is_live(row) {
+            "+"
+        } else {
+            "-"
+        };
+        let value = segment.live().value(row, &name).unwrap_or(0);
+        write!(out, "{sign}{value}")?;
+    }
+    Ok(())
+}
+
+/// The segment's number, its applied number, and its rows.
+fn shown(alloc: Global, segment: &LiveSegment) -> Result<String, Fail> {
+    let mut out = String::new(alloc);
+    let id = segment.segment().id;
+    let applied = segment.live().applied();
+    write!(out, "{id} {applied}")?;
+    for row in 0..4 {
+        show_row(alloc, &mut out, segment, row)?;
+    }
+    Ok(out)
+}
+
+/// The segment with the updates of this number.
+fn shown_at(alloc: Global, number: u64) -> Result<String, Fail> {
+    let updates = three_updates(alloc, number)?;
+    match built(alloc, &updates)? {
+        Some(segment) => shown(alloc, &segment),
+        None => Ok(String::new(alloc)),
+    }
+}
+
+/// Updates act only on rows that were born before them.
+#[test]
+fn updates_at_each_birth(rt: HostRuntime) -> Result<(), Fail> {
+    let alloc = rt.alloc();
+    assert!(rt; shown_at(alloc, 3)?.as_str() == "9 8+0+0+0");
+    assert!(rt; shown_at(alloc, 5)?.as_str() == "9 8-0+0+0");
+    assert!(rt; shown_at(alloc, 7)?.as_str() == "9 8-0+5+0");
+    assert!(rt; shown_at(alloc, 8)?.as_str() == "9 8-0+5-0");
+    Ok(())
+}
+
+fn is_built_at(alloc: Global, number: u64) -> Result<bool, Fail> {
+    let mut updates = Updates::new(alloc);
+    take_more(&mut updates, number, Entry::DeleteQuery(Query::All))?;
+    Ok(built(alloc, &updates)?.is_some())
+}
+
+/// Where all rows are deleted there is no segment.
+#[test]
+fn all_rows_deleted(rt: HostRuntime) -> Result<(), Fail> {
+    let alloc = rt.alloc();
+    assert!(rt; is_built_at(alloc, 7)?);
+    assert!(rt; !is_built_at(alloc, 8)?);
+    Ok(())
+}

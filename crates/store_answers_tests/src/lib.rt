@@ -1,0 +1,7 @@
+//! Tests of `store_answers`: questions and lists of a store.
+#![tactic(auto)]
+
+#[cfg(test)]
+mod tests;
+#[cfg(test)]
+mod tests_own;
