@@ -1,6 +1,6 @@
 //! Commit files alone.
-use super::*;
 use crate::tests_files::{COMMIT, COMMIT_FIELDS};
+use commit_point::{Head, HeadSegment, decode_commit, encode_commit};
 use ix_base::{FileFault, List};
 use std::alloc::Global;
 use std::test::*;

@@ -1,9 +1,9 @@
 ghost use Rattle.std.specs.Prelude.{◌≡◌, length, IfOk};
 
-use super::*;
 use ix_base::codec::{put_i64, put_name, put_u32, put_u64};
 use ix_base::{FileFault, Name, Text};
 use live_docs::LiveDocs;
+use live_files::{decode_liv, decode_val, encode_liv, encode_val, live_docs_of};
 use std::alloc::Global;
 use std::test::*;
 
