@@ -10,6 +10,8 @@ mod laws;
 mod line;
 mod piece;
 mod take;
+#[cfg(test)]
+mod tests;
 mod told;
 mod writer;
 

@@ -4,13 +4,13 @@ ghost use Rattle.delete_queue.specs.Seats.{own_of};
 ghost use Rattle.thread_writer.specs.Answers.{IfFull};
 ghost use Rattle.thread_writer.specs.Writing.{IsWriter};
 
+use crate::{Piece, ThreadWriter, Told};
 use delete_queue::{DeleteQueue, Linked};
 use frozen_packet::Updates;
 use ix_base::{Document, Fields, Name, Numbers, Operation, Query, Term, Text};
 use std::alloc::Global;
 use std::fmt::Write;
 use std::test::*;
-use thread_writer::{Piece, ThreadWriter, Told};
 
 /// What a line does.
 #[derive(Clone, Copy)]
