@@ -129,15 +129,16 @@ fn recorded(rt: &HostRuntime, journal: &Journal, want: &str) -> bool {
     journal.take_lines(rt.alloc()).as_str() == want
 }
 
+/// A new file takes the place of an old one, and its first sync is followed by one of the directory.
 #[test]
-fn what_is_asked_of_the_system_in_which_order(rt: HostRuntime) {
+fn a_file_is_written_anew_and_synced(rt: HostRuntime) {
     let path = "ix_outside_order";
     assert!(rt; make_directory(&rt, path));
     let journal = Journal::new(rt.alloc());
     let Some(mut store) = recorded_at(&rt, path, &journal) else {
         panic!(rt; "memory");
     };
-    let (rows, pending, commit) = (FileName::Rows(1), FileName::Pending(1), FileName::Commit(1));
+    let rows = FileName::Rows(1);
     assert!(rt; store.write(rows, b"old") == Ok(()));
     assert!(rt; store.write(rows, b"one") == Ok(()));
     assert!(rt; store.sync(rows) == Ok(()));
@@ -149,6 +150,19 @@ fn what_is_asked_of_the_system_in_which_order(rt: HostRuntime) {
             "make seg_1.row\nwrite seg_1.row\nmake seg_1.row\nremove seg_1.row\nmake seg_1.row\nwrite seg_1.row\nsync seg_1.row\nopen ix_outside_order\nsync ix_outside_order\nopen seg_1.row\nsync seg_1.row\n"
         )
     );
+    fs::remove_dir_all(&rt, path).expect(&rt, "to remove it");
+}
+
+/// A file that is renamed is synced under its new name, and so is the directory.
+#[test]
+fn a_file_is_renamed_and_synced(rt: HostRuntime) {
+    let path = "ix_outside_rename";
+    assert!(rt; make_directory(&rt, path));
+    let journal = Journal::new(rt.alloc());
+    let Some(mut store) = recorded_at(&rt, path, &journal) else {
+        panic!(rt; "memory");
+    };
+    let (pending, commit) = (FileName::Pending(1), FileName::Commit(1));
     assert!(rt; store.write(pending, b"two") == Ok(()));
     assert!(rt; store.rename(pending, commit) == Ok(()));
     assert!(rt; store.sync(commit) == Ok(()));
@@ -157,18 +171,40 @@ fn what_is_asked_of_the_system_in_which_order(rt: HostRuntime) {
         recorded(
             &rt,
             &journal,
-            "make pending_segments_1\nwrite pending_segments_1\nrename pending_segments_1\nsync pending_segments_1\nopen ix_outside_order\nsync ix_outside_order\nopen ix_outside_order\nsync ix_outside_order\n"
+            "make pending_segments_1\nwrite pending_segments_1\nrename pending_segments_1\nsync pending_segments_1\nopen ix_outside_rename\nsync ix_outside_rename\nopen ix_outside_rename\nsync ix_outside_rename\n"
         )
     );
     assert!(rt; has(rt.alloc(), &mut store, commit, b"two"));
     assert!(rt; lacks(rt.alloc(), &mut store, pending));
+    assert!(rt; recorded(&rt, &journal, "open segments_1\n"));
+    fs::remove_dir_all(&rt, path).expect(&rt, "to remove it");
+}
+
+/// A delete of a file that isn't there asks nothing of the system, and a sync or a rename of it fails
+/// without asking.
+#[test]
+fn a_file_that_is_not_there(rt: HostRuntime) {
+    let path = "ix_outside_gone";
+    assert!(rt; make_directory(&rt, path));
+    let journal = Journal::new(rt.alloc());
+    let Some(mut store) = recorded_at(&rt, path, &journal) else {
+        panic!(rt; "memory");
+    };
+    let rows = FileName::Rows(1);
+    assert!(rt; store.write(rows, b"one") == Ok(()));
     assert!(rt; store.delete(rows) == Ok(()));
     assert!(rt; store.delete(rows) == Ok(()));
     assert!(rt; lacks(rt.alloc(), &mut store, rows));
-    assert!(rt; recorded(&rt, &journal, "open segments_1\nremove seg_1.row\n"));
+    assert!(rt;
+        recorded(
+            &rt,
+            &journal,
+            "make seg_1.row\nwrite seg_1.row\nremove seg_1.row\n"
+        )
+    );
     assert!(rt; store.faults() == 0);
     assert!(rt; store.sync(rows) == Err(StoreFault::Failed));
-    assert!(rt; store.rename(rows, pending) == Err(StoreFault::Failed));
+    assert!(rt; store.rename(rows, FileName::Pending(1)) == Err(StoreFault::Failed));
     assert!(rt; store.faults() == 2);
     assert!(rt; recorded(&rt, &journal, ""));
     fs::remove_dir_all(&rt, path).expect(&rt, "to remove it");
@@ -198,14 +234,29 @@ fn after_64_files_a_write_syncs(rt: HostRuntime) {
     fs::remove_dir_all(&rt, path).expect(&rt, "to remove it");
 }
 
+/// Three million bytes in a pattern.
+fn large(alloc: Global) -> Vec<u8> {
+    let mut bytes = Vec::new(alloc);
+    for place in 0..3_000_000u32 {
+        if bytes.push((place % 251) as u8).is_err() {
+            return bytes;
+        }
+    }
+    bytes
+}
+
+/// Writes and syncs a file.
+fn put<S: Store>(store: &mut S, name: FileName, bytes: &[u8]) -> bool {
+    store.write(name, bytes) == Ok(()) && store.sync(name) == Ok(())
+}
+
+/// The recorded system writes and reads in short steps. Each store reads what both have written.
 #[test]
 fn large_files_in_short_steps(rt: HostRuntime) {
     let path = "ix_outside_large";
     assert!(rt; make_directory(&rt, path));
-    let mut bytes = Vec::new(rt.alloc());
-    for place in 0..3_000_000u32 {
-        bytes.push((place % 251) as u8).expect(&rt, "memory");
-    }
+    let bytes = large(rt.alloc());
+    assert!(rt; bytes.len() == 3_000_000);
     let journal = Journal::new(rt.alloc());
     let (Some(mut recorded), Some(mut plain)) = (
         recorded_at(&rt, path, &journal),
@@ -213,17 +264,16 @@ fn large_files_in_short_steps(rt: HostRuntime) {
     ) else {
         panic!(rt; "memory");
     };
-    assert!(rt; recorded.write(FileName::Rows(1), bytes.as_slice()) == Ok(()));
-    assert!(rt; recorded.sync(FileName::Rows(1)) == Ok(()));
-    assert!(rt; plain.write(FileName::Pending(2), bytes.as_slice()) == Ok(()));
-    assert!(rt; plain.sync(FileName::Pending(2)) == Ok(()));
-    for name in [FileName::Rows(1), FileName::Pending(2)] {
+    let (rows, pending) = (FileName::Rows(1), FileName::Pending(2));
+    assert!(rt; put(&mut recorded, rows, bytes.as_slice()));
+    assert!(rt; put(&mut plain, pending, bytes.as_slice()));
+    for name in [rows, pending] {
         assert!(rt; has(rt.alloc(), &mut recorded, name, bytes.as_slice()));
         assert!(rt; has(rt.alloc(), &mut plain, name, bytes.as_slice()));
     }
     let mut names = plain.list(rt.alloc()).unwrap_or(Vec::new(rt.alloc()));
     names.sort_unstable();
-    assert!(rt; names.as_slice() == [FileName::Pending(2), FileName::Rows(1)].as_slice());
+    assert!(rt; names.as_slice() == [pending, rows].as_slice());
     fs::remove_dir_all(&rt, path).expect(&rt, "to remove it");
 }
 
@@ -300,32 +350,50 @@ fn reads_tell_want_of_memory_and_failed_syncs_are_kept_in_mind(rt: HostRuntime) 
     fs::remove_dir_all(&rt, path).expect(&rt, "to remove it");
 }
 
+/// A new directory with a directory `segments_5`, a file `target`, a link `seg_1.row` to it, and a link
+/// `seg_2.row` to nothing.
+fn make_kinds(rt: &HostRuntime, path: &str) -> bool {
+    make_directory(rt, path)
+        && fs::create_dir(rt, "ix_outside_kinds/segments_5").is_ok()
+        && fs::write(rt, "ix_outside_kinds/target", b"far".as_slice()).is_ok()
+        && symlink(rt, "target", "ix_outside_kinds/seg_1.row").is_ok()
+        && symlink(rt, "nothing", "ix_outside_kinds/seg_2.row").is_ok()
+}
+
+/// Links and directories are no files: there is nothing to read, to delete, to sync or to rename.
+fn are_no_files(rt: &HostRuntime, store: &mut DirStore<HostRuntime>, names: &[FileName]) -> bool {
+    for name in names {
+        if !lacks(rt.alloc(), store, *name) || store.delete(*name) != Ok(()) {
+            return false;
+        }
+    }
+    store.faults() == 0
+}
+
+/// A file is written in the place of a link, and what the link leads to stays.
+fn takes_the_place_of_links(rt: &HostRuntime, store: &mut DirStore<HostRuntime>) -> bool {
+    let (link, lost) = (FileName::Rows(1), FileName::Rows(2));
+    store.write(link, b"near") == Ok(())
+        && store.write(lost, b"there") == Ok(())
+        && store.rename(lost, link) == Ok(())
+        && has(rt.alloc(), store, link, b"there")
+}
+
 #[test]
 fn links_are_not_followed_and_directories_are_no_files(rt: HostRuntime) {
     let path = "ix_outside_kinds";
-    assert!(rt; make_directory(&rt, path));
-    fs::create_dir(&rt, "ix_outside_kinds/segments_5").expect(&rt, "a directory");
-    fs::write(&rt, "ix_outside_kinds/target", b"far".as_slice()).expect(&rt, "a file");
-    symlink(&rt, "target", "ix_outside_kinds/seg_1.row").expect(&rt, "a link");
-    symlink(&rt, "nothing", "ix_outside_kinds/seg_2.row").expect(&rt, "a link");
+    assert!(rt; make_kinds(&rt, path));
     let (link, lost, commit) = (FileName::Rows(1), FileName::Rows(2), FileName::Commit(5));
     let Some(mut store) = store_at(&rt, path) else {
         panic!(rt; "memory");
     };
     assert!(rt; store.list(rt.alloc()).is_ok_and(|names| names.is_empty()));
-    for name in [link, lost, commit] {
-        assert!(rt; lacks(rt.alloc(), &mut store, name));
-        assert!(rt; store.delete(name) == Ok(()));
-    }
-    assert!(rt; store.faults() == 0);
+    assert!(rt; are_no_files(&rt, &mut store, &[link, lost, commit]));
     assert!(rt; store.sync(link) == Err(StoreFault::Failed));
     assert!(rt; store.rename(link, FileName::Rows(3)) == Err(StoreFault::Failed));
     assert!(rt; store.write(commit, b"x") == Err(StoreFault::Failed));
     assert!(rt; store.faults() == 3);
-    assert!(rt; store.write(link, b"near") == Ok(()));
-    assert!(rt; store.write(lost, b"there") == Ok(()));
-    assert!(rt; store.rename(lost, link) == Ok(()));
-    assert!(rt; has(rt.alloc(), &mut store, link, b"there"));
+    assert!(rt; takes_the_place_of_links(&rt, &mut store));
     let target = fs::read(&rt, "ix_outside_kinds/target").expect(&rt, "a file");
     assert!(rt; target.as_slice() == b"far".as_slice());
     assert!(rt; !fs::exists(&rt, "ix_outside_kinds/nothing").expect(&rt, "an answer"));
