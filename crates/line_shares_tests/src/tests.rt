@@ -15,45 +15,58 @@ fn adding(alloc: Global, key: &str) -> Result<Act, Fail> {
     Ok(Act::Do(Operation::Add(Document::of_key(alloc, key))))
 }
 
+/// What a line does.
+fn kind_of<'a>(place: &'a Place) -> &'a str {
+    match &place.kind {
+        Kind::Search(Query::All) => "all",
+        Kind::Search(_) => "other",
+        Kind::Write => "write",
+        Kind::Commit => "commit",
+    }
+}
+
+/// The key of the document that a task adds, or what else it is to do.
+fn work_of<'a>(task: &'a Task) -> &'a str {
+    match &task.operation {
+        Operation::Add(doc) => doc.key.as_str(),
+        Operation::Commit => "commit",
+        _ => "other",
+    }
+}
+
 /// Shows a line's place, its caller and what it does.
 fn show_place(out: &mut String, place: &Place) -> Result<(), Fail> {
-    write!(out, " {}.{}", place.line, place.caller)?;
-    match &place.kind {
-        Kind::Search(Query::All) => write!(out, " all")?,
-        Kind::Search(_) => write!(out, " other")?,
-        Kind::Write => write!(out, " write")?,
-        Kind::Commit => write!(out, " commit")?,
-    }
+    write!(out, " {}.{} {}", place.line, place.caller, kind_of(place))?;
     Ok(())
 }
 
-/// Shows a task's place, and what it is to do.
-fn show_task(out: &mut String, task: &Task) -> Result<(), Fail> {
-    match &task.operation {
-        Operation::Add(doc) => write!(out, " {} {}", task.line, doc.key.as_str())?,
-        Operation::Commit => write!(out, " {} commit", task.line)?,
-        _ => write!(out, " {} other", task.line)?,
+/// Shows the tasks of a share, each with its line, and how many of them were answered.
+fn show_share(out: &mut String, share: &Share) -> Result<(), Fail> {
+    out.push_str(";")?;
+    for task in share.tasks() {
+        write!(out, " {} {}", task.line, work_of(task))?;
     }
+    write!(out, " {}", share.replies().len())?;
     Ok(())
 }
 
-/// What these lines are dealt out as, to so many workers: the places, and the tasks of each share.
+/// The places that lines were dealt out as, and the tasks of each share.
+fn shown(alloc: Global, dealt: &Dealt) -> Result<String, Fail> {
+    let mut out = String::new(alloc);
+    for place in &dealt.places {
+        show_place(&mut out, place)?;
+    }
+    for share in &dealt.shares {
+        show_share(&mut out, share)?;
+    }
+    Ok(out)
+}
+
+/// What these lines are dealt out as, to so many workers.
 fn dealt(alloc: Global, threads: u32, lines: Vec<Line>) -> Result<String, Fail>
     requires { (1 ≤ threads) × (threads ≤ 16) }
 {
-    let mut out = String::new(alloc);
-    let Dealt { places, shares } = deal(alloc, threads, List::from_vec(lines))?;
-    for place in &places {
-        show_place(&mut out, place)?;
-    }
-    for share in &shares {
-        write!(out, ";")?;
-        for task in share.tasks() {
-            show_task(&mut out, task)?;
-        }
-        write!(out, " {}", share.replies().len())?;
-    }
-    Ok(out)
+    shown(alloc, &deal(alloc, threads, List::from_vec(lines))?)
 }
 
 /// Five lines of three callers, with a line between them that is passed over.
@@ -106,18 +119,20 @@ fn searches_alone(rt: HostRuntime) -> Result<(), Fail> {
     Ok(())
 }
 
+/// A share of one task.
+fn share_of_one(alloc: Global) -> Result<Share, Fail> {
+    let (line, operation) = (1, Operation::Commit);
+    let task = Task { line, operation };
+    Ok(Share::new(alloc, vec![in alloc; task]?))
+}
+
 /// Fresh shares are done where they have no task.
 #[test]
 fn fresh_shares_are_done(rt: HostRuntime) -> Result<(), Fail> {
-    let mut shares = Vec::new(rt.alloc());
-    assert!(rt; all_done(shares.as_slice()));
-    shares.push(Share::new(rt.alloc(), Vec::new(rt.alloc())))?;
-    assert!(rt; all_done(shares.as_slice()));
-    let line = 1;
-    let operation = Operation::Commit;
-    let task = Task { line, operation };
-    shares.push(Share::new(rt.alloc(), vec![in rt.alloc(); task]?))?;
-    assert!(rt; !all_done(shares.as_slice()));
+    let alloc = rt.alloc();
+    assert!(rt; all_done(&[]));
+    assert!(rt; all_done(&[Share::new(alloc, Vec::new(alloc))]));
+    assert!(rt; !all_done(&[Share::new(alloc, Vec::new(alloc)), share_of_one(alloc)?]));
     Ok(())
 }
 
@@ -132,23 +147,34 @@ fn are_in_place(tasks: &[Task], worker: u32) -> bool {
     true
 }
 
+/// Lines by all 256 callers in turn, sixteen of each.
+fn lines_of_all(alloc: Global) -> Result<Vec<Line>, Fail> {
+    let mut lines = Vec::new(alloc);
+    for at in 0..4096u32 {
+        let (line, caller) = (at + 1, (at % 256) as u8);
+        let act = adding(alloc, "a1")?;
+        lines.push(Line { line, caller, act })?;
+    }
+    Ok(lines)
+}
+
+/// Whether each share has the tasks of its sixteen callers, in their order.
+fn have_their_lines(shares: &[Share]) -> bool {
+    for (worker, share) in shares.iter().enumerate() {
+        let tasks = share.tasks();
+        if tasks.len() != 256 || !are_in_place(tasks, worker.min(15) as u32) {
+            return false;
+        }
+    }
+    shares.len() == 16
+}
+
 /// Thousands of lines by all 256 callers to sixteen workers: each has 256 of them, in their order.
 #[test]
 fn all_callers_to_sixteen_workers(rt: HostRuntime) -> Result<(), Fail> {
-    let mut lines = Vec::new(rt.alloc());
-    for at in 0..4096u32 {
-        lines.push(Line {
-            line: at + 1,
-            caller: (at % 256) as u8,
-            act: adding(rt.alloc(), "a1")?,
-        })?;
-    }
+    let lines = lines_of_all(rt.alloc())?;
     let Dealt { places, shares } = deal(rt.alloc(), 16, List::from_vec(lines))?;
     assert!(rt; places.len() == 4096);
-    assert!(rt; shares.len() == 16);
-    for (worker, share) in shares.iter().enumerate() {
-        assert!(rt; share.tasks().len() == 256);
-        assert!(rt; are_in_place(share.tasks(), worker.min(15) as u32));
-    }
+    assert!(rt; have_their_lines(shares.as_slice()));
     Ok(())
 }
