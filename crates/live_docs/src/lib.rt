@@ -6,8 +6,6 @@ mod laws;
 mod live_docs;
 mod numbers;
 mod set_numbers;
-#[cfg(test)]
-mod tests;
 
 pub use laws::set_numbers_are_a_map;
 pub use live_docs::{LiveDocs, Mark};
