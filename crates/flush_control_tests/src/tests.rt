@@ -8,7 +8,7 @@ ghost use Rattle.flush_control.specs.Published.{HasInversion};
 use analysis::invert;
 use flush_control::{MergeTurn, Published};
 use frozen_packet::{Packet, Updates};
-use ix_base::{Document, Fields, List, Name, Numbers, Row, Term, Text};
+use ix_base::List;
 use node_words::Entry;
 use ram_postings::Frozen;
 use segment_core::LiveSegment;
@@ -16,6 +16,7 @@ use std::alloc::Global;
 use std::fmt::Write;
 use std::test::*;
 use std::thread::Threads;
+use test_values::{key_term, name_of, row_of};
 use thread_writer::Piece;
 
 /// What an entry does to the rows with its key: it deletes them, or sets the number `n` in them.
@@ -36,26 +37,8 @@ struct Given<'a> {
     cut: u64,
 }
 
-fn text_of(alloc: Global, text: &str) -> Result<Text, Fail> {
-    Ok(Text::new(String::from_str(alloc, text)?).ok_or("long")?)
-}
-
-fn name_of(alloc: Global, text: &str) -> Result<Name, Fail> {
-    Ok(Name::new(text_of(alloc, text)?).ok_or("no name")?)
-}
-
-fn row_of(alloc: Global, birth: u64, key: &str) -> Result<Row, Fail> {
-    let none = Numbers::none(alloc);
-    let fields = Fields::none(alloc);
-    let doc = Document::new(text_of(alloc, key)?, Fields::none(alloc), fields, none);
-    let doc = doc.ok_or("names that stand twice")?;
-    Ok(Row { birth, doc })
-}
-
 fn entry_of(alloc: Global, act: Act, key: &str) -> Result<Entry, Fail> {
-    let field = name_of(alloc, "key")?;
-    let bytes = text_of(alloc, key)?;
-    let term = Term { field, bytes };
+    let term = key_term(alloc, key)?;
     let num = name_of(alloc, "n")?;
     match act {
         Act::Delete => Ok(Entry::DeleteTerm(term)),

@@ -3,7 +3,7 @@ ghost use Rattle.std.specs.Prelude.{◌≡◌, ◌≤◌, ℕ, None, false, true
 ghost use Rattle.index_writer.specs.Ready.{IsSound};
 ghost use Rattle.index_writer_tests.specs.Trials.{IsUnderWay};
 
-use crate::script_lines::{Act, Line, Script, name_of, operation_of};
+use crate::script_lines::{Act, Line, Script, operation_of};
 use crate::working::{Answer, do_line, into_parts};
 use commit_point::open_commit;
 use index_writer::{IndexWriter, MergeTurn, RoundEnd, RoundParts, WriterFault, opened_go_on};
@@ -14,6 +14,7 @@ use std::alloc::Global;
 use std::fmt::Write;
 use std::test::*;
 use std::thread::Threads;
+use test_values::name_of;
 use thread_writer::Piece;
 
 /// Does a line of a script.

@@ -1,28 +1,22 @@
 //! Rows killed and numbers set, in steps that were worked out by hand.
 ghost use Rattle.std.specs.Prelude.{◌≡◌, ◌<◌, length, IfOk, OnOk};
 
-use ix_base::{Name, NoMemory, Numbers, Text};
+use ix_base::{Name, NoMemory, Numbers};
 use live_docs::{LiveDocs, Mark, with_number};
 use std::alloc::Global;
 use std::test::Fail;
+use test_values::name_of;
 
-fn name(alloc: Global, bytes: &str) -> Result<Name, NoMemory> {
-    match Text::new(String::from_str(alloc, bytes)?) {
-        Some(text) => Name::new(text).ok_or(NoMemory),
-        None => Err(NoMemory),
-    }
-}
-
-fn set(alloc: Global, docs: &mut LiveDocs, bytes: &str, value: i64) -> Result<(), NoMemory>
+fn set(alloc: Global, docs: &mut LiveDocs, bytes: &str, value: i64) -> Result<(), Fail>
     requires { 2 < length docs.old.marks }
     ensures { OnOk result (length docs.new.marks ≡ length docs.old.marks) }
 {
-    let name = name(alloc, bytes)?;
-    docs.set_value(alloc, 2, &name, value)
+    docs.set_value(alloc, 2, &name_of(alloc, bytes)?, value)?;
+    Ok(())
 }
 
 /// Three rows. The second is killed, twice; in the third `b` is set, then `a`, then `b` again.
-fn three_rows(alloc: Global) -> Result<LiveDocs, NoMemory>
+fn three_rows(alloc: Global) -> Result<LiveDocs, Fail>
     ensures { IfOk result (λ docs. length docs.marks ≡ 3) }
 {
     let mut docs = LiveDocs::new(alloc, 3, 7)?;
@@ -31,7 +25,7 @@ fn three_rows(alloc: Global) -> Result<LiveDocs, NoMemory>
     set(alloc, &mut docs, "b", 1)?;
     set(alloc, &mut docs, "a", -2)?;
     set(alloc, &mut docs, "b", 3)?;
-    docs.clone_in(alloc)
+    Ok(docs.clone_in(alloc)?)
 }
 
 /// The first of these names under which this row has another number than the one beside it.
@@ -40,9 +34,9 @@ fn other_number<'a>(
     docs: &LiveDocs,
     row: u32,
     wanted: &'a [(&'a str, Option<i64>)],
-) -> Result<Option<&'a str>, NoMemory> {
+) -> Result<Option<&'a str>, Fail> {
     for (bytes, value) in wanted {
-        if docs.value(row, &name(alloc, bytes)?) != *value {
+        if docs.value(row, &name_of(alloc, bytes)?) != *value {
             return Ok(Some(*bytes));
         }
     }
@@ -66,8 +60,8 @@ fn rows_and_numbers(rt: HostRuntime) -> Result<(), Fail> {
 
 /// Nine rows with numbers in four of them, which are set in falling order, in one of them twice.
 /// Two of the four are killed, one before and one after its number is set, and a further one.
-fn falling_rows(alloc: Global) -> Result<LiveDocs, NoMemory> {
-    let name = name(alloc, "a")?;
+fn falling_rows(alloc: Global) -> Result<LiveDocs, Fail> {
+    let name = name_of(alloc, "a")?;
     let mut docs = LiveDocs::new(alloc, 9, 7)?;
     docs.kill(3);
     docs.set_value(alloc, 8, &name, 1)?;
@@ -91,21 +85,16 @@ fn rows_with_numbers(rt: HostRuntime) -> Result<(), Fail> {
 }
 
 /// Two rows: a live one with this number set in it, and one with none.
-fn two_rows(
-    alloc: Global,
-    bytes: &str,
-    value: i64,
-    second_lives: bool,
-) -> Result<LiveDocs, NoMemory> {
+fn two_rows(alloc: Global, bytes: &str, value: i64, second_lives: bool) -> Result<LiveDocs, Fail> {
     let none = Numbers::none(alloc);
-    let values = with_number(alloc, &none, &name(alloc, bytes)?, value)?;
+    let values = with_number(alloc, &none, &name_of(alloc, bytes)?, value)?;
     let mut marks = Vec::new(alloc);
     marks.push(Mark { live: true, values })?;
     marks.push(Mark {
         live: second_lives,
         values: none,
     })?;
-    LiveDocs::from_marks(alloc, 9, marks)
+    Ok(LiveDocs::from_marks(alloc, 9, marks)?)
 }
 
 /// Whether live docs have the marks of two rows that are made so.
@@ -115,7 +104,7 @@ fn same_as(
     bytes: &str,
     value: i64,
     second_lives: bool,
-) -> Result<bool, NoMemory> {
+) -> Result<bool, Fail> {
     Ok(docs.same_marks(&two_rows(alloc, bytes, value, second_lives)?))
 }
 
@@ -199,7 +188,7 @@ fn first_misplaced(rows: &[u32]) -> Option<u32> {
 #[test]
 fn many_rows_beside_a_plain_list(rt: HostRuntime) -> Result<(), Fail> {
     let alloc = rt.alloc();
-    let name = name(alloc, "a")?;
+    let name = name_of(alloc, "a")?;
     let docs = many_rows(alloc, &name)?;
     assert!(rt; first_other(&docs, &name) == None);
     assert!(rt; docs.live_count() == 2000);
@@ -227,7 +216,7 @@ fn same_with(
 #[test]
 fn many_rows_compared(rt: HostRuntime) -> Result<(), Fail> {
     let alloc = rt.alloc();
-    let name = name(alloc, "a")?;
+    let name = name_of(alloc, "a")?;
     let docs = many_rows(alloc, &name)?;
     assert!(rt; docs.same_marks(&many_rows(alloc, &name)?));
     assert!(rt; same_with(alloc, &docs, &name, 5, -995)?);
@@ -240,7 +229,7 @@ fn many_rows_compared(rt: HostRuntime) -> Result<(), Fail> {
 #[test]
 fn one_row_of_many_dies(rt: HostRuntime) -> Result<(), Fail> {
     let alloc = rt.alloc();
-    let name = name(alloc, "a")?;
+    let name = name_of(alloc, "a")?;
     let docs = many_rows(alloc, &name)?;
     let mut other = many_rows(alloc, &name)?;
     other.kill(2999);

@@ -1,11 +1,12 @@
 ghost use Rattle.std.specs.Prelude.{◌≡◌, length, IfOk};
 
 use ix_base::codec::{put_i64, put_name, put_u32, put_u64};
-use ix_base::{FileFault, Name, Text};
+use ix_base::{FileFault, Name};
 use live_docs::LiveDocs;
 use live_files::{decode_liv, decode_val, encode_liv, encode_val, live_docs_of};
 use std::alloc::Global;
 use std::test::*;
+use test_values::name_of;
 
 // The live bits of the segment 1 of one row, which is live, written with the commit 2.
 const LIVE: [u8; 29] = [
@@ -54,11 +55,6 @@ fn values_place(alloc: Global, bytes: &[u8], n: u32) -> Option<u64> {
         Err(FileFault::Damaged(damaged)) => Some(damaged.at),
         _ => None,
     }
-}
-
-fn name_of(alloc: Global, text: &str) -> Result<Name, Fail> {
-    let text = Text::new(String::from_str(alloc, text)?).ok_or("too long")?;
-    Ok(Name::new(text).ok_or("no name")?)
 }
 
 // What a file with this mark begins with, of the segment 1 of this many rows.

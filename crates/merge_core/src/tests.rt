@@ -5,25 +5,20 @@ ghost use Rattle.segment_core.specs.LiveRows.{CanBuild};
 use crate::picking::pick;
 use analysis::invert;
 use frozen_packet::Updates;
-use ix_base::{Document, Fields, Numbers, Row, Text};
+use ix_base::Row;
 use ram_postings::Frozen;
 use segment_core::{LiveSegment, build};
 use std::alloc::Global;
 use std::fmt::Write;
 use std::test::*;
-
-fn row_of(alloc: Global, birth: u64) -> Result<Row, Fail> {
-    let key = Text::new(String::from_str(alloc, "a")?).ok_or("long")?;
-    let doc = Document::of_key(alloc, key);
-    Ok(Row { birth, doc })
-}
+use test_values::row_of;
 
 fn rows_of(alloc: Global, births: &[u64]) -> Result<Vec<Row>, Fail>
     ensures { IfOk result (λ rows. length rows.items ≡ length births.now) }
 {
     let mut rows = Vec::new(alloc);
     for birth in births {
-        rows.push(row_of(alloc, *birth)?)?;
+        rows.push(row_of(alloc, *birth, "a")?)?;
     }
     Ok(rows)
 }

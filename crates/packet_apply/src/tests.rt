@@ -8,7 +8,6 @@ use crate::applying::apply;
 use crate::parallel::apply_all;
 use analysis::invert;
 use frozen_packet::{Packet, Updates};
-use ix_base::{Document, Fields, Name, Numbers, Row, Term, Text};
 use live_docs::LiveDocs;
 use node_words::Entry;
 use ram_postings::Frozen;
@@ -16,28 +15,7 @@ use segment_core::{LiveSegment, build};
 use std::alloc::Global;
 use std::fmt::Write;
 use std::test::*;
-
-fn text_of(alloc: Global, text: &str) -> Result<Text, Fail> {
-    Ok(Text::new(String::from_str(alloc, text)?).ok_or("long")?)
-}
-
-fn name_of(alloc: Global, text: &str) -> Result<Name, Fail> {
-    Ok(Name::new(text_of(alloc, text)?).ok_or("no name")?)
-}
-
-fn key_term(alloc: Global, key: &str) -> Result<Term, Fail> {
-    let field = name_of(alloc, "key")?;
-    let bytes = text_of(alloc, key)?;
-    Ok(Term { field, bytes })
-}
-
-fn row_of(alloc: Global, birth: u64, key: &str) -> Result<Row, Fail> {
-    let none = Numbers::none(alloc);
-    let fields = Fields::none(alloc);
-    let doc = Document::new(text_of(alloc, key)?, Fields::none(alloc), fields, none);
-    let doc = doc.ok_or("names that stand twice")?;
-    Ok(Row { birth, doc })
-}
+use test_values::{key_term, name_of, row_of};
 
 /// Two rows, with the keys `a` and `b`.
 fn two_rows(alloc: Global, birth: u64) -> Result<Frozen, Fail>

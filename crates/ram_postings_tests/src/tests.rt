@@ -2,24 +2,21 @@
 ghost use Rattle.std.specs.Prelude.{◌<◌, ◌^◌, length};
 
 use analysis::{analyse, invert};
-use ix_base::{Document, Fields, Name, Numbers, Postings, Row, Spots, TermPostings, Text};
+use ix_base::{Document, Numbers, Postings, Row, Spots, TermPostings};
 use ram_postings::{Frozen, RamPostings};
 use std::alloc::Global;
 use std::fmt::Write;
 use std::test::Fail;
+use test_values::{field_of, text_of};
 
-fn text_of(alloc: Global, text: &str) -> Result<Text, Fail> {
-    Ok(Text::new(String::from_str(alloc, text)?).ok_or("long")?)
-}
-
-fn fields_of(alloc: Global, name: &str, text: &str) -> Result<Fields, Fail> {
-    let name = Name::new(text_of(alloc, name)?).ok_or("name")?;
-    Ok(Fields::from_vec(vec![in alloc; (name, text_of(alloc, text)?)]?))
-}
-
-pub fn document_of(alloc: Global, key: &str, body: &str, tag: &str) -> Result<Document, Fail> {
-    let text = fields_of(alloc, "body", body)?;
-    let exact = fields_of(alloc, "tag", tag)?;
+pub(crate) fn document_of(
+    alloc: Global,
+    key: &str,
+    body: &str,
+    tag: &str,
+) -> Result<Document, Fail> {
+    let text = field_of(alloc, "body", body)?;
+    let exact = field_of(alloc, "tag", tag)?;
     let doc = Document::new(text_of(alloc, key)?, text, exact, Numbers::none(alloc));
     Ok(doc.ok_or("names aren't apart")?)
 }

@@ -3,10 +3,7 @@ ghost use Rattle.std.specs.Prelude.{◌≤◌};
 
 use analysis::invert;
 use commit_point::OpenFault;
-use ix_base::{
-    Document, Fields, FileName, Hit, List, Name, Numbers, PhraseText, Queries, Query, Row, Term,
-    Text,
-};
+use ix_base::{Document, Fields, FileName, Hit, List, PhraseText, Queries, Query, Row, Term};
 use ix_memory::MemoryStore;
 use ix_outside::Store;
 use live_docs::LiveDocs;
@@ -15,19 +12,10 @@ use segment_core::{LiveSegment, Segment};
 use std::alloc::Global;
 use std::fmt::Write;
 use std::test::*;
-
-fn text_of(alloc: Global, text: &str) -> Result<Text, Fail> {
-    Ok(Text::new(String::from_str(alloc, text)?).ok_or("long")?)
-}
-
-fn name_of(alloc: Global, name: &str) -> Result<Name, Fail> {
-    Ok(Name::new(text_of(alloc, name)?).ok_or("name")?)
-}
+use test_values::{field_of, name_of, number_of, term_of, text_of};
 
 fn term(alloc: Global, field: &str, bytes: &str) -> Result<Query, Fail> {
-    let field = name_of(alloc, field)?;
-    let bytes = text_of(alloc, bytes)?;
-    Ok(Query::Term(Term { field, bytes }))
+    Ok(Query::Term(term_of(alloc, field, bytes)?))
 }
 
 fn phrase(alloc: Global, field: &str, text: &str) -> Result<Query, Fail> {
@@ -37,9 +25,8 @@ fn phrase(alloc: Global, field: &str, text: &str) -> Result<Query, Fail> {
 
 /// A row with a key, a text `body` and a number `pages`.
 fn row_of(alloc: Global, birth: u64, key: &str, body: &str, pages: i64) -> Result<Row, Fail> {
-    let body = text_of(alloc, body)?;
-    let text = Fields::from_vec(vec![in alloc; (name_of(alloc, "body")?, body)]?);
-    let num = Numbers::from_vec(vec![in alloc; (name_of(alloc, "pages")?, pages)]?);
+    let text = field_of(alloc, "body", body)?;
+    let num = number_of(alloc, "pages", pages)?;
     let doc = Document::new(text_of(alloc, key)?, text, Fields::none(alloc), num);
     let doc = doc.ok_or("names aren't apart")?;
     Ok(Row { birth, doc })

@@ -1,32 +1,18 @@
 //! A segment of two rows, asked by hand.
 use analysis::invert;
-use ix_base::{Document, Fields, List, Name, Numbers, Row, Term, Text};
+use ix_base::{Document, Fields, List, Numbers, Row};
 use query_core::Inverted;
 use segment_core::Segment;
 use std::alloc::Global;
 use std::test::*;
-
-fn text_of(alloc: Global, text: &str) -> Result<Text, Fail> {
-    Ok(Text::new(String::from_str(alloc, text)?).ok_or("long")?)
-}
-
-pub fn name_of(alloc: Global, text: &str) -> Result<Name, Fail> {
-    Ok(Name::new(text_of(alloc, text)?).ok_or("no name")?)
-}
+use test_values::{field_of, term_of, text_of};
 
 /// A row whose document has this key and these words.
-pub fn row_of(alloc: Global, birth: u64, key: &str, words: &str) -> Result<Row, Fail> {
-    let key = text_of(alloc, key)?;
-    let words = text_of(alloc, words)?;
-    let mut text = Vec::new(alloc);
-    text.push((name_of(alloc, "body")?, words))?;
-    let doc = Document::new(
-        key,
-        Fields::from_vec(text),
-        Fields::none(alloc),
-        Numbers::none(alloc),
-    )
-    .ok_or("names that stand twice")?;
+pub(crate) fn row_of(alloc: Global, birth: u64, key: &str, words: &str) -> Result<Row, Fail> {
+    let text = field_of(alloc, "body", words)?;
+    let (exact, num) = (Fields::none(alloc), Numbers::none(alloc));
+    let doc = Document::new(text_of(alloc, key)?, text, exact, num);
+    let doc = doc.ok_or("names that stand twice")?;
     Ok(Row { birth, doc })
 }
 
@@ -40,13 +26,6 @@ fn two_rows(alloc: Global) -> Result<Segment, Fail> {
         id: 7,
         rows: List::from_vec(rows),
         postings,
-    })
-}
-
-pub fn term_of(alloc: Global, field: &str, word: &str) -> Result<Term, Fail> {
-    Ok(Term {
-        field: name_of(alloc, field)?,
-        bytes: text_of(alloc, word)?,
     })
 }
 

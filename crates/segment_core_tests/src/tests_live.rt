@@ -3,7 +3,7 @@ ghost use Rattle.std.specs.Prelude.{IfOk, OnOk};
 ghost use Rattle.frozen_packet.specs.Updates.{as_operations, NumberedUpTo};
 ghost use Rattle.segment_core.specs.LiveRows.{CanBuild};
 
-use crate::tests::{name_of, row_of, term_of};
+use crate::tests::row_of;
 use analysis::invert;
 use frozen_packet::Updates;
 use ix_base::Query;
@@ -13,6 +13,7 @@ use segment_core::{LiveSegment, build};
 use std::alloc::Global;
 use std::fmt::Write;
 use std::test::*;
+use test_values::{name_of, term_of};
 
 /// Rows born by the operations 3, 5 and 7.
 fn three_rows(alloc: Global) -> Result<Frozen, Fail>

@@ -2,7 +2,7 @@
 ghost use Rattle.ix_base.specs.FileNames.{IsFileName};
 
 use commit_point::OpenFault;
-use ix_base::{Damaged, FileName, Name, Query, Term, Text};
+use ix_base::{Damaged, FileName, Query, Term};
 use ix_memory::MemoryStore;
 use ix_outside::{Store, StoreFault};
 use op_script::Question;
@@ -10,6 +10,7 @@ use std::alloc::Global;
 use std::fmt::Write;
 use std::test::*;
 use store_answers::{ListFault, ask, list};
+use test_values::key_term;
 
 /// The commit file of commit 2: one document, the next id 2, and segment 1.
 const COMMIT_2: &str =
@@ -126,16 +127,8 @@ fn all(line: u32) -> Question {
 
 /// A question for the documents of this key.
 fn of_key(alloc: Global, line: u32, key: &str) -> Result<Question, Fail> {
-    let field = Name::new(text_of(alloc, "key")?).ok_or("name")?;
-    let bytes = text_of(alloc, key)?;
-    Ok(Question {
-        line,
-        query: Query::Term(Term { field, bytes }),
-    })
-}
-
-fn text_of(alloc: Global, text: &str) -> Result<Text, Fail> {
-    Ok(Text::new(String::from_str(alloc, text)?).ok_or("long")?)
+    let query = Query::Term(key_term(alloc, key)?);
+    Ok(Question { line, query })
 }
 
 #[test]

@@ -7,10 +7,11 @@ ghost use Rattle.thread_writer.specs.Writing.{IsWriter};
 use crate::{Piece, ThreadWriter, Told};
 use delete_queue::{DeleteQueue, Linked};
 use frozen_packet::Updates;
-use ix_base::{Document, Fields, Name, Numbers, Operation, Query, Term, Text};
+use ix_base::{Operation, Query, Term};
 use std::alloc::Global;
 use std::fmt::Write;
 use std::test::*;
+use test_values::{document_of, key_term, name_of};
 
 /// What a line does.
 #[derive(Clone, Copy)]
@@ -23,36 +24,15 @@ enum Act {
     Commit,
 }
 
-fn text_of(alloc: Global, text: &str) -> Result<Text, Fail> {
-    Ok(Text::new(String::from_str(alloc, text)?).ok_or("long")?)
-}
-
-fn name_of(alloc: Global, text: &str) -> Result<Name, Fail> {
-    Ok(Name::new(text_of(alloc, text)?).ok_or("no name")?)
-}
-
-fn term_of(alloc: Global, key: &str) -> Result<Term, Fail> {
-    let field = name_of(alloc, "key")?;
-    let bytes = text_of(alloc, key)?;
-    Ok(Term { field, bytes })
-}
-
-fn document_of(alloc: Global, key: &str) -> Result<Document, Fail> {
-    let none = Numbers::none(alloc);
-    let fields = Fields::none(alloc);
-    let doc = Document::new(text_of(alloc, key)?, Fields::none(alloc), fields, none);
-    Ok(doc.ok_or("names that stand twice")?)
-}
-
 fn setting_of(alloc: Global, key: &str) -> Result<Operation, Fail> {
-    let term = term_of(alloc, key)?;
+    let term = key_term(alloc, key)?;
     let num = name_of(alloc, "n")?;
     let value = 4;
     Ok(Operation::SetNumber { term, num, value })
 }
 
 fn update_of(alloc: Global, key: &str) -> Result<Operation, Fail> {
-    let term = term_of(alloc, key)?;
+    let term = key_term(alloc, key)?;
     Ok(Operation::Update(term, document_of(alloc, key)?))
 }
 
@@ -60,8 +40,8 @@ fn operation_of(alloc: Global, act: Act, key: &str) -> Result<Operation, Fail> {
     match act {
         Act::Add => Ok(Operation::Add(document_of(alloc, key)?)),
         Act::Update => update_of(alloc, key),
-        Act::Delete => Ok(Operation::DeleteTerm(term_of(alloc, key)?)),
-        Act::DeleteByQuery => Ok(Operation::DeleteQuery(Query::Term(term_of(alloc, key)?))),
+        Act::Delete => Ok(Operation::DeleteTerm(key_term(alloc, key)?)),
+        Act::DeleteByQuery => Ok(Operation::DeleteQuery(Query::Term(key_term(alloc, key)?))),
         Act::Set => setting_of(alloc, key),
         Act::Commit => Ok(Operation::Commit),
     }
