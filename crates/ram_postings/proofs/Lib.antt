@@ -1,6 +1,6 @@
 mod MovedSpots
 mod KeptLists
-mod BornRows
+pub mod BornRows
 mod KeptDocuments
 mod WholeBuffer
 mod MarksPlaced

@@ -113,11 +113,15 @@ fn numbered_and_refused(rt: HostRuntime) -> Result<(), Fail> {
     let term = refused_text(alloc, 2, Refusal::Term { size: 32767 })
         .ok()
         .ok_or("memory")?;
-    assert!(rt; term.as_slice() == b"{\"line\":2,\"refused\":\"term\",\"size\":32767}\n".as_slice());
+    assert!(rt;
+        term.as_slice() == b"{\"line\":2,\"refused\":\"term\",\"size\":32767}\n".as_slice()
+    );
     let query = refused_text(alloc, 7, Refusal::Query { size: 65536 })
         .ok()
         .ok_or("memory")?;
-    assert!(rt; query.as_slice() == b"{\"line\":7,\"refused\":\"query\",\"size\":65536}\n".as_slice());
+    assert!(rt;
+        query.as_slice() == b"{\"line\":7,\"refused\":\"query\",\"size\":65536}\n".as_slice()
+    );
     Ok(())
 }
 
@@ -135,7 +139,9 @@ fn commits_and_summaries(rt: HostRuntime) -> Result<(), Fail> {
         sum: 12_350,
     };
     let text = summary_text(alloc, summary).ok().ok_or("memory")?;
-    assert!(rt; text.as_slice() == b"{\"commits\":1,\"docs\":7,\"lines\":11,\"sum\":12350}\n".as_slice());
+    assert!(rt;
+        text.as_slice() == b"{\"commits\":1,\"docs\":7,\"lines\":11,\"sum\":12350}\n".as_slice()
+    );
     Ok(())
 }
 
@@ -189,11 +195,17 @@ fn searches(rt: HostRuntime) -> Result<(), Fail> {
     let one = search_text(alloc, 5, &hits.as_slice()[1..2], 8)
         .ok()
         .ok_or("memory")?;
-    assert!(rt; one.as_slice() == "{\"commit\":5,\"hits\":[{\"key\":\"bob/1\",\"num\":{\"date\":20240301,\"size\":298}}],\"line\":8}\n".as_bytes());
+    assert!(rt;
+        one.as_slice()
+            == "{\"commit\":5,\"hits\":[{\"key\":\"bob/1\",\"num\":{\"date\":20240301,\"size\":298}}],\"line\":8}\n".as_bytes()
+    );
     hits.reverse();
     let two = search_text(alloc, 5, hits.as_slice(), 9)
         .ok()
         .ok_or("memory")?;
-    assert!(rt; two.as_slice() == "{\"commit\":5,\"hits\":[{\"key\":\"say \\\"\u{e9}\\n\\\"\",\"num\":{\"n\":-7}},{\"key\":\"bob/1\",\"num\":{\"date\":20240301,\"size\":298}},{\"key\":\"ann/1\",\"num\":{\"date\":20240301,\"size\":412}}],\"line\":9}\n".as_bytes());
+    assert!(rt;
+        two.as_slice()
+            == "{\"commit\":5,\"hits\":[{\"key\":\"say \\\"\u{e9}\\n\\\"\",\"num\":{\"n\":-7}},{\"key\":\"bob/1\",\"num\":{\"date\":20240301,\"size\":298}},{\"key\":\"ann/1\",\"num\":{\"date\":20240301,\"size\":412}}],\"line\":9}\n".as_bytes()
+    );
     Ok(())
 }
