@@ -14,7 +14,7 @@ use std::alloc::Global;
 use std::fmt::Write;
 use std::test::*;
 use std::thread::Threads;
-use test_values::name_of;
+use test_values::{name_of, show_told};
 use thread_writer::Piece;
 
 /// Does a line of a script.
@@ -266,24 +266,29 @@ fn three_rounds(rt: HostRuntime) -> Result<(), Fail> {
 /// Shows what a line is told.
 fn show_answer(out: &mut String, answer: Answer) -> Result<(), Fail> {
     match answer {
-        Answer::Numbered(number) => write!(out, " {number}")?,
-        Answer::Refused(Refusal::Term { size }) => write!(out, " term {size}")?,
-        Answer::Refused(Refusal::Query { size }) => write!(out, " query {size}")?,
-        Answer::Closed => write!(out, " closed")?,
-        Answer::NoMemory => write!(out, " memory")?,
+        Answer::Numbered(number) => show_told(out, "", &[number]),
+        Answer::Refused(Refusal::Term { size }) => show_told(out, " term", &[size]),
+        Answer::Refused(Refusal::Query { size }) => show_told(out, " query", &[size]),
+        Answer::Closed => show_told(out, " closed", &[]),
+        Answer::NoMemory => show_told(out, " memory", &[]),
     }
+}
+
+/// A piece that a writer gave off: its rows with their births.
+fn show_piece(out: &mut String, piece: &Piece) -> Result<(), Fail> {
+    write!(out, " [{}:", piece.worker)?;
+    for row in piece.frozen.rows.as_slice() {
+        write!(out, " {}{}", row.doc.key.as_str(), row.birth)?;
+    }
+    out.push_str("]")?;
     Ok(())
 }
 
-/// What a writer gave off: of each piece its rows with their births.
+/// What a writer gave off.
 fn show_pieces(out: &mut String, pieces: &[Piece]) -> Result<(), Fail> {
-    write!(out, ";")?;
+    out.push_str(";")?;
     for piece in pieces {
-        write!(out, " [{}:", piece.worker)?;
-        for row in piece.frozen.rows.as_slice() {
-            write!(out, " {}{}", row.doc.key.as_str(), row.birth)?;
-        }
-        write!(out, "]")?;
+        show_piece(out, piece)?;
     }
     Ok(())
 }

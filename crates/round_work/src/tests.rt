@@ -15,6 +15,7 @@ use std::fmt::Write;
 use std::sync::Wait;
 use std::test::*;
 use std::thread::Threads;
+use test_values::show_told;
 use thread_writer::ThreadWriter;
 
 fn adding(alloc: Global, line: u32, key: &str) -> Result<Task, Fail> {
@@ -33,21 +34,26 @@ fn writer_for(alloc: Global, queue: &DeleteQueue, seat: Seat, share: &Share) -> 
     ThreadWriter::make(alloc, seat, 1)
 }
 
+/// Shows what a task was told.
+fn show_reply(out: &mut String, reply: &Reply) -> Result<(), Fail> {
+    match reply {
+        Reply::Numbered(number) => show_told(out, "", &[*number]),
+        Reply::Refused(Refusal::Term { size }) => show_told(out, " term", &[*size]),
+        Reply::Refused(Refusal::Query { size }) => show_told(out, " query", &[*size]),
+    }
+}
+
 /// Shows what the tasks were told, why the worker stopped, and how many pieces its writer gave off.
 fn show(out: &mut String, stop: Stop, share: &Share, pieces: usize) -> Result<(), Fail> {
     for reply in share.replies() {
-        match reply {
-            Reply::Numbered(number) => write!(out, " {number}")?,
-            Reply::Refused(Refusal::Term { size }) => write!(out, " term {size}")?,
-            Reply::Refused(Refusal::Query { size }) => write!(out, " query {size}")?,
-        }
+        show_reply(out, reply)?;
     }
-    match stop {
-        Stop::Done => write!(out, " done")?,
-        Stop::Closed => write!(out, " closed")?,
-        Stop::NoMemory => write!(out, " memory")?,
-    }
-    write!(out, " {pieces};")?;
+    let why = match stop {
+        Stop::Done => "done",
+        Stop::Closed => "closed",
+        Stop::NoMemory => "memory",
+    };
+    write!(out, " {why} {pieces};")?;
     Ok(())
 }
 

@@ -1,8 +1,10 @@
-//! Texts, names, terms, documents and rows for tests, made of plain strings.
+//! Texts, names, terms, documents and rows for tests, made of plain strings, and a way to show what a
+//! line is told.
 #![tactic(auto)]
 
 use ix_base::{Document, Fields, Name, Numbers, Row, Term, Text};
 use std::alloc::Global;
+use std::fmt::Write;
 use std::test::Fail;
 
 /// A text of these bytes. It fails where they are too many, or memory runs out.
@@ -48,4 +50,13 @@ pub fn document_of(alloc: Global, key: &str) -> Result<Document, Fail> {
 pub fn row_of(alloc: Global, birth: u64, key: &str) -> Result<Row, Fail> {
     let doc = document_of(alloc, key)?;
     Ok(Row { birth, doc })
+}
+
+/// Appends a word and these numbers, each behind a blank.
+pub fn show_told(out: &mut String, word: &str, numbers: &[u64]) -> Result<(), Fail> {
+    out.push_str(word)?;
+    for number in numbers {
+        write!(out, " {number}")?;
+    }
+    Ok(())
 }

@@ -11,7 +11,7 @@ use ix_base::{Operation, Query, Term};
 use std::alloc::Global;
 use std::fmt::Write;
 use std::test::*;
-use test_values::{document_of, key_term, name_of};
+use test_values::{document_of, key_term, name_of, show_told};
 
 /// What a line does.
 #[derive(Clone, Copy)]
@@ -72,16 +72,15 @@ fn two_writers(
     Ok((queue, first, second))
 }
 
-fn show_told(out: &mut String, told: Told) -> Result<(), Fail> {
+fn show_answer(out: &mut String, told: Told) -> Result<(), Fail> {
     match told {
-        Told::Numbered(number) => write!(out, " {number}")?,
-        Told::RefusedTerm { size } => write!(out, " term {size}")?,
-        Told::RefusedQuery { size } => write!(out, " query {size}")?,
-        Told::Closed => write!(out, " closed")?,
-        Told::Full { need, left } => write!(out, " full {need} {left}")?,
-        Told::NoMemory => write!(out, " memory")?,
+        Told::Numbered(number) => show_told(out, "", &[number]),
+        Told::RefusedTerm { size } => show_told(out, " term", &[size]),
+        Told::RefusedQuery { size } => show_told(out, " query", &[size]),
+        Told::Closed => show_told(out, " closed", &[]),
+        Told::Full { need, left } => show_told(out, " full", &[need, left]),
+        Told::NoMemory => show_told(out, " memory", &[]),
     }
-    Ok(())
 }
 
 fn show_updates(out: &mut String, updates: &Updates) -> Result<(), Fail> {
@@ -152,7 +151,7 @@ fn step(
     requires { IsWriter queue.now writer.old }
     ensures { OnOk result (IsWriter queue.now writer.new) }
 {
-    show_told(out, told(alloc, queue, writer, line.0, line.1)?)?;
+    show_answer(out, told(alloc, queue, writer, line.0, line.1)?)?;
     take(queue, writer, out)
 }
 
