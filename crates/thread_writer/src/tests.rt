@@ -316,7 +316,7 @@ fn delete_or_turn(
     ensures { OnOk result (IsWriter queue.now writer.new) }
 {
     let told = told(alloc, queue, writer, Act::Delete, "abcdef")?;
-    show_told(out, told)?;
+    show_answer(out, told)?;
     match told {
         Told::Full { .. } => show_turn(out, writer.turn(queue)),
         _ => Ok(()),
