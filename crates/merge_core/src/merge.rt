@@ -16,6 +16,7 @@ use ix_base::{Analysed, List, NoMemory, Row};
 use ram_postings::{Frozen, RamPostings};
 use segment_core::{LiveSegment, Segment};
 use std::alloc::Global;
+use std::slice;
 
 /// What was read of the segments that are merged, its sources. It names them by their ids, and reads
 /// them in the list that is passed to each call: their live docs may be others by then, in which
@@ -51,8 +52,7 @@ fn analysed(alloc: Global, row: &Row) -> Result<Analysed, NoMemory>
     ensures doc { IfOk result (λ made. made.doc ≡ row.now.doc) }
     ensures inversion { IfOk result (λ made. IsInversion (made.doc ∷ []) made.postings) }
 {
-    let rows = vec![in alloc; row.clone_in(alloc)?]?;
-    let postings = invert(alloc, rows.as_slice())?;
+    let postings = invert(alloc, slice::from_ref(row))?;
     let doc = row.doc.clone_in(alloc)?;
     Ok(Analysed { doc, postings })
 }
