@@ -57,15 +57,24 @@ fn searcher_of(alloc: Global, first: Vec<Row>, second: Vec<Row>) -> Result<Searc
     })
 }
 
+/// Rows with these births, keys, texts and numbers.
+fn given_rows(alloc: Global, given: &[(u64, &str, &str, i64)]) -> Result<Vec<Row>, Fail> {
+    let mut rows = Vec::new(alloc);
+    for (birth, key, body, pages) in given {
+        rows.push(row_of(alloc, *birth, key, body, *pages)?)?;
+    }
+    Ok(rows)
+}
+
+/// The rows of the births 1 and 4.
+fn first_rows(alloc: Global) -> Result<Vec<Row>, Fail> {
+    given_rows(alloc, &[(1, "a", "red fox", 10), (4, "d", "red blue", -40)])
+}
+
 /// Two segments, with births 1 and 4, and 2 and 3.
 fn four_rows(alloc: Global) -> Result<Searcher, Fail> {
-    let mut first = Vec::new(alloc);
-    first.push(row_of(alloc, 1, "a", "red fox", 10)?)?;
-    first.push(row_of(alloc, 4, "d", "red blue", -40)?)?;
-    let mut second = Vec::new(alloc);
-    second.push(row_of(alloc, 2, "b", "blue fox", 20)?)?;
-    second.push(row_of(alloc, 3, "c", "fox red", 30)?)?;
-    searcher_of(alloc, first, second)
+    let second = given_rows(alloc, &[(2, "b", "blue fox", 20), (3, "c", "fox red", 30)])?;
+    searcher_of(alloc, first_rows(alloc)?, second)
 }
 
 fn show_hit(shown: &mut String, hit: &Hit) -> Result<(), Fail> {
@@ -129,10 +138,7 @@ fn rows_that_must_not_match_are_left_out(rt: HostRuntime) -> Result<(), Fail> {
 
 /// The same rows, of which the first is dead and the third has numbers that were set in it.
 fn three_of_four(alloc: Global) -> Result<Searcher, Fail> {
-    let mut first = Vec::new(alloc);
-    first.push(row_of(alloc, 1, "a", "red fox", 10)?)?;
-    first.push(row_of(alloc, 4, "d", "red blue", -40)?)?;
-    let mut segment = segment_of(alloc, 1, first)?;
+    let mut segment = segment_of(alloc, 1, first_rows(alloc)?)?;
     let mut live = LiveDocs::new(alloc, 2, 4)?;
     live.kill(0);
     live.set_value(alloc, 1, &name_of(alloc, "pages")?, 41)?;

@@ -61,22 +61,32 @@ const LIVE_2_9: &str = "49584c4956303031 0000000000000002 0000000000000009 00000
 const VALUES_2_9: &str =
     "495856414c303031 0000000000000002 0000000000000009 00000002 0000000000000000";
 
+/// A store of these files.
+fn store_of(alloc: Global, files: &[(FileName, &str)]) -> Result<MemoryStore, Fail> {
+    let mut store = MemoryStore::new(alloc);
+    for (name, text) in files {
+        put(alloc, &mut store, *name, text, 200)?;
+    }
+    Ok(store)
+}
+
 /// A store of the commits 4 and 9.
 fn two_commits(alloc: Global) -> Result<MemoryStore, Fail> {
-    let mut store = MemoryStore::new(alloc);
-    put(alloc, &mut store, FileName::Rows(1), ROWS_1, 200)?;
-    put(alloc, &mut store, FileName::Posts(1), POSTS_1, 200)?;
-    put(alloc, &mut store, FileName::Live(1, 4), LIVE_1_4, 200)?;
-    put(alloc, &mut store, FileName::Values(1, 4), VALUES_1_4, 200)?;
-    put(alloc, &mut store, FileName::Commit(4), COMMIT_4, 200)?;
-    put(alloc, &mut store, FileName::Rows(2), ROWS_2, 200)?;
-    put(alloc, &mut store, FileName::Posts(2), POSTS_2, 200)?;
-    put(alloc, &mut store, FileName::Live(1, 9), LIVE_1_9, 200)?;
-    put(alloc, &mut store, FileName::Values(1, 9), VALUES_1_9, 200)?;
-    put(alloc, &mut store, FileName::Live(2, 9), LIVE_2_9, 200)?;
-    put(alloc, &mut store, FileName::Values(2, 9), VALUES_2_9, 200)?;
-    put(alloc, &mut store, FileName::Commit(9), COMMIT_9, 200)?;
-    Ok(store)
+    let files = [
+        (FileName::Rows(1), ROWS_1),
+        (FileName::Posts(1), POSTS_1),
+        (FileName::Live(1, 4), LIVE_1_4),
+        (FileName::Values(1, 4), VALUES_1_4),
+        (FileName::Commit(4), COMMIT_4),
+        (FileName::Rows(2), ROWS_2),
+        (FileName::Posts(2), POSTS_2),
+        (FileName::Live(1, 9), LIVE_1_9),
+        (FileName::Values(1, 9), VALUES_1_9),
+        (FileName::Live(2, 9), LIVE_2_9),
+        (FileName::Values(2, 9), VALUES_2_9),
+        (FileName::Commit(9), COMMIT_9),
+    ];
+    store_of(alloc, &files)
 }
 
 /// Of each hit its key, and its numbers.
@@ -92,23 +102,28 @@ fn shown(alloc: Global, hits: &[Hit]) -> Result<String, Fail> {
     Ok(shown)
 }
 
+/// What was born after a number, of the rows of a commit.
+fn own(alloc: Global, store: &mut MemoryStore, commit: u64, after: u64) -> Result<String, Fail> {
+    shown(alloc, own_hits(alloc, store, commit, after)?.as_slice())
+}
+
 #[test]
 fn rows_since_a_commit(rt: HostRuntime) -> Result<(), Fail> {
     let alloc = rt.alloc();
     let mut store = two_commits(alloc)?;
-    let since = own_hits(alloc, &mut store, 9, 4)?;
-    assert!(rt; shown(alloc, since.as_slice())?.as_str() == "b1;b2 n -2;");
-    let all = own_hits(alloc, &mut store, 9, 0)?;
-    assert!(rt; shown(alloc, all.as_slice())?.as_str() == "a1;a3 n 7;b1;b2 n -2;");
-    let first = own_hits(alloc, &mut store, 4, 0)?;
-    assert!(rt; shown(alloc, first.as_slice())?.as_str() == "a1;a2;a3;");
-    let none = own_hits(alloc, &mut store, 9, 9)?;
-    assert!(rt; none.len() == 0);
-    let gone = Damaged {
-        file: FileName::Commit(5),
-        at: 0,
-    };
+    assert!(rt; own(alloc, &mut store, 9, 4)?.as_str() == "b1;b2 n -2;");
+    assert!(rt; own(alloc, &mut store, 9, 0)?.as_str() == "a1;a3 n 7;b1;b2 n -2;");
+    assert!(rt; own(alloc, &mut store, 4, 0)?.as_str() == "a1;a2;a3;");
+    assert!(rt; own(alloc, &mut store, 9, 9)?.as_str() == "");
+    Ok(())
+}
+
+#[test]
+fn a_commit_that_is_not_there(rt: HostRuntime) -> Result<(), Fail> {
+    let alloc = rt.alloc();
+    let mut store = two_commits(alloc)?;
+    let (file, at) = (FileName::Commit(5), 0);
     let fault = own_hits(alloc, &mut store, 5, 4).err();
-    assert!(rt; fault == Some(OpenFault::Damaged(gone)));
+    assert!(rt; fault == Some(OpenFault::Damaged(Damaged { file, at })));
     Ok(())
 }
