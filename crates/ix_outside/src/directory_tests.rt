@@ -1,8 +1,5 @@
 //! What no clause says: what the store of a directory asks of the system, in which order, and what it
 //! makes of the answers.
-ghost use Rattle.std.specs.Prelude.{◌≢◌};
-ghost use Rattle.ix_base.specs.FileNames.{IsFileName};
-
 use crate::odd_outside::OddDirectory;
 use crate::recorded_system::{Journal, RecordedSystem};
 use crate::{DirStore, Store, StoreFault};
@@ -19,48 +16,9 @@ fn store_at(rt: &HostRuntime, path: &str) -> Option<DirStore<HostRuntime>> {
     Some(DirStore::new(rt.clone().ok()?, path))
 }
 
-/// Calls of a store. Nothing is asked of what they return here but what each test compares, and so
-/// none of the clauses of `Store` is carried along.
-fn list<S: Store>(store: &mut S, alloc: Global) -> Result<Vec<FileName>, StoreFault> {
-    store.list(alloc)
-}
-
-fn read<S: Store>(
-    store: &mut S,
-    alloc: Global,
-    name: FileName,
-) -> Result<Option<Vec<u8>>, StoreFault> {
-    store.read(alloc, name)
-}
-
-fn write<S: Store>(store: &mut S, name: FileName, bytes: &[u8]) -> Result<(), StoreFault>
-    requires { IsFileName name }
-{
-    store.write(name, bytes)
-}
-
-fn sync<S: Store>(store: &mut S, name: FileName) -> Result<(), StoreFault> {
-    store.sync(name)
-}
-
-fn rename<S: Store>(store: &mut S, from: FileName, to: FileName) -> Result<(), StoreFault>
-    requires name { IsFileName to }
-    requires apart { from ≢ to }
-{
-    store.rename(from, to)
-}
-
-fn delete<S: Store>(store: &mut S, name: FileName) -> Result<(), StoreFault> {
-    store.delete(name)
-}
-
-fn sync_all<S: Store>(store: &mut S) -> Result<(), StoreFault> {
-    store.sync_all()
-}
-
 /// Whether the file has these bytes.
 fn has<S: Store>(alloc: Global, store: &mut S, name: FileName, want: &[u8]) -> bool {
-    match read(store, alloc, name) {
+    match store.read(alloc, name) {
         Ok(Some(bytes)) => bytes.as_slice() == want,
         _ => false,
     }
@@ -68,7 +26,7 @@ fn has<S: Store>(alloc: Global, store: &mut S, name: FileName, want: &[u8]) -> b
 
 /// Whether there is no such file.
 fn lacks<S: Store>(alloc: Global, store: &mut S, name: FileName) -> bool {
-    matches!(read(store, alloc, name), Ok(None))
+    matches!(store.read(alloc, name), Ok(None))
 }
 
 #[test]
@@ -79,13 +37,13 @@ fn missing_directory_is_a_failure(rt: HostRuntime) {
         panic!(rt; "memory");
     };
     let rows = FileName::Rows(1);
-    assert!(rt; list(&mut store, rt.alloc()).err() == Some(StoreFault::Failed));
-    assert!(rt; read(&mut store, rt.alloc(), rows).err() == Some(StoreFault::Failed));
-    assert!(rt; write(&mut store, rows, b"rows") == Err(StoreFault::Failed));
-    assert!(rt; sync(&mut store, rows) == Err(StoreFault::Failed));
-    assert!(rt; rename(&mut store, rows, FileName::Rows(2)) == Err(StoreFault::Failed));
-    assert!(rt; delete(&mut store, rows) == Err(StoreFault::Failed));
-    assert!(rt; sync_all(&mut store) == Err(StoreFault::Failed));
+    assert!(rt; store.list(rt.alloc()).err() == Some(StoreFault::Failed));
+    assert!(rt; store.read(rt.alloc(), rows).err() == Some(StoreFault::Failed));
+    assert!(rt; store.write(rows, b"rows") == Err(StoreFault::Failed));
+    assert!(rt; store.sync(rows) == Err(StoreFault::Failed));
+    assert!(rt; store.rename(rows, FileName::Rows(2)) == Err(StoreFault::Failed));
+    assert!(rt; store.delete(rows) == Err(StoreFault::Failed));
+    assert!(rt; store.sync_all() == Err(StoreFault::Failed));
     assert!(rt; store.faults() == 7);
     assert!(rt; !fs::exists(&rt, path).expect(&rt, "an answer"));
 }
@@ -106,9 +64,9 @@ fn foreign_names_are_passed_over(rt: HostRuntime) {
     let Some(mut store) = store_at(&rt, path) else {
         panic!(rt; "memory");
     };
-    assert!(rt; list(&mut store, rt.alloc()).is_ok_and(|names| names.is_empty()));
-    assert!(rt; write(&mut store, FileName::Commit(2), b"two") == Ok(()));
-    let names = list(&mut store, rt.alloc()).unwrap_or(Vec::new(rt.alloc()));
+    assert!(rt; store.list(rt.alloc()).is_ok_and(|names| names.is_empty()));
+    assert!(rt; store.write(FileName::Commit(2), b"two") == Ok(()));
+    let names = store.list(rt.alloc()).unwrap_or(Vec::new(rt.alloc()));
     assert!(rt; names.as_slice() == [FileName::Commit(2)].as_slice());
     assert!(rt; store.faults() == 0);
     fs::remove_dir_all(&rt, path).expect(&rt, "to remove it");
@@ -124,7 +82,7 @@ fn too_long_a_file_is_a_failure(rt: HostRuntime) {
     let Some(mut store) = store_at(&rt, path) else {
         panic!(rt; "memory");
     };
-    assert!(rt; read(&mut store, rt.alloc(), FileName::Rows(1)).err() == Some(StoreFault::Failed));
+    assert!(rt; store.read(rt.alloc(), FileName::Rows(1)).err() == Some(StoreFault::Failed));
     assert!(rt; store.faults() == 1);
     fs::remove_dir_all(&rt, path).expect(&rt, "to remove it");
 }
@@ -136,7 +94,7 @@ fn only_files_are_listed_and_a_name_must_be_text(rt: HostRuntime) {
         b"segments_1\0segments_2\0notes\0pending_segments_5\0segments_3\0segments_4\0seg_6.row\0";
     let system = OddDirectory::new(rt.clone().expect(&rt, "memory"), entries);
     let mut store = DirStore::new(system, path);
-    let names = list(&mut store, rt.alloc()).unwrap_or(Vec::new(rt.alloc()));
+    let names = store.list(rt.alloc()).unwrap_or(Vec::new(rt.alloc()));
     let files = [FileName::Commit(1), FileName::Pending(5), FileName::Rows(6)];
     assert!(rt; names.as_slice() == files.as_slice());
     let path = String::from_str(rt.alloc(), ".").expect(&rt, "memory");
@@ -145,7 +103,7 @@ fn only_files_are_listed_and_a_name_must_be_text(rt: HostRuntime) {
         b"segments_1\0segments_\xff\0",
     );
     let mut store = DirStore::new(system, path);
-    assert!(rt; list(&mut store, rt.alloc()).err() == Some(StoreFault::Failed));
+    assert!(rt; store.list(rt.alloc()).err() == Some(StoreFault::Failed));
     assert!(rt; store.faults() == 1);
 }
 
@@ -171,20 +129,19 @@ fn recorded(rt: &HostRuntime, journal: &Journal, want: &str) -> bool {
     journal.take_lines(rt.alloc()).as_str() == want
 }
 
-/// A new file takes the place of an old one, and its first sync is followed by one of the directory.
 #[test]
-fn a_file_is_written_anew_and_synced(rt: HostRuntime) {
+fn what_is_asked_of_the_system_in_which_order(rt: HostRuntime) {
     let path = "ix_outside_order";
     assert!(rt; make_directory(&rt, path));
     let journal = Journal::new(rt.alloc());
     let Some(mut store) = recorded_at(&rt, path, &journal) else {
         panic!(rt; "memory");
     };
-    let rows = FileName::Rows(1);
-    assert!(rt; write(&mut store, rows, b"old") == Ok(()));
-    assert!(rt; write(&mut store, rows, b"one") == Ok(()));
-    assert!(rt; sync(&mut store, rows) == Ok(()));
-    assert!(rt; sync(&mut store, rows) == Ok(()));
+    let (rows, pending, commit) = (FileName::Rows(1), FileName::Pending(1), FileName::Commit(1));
+    assert!(rt; store.write(rows, b"old") == Ok(()));
+    assert!(rt; store.write(rows, b"one") == Ok(()));
+    assert!(rt; store.sync(rows) == Ok(()));
+    assert!(rt; store.sync(rows) == Ok(()));
     assert!(rt;
         recorded(
             &rt,
@@ -192,61 +149,26 @@ fn a_file_is_written_anew_and_synced(rt: HostRuntime) {
             "make seg_1.row\nwrite seg_1.row\nmake seg_1.row\nremove seg_1.row\nmake seg_1.row\nwrite seg_1.row\nsync seg_1.row\nopen ix_outside_order\nsync ix_outside_order\nopen seg_1.row\nsync seg_1.row\n"
         )
     );
-    fs::remove_dir_all(&rt, path).expect(&rt, "to remove it");
-}
-
-/// A file that is renamed is synced under its new name, and so is the directory.
-#[test]
-fn a_file_is_renamed_and_synced(rt: HostRuntime) {
-    let path = "ix_outside_rename";
-    assert!(rt; make_directory(&rt, path));
-    let journal = Journal::new(rt.alloc());
-    let Some(mut store) = recorded_at(&rt, path, &journal) else {
-        panic!(rt; "memory");
-    };
-    let (pending, commit) = (FileName::Pending(1), FileName::Commit(1));
-    assert!(rt; write(&mut store, pending, b"two") == Ok(()));
-    assert!(rt; rename(&mut store, pending, commit) == Ok(()));
-    assert!(rt; sync(&mut store, commit) == Ok(()));
-    assert!(rt; sync_all(&mut store) == Ok(()));
+    assert!(rt; store.write(pending, b"two") == Ok(()));
+    assert!(rt; store.rename(pending, commit) == Ok(()));
+    assert!(rt; store.sync(commit) == Ok(()));
+    assert!(rt; store.sync_all() == Ok(()));
     assert!(rt;
         recorded(
             &rt,
             &journal,
-            "make pending_segments_1\nwrite pending_segments_1\nrename pending_segments_1\nsync pending_segments_1\nopen ix_outside_rename\nsync ix_outside_rename\nopen ix_outside_rename\nsync ix_outside_rename\n"
+            "make pending_segments_1\nwrite pending_segments_1\nrename pending_segments_1\nsync pending_segments_1\nopen ix_outside_order\nsync ix_outside_order\nopen ix_outside_order\nsync ix_outside_order\n"
         )
     );
     assert!(rt; has(rt.alloc(), &mut store, commit, b"two"));
     assert!(rt; lacks(rt.alloc(), &mut store, pending));
-    assert!(rt; recorded(&rt, &journal, "open segments_1\n"));
-    fs::remove_dir_all(&rt, path).expect(&rt, "to remove it");
-}
-
-/// A delete of a file that isn't there asks nothing of the system, and a sync or a rename of it fails
-/// without asking.
-#[test]
-fn a_file_that_is_not_there(rt: HostRuntime) {
-    let path = "ix_outside_gone";
-    assert!(rt; make_directory(&rt, path));
-    let journal = Journal::new(rt.alloc());
-    let Some(mut store) = recorded_at(&rt, path, &journal) else {
-        panic!(rt; "memory");
-    };
-    let rows = FileName::Rows(1);
-    assert!(rt; write(&mut store, rows, b"one") == Ok(()));
-    assert!(rt; delete(&mut store, rows) == Ok(()));
-    assert!(rt; delete(&mut store, rows) == Ok(()));
+    assert!(rt; store.delete(rows) == Ok(()));
+    assert!(rt; store.delete(rows) == Ok(()));
     assert!(rt; lacks(rt.alloc(), &mut store, rows));
-    assert!(rt;
-        recorded(
-            &rt,
-            &journal,
-            "make seg_1.row\nwrite seg_1.row\nremove seg_1.row\n"
-        )
-    );
+    assert!(rt; recorded(&rt, &journal, "open segments_1\nremove seg_1.row\n"));
     assert!(rt; store.faults() == 0);
-    assert!(rt; sync(&mut store, rows) == Err(StoreFault::Failed));
-    assert!(rt; rename(&mut store, rows, FileName::Pending(1)) == Err(StoreFault::Failed));
+    assert!(rt; store.sync(rows) == Err(StoreFault::Failed));
+    assert!(rt; store.rename(rows, pending) == Err(StoreFault::Failed));
     assert!(rt; store.faults() == 2);
     assert!(rt; recorded(&rt, &journal, ""));
     fs::remove_dir_all(&rt, path).expect(&rt, "to remove it");
@@ -261,11 +183,11 @@ fn after_64_files_a_write_syncs(rt: HostRuntime) {
         panic!(rt; "memory");
     };
     for id in 1..65u64 {
-        assert!(rt; write(&mut store, FileName::Rows(id), b"x") == Ok(()));
+        assert!(rt; store.write(FileName::Rows(id), b"x") == Ok(()));
     }
     let lines = journal.take_lines(rt.alloc());
     assert!(rt; !lines.as_str().contains("sync"));
-    assert!(rt; write(&mut store, FileName::Rows(65), b"x") == Ok(()));
+    assert!(rt; store.write(FileName::Rows(65), b"x") == Ok(()));
     assert!(rt;
         recorded(
             &rt,
@@ -276,24 +198,14 @@ fn after_64_files_a_write_syncs(rt: HostRuntime) {
     fs::remove_dir_all(&rt, path).expect(&rt, "to remove it");
 }
 
-/// Three million bytes in a pattern.
-fn large(alloc: Global) -> Vec<u8> {
-    let mut bytes = Vec::new(alloc);
-    for place in 0..3_000_000u32 {
-        if bytes.push((place % 251) as u8).is_err() {
-            return bytes;
-        }
-    }
-    bytes
-}
-
-/// The recorded system writes and reads in short steps. Each store reads what both have written.
 #[test]
 fn large_files_in_short_steps(rt: HostRuntime) {
     let path = "ix_outside_large";
     assert!(rt; make_directory(&rt, path));
-    let bytes = large(rt.alloc());
-    assert!(rt; bytes.len() == 3_000_000);
+    let mut bytes = Vec::new(rt.alloc());
+    for place in 0..3_000_000u32 {
+        bytes.push((place % 251) as u8).expect(&rt, "memory");
+    }
     let journal = Journal::new(rt.alloc());
     let (Some(mut recorded), Some(mut plain)) = (
         recorded_at(&rt, path, &journal),
@@ -301,18 +213,17 @@ fn large_files_in_short_steps(rt: HostRuntime) {
     ) else {
         panic!(rt; "memory");
     };
-    let (rows, pending) = (FileName::Rows(1), FileName::Pending(2));
-    assert!(rt; write(&mut recorded, rows, bytes.as_slice()) == Ok(()));
-    assert!(rt; sync(&mut recorded, rows) == Ok(()));
-    assert!(rt; write(&mut plain, pending, bytes.as_slice()) == Ok(()));
-    assert!(rt; sync(&mut plain, pending) == Ok(()));
-    for name in [rows, pending] {
+    assert!(rt; recorded.write(FileName::Rows(1), bytes.as_slice()) == Ok(()));
+    assert!(rt; recorded.sync(FileName::Rows(1)) == Ok(()));
+    assert!(rt; plain.write(FileName::Pending(2), bytes.as_slice()) == Ok(()));
+    assert!(rt; plain.sync(FileName::Pending(2)) == Ok(()));
+    for name in [FileName::Rows(1), FileName::Pending(2)] {
         assert!(rt; has(rt.alloc(), &mut recorded, name, bytes.as_slice()));
         assert!(rt; has(rt.alloc(), &mut plain, name, bytes.as_slice()));
     }
-    let mut names = list(&mut plain, rt.alloc()).unwrap_or(Vec::new(rt.alloc()));
+    let mut names = plain.list(rt.alloc()).unwrap_or(Vec::new(rt.alloc()));
     names.sort_unstable();
-    assert!(rt; names.as_slice() == [pending, rows].as_slice());
+    assert!(rt; names.as_slice() == [FileName::Pending(2), FileName::Rows(1)].as_slice());
     fs::remove_dir_all(&rt, path).expect(&rt, "to remove it");
 }
 
@@ -325,11 +236,11 @@ fn a_read_takes_the_length_that_is_told(rt: HostRuntime) {
         panic!(rt; "memory");
     };
     let rows = FileName::Rows(1);
-    assert!(rt; write(&mut store, rows, b"longer") == Ok(()));
+    assert!(rt; store.write(rows, b"longer") == Ok(()));
     journal.tell_length(4);
     assert!(rt; has(rt.alloc(), &mut store, rows, b"long"));
     journal.tell_length(7);
-    assert!(rt; read(&mut store, rt.alloc(), rows).err() == Some(StoreFault::Failed));
+    assert!(rt; store.read(rt.alloc(), rows).err() == Some(StoreFault::Failed));
     fs::remove_dir_all(&rt, path).expect(&rt, "to remove it");
 }
 
@@ -349,15 +260,15 @@ fn want_of_memory_after_an_effect_is_a_fault(rt: HostRuntime) {
         let Some(mut store) = recorded_at(&rt, path, &journal) else {
             panic!(rt; "memory");
         };
-        assert!(rt; write(&mut store, rows, b"one") == Ok(()));
+        assert!(rt; store.write(rows, b"one") == Ok(()));
         journal.fail(verb, ErrorKind::OutOfMemory);
         for answer in [
-            sync(&mut store, rows),
-            rename(&mut store, rows, posts),
-            write(&mut store, rows, b"two"),
-            delete(&mut store, posts),
-            write(&mut store, posts, b"six"),
-            sync_all(&mut store),
+            store.sync(rows),
+            store.rename(rows, posts),
+            store.write(rows, b"two"),
+            store.delete(posts),
+            store.write(posts, b"six"),
+            store.sync_all(),
         ] {
             assert!(rt; answer != Err(StoreFault::NoMemory), "{verb}");
         }
@@ -375,57 +286,45 @@ fn reads_tell_want_of_memory_and_failed_syncs_are_kept_in_mind(rt: HostRuntime) 
     let Some(mut store) = recorded_at(&rt, path, &journal) else {
         panic!(rt; "memory");
     };
-    assert!(rt; write(&mut store, rows, b"one") == Ok(()));
+    assert!(rt; store.write(rows, b"one") == Ok(()));
     journal.fail("open", ErrorKind::OutOfMemory);
-    assert!(rt; read(&mut store, rt.alloc(), rows).err() == Some(StoreFault::NoMemory));
+    assert!(rt; store.read(rt.alloc(), rows).err() == Some(StoreFault::NoMemory));
     assert!(rt; store.faults() == 0);
     journal.fail("sync", ErrorKind::Other);
-    assert!(rt; sync(&mut store, rows) == Err(StoreFault::Failed));
+    assert!(rt; store.sync(rows) == Err(StoreFault::Failed));
     journal.fail("", ErrorKind::Other);
-    assert!(rt; sync(&mut store, rows) == Err(StoreFault::Failed));
-    assert!(rt; sync_all(&mut store) == Err(StoreFault::Failed));
+    assert!(rt; store.sync(rows) == Err(StoreFault::Failed));
+    assert!(rt; store.sync_all() == Err(StoreFault::Failed));
     assert!(rt; store.faults() == 3);
     assert!(rt; has(rt.alloc(), &mut store, rows, b"one"));
     fs::remove_dir_all(&rt, path).expect(&rt, "to remove it");
 }
 
-/// A new directory with a directory `segments_5`, a file `target`, a link `seg_1.row` to it, and a link
-/// `seg_2.row` to nothing.
-fn make_kinds(rt: &HostRuntime, path: &str) -> bool {
-    make_directory(rt, path)
-        && fs::create_dir(rt, "ix_outside_kinds/segments_5").is_ok()
-        && fs::write(rt, "ix_outside_kinds/target", b"far".as_slice()).is_ok()
-        && symlink(rt, "target", "ix_outside_kinds/seg_1.row").is_ok()
-        && symlink(rt, "nothing", "ix_outside_kinds/seg_2.row").is_ok()
-}
-
-/// Links and directories are no files: there is nothing to read, to delete, to sync or to rename.
-fn are_no_files(rt: &HostRuntime, store: &mut DirStore<HostRuntime>, names: &[FileName]) -> bool {
-    for name in names {
-        if !lacks(rt.alloc(), store, *name) || delete(store, *name) != Ok(()) {
-            return false;
-        }
-    }
-    store.faults() == 0
-}
-
 #[test]
 fn links_are_not_followed_and_directories_are_no_files(rt: HostRuntime) {
     let path = "ix_outside_kinds";
-    assert!(rt; make_kinds(&rt, path));
+    assert!(rt; make_directory(&rt, path));
+    fs::create_dir(&rt, "ix_outside_kinds/segments_5").expect(&rt, "a directory");
+    fs::write(&rt, "ix_outside_kinds/target", b"far".as_slice()).expect(&rt, "a file");
+    symlink(&rt, "target", "ix_outside_kinds/seg_1.row").expect(&rt, "a link");
+    symlink(&rt, "nothing", "ix_outside_kinds/seg_2.row").expect(&rt, "a link");
     let (link, lost, commit) = (FileName::Rows(1), FileName::Rows(2), FileName::Commit(5));
     let Some(mut store) = store_at(&rt, path) else {
         panic!(rt; "memory");
     };
-    assert!(rt; list(&mut store, rt.alloc()).is_ok_and(|names| names.is_empty()));
-    assert!(rt; are_no_files(&rt, &mut store, &[link, lost, commit]));
-    assert!(rt; sync(&mut store, link) == Err(StoreFault::Failed));
-    assert!(rt; rename(&mut store, link, FileName::Rows(3)) == Err(StoreFault::Failed));
-    assert!(rt; write(&mut store, commit, b"x") == Err(StoreFault::Failed));
+    assert!(rt; store.list(rt.alloc()).is_ok_and(|names| names.is_empty()));
+    for name in [link, lost, commit] {
+        assert!(rt; lacks(rt.alloc(), &mut store, name));
+        assert!(rt; store.delete(name) == Ok(()));
+    }
+    assert!(rt; store.faults() == 0);
+    assert!(rt; store.sync(link) == Err(StoreFault::Failed));
+    assert!(rt; store.rename(link, FileName::Rows(3)) == Err(StoreFault::Failed));
+    assert!(rt; store.write(commit, b"x") == Err(StoreFault::Failed));
     assert!(rt; store.faults() == 3);
-    assert!(rt; write(&mut store, link, b"near") == Ok(()));
-    assert!(rt; write(&mut store, lost, b"there") == Ok(()));
-    assert!(rt; rename(&mut store, lost, link) == Ok(()));
+    assert!(rt; store.write(link, b"near") == Ok(()));
+    assert!(rt; store.write(lost, b"there") == Ok(()));
+    assert!(rt; store.rename(lost, link) == Ok(()));
     assert!(rt; has(rt.alloc(), &mut store, link, b"there"));
     let target = fs::read(&rt, "ix_outside_kinds/target").expect(&rt, "a file");
     assert!(rt; target.as_slice() == b"far".as_slice());
