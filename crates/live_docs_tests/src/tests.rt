@@ -34,7 +34,9 @@ fn other_number<'a>(
     docs: &LiveDocs,
     row: u32,
     wanted: &'a [(&'a str, Option<i64>)],
-) -> Result<Option<&'a str>, Fail> {
+) -> Result<Option<&'a str>, Fail>
+    requires { row < length docs.now.marks }
+{
     for (bytes, value) in wanted {
         if docs.value(row, &name_of(alloc, bytes)?) != *value {
             return Ok(Some(*bytes));
@@ -158,7 +160,9 @@ fn many_rows(alloc: Global, name: &Name) -> Result<LiveDocs, NoMemory>
 }
 
 /// Whether a row is live, and has the number, as it is to be.
-fn is_plain(docs: &LiveDocs, row: u32, name: &Name) -> bool {
+fn is_plain(docs: &LiveDocs, row: u32, name: &Name) -> bool
+    requires { row < length docs.now.marks }
+{
     let (live, value) = plain(row);
     docs.is_live(row) == live
         && docs.value(row, name) == value
@@ -166,7 +170,9 @@ fn is_plain(docs: &LiveDocs, row: u32, name: &Name) -> bool {
 }
 
 /// The first of many rows that isn't as it is to be.
-fn first_other(docs: &LiveDocs, name: &Name) -> Option<u32> {
+fn first_other(docs: &LiveDocs, name: &Name) -> Option<u32>
+    requires { length docs.now.marks ≡ 3000 }
+{
     for row in 0..3000 {
         if !is_plain(docs, row, name) {
             return Some(row);

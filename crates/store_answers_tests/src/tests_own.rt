@@ -61,32 +61,22 @@ const LIVE_2_9: &str = "49584c4956303031 0000000000000002 0000000000000009 00000
 const VALUES_2_9: &str =
     "495856414c303031 0000000000000002 0000000000000009 00000002 0000000000000000";
 
-/// A store of these files.
-fn store_of(alloc: Global, files: &[(FileName, &str)]) -> Result<MemoryStore, Fail> {
-    let mut store = MemoryStore::new(alloc);
-    for (name, text) in files {
-        put(alloc, &mut store, *name, text, 200)?;
-    }
-    Ok(store)
-}
-
 /// A store of the commits 4 and 9.
 fn two_commits(alloc: Global) -> Result<MemoryStore, Fail> {
-    let files = [
-        (FileName::Rows(1), ROWS_1),
-        (FileName::Posts(1), POSTS_1),
-        (FileName::Live(1, 4), LIVE_1_4),
-        (FileName::Values(1, 4), VALUES_1_4),
-        (FileName::Commit(4), COMMIT_4),
-        (FileName::Rows(2), ROWS_2),
-        (FileName::Posts(2), POSTS_2),
-        (FileName::Live(1, 9), LIVE_1_9),
-        (FileName::Values(1, 9), VALUES_1_9),
-        (FileName::Live(2, 9), LIVE_2_9),
-        (FileName::Values(2, 9), VALUES_2_9),
-        (FileName::Commit(9), COMMIT_9),
-    ];
-    store_of(alloc, &files)
+    let mut store = MemoryStore::new(alloc);
+    put(alloc, &mut store, FileName::Rows(1), ROWS_1, 200)?;
+    put(alloc, &mut store, FileName::Posts(1), POSTS_1, 200)?;
+    put(alloc, &mut store, FileName::Live(1, 4), LIVE_1_4, 200)?;
+    put(alloc, &mut store, FileName::Values(1, 4), VALUES_1_4, 200)?;
+    put(alloc, &mut store, FileName::Commit(4), COMMIT_4, 200)?;
+    put(alloc, &mut store, FileName::Rows(2), ROWS_2, 200)?;
+    put(alloc, &mut store, FileName::Posts(2), POSTS_2, 200)?;
+    put(alloc, &mut store, FileName::Live(1, 9), LIVE_1_9, 200)?;
+    put(alloc, &mut store, FileName::Values(1, 9), VALUES_1_9, 200)?;
+    put(alloc, &mut store, FileName::Live(2, 9), LIVE_2_9, 200)?;
+    put(alloc, &mut store, FileName::Values(2, 9), VALUES_2_9, 200)?;
+    put(alloc, &mut store, FileName::Commit(9), COMMIT_9, 200)?;
+    Ok(store)
 }
 
 /// Of each hit its key, and its numbers.
