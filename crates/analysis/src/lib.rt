@@ -17,6 +17,3 @@ pub use inverse::{analyse, invert};
 pub use sizes::long_term;
 pub use term_key::{TermKey, compare_terms};
 pub use words::phrase_terms;
-
-#[cfg(test)]
-mod tests;

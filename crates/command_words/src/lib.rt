@@ -17,8 +17,6 @@ mod number_option;
 mod numbers;
 mod program;
 mod reading;
-#[cfg(test)]
-mod tests;
 
 pub use command::{Command, WordsFault};
 pub use laws::{accepted_unless_a_fault, options_in_any_order};

@@ -25,8 +25,3 @@ pub use finish::FinishRefused;
 pub use log::QueueLog;
 pub use queue::DeleteQueue;
 pub use seat::{Closing, Found, Linked, Look, Place, Seat};
-
-#[cfg(test)]
-mod tests;
-#[cfg(test)]
-mod tests_race;

@@ -6,8 +6,6 @@
 mod apply;
 mod laws;
 mod slice;
-#[cfg(test)]
-mod tests;
 
 pub use laws::{
     logs_are_in_grammar, numbers_end_at_last, parts_are_logged, parts_chain, parts_stay,

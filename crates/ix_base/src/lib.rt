@@ -31,6 +31,3 @@ pub use query::{Queries, Query};
 pub use refusal::{Refusal, Refused};
 pub use spots::{Spot, Spots};
 pub use text::{Name, PhraseText, Text};
-
-#[cfg(test)]
-mod tests;

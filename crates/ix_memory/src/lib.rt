@@ -28,6 +28,3 @@ pub use memory_store::MemoryStore;
 pub use outcome::{BytesLeft, StepsLeft};
 pub use steady_source::SteadySource;
 pub use steady_store::SteadyStore;
-
-#[cfg(test)]
-mod tests;

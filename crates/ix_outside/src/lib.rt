@@ -6,14 +6,8 @@
 
 mod dir_store;
 mod directory;
-#[cfg(test)]
-mod directory_tests;
 mod fault_count;
 mod gate;
-#[cfg(test)]
-mod odd_outside;
-#[cfg(test)]
-mod recorded_system;
 mod sink;
 mod source;
 mod step;
@@ -27,6 +21,3 @@ pub use source::{Failed, Source};
 pub use step::Step;
 pub use store::{Store, StoreFault};
 pub use streams::{ReadSource, WriteSink};
-
-#[cfg(test)]
-mod tests;

@@ -8,8 +8,6 @@ mod merge;
 mod next_row;
 mod origin;
 mod picking;
-#[cfg(test)]
-mod tests;
 
 pub use laws::reading_stays;
 pub use merge::{Merge, MergeRefused, Step};

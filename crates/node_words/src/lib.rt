@@ -28,8 +28,3 @@ const MOST_QUERY_BYTES: usize = 131072;
 pub use decoding::decode;
 pub use encoding::encode;
 pub use entry::Entry;
-
-#[cfg(test)]
-mod query_tests;
-#[cfg(test)]
-mod tests;

@@ -15,6 +15,3 @@ mod row_lists;
 pub use index::{PostingsIndex, holding_from_in, holding_in, index_rows, places_in};
 pub use inverted::Inverted;
 pub use matching::answer;
-
-#[cfg(test)]
-mod tests;

@@ -40,6 +40,3 @@ pub use layout::{
 };
 pub use rule::{LinkDraft, LoadLinked, LoadNext, QueueRule, SeatNumbers, StoreDraft};
 pub use view::{Known, Loaded, Old, Own, View};
-
-#[cfg(test)]
-mod tests;

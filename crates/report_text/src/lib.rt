@@ -9,6 +9,3 @@ mod texts;
 pub use fault::Fault;
 pub use summary::Summary;
 pub use texts::{commit_text, listed_text, refused_text, search_text, summary_text, write_text};
-
-#[cfg(test)]
-mod tests;

@@ -1,6 +1,6 @@
 mod Seeing
 mod AtWork
 mod Tasks
-mod Workers
+pub mod Workers
 mod Sending
 mod Turning

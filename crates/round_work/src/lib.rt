@@ -9,8 +9,6 @@ mod line;
 mod round;
 mod share;
 mod task;
-#[cfg(test)]
-mod tests;
 mod worked;
 mod working;
 

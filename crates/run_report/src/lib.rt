@@ -5,8 +5,6 @@
 mod assembly;
 mod outcome;
 mod searches;
-#[cfg(test)]
-mod tests;
 
 pub use assembly::report;
 pub use outcome::{Answer, Outcome};

@@ -12,6 +12,3 @@ mod operations;
 mod texts;
 
 pub use make::make_script;
-
-#[cfg(test)]
-mod tests;

@@ -19,8 +19,3 @@ pub use encode::encode_row;
 pub use posts::encode_pst;
 pub use read_documents::name_of;
 pub use read_posts::decode_pst;
-
-#[cfg(test)]
-mod tests;
-#[cfg(test)]
-mod tests_posts;

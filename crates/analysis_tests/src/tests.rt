@@ -1,0 +1,187 @@
+use analysis::{analyse, invert, long_term, phrase_terms};
+use ix_base::{
+    Document, Fields, Name, Numbers, PhraseText, Postings, Refusal, Refused, Row, Spots,
+    TermPostings, Text,
+};
+use std::alloc::Global;
+use std::fmt::Write;
+use std::test::Fail;
+
+fn text_of(alloc: Global, text: &str) -> Result<Text, Fail> {
+    Ok(Text::new(String::from_str(alloc, text)?).ok_or("long")?)
+}
+
+fn field_of(alloc: Global, name: &str, text: Text) -> Result<Fields, Fail> {
+    let name = Name::new(text_of(alloc, name)?).ok_or("name")?;
+    Ok(Fields::from_vec(vec![in alloc; (name, text)]?))
+}
+
+fn document_of(alloc: Global, key: &str, text: Fields, exact: Fields) -> Result<Document, Fail> {
+    let doc = Document::new(text_of(alloc, key)?, text, exact, Numbers::none(alloc));
+    Ok(doc.ok_or("names aren't apart")?)
+}
+
+fn words_of(alloc: Global, text: &str) -> Result<String, Fail> {
+    let phrase = PhraseText::new(text_of(alloc, text)?).ok_or("long")?;
+    let mut joined = String::new(alloc);
+    for word in phrase_terms(alloc, &phrase)? {
+        joined.push_str(word.as_str())?;
+        joined.push_str("|")?;
+    }
+    Ok(joined)
+}
+
+fn show_positions(out: &mut String, positions: &[u32]) -> Result<(), Fail> {
+    for position in positions {
+        write!(out, "{position},")?;
+    }
+    Ok(())
+}
+
+fn show_row(alloc: Global, out: &mut String, places: &Spots, row: u32) -> Result<(), Fail> {
+    write!(out, " {row}@")?;
+    let positions = places.positions(alloc, row)?;
+    show_positions(out, positions.as_slice())
+}
+
+fn show_entry(alloc: Global, out: &mut String, entry: &TermPostings) -> Result<(), Fail> {
+    let field = entry.term.field.as_str();
+    let bytes = entry.term.bytes.as_str();
+    write!(out, "{field}:{bytes}")?;
+    let rows = entry.rows.rows(alloc)?;
+    for row in rows.as_slice() {
+        show_row(alloc, out, &entry.rows, *row)?;
+    }
+    write!(out, ";")?;
+    Ok(())
+}
+
+fn shown(alloc: Global, postings: &Postings) -> Result<String, Fail> {
+    let mut joined = String::new(alloc);
+    for entry in postings.terms.as_slice() {
+        show_entry(alloc, &mut joined, entry)?;
+    }
+    Ok(joined)
+}
+
+/// Words by UAX #29 and their full case foldings by CaseFolding.txt.
+#[test]
+fn words_and_their_foldings(rt: HostRuntime) -> Result<(), Fail> {
+    let alloc = rt.alloc();
+    let cases = [
+        ("", ""),
+        (" \t,.!? -- ", ""),
+        ("can't don\u{2019}t", "can't|don\u{2019}t|"),
+        ("3.14 1,000", "3.14|1,000|"),
+        ("quick-brown fox.", "quick|brown|fox|"),
+        ("snake_case a_1", "snake_case|a_1|"),
+        ("\u{6F22}\u{5B57}\u{6E2C}", "\u{6F22}|\u{5B57}|\u{6E2C}|"),
+        (
+            "\u{30AB}\u{30BF}\u{30AB}\u{30CA}",
+            "\u{30AB}\u{30BF}\u{30AB}\u{30CA}|",
+        ),
+        ("\u{1F600} \u{2026} \u{2603}", ""),
+        ("cafe\u{301} noir", "cafe\u{301}|noir|"),
+        ("Stra\u{DF}e STRASSE", "strasse|strasse|"),
+        ("\u{130}z", "i\u{307}z|"),
+        ("\u{FB01}n", "fin|"),
+        (
+            "\u{39F}\u{394}\u{39F}\u{3A3} \u{3BF}\u{3B4}\u{3BF}\u{3C2}",
+            "\u{3BF}\u{3B4}\u{3BF}\u{3C3}|\u{3BF}\u{3B4}\u{3BF}\u{3C3}|",
+        ),
+    ];
+    for (text, want) in cases {
+        let words = words_of(alloc, text)?;
+        assert!(rt; words.as_str() == want, "words of {text}");
+    }
+    Ok(())
+}
+
+/// A document with two words twice, and an exact field.
+fn quotation(alloc: Global) -> Result<Document, Fail> {
+    let body = field_of(alloc, "body", text_of(alloc, "To be, or NOT to Be")?)?;
+    let tag = field_of(alloc, "tag", text_of(alloc, "To Be")?)?;
+    document_of(alloc, "k1", body, tag)
+}
+
+/// A document with one word.
+fn remark(alloc: Global) -> Result<Document, Fail> {
+    let body = field_of(alloc, "body", text_of(alloc, "be")?)?;
+    document_of(alloc, "k1", body, Fields::none(alloc))
+}
+
+/// Terms by field and bytes, with positions.
+#[test]
+fn terms_of_a_document(rt: HostRuntime) -> Result<(), Fail> {
+    let alloc = rt.alloc();
+    let analysed = analyse(alloc, quotation(alloc)?)?;
+    let terms = shown(alloc, &analysed.postings)?;
+    let want =
+        "body:be 0@1,5,;body:not 0@3,;body:or 0@2,;body:to 0@0,4,;key:k1 0@0,;tag:To Be 0@0,;";
+    assert!(rt; terms.as_str() == want);
+    assert!(rt; analysed.doc.key.as_str() == "k1");
+    Ok(())
+}
+
+/// Terms by field and bytes, with rows and positions.
+#[test]
+fn terms_of_two_rows(rt: HostRuntime) -> Result<(), Fail> {
+    let alloc = rt.alloc();
+    let first = Row {
+        birth: 1,
+        doc: quotation(alloc)?,
+    };
+    let second = Row {
+        birth: 2,
+        doc: remark(alloc)?,
+    };
+    let rows = vec![in alloc; first, second]?;
+    let terms = shown(alloc, &invert(alloc, rows.as_slice())?)?;
+    let want =
+        "body:be 0@1,5, 1@0,;body:not 0@3,;body:or 0@2,;body:to 0@0,4,;key:k1 0@0, 1@0,;tag:To Be 0@0,;";
+    assert!(rt; terms.as_str() == want);
+    Ok(())
+}
+
+/// A document with a text and an exact text of so many repeated letters.
+fn long_document(
+    alloc: Global,
+    word: &str,
+    times: usize,
+    exact: &str,
+    exact_times: usize,
+) -> Result<Document, Fail> {
+    let body = text_of(alloc, word.repeat(alloc, times)?.as_str())?;
+    let tag = text_of(alloc, exact.repeat(alloc, exact_times)?.as_str())?;
+    let body = field_of(alloc, "body", body)?;
+    let tag = field_of(alloc, "tag", tag)?;
+    document_of(alloc, "k", body, tag)
+}
+
+/// The size for which a document is refused.
+fn refused_size(alloc: Global, doc: Document) -> Option<u64> {
+    match analyse(alloc, doc) {
+        Ok(_) => None,
+        Err(Refused::For(Refusal::Term { size })) => Some(size),
+        Err(Refused::For(Refusal::Query { .. }) | Refused::NoMemory) => Some(0),
+    }
+}
+
+/// A term may have 32,766 bytes; the size of the first that has more is told.
+#[test]
+fn sizes_of_terms(rt: HostRuntime) -> Result<(), Fail> {
+    let alloc = rt.alloc();
+    let cases = [
+        ("a", 32_766, "b", 32_766, None),
+        ("a", 32_767, "b", 32_766, Some(32_767)),
+        ("a", 32_768, "b", 32_769, Some(32_769)),
+        ("\u{390}", 5_461, "b", 1, None),
+        ("\u{390}", 5_462, "b", 1, Some(32_772)),
+    ];
+    for (word, times, exact, exact_times, want) in cases {
+        let doc = long_document(alloc, word, times, exact, exact_times)?;
+        assert!(rt; long_term(alloc, &doc)? == want);
+        assert!(rt; refused_size(alloc, doc) == want);
+    }
+    Ok(())
+}

@@ -1,0 +1,448 @@
+//! What no clause says: that each call which may want memory succeeds where there is enough, and
+//! which names of files are read.
+use ix_base::{
+    Analysed, Document, Fields, FileName, List, Name, Numbers, Operation, PhraseText, Postings,
+    Queries, Query, Row, Spots, Term, TermPostings, Text,
+};
+use ix_base::codec::{
+    BrokenField, byte_at, i64_at, name_at, put_i64, put_name, put_text, put_u32, put_u64, text_at,
+    u32_at, u64_at,
+};
+use std::alloc::Global;
+use std::fmt::Write;
+use std::test::Fail;
+
+fn text_of(alloc: Global, text: &str) -> Result<Text, Fail> {
+    Ok(Text::new(String::from_str(alloc, text)?).ok_or("long")?)
+}
+
+fn name_of(alloc: Global, name: &str) -> Result<Name, Fail> {
+    Ok(Name::new(text_of(alloc, name)?).ok_or("no name")?)
+}
+
+fn phrase_of(alloc: Global, phrase: &str) -> Result<PhraseText, Fail> {
+    Ok(PhraseText::new(text_of(alloc, phrase)?).ok_or("long")?)
+}
+
+fn term_of(alloc: Global, field: &str, bytes: &str) -> Result<Term, Fail> {
+    let field = name_of(alloc, field)?;
+    let bytes = text_of(alloc, bytes)?;
+    Ok(Term { field, bytes })
+}
+
+fn fields_of(alloc: Global, name: &str, text: &str) -> Result<Fields, Fail> {
+    let pair = (name_of(alloc, name)?, text_of(alloc, text)?);
+    Ok(Fields::from_vec(vec![in alloc; pair]?))
+}
+
+/// A document with each part filled.
+fn letter(alloc: Global) -> Result<Document, Fail> {
+    let pair = (name_of(alloc, "price")?, -7);
+    let doc = Document::new(
+        text_of(alloc, "a1")?,
+        fields_of(alloc, "body", "Quick FOX")?,
+        fields_of(alloc, "tag", "x")?,
+        Numbers::from_vec(vec![in alloc; pair]?),
+    );
+    Ok(doc.ok_or("names aren't apart")?)
+}
+
+/// The term `key:a1` in row 3 at the positions 0 and 2.
+fn key_postings(alloc: Global) -> Result<TermPostings, Fail> {
+    let mut rows = Spots::new(alloc);
+    rows.push(3, 0)?;
+    rows.add(3, 2)?;
+    rows.add(3, 2)?;
+    Ok(TermPostings {
+        term: term_of(alloc, "key", "a1")?,
+        rows,
+    })
+}
+
+/// A query in a query.
+fn nested(alloc: Global) -> Result<Query, Fail> {
+    let inner = Query::Bool {
+        must: Queries::from_vec(Vec::new(alloc)),
+        should: Queries::from_vec(vec![in alloc; Query::All]?),
+        must_not: Queries::from_vec(vec![in alloc;
+            Query::Phrase(name_of(alloc, "body")?, phrase_of(alloc, "a b")?),
+        ]?),
+    };
+    Ok(Query::Bool {
+        must: Queries::from_vec(vec![in alloc; Query::Term(term_of(alloc, "key", "a1")?), inner]?),
+        should: Queries::from_vec(vec![in alloc; Query::All]?),
+        must_not: Queries::from_vec(Vec::new(alloc)),
+    })
+}
+
+fn show_term(out: &mut String, term: &Term) -> Result<(), Fail> {
+    let field = term.field.as_str();
+    let bytes = term.bytes.as_str();
+    write!(out, "{field}:{bytes}")?;
+    Ok(())
+}
+
+fn show_fields(out: &mut String, fields: &Fields) -> Result<(), Fail> {
+    for (name, text) in fields.as_slice() {
+        let name = name.as_str();
+        let text = text.as_str();
+        write!(out, " {name}={text}")?;
+    }
+    Ok(())
+}
+
+fn show_numbers(out: &mut String, numbers: &Numbers) -> Result<(), Fail> {
+    for (name, value) in numbers.as_slice() {
+        let name = name.as_str();
+        write!(out, " {name}={value}")?;
+    }
+    Ok(())
+}
+
+fn show_document(out: &mut String, doc: &Document) -> Result<(), Fail> {
+    out.push_str(doc.key.as_str())?;
+    out.push_str(" text")?;
+    show_fields(out, &doc.text)?;
+    out.push_str(" exact")?;
+    show_fields(out, &doc.exact)?;
+    out.push_str(" num")?;
+    show_numbers(out, &doc.num)
+}
+
+fn show_term_postings(alloc: Global, out: &mut String, entry: &TermPostings) -> Result<(), Fail> {
+    show_term(out, &entry.term)?;
+    for row in entry.rows.rows(alloc)? {
+        let positions = entry.rows.positions(alloc, row)?;
+        let positions = positions.as_slice();
+        write!(out, " {row}@{positions:?}")?;
+    }
+    Ok(())
+}
+
+fn show_postings(alloc: Global, out: &mut String, postings: &Postings) -> Result<(), Fail> {
+    for entry in postings.terms.as_slice() {
+        show_term_postings(alloc, out, entry)?;
+        out.push_str(";")?;
+    }
+    Ok(())
+}
+
+/// Writes a query that is nested at most so deep.
+fn show_query(out: &mut String, query: &Query, depth: u32) -> Result<(), Fail> {
+    match query {
+        Query::All => out.push_str("all")?,
+        Query::Term(term) => show_term(out, term)?,
+        Query::Phrase(field, text) => {
+            let field = field.as_str();
+            let text = text.as_text().as_str();
+            write!(out, "{field}~{text}")?;
+        }
+        Query::Bool {
+            must,
+            should,
+            must_not,
+        } => {
+            let depth = depth.checked_sub(1).ok_or("too deep")?;
+            for (mark, queries) in [("+", must), ("|", should), ("-", must_not)] {
+                out.push_str(mark)?;
+                for query in queries.as_slice() {
+                    out.push_str("(")?;
+                    show_query(out, query, depth)?;
+                    out.push_str(")")?;
+                }
+            }
+        }
+    }
+    Ok(())
+}
+
+fn show_operation(out: &mut String, operation: &Operation) -> Result<(), Fail> {
+    match operation {
+        Operation::Add(doc) => show_document(out, doc),
+        Operation::Update(term, doc) => {
+            show_term(out, term)?;
+            out.push_str(" by ")?;
+            show_document(out, doc)
+        }
+        Operation::DeleteTerm(term) => show_term(out, term),
+        Operation::DeleteQuery(query) => show_query(out, query, 2),
+        Operation::SetNumber { term, num, value } => {
+            show_term(out, term)?;
+            let num = num.as_str();
+            write!(out, " {num}={value}")?;
+            Ok(())
+        }
+        Operation::Commit => {
+            out.push_str("commit")?;
+            Ok(())
+        }
+    }
+}
+
+/// What a copy of a text, of a name and of a phrase have.
+fn copied_text(alloc: Global, text: &Text) -> Result<String, Fail> {
+    let copy = text.clone_in(alloc)?;
+    Ok(String::from_str(alloc, copy.as_str())?)
+}
+
+fn copied_name(alloc: Global, name: &str) -> Result<String, Fail> {
+    let copy = name_of(alloc, name)?.clone_in(alloc)?;
+    Ok(String::from_str(alloc, copy.as_str())?)
+}
+
+fn copied_phrase(alloc: Global, phrase: &str) -> Result<String, Fail> {
+    let copy = phrase_of(alloc, phrase)?.clone_in(alloc)?;
+    Ok(String::from_str(alloc, copy.as_text().as_str())?)
+}
+
+#[test]
+fn copies_of_texts(rt: HostRuntime) -> Result<(), Fail> {
+    let alloc = rt.alloc();
+    let text = Text::copy_of(alloc, "Stra\u{DF}e")?;
+    assert!(rt; copied_text(alloc, &text)?.as_str() == "Stra\u{DF}e");
+    assert!(rt; copied_name(alloc, "body")?.as_str() == "body");
+    assert!(rt; copied_phrase(alloc, "quick fox")?.as_str() == "quick fox");
+    Ok(())
+}
+
+#[test]
+fn names_have_1_to_255_bytes(rt: HostRuntime) -> Result<(), Fail> {
+    let alloc = rt.alloc();
+    for (count, want) in [(0, false), (1, true), (255, true), (256, false)] {
+        let text = text_of(alloc, "a".repeat(alloc, count)?.as_str())?;
+        assert!(rt; Name::new(text).is_some() == want, "a name of {count}");
+    }
+    Ok(())
+}
+
+/// What a copy of the document has.
+fn shown_document(alloc: Global, doc: &Document) -> Result<String, Fail> {
+    let mut out = String::new(alloc);
+    show_document(&mut out, &doc.clone_in(alloc)?)?;
+    Ok(out)
+}
+
+/// What a copy of a row has: its document and its birth.
+fn shown_row(alloc: Global, row: &Row) -> Result<String, Fail> {
+    let copy = row.clone_in(alloc)?;
+    let mut out = shown_document(alloc, &copy.doc)?;
+    write!(out, " birth {}", copy.birth)?;
+    Ok(out)
+}
+
+fn short_row(alloc: Global, birth: u64) -> Result<Row, Fail> {
+    let doc = Document::of_key(alloc, text_of(alloc, "a2")?);
+    Ok(Row { birth, doc })
+}
+
+#[test]
+fn copies_of_documents(rt: HostRuntime) -> Result<(), Fail> {
+    let alloc = rt.alloc();
+    let want = "a1 text body=Quick FOX exact tag=x num price=-7";
+    assert!(rt; shown_document(alloc, &letter(alloc)?)?.as_str() == want);
+    let row = short_row(alloc, 9)?;
+    assert!(rt; shown_row(alloc, &row)?.as_str() == "a2 text exact num birth 9");
+    Ok(())
+}
+
+/// An operation of each kind, from 0 to 5.
+fn operation_of(alloc: Global, kind: u32) -> Result<Operation, Fail> {
+    match kind {
+        0 => Ok(Operation::Add(letter(alloc)?)),
+        1 => {
+            let doc = Document::of_key(alloc, text_of(alloc, "a2")?);
+            Ok(Operation::Update(term_of(alloc, "tag", "x")?, doc))
+        }
+        2 => Ok(Operation::DeleteTerm(term_of(alloc, "key", "a1")?)),
+        3 => Ok(Operation::DeleteQuery(nested(alloc)?)),
+        4 => Ok(Operation::SetNumber {
+            term: term_of(alloc, "tag", "x")?,
+            num: name_of(alloc, "n")?,
+            value: i64::MIN,
+        }),
+        _ => Ok(Operation::Commit),
+    }
+}
+
+fn copy_of(alloc: Global, kind: u32) -> Result<Operation, Fail> {
+    let operation = operation_of(alloc, kind)?;
+    Ok(operation.clone_in(alloc)?)
+}
+
+/// What a copy of the operation of this kind has.
+fn shown_copy(alloc: Global, kind: u32) -> Result<String, Fail> {
+    let mut out = String::new(alloc);
+    show_operation(&mut out, &copy_of(alloc, kind)?)?;
+    Ok(out)
+}
+
+#[test]
+fn copies_of_operations(rt: HostRuntime) -> Result<(), Fail> {
+    let cases = [
+        (0, "a1 text body=Quick FOX exact tag=x num price=-7"),
+        (1, "tag:x by a2 text exact num"),
+        (2, "key:a1"),
+        (3, "+(key:a1)(+|(all)-(body~a b))|(all)-"),
+        (4, "tag:x n=-9223372036854775808"),
+        (5, "commit"),
+    ];
+    for (kind, want) in cases {
+        assert!(rt; shown_copy(rt.alloc(), kind)?.as_str() == want);
+    }
+    Ok(())
+}
+
+fn two_queries(alloc: Global) -> Result<Queries, Fail> {
+    let nested = nested(alloc)?;
+    Ok(Queries::from_vec(vec![in alloc; Query::All, nested]?))
+}
+
+#[test]
+fn copies_of_queries(rt: HostRuntime) -> Result<(), Fail> {
+    let alloc = rt.alloc();
+    let queries = two_queries(alloc)?.clone_in(alloc)?;
+    let mut out = String::new(alloc);
+    for query in queries.as_slice() {
+        show_query(&mut out, query, 2)?;
+        out.push_str(" ")?;
+    }
+    let want = "all +(key:a1)(+|(all)-(body~a b))|(all)- ";
+    assert!(rt; out.as_str() == want);
+    Ok(())
+}
+
+/// A document beside postings, which needn't be its own here.
+fn analysed_letter(alloc: Global) -> Result<Analysed, Fail> {
+    let postings = key_postings(alloc)?;
+    let terms = List::from_vec(vec![in alloc; postings]?);
+    let postings = Postings { terms };
+    let doc = letter(alloc)?;
+    Ok(Analysed { doc, postings })
+}
+
+/// What a copy of the postings and the document has.
+fn shown_analysed(alloc: Global, analysed: &Analysed) -> Result<String, Fail> {
+    let copy = analysed.clone_in(alloc)?;
+    let mut out = String::new(alloc);
+    show_postings(alloc, &mut out, &copy.postings)?;
+    show_document(&mut out, &copy.doc)?;
+    Ok(out)
+}
+
+#[test]
+fn copies_of_postings(rt: HostRuntime) -> Result<(), Fail> {
+    let alloc = rt.alloc();
+    let analysed = analysed_letter(alloc)?;
+    let want = "key:a1 3@[0, 2];a1 text body=Quick FOX exact tag=x num price=-7";
+    assert!(rt; shown_analysed(alloc, &analysed)?.as_str() == want);
+    Ok(())
+}
+
+#[test]
+fn lists_of_numbers(rt: HostRuntime) -> Result<(), Fail> {
+    let alloc = rt.alloc();
+    let mut list = List::<u32>::new(alloc);
+    list.push(7)?;
+    list.push(5)?;
+    assert!(rt; list.len() == 2);
+    assert!(rt; list.as_slice() == [7, 5].as_slice());
+    assert!(rt; list.into_vec().as_slice() == [7, 5].as_slice());
+    Ok(())
+}
+
+/// Each kind of name is shown and read again.
+#[test]
+fn names_of_files(rt: HostRuntime) {
+    let cases = [
+        (FileName::Commit(2), "segments_2"),
+        (FileName::Pending(10), "pending_segments_10"),
+        (FileName::Rows(1), "seg_1.row"),
+        (FileName::Posts(1), "seg_1.pst"),
+        (FileName::Live(1, 2), "seg_1_2.liv"),
+        (
+            FileName::Values(u64::MAX, u64::MAX),
+            "seg_18446744073709551615_18446744073709551615.val",
+        ),
+    ];
+    for (name, text) in cases {
+        assert!(rt; name.text().as_str() == text);
+        assert!(rt; FileName::parse(text) == Some(name));
+    }
+}
+
+#[test]
+fn foreign_names(rt: HostRuntime) {
+    let cases = [
+        "",
+        "segments_",
+        "segments_0",
+        "segments_02",
+        "segments_+2",
+        "segments_2 ",
+        "segments_18446744073709551616",
+        "Segments_2",
+        "pending_segments_0",
+        "pending_segments_2.tmp",
+        "seg_1",
+        "seg_0.row",
+        "seg_1.ROW",
+        "seg_1_2.row",
+        "seg_1.liv",
+        "seg_1_0.liv",
+        "seg_01_2.val",
+        "seg_1_2_3.val",
+    ];
+    for text in cases {
+        assert!(rt; FileName::parse(text) == None, "{text}");
+    }
+}
+
+#[test]
+fn written_numbers(rt: HostRuntime) -> Result<(), Fail> {
+    let mut out = Vec::new(rt.alloc());
+    put_u32(&mut out, 258)?;
+    put_u64(&mut out, 258)?;
+    put_i64(&mut out, -2)?;
+    let want = b"\0\0\x01\x02\0\0\0\0\0\0\x01\x02\xff\xff\xff\xff\xff\xff\xff\xfe";
+    assert!(rt; out.as_slice() == want.as_slice());
+    Ok(())
+}
+
+#[test]
+fn written_texts(rt: HostRuntime) -> Result<(), Fail> {
+    let alloc = rt.alloc();
+    let mut out = Vec::new(alloc);
+    put_text(&mut out, "a b")?;
+    put_name(&mut out, &name_of(alloc, "n")?)?;
+    assert!(rt; out.as_slice() == b"\0\0\0\x03a b\0\0\0\x01n".as_slice());
+    Ok(())
+}
+
+#[test]
+fn numbers_that_are_read(rt: HostRuntime) {
+    let bytes = b"\xff\xff\xff\xff\xff\xff\xff\xfe!";
+    assert!(rt; byte_at(bytes) == Ok((255, &bytes[1..])));
+    assert!(rt; u32_at(bytes) == Ok((4294967295, &bytes[4..])));
+    assert!(rt; u64_at(bytes) == Ok((18446744073709551614, &bytes[8..])));
+    assert!(rt; i64_at(bytes) == Ok((-2, &bytes[8..])));
+}
+
+#[test]
+fn numbers_cut_short(rt: HostRuntime) {
+    let bytes = b"\0\0\0";
+    assert!(rt; byte_at(b"") == Err(BrokenField { left: 0 }));
+    assert!(rt; u32_at(bytes) == Err(BrokenField { left: 3 }));
+    assert!(rt; u64_at(bytes) == Err(BrokenField { left: 3 }));
+    assert!(rt; i64_at(bytes) == Err(BrokenField { left: 3 }));
+}
+
+/// The last name is empty: a text that is no name.
+#[test]
+fn texts_that_are_read(rt: HostRuntime) {
+    let bytes = b"\0\0\0\x03a b!";
+    assert!(rt; text_at(bytes) == Ok(("a b", &bytes[7..])));
+    assert!(rt; name_at(bytes) == Ok(("a b", &bytes[7..])));
+    assert!(rt; text_at(&bytes[..6]) == Err(BrokenField { left: 6 }));
+    assert!(rt; text_at(b"\0\0\0\x01\xff") == Err(BrokenField { left: 5 }));
+    assert!(rt; name_at(b"\0\0\0\0!") == Err(BrokenField { left: 5 }));
+}

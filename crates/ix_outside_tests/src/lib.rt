@@ -1,0 +1,11 @@
+//! Tests of `ix_outside`: streams and directories, over odd objects and over a recorded file system.
+#![tactic(auto)]
+
+#[cfg(test)]
+mod directory_tests;
+#[cfg(test)]
+mod odd_outside;
+#[cfg(test)]
+mod recorded_system;
+#[cfg(test)]
+mod tests;

@@ -1,0 +1,303 @@
+//! What lines leave and report, on a plain list of documents, for tests: slow and short, with nothing of
+//! what the program is made of. The numbers of the lines are read off the run's own report, since they
+//! may differ from run to run; all else in the report follows from them.
+use crate::script::{
+    Act, Document, Leaf, Line, Query, Term, numbers_text, phrase_sought, word_sought, words_of,
+};
+use ix_base::NoMemory;
+use std::alloc::Global;
+use std::fmt::Write;
+use std::test::Fail;
+
+/// A commit: its number, and its documents in the order of their births. No commit at all has the
+/// number 0.
+#[derive(Drop)]
+pub struct Kept {
+    pub number: u64,
+    pub documents: Vec<Document>,
+}
+
+/// How the lines are run. The case is named where something differs.
+#[derive(Clone, Copy)]
+pub struct Options {
+    pub case: u64,
+    pub threads: u64,
+    pub buffer: u64,
+    pub merge: u64,
+}
+
+fn has_term(document: &Document, term: Term) -> bool {
+    match term {
+        Term::Key(key) => document.key == key,
+        Term::Tag(tag) => document.tag == Some(tag),
+        Term::Word(word) => words_of(document).contains(word_sought(word)),
+    }
+}
+
+fn has_leaf(document: &Document, leaf: Leaf) -> bool {
+    match leaf {
+        Leaf::All => true,
+        Leaf::Term(term) => has_term(document, term),
+        Leaf::Phrase(phrase) => words_of(document).contains(phrase_sought(phrase)),
+    }
+}
+
+/// Whether one of two matches.
+fn has_either(document: &Document, (first, second): (Leaf, Leaf)) -> bool {
+    has_leaf(document, first) || has_leaf(document, second)
+}
+
+/// Whether the document matches.
+fn is_hit(document: &Document, query: Query) -> bool {
+    match query {
+        Query::One(leaf) => has_leaf(document, leaf),
+        Query::Bool { must, should, not } => {
+            let wanted = match (must, should) {
+                (Some((first, second)), _) => {
+                    has_leaf(document, first) && has_leaf(document, second)
+                }
+                (None, Some(pair)) => has_either(document, pair),
+                (None, None) => false,
+            };
+            let barred = match not {
+                Some(pair) => has_either(document, pair),
+                None => false,
+            };
+            wanted && !barred
+        }
+    }
+}
+
+/// Does what a line asks for.
+fn do_act(documents: &mut Vec<Document>, act: Act) -> Result<(), NoMemory> {
+    match act {
+        Act::Add(document) => documents.push(document)?,
+        Act::Update(term, document) => {
+            documents.retain(|one| !has_term(one, term));
+            documents.push(document)?;
+        }
+        Act::Delete(term) => documents.retain(|one| !has_term(one, term)),
+        Act::DeleteQuery(query) => documents.retain(|one| !is_hit(one, query)),
+        Act::SetPrice(term, value) => {
+            for one in documents.iter_mut() {
+                if has_term(one, term) {
+                    one.price = Some(value);
+                }
+            }
+        }
+        Act::SetRank(term, value) => {
+            for one in documents.iter_mut() {
+                if has_term(one, term) {
+                    one.rank = Some(value);
+                }
+            }
+        }
+        Act::Commit | Act::Search(_) => {}
+    }
+    Ok(())
+}
+
+/// The number behind `"seq":` in a line of a report, or 0 where there is none.
+fn number_in(line: &str) -> u64 {
+    let mut number = 0u64;
+    if let Some((_, behind)) = line.split_once("\"seq\":") {
+        for byte in behind.as_bytes() {
+            if byte.is_ascii_digit() {
+                number = number
+                    .wrapping_mul(10)
+                    .wrapping_add(u64::from(*byte - b'0'));
+            }
+        }
+    }
+    number
+}
+
+/// The number that each line of a report has.
+pub fn numbers_in(alloc: Global, report: &str) -> Result<Vec<u64>, NoMemory> {
+    let mut numbers = Vec::new(alloc);
+    for line in report.lines() {
+        numbers.push(number_in(line))?;
+    }
+    Ok(numbers)
+}
+
+/// The place of the only line that has this number.
+pub fn place_of(numbers: &[u64], number: u64) -> Option<usize> {
+    let mut found = None;
+    for (place, one) in numbers.iter().enumerate() {
+        if *one == number {
+            if found.is_some() {
+                return None;
+            }
+            found = Some(place);
+        }
+    }
+    found
+}
+
+/// Whether the lines but searches have the numbers that follow this one, each once, and in the order of
+/// the lines where that is asked for.
+fn follow(lines: &[Line], numbers: &[u64], base: u64, in_order: bool) -> bool {
+    let mut number = base;
+    for (place, line) in lines.iter().enumerate() {
+        if let Act::Search(_) = line.act {
+            continue;
+        }
+        number = number.wrapping_add(1);
+        match place_of(numbers, number) {
+            Some(found) if found == place || !in_order => {}
+            _ => return false,
+        }
+    }
+    true
+}
+
+/// Whether the numbers rise along the lines of each caller.
+fn rise(lines: &[Line], numbers: &[u64]) -> bool {
+    let mut last = [0u64; 16];
+    for (line, number) in lines.iter().zip(numbers.iter()) {
+        let caller = (line.caller % 16) as usize;
+        if *number != 0 {
+            if *number <= last[caller] {
+                return false;
+            }
+            last[caller] = *number;
+        }
+    }
+    true
+}
+
+/// The documents that the lines numbered up to this leave of those that the run began on.
+fn documents_at(
+    alloc: Global,
+    begun: &Kept,
+    lines: &[Line],
+    numbers: &[u64],
+    upto: u64,
+) -> Result<Vec<Document>, Fail> {
+    let mut documents = begun.documents.as_slice().to_vec(alloc)?;
+    for before in begun.number..upto {
+        let place = place_of(numbers, before + 1).ok_or("a number that no line has")?;
+        let line = lines.get(place).ok_or("a line too many")?;
+        do_act(&mut documents, line.act)?;
+    }
+    Ok(documents)
+}
+
+/// The number of the last commit that the caller made before this place, or that of the one that the run
+/// began on.
+fn commit_seen(begun: &Kept, lines: &[Line], numbers: &[u64], place: usize, caller: u64) -> u64 {
+    let mut seen = begun.number;
+    for (line, number) in lines.iter().zip(numbers.iter()).take(place) {
+        if line.caller == caller {
+            if let Act::Commit = line.act {
+                seen = *number;
+            }
+        }
+    }
+    seen
+}
+
+/// The documents that match, as a report lists them.
+fn hits_text(alloc: Global, documents: &[Document], query: Query) -> Result<String, NoMemory> {
+    let mut text = String::new(alloc);
+    for document in documents {
+        if is_hit(document, query) {
+            let comma = if text.is_empty() { "" } else { "," };
+            let key = document.key;
+            let num = numbers_text(alloc, document)?;
+            write!(text, "{comma}{{\"key\":\"k{key}\",\"num\":{num}}}")?;
+        }
+    }
+    Ok(text)
+}
+
+/// What a search of this commit shows, at this line.
+pub fn answer_text(
+    alloc: Global,
+    commit: &Kept,
+    query: Query,
+    at: u64,
+) -> Result<String, NoMemory> {
+    let number = commit.number;
+    let hits = hits_text(alloc, commit.documents.as_slice(), query)?;
+    let text = format!(in alloc; "{{\"commit\":{number},\"hits\":[{hits}],\"line\":{at}}}\n")?;
+    Ok(text)
+}
+
+/// The report of these lines, by the numbers that they have.
+pub fn report_of(
+    alloc: Global,
+    begun: &Kept,
+    lines: &[Line],
+    numbers: &[u64],
+) -> Result<String, Fail> {
+    let mut report = String::new(alloc);
+    for (place, line) in lines.iter().enumerate() {
+        let at = place as u64 + 1;
+        let seq = numbers.get(place).copied().unwrap_or(0);
+        match line.act {
+            Act::Commit => {
+                let docs = documents_at(alloc, begun, lines, numbers, seq)?.len();
+                writeln!(report, "{{\"docs\":{docs},\"line\":{at},\"seq\":{seq}}}")?;
+            }
+            Act::Search(query) => {
+                let number = commit_seen(begun, lines, numbers, place, line.caller);
+                let documents = documents_at(alloc, begun, lines, numbers, number)?;
+                let commit = Kept { number, documents };
+                report.push_str(answer_text(alloc, &commit, query, at)?.as_str())?;
+            }
+            _ => writeln!(report, "{{\"line\":{at},\"seq\":{seq}}}")?,
+        }
+    }
+    Ok(report)
+}
+
+/// The last commit that these lines leave.
+pub fn last_commit(
+    alloc: Global,
+    begun: &Kept,
+    lines: &[Line],
+    numbers: &[u64],
+) -> Result<Kept, Fail> {
+    let mut number = begun.number;
+    for (line, one) in lines.iter().zip(numbers.iter()) {
+        if let Act::Commit = line.act {
+            number = number.max(*one);
+        }
+    }
+    let documents = documents_at(alloc, begun, lines, numbers, number)?;
+    Ok(Kept { number, documents })
+}
+
+/// Fails where the texts differ, and names the first line in which they do.
+pub fn compare(case: u64, text: &str, wanted: &str) -> Result<(), Fail> {
+    if text == wanted {
+        return Ok(());
+    }
+    let mut others = wanted.lines();
+    for one in text.lines() {
+        let other = others.next().unwrap_or("no line");
+        if one != other {
+            return Err(Fail::new(format_args!("case {case}: {one} in place of {other}")));
+        }
+    }
+    Err(Fail::new(format_args!("case {case}: lines are missing")))
+}
+
+/// Fails where the numbers aren't those that the lines may get.
+pub fn compare_numbers(
+    options: Options,
+    begun: &Kept,
+    lines: &[Line],
+    numbers: &[u64],
+) -> Result<(), Fail> {
+    let case = options.case;
+    if !follow(lines, numbers, begun.number, options.threads == 1) {
+        return Err(Fail::new(format_args!("case {case}: other numbers")));
+    }
+    if !rise(lines, numbers) {
+        return Err(Fail::new(format_args!("case {case}: numbers of a caller that fall")));
+    }
+    Ok(())
+}

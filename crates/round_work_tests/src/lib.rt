@@ -1,0 +1,5 @@
+//! Tests of `round_work`: workers that do their shares of a round.
+#![tactic(auto)]
+
+#[cfg(test)]
+mod tests;

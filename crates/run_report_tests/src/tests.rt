@@ -1,0 +1,156 @@
+//! Reports of lines that search nothing, of a search before any commit, and of one with many hits.
+use ix_base::{FileName, NoMemory, Query, Refusal};
+use ix_memory::MemoryStore;
+use ix_outside::{Store, StoreFault};
+use run_report::{Answer, Outcome, report};
+use std::alloc::Global;
+
+/// Outcomes of six lines, of which two search where there is no commit.
+fn six_outcomes(alloc: Global) -> Result<Vec<Outcome>, NoMemory> {
+    let mut outcomes = Vec::new(alloc);
+    let answers = [
+        (1, Answer::Numbered(1)),
+        (2, Answer::Searched(0, Query::All)),
+        (3, Answer::Refused(Refusal::Term { size: 32_767 })),
+        (4, Answer::Committed(2, 1)),
+        (5, Answer::Refused(Refusal::Query { size: 131_073 })),
+        (6, Answer::Searched(0, Query::All)),
+    ];
+    for (line, answer) in answers {
+        outcomes.push(Outcome { line, answer })?;
+    }
+    Ok(outcomes)
+}
+
+#[test]
+fn texts_stand_in_the_order_of_the_lines(rt: HostRuntime) {
+    let alloc = rt.alloc();
+    let Ok(outcomes) = six_outcomes(alloc) else {
+        panic!(rt; "memory");
+    };
+    let mut store = MemoryStore::new(alloc);
+    let Ok(bytes) = report(alloc, &mut store, outcomes.as_slice()) else {
+        panic!(rt; "memory");
+    };
+    let wanted =
+        "{\"line\":1,\"seq\":1}\n{\"commit\":0,\"hits\":[],\"line\":2}\n{\"line\":3,\"refused\":\"term\",\"size\":32767}\n{\"docs\":1,\"line\":4,\"seq\":2}\n{\"line\":5,\"refused\":\"query\",\"size\":131073}\n{\"commit\":0,\"hits\":[],\"line\":6}\n";
+    assert!(rt; bytes.as_slice() == wanted.as_bytes());
+}
+
+/// The commit file of a thousand documents, whose last one has the commit's number.
+const THOUSAND: [u8; 60] = [
+    0x49, 0x58, 0x43, 0x4f, 0x4d, 0x30, 0x30, 0x31, 0, 0, 0, 0, 0, 0, 3, 0xe8, 0, 0, 0, 0, 0, 0, 3,
+    0xe8, 0, 0, 0, 0, 0, 0, 0, 2, 0, 0, 0, 0, 0, 0, 0, 1, 0, 0, 0, 0, 0, 0, 0, 1, 0, 0, 3, 0xe8, 0,
+    0, 0, 0, 0, 0, 3, 0xe8,
+];
+
+/// What a file of rows begins with: its mark, the id 1 and a thousand rows.
+const ROWS_FRONT: [u8; 20] = [
+    0x49, 0x58, 0x52, 0x4f, 0x57, 0x30, 0x30, 0x31, 0, 0, 0, 0, 0, 0, 0, 1, 0, 0, 3, 0xe8,
+];
+
+/// A document of the key `a1` and nothing else.
+const DOCUMENT: [u8; 22] = [
+    0, 0, 0, 2, 0x61, 0x31, 0, 0, 0, 0, 0, 0, 0, 0, 0, 0, 0, 0, 0, 0, 0, 0,
+];
+
+/// The rows of a thousand documents.
+fn thousand_rows(alloc: Global) -> Result<Vec<u8>, NoMemory> {
+    let mut bytes = Vec::new(alloc);
+    bytes.extend_from_slice(&ROWS_FRONT)?;
+    for birth in 1..1001u64 {
+        bytes.extend_from_slice(&birth.to_be_bytes())?;
+        bytes.extend_from_slice(&DOCUMENT)?;
+    }
+    Ok(bytes)
+}
+
+/// What a file of postings of one term begins with: its mark, the id 1, a thousand rows, one term, the
+/// key `a1`, and a thousand rows that have it.
+const POSTS_FRONT: [u8; 45] = [
+    0x49, 0x58, 0x50, 0x53, 0x54, 0x30, 0x30, 0x31, 0, 0, 0, 0, 0, 0, 0, 1, 0, 0, 3, 0xe8, 0, 0, 0,
+    0, 0, 0, 0, 1, 0, 0, 0, 3, 0x6b, 0x65, 0x79, 0, 0, 0, 2, 0x61, 0x31, 0, 0, 3, 0xe8,
+];
+
+/// One position, which is 0.
+const FIRST_POSITION: [u8; 8] = [0, 0, 0, 1, 0, 0, 0, 0];
+
+/// The postings of a thousand documents.
+fn thousand_postings(alloc: Global) -> Result<Vec<u8>, NoMemory> {
+    let mut bytes = Vec::new(alloc);
+    bytes.extend_from_slice(&POSTS_FRONT)?;
+    for row in 0..1000u32 {
+        bytes.extend_from_slice(&row.to_be_bytes())?;
+        bytes.extend_from_slice(&FIRST_POSITION)?;
+    }
+    Ok(bytes)
+}
+
+/// What the files of live bits and of set numbers go on with after their marks: the id 1, the commit
+/// 1000 and a thousand rows.
+const LIVE_FRONT: [u8; 20] = [
+    0, 0, 0, 0, 0, 0, 0, 1, 0, 0, 0, 0, 0, 0, 3, 0xe8, 0, 0, 3, 0xe8,
+];
+
+/// The live bits of a thousand documents, which are all live.
+fn thousand_bits(alloc: Global) -> Result<Vec<u8>, NoMemory> {
+    let mut bytes = Vec::new(alloc);
+    bytes.extend_from_slice(b"IXLIV001")?;
+    bytes.extend_from_slice(&LIVE_FRONT)?;
+    bytes.extend_from_slice(&[0xff; 125])?;
+    Ok(bytes)
+}
+
+/// The set numbers of a thousand documents, of which there are none.
+fn no_numbers(alloc: Global) -> Result<Vec<u8>, NoMemory> {
+    let mut bytes = Vec::new(alloc);
+    bytes.extend_from_slice(b"IXVAL001")?;
+    bytes.extend_from_slice(&LIVE_FRONT)?;
+    bytes.extend_from_slice(&[0; 8])?;
+    Ok(bytes)
+}
+
+/// The text of a search line that a thousand documents match.
+fn thousand_hits(alloc: Global) -> Result<Vec<u8>, NoMemory> {
+    let mut text = Vec::new(alloc);
+    text.extend_from_slice("{\"commit\":1000,\"hits\":[".as_bytes())?;
+    for _ in 1..1000 {
+        text.extend_from_slice("{\"key\":\"a1\",\"num\":{}},".as_bytes())?;
+    }
+    text.extend_from_slice("{\"key\":\"a1\",\"num\":{}}],\"line\":1}\n".as_bytes())?;
+    Ok(text)
+}
+
+/// A store with the commit of a thousand documents.
+fn store_of_thousand(alloc: Global) -> Result<MemoryStore, StoreFault> {
+    let mut store = MemoryStore::new(alloc);
+    let rows = thousand_rows(alloc)?;
+    let postings = thousand_postings(alloc)?;
+    store.write(FileName::Rows(1), rows.as_slice())?;
+    store.write(FileName::Posts(1), postings.as_slice())?;
+    let bits = thousand_bits(alloc)?;
+    let numbers = no_numbers(alloc)?;
+    store.write(FileName::Live(1, 1000), bits.as_slice())?;
+    store.write(FileName::Values(1, 1000), numbers.as_slice())?;
+    store.write(FileName::Commit(1000), &THOUSAND)?;
+    Ok(store)
+}
+
+#[test]
+fn a_search_has_all_its_hits(rt: HostRuntime) {
+    let alloc = rt.alloc();
+    let Ok(mut store) = store_of_thousand(alloc) else {
+        panic!(rt; "memory");
+    };
+    let Ok(wanted) = thousand_hits(alloc) else {
+        panic!(rt; "memory");
+    };
+    let outcome = Outcome {
+        line: 1,
+        answer: Answer::Searched(1000, Query::All),
+    };
+    let Ok(bytes) = report(alloc, &mut store, &[outcome]) else {
+        panic!(rt; "the commit is whole");
+    };
+    assert!(rt; bytes.as_slice() == wanted.as_slice());
+}
