@@ -18,10 +18,6 @@ mod input;
 mod lines;
 mod outcomes;
 mod output;
-#[cfg(test)]
-mod plain_fold;
-#[cfg(test)]
-mod plain_script;
 mod reading;
 mod rounds;
 mod stop;

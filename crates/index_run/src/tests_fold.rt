@@ -1,140 +1,89 @@
 //! Many small runs whose scripts are drawn from a seed: each case has two or three of them over one
 //! store, and each of their reports is folded from its numbers on a plain list of documents.
-ghost use Rattle.std.specs.Prelude.{◌<◌};
-
-use crate::plain_fold::{Kept, Options, check_asked, check_run};
-use crate::plain_script::{Act, Document, Leaf, Line, Query, Term};
-use ix_base::NoMemory;
+use crate::tests::run_words;
 use ix_memory::MemoryStore;
+use plain_fold::{
+    Draws, Kept, Leaf, Line, Options, Query, answer_text, compare, compare_numbers, last_commit,
+    numbers_in, report_of, script_of,
+};
 use std::alloc::Global;
 use std::sync::Wait;
 use std::test::*;
 use std::thread::Threads;
 
-/// Numbers that are drawn from a seed.
-#[derive(Drop)]
-struct Draws {
-    state: u64,
+/// Runs the lines over the store, whose last commit this is, and compares the whole report with the one
+/// that is folded from its numbers. Returns the last commit after it, and the store.
+pub(crate) fn check_run<R: Threads + Wait + Sync>(
+    rt: &R,
+    alloc: Global,
+    options: Options,
+    lines: &[Line],
+    begun: &Kept,
+    store: MemoryStore,
+) -> Result<(Kept, MemoryStore), Fail> {
+    let Options {
+        case,
+        threads,
+        buffer,
+        merge,
+    } = options;
+    let threads = format!(in alloc; "--threads={threads}")?;
+    let buffer = format!(in alloc; "--buffer={buffer}")?;
+    let merge = format!(in alloc; "--merge={merge}")?;
+    let words = ["run", threads.as_str(), buffer.as_str(), merge.as_str()];
+    let script = script_of(alloc, lines)?;
+    let none = Vec::new(alloc);
+    let done = run_words(
+        rt,
+        alloc,
+        &words,
+        &[script.as_str()],
+        store,
+        none,
+        Vec::new(alloc),
+    )?;
+    let report = str::from_utf8(done.written.as_slice())
+        .ok()
+        .ok_or("no text")?;
+    if done.status != 0 {
+        return Err(Fail::new(format_args!("case {case}: stopped with {report}")));
+    }
+    let numbers = numbers_in(alloc, report)?;
+    compare_numbers(options, begun, lines, numbers.as_slice())?;
+    let wanted = report_of(alloc, begun, lines, numbers.as_slice())?;
+    compare(case, report, wanted.as_str())?;
+    let last = last_commit(alloc, begun, lines, numbers.as_slice())?;
+    Ok((last, done.store))
 }
 
-impl Draws {
-    /// The next number, below this count.
-    fn below(&mut self, count: u64) -> u64
-        requires { 0 < count }
-        ensures { result < count }
-    {
-        self.state = self
-            .state
-            .wrapping_mul(6_364_136_223_846_793_005)
-            .wrapping_add(1_442_695_040_888_963_407);
-        (self.state / 8_589_934_592) % count
-    }
-
-    /// A number below this count, in one case of two.
-    fn perhaps(&mut self, count: u64) -> Option<u64>
-        requires { 0 < count }
-    {
-        match self.below(2) {
-            0 => None,
-            _ => Some(self.below(count)),
-        }
-    }
-
-    /// A number from -3 to 3.
-    fn value(&mut self) -> i64 {
-        self.below(7) as i64 - 3
-    }
-
-    /// A document of one of six keys.
-    fn document(&mut self) -> Document {
-        Document {
-            key: self.below(6),
-            tag: self.perhaps(3),
-            body: self.perhaps(12),
-            price: match self.below(3) {
-                0 => Some(self.value()),
-                _ => None,
-            },
-            rank: match self.below(4) {
-                0 => Some(self.value()),
-                _ => None,
-            },
-        }
-    }
-
-    /// Mostly a term that few documents have.
-    fn term(&mut self) -> Term {
-        match self.below(6) {
-            0 => Term::Word(self.below(6)),
-            1 => Term::Tag(self.below(4)),
-            _ => Term::Key(self.below(7)),
-        }
-    }
-
-    fn leaf(&mut self) -> Leaf {
-        match self.below(10) {
-            0 => Leaf::All,
-            1..6 => Leaf::Term(self.term()),
-            _ => Leaf::Phrase(self.below(8)),
-        }
-    }
-
-    fn pair(&mut self) -> Option<(Leaf, Leaf)> {
-        match self.below(2) {
-            0 => None,
-            _ => Some((self.leaf(), self.leaf())),
-        }
-    }
-
-    fn query(&mut self) -> Query {
-        match self.below(3) {
-            0 => Query::Bool {
-                must: self.pair(),
-                should: self.pair(),
-                not: self.pair(),
-            },
-            _ => Query::One(self.leaf()),
-        }
-    }
-
-    /// Adds in two of five, and each other operation often enough.
-    fn act(&mut self) -> Act {
-        match self.below(20) {
-            0..8 => Act::Add(self.document()),
-            8..10 => Act::Update(self.term(), self.document()),
-            10 => Act::Delete(self.term()),
-            11 => Act::DeleteQuery(self.query()),
-            12 => Act::SetPrice(self.term(), self.value()),
-            13 => Act::SetRank(self.term(), self.value()),
-            14..16 => Act::Commit,
-            16 => Act::Search(Query::One(Leaf::All)),
-            _ => Act::Search(self.query()),
-        }
-    }
-
-    /// 10 to 40 lines of one to four callers.
-    fn lines(&mut self, alloc: Global) -> Result<Vec<Line>, NoMemory> {
-        let callers = 1 + self.below(4);
-        let count = 10 + self.below(31);
-        let mut lines = Vec::new(alloc);
-        for _ in 0..count {
-            let caller = self.below(callers);
-            let act = self.act();
-            lines.push(Line { caller, act })?;
-        }
-        Ok(lines)
-    }
-
-    /// Options, with one of these numbers of threads.
-    fn options(&mut self, case: u64, threads: &[u64]) -> Options {
-        let choice = self.below(threads.len().max(1) as u64) as usize;
-        Options {
-            case,
-            threads: threads.get(choice).copied().unwrap_or(1),
-            buffer: [1, 2, 3, 1000][self.below(4) as usize % 4],
-            merge: [2, 3, 8][self.below(3) as usize % 3],
-        }
-    }
+/// Asks by these words for all documents of a commit, and compares the answer. Returns the store.
+fn check_asked<R: Threads + Wait + Sync>(
+    rt: &R,
+    alloc: Global,
+    case: u64,
+    words: &[&str],
+    commit: &Kept,
+    store: MemoryStore,
+) -> Result<MemoryStore, Fail> {
+    let none = Vec::new(alloc);
+    let done = run_words(
+        rt,
+        alloc,
+        words,
+        &["\"all\"\n"],
+        store,
+        none,
+        Vec::new(alloc),
+    )?;
+    let answer = str::from_utf8(done.written.as_slice())
+        .ok()
+        .ok_or("no text")?;
+    let wanted = match commit.number {
+        0 => String::from_str(alloc, "{\"commit\":0,\"status\":9}\n")?,
+        _ => answer_text(alloc, commit, Query::One(Leaf::All), 1)?,
+    };
+    compare(case, answer, wanted.as_str())?;
+    Ok(done.store)
 }
 
 /// The runs of a case over one store. Then each of their last commits is asked for: the last one
@@ -145,7 +94,7 @@ fn check_case<R: Threads + Wait + Sync>(
     case: u64,
     threads: &[u64],
 ) -> Result<(), Fail> {
-    let mut draws = Draws { state: case };
+    let mut draws = Draws::new(case);
     let mut store = MemoryStore::new(alloc);
     let mut last = Kept {
         number: 0,

@@ -1,8 +1,8 @@
 //! Whole runs with several writers, small buffers and many rounds.
 use crate::tests::{ADD_A1, ADD_A2, ALL, COMMIT, Done, ended, run_words};
-use ix_base::NoMemory;
 use ix_memory::MemoryStore;
 use ix_outside::Store;
+use plain_fold::deletes_and_report;
 use std::alloc::Global;
 use std::sync::Wait;
 use std::test::*;
@@ -79,19 +79,6 @@ fn the_same_whatever_the_buffer(rt: HostRuntime) -> Result<(), Fail> {
         let _store = ended(&rt, done, 0, report);
     }
     Ok(())
-}
-
-/// A script of 4,161 deletes and a commit, and its report.
-fn deletes_and_report(alloc: Global) -> Result<(String, String), NoMemory> {
-    let mut script = String::new(alloc);
-    let mut report = String::new(alloc);
-    for line in 1..4162 {
-        script.push_str("{\"c\":0,\"op\":\"delete\",\"field\":\"key\",\"term\":\"aaaaa\"}\n")?;
-        report.push_str(&format!(in alloc; "{{\"line\":{line},\"seq\":{line}}}\n")?)?;
-    }
-    script.push_str(COMMIT)?;
-    report.push_str("{\"docs\":0,\"line\":4162,\"seq\":4162}\n")?;
-    Ok((script, report))
 }
 
 /// More deletes than one writer's part of a queue holds: the numbers run on without a gap.

@@ -3,12 +3,14 @@
 ghost use Rattle.std.specs.Prelude.{◌≤◌};
 
 use crate::doing::{self, do_script};
-use crate::plain_fold::{Kept, Options, check_run, numbers_in, place_of};
-use crate::plain_script::{Act, Leaf, Line, Query, Term, document_of, script_of};
 use crate::telling::Form;
 use crate::tests::run_watched;
+use crate::tests_fold::check_run;
 use ix_memory::{GroupsGate, MeetingGate, MemoryStore};
 use ix_outside::{EmptyGate, Gate};
+use plain_fold::{
+    Act, Kept, Leaf, Line, Options, Query, Term, document_of, numbers_in, place_of, script_of,
+};
 use script_maker::make_script;
 use std::alloc::Global;
 use std::sync::Wait;

@@ -4,6 +4,8 @@
 
 mod draws;
 mod fold;
+mod large;
+mod made;
 mod script;
 
 pub use draws::Draws;
@@ -11,4 +13,8 @@ pub use fold::{
     Kept, Options, answer_text, compare, compare_numbers, last_commit, numbers_in, place_of,
     report_of,
 };
+pub use large::{
+    asked_four_times, deletes_and_report, members, script_and_report, script_of_names,
+};
+pub use made::plain_sum;
 pub use script::{Act, Document, Leaf, Line, Query, Term, document_of, script_of};
