@@ -1,12 +1,12 @@
 //! What no clause says: that each call which may want memory succeeds where there is enough, and
 //! which names of files are read.
-use ix_base::{
-    Analysed, Document, Fields, FileName, List, Name, Numbers, Operation, PhraseText, Postings,
-    Queries, Query, Row, Spots, Term, TermPostings, Text,
-};
 use ix_base::codec::{
     BrokenField, byte_at, i64_at, name_at, put_i64, put_name, put_text, put_u32, put_u64, text_at,
     u32_at, u64_at,
+};
+use ix_base::{
+    Analysed, Document, Fields, FileName, List, Name, Numbers, Operation, PhraseText, Postings,
+    Queries, Query, Row, Spots, Term, TermPostings, Text,
 };
 use std::alloc::Global;
 use std::fmt::Write;

@@ -1,6 +1,6 @@
 use crate::tests::{changed, field_at};
-use ix_base::{FileFault, List, Name, Postings, Spots, Term, TermPostings, Text};
 use ix_base::codec::{put_u32, put_u64};
+use ix_base::{FileFault, List, Name, Postings, Spots, Term, TermPostings, Text};
 use segment_files::{decode_pst, encode_pst};
 use std::alloc::Global;
 use std::test::*;
