@@ -132,6 +132,19 @@ pub(crate) fn run_script<R: Threads + Wait + Sync, S: Store + Drop>(
     Ok(done.ok().ok_or("memory")?)
 }
 
+/// A run of the script over the store, which is to end with this status and to write this. Returns the
+/// store.
+fn expect_report<R: Threads + Wait + Sync + Abort>(
+    rt: &R,
+    alloc: Global,
+    script: &[&str],
+    store: MemoryStore,
+    status: u8,
+    written: &str,
+) -> Result<MemoryStore, Fail> {
+    Ok(ended(rt, run_script(rt, alloc, script, store)?, status, written))
+}
+
 /// Compares how a run ended and what it wrote with this, and returns its store.
 pub(crate) fn ended<R: Abort, S: Drop>(rt: &R, done: Done<S>, status: u8, written: &str) -> S {
     assert_eq!(*rt; done.status, status, "{written}");
@@ -216,8 +229,8 @@ fn reports(rt: HostRuntime) -> Result<(), Fail> {
         ),
     ];
     for (script, status, report) in cases {
-        let done = run_script(&rt, alloc, script, MemoryStore::new(alloc))?;
-        let _store = ended(&rt, done, status, report);
+        let empty = MemoryStore::new(alloc);
+        expect_report(&rt, alloc, script, empty, status, report)?;
     }
     Ok(())
 }
@@ -258,9 +271,9 @@ pub(crate) fn one_document<R: Threads + Wait + Sync + Abort>(
     rt: &R,
     alloc: Global,
 ) -> Result<MemoryStore, Fail> {
-    let done = run_script(rt, alloc, &[ADD_A1, COMMIT], MemoryStore::new(alloc))?;
     let report = "{\"line\":1,\"seq\":1}\n{\"docs\":1,\"line\":2,\"seq\":2}\n";
-    Ok(ended(rt, done, 0, report))
+    let empty = MemoryStore::new(alloc);
+    expect_report(rt, alloc, &[ADD_A1, COMMIT], empty, 0, report)
 }
 
 const TWO_HITS: &str =
@@ -271,49 +284,53 @@ const TWO_HITS: &str =
 fn sessions_and_damage(rt: HostRuntime) -> Result<(), Fail> {
     let alloc = rt.alloc();
     let store = one_document(&rt, alloc)?;
-    let second = run_script(&rt, alloc, &[ADD_A2, COMMIT, ALL], store)?;
-    let mut store = ended(&rt, second, 0, TWO_HITS);
+    let mut store = expect_report(&rt, alloc, &[ADD_A2, COMMIT, ALL], store, 0, TWO_HITS)?;
     assert!(rt; store.write(FileName::Commit(4), b"IXCOM001") == Ok(()));
-    let third = run_script(&rt, alloc, &[ALL], store)?;
     let report = "{\"at\":8,\"file\":\"segments_4\",\"status\":8}\n";
-    let _store = ended(&rt, third, 8, report);
+    expect_report(&rt, alloc, &[ALL], store, 8, report)?;
     Ok(())
 }
 
 /// No run goes on from a commit whose number is above 2^61, though one below it is whole.
 #[test]
 fn a_base_that_is_too_high(rt: HostRuntime) -> Result<(), Fail> {
-    let alloc = rt.alloc();
     let high = FileName::Commit(2_305_843_009_213_693_953);
-    let mut store = one_document(&rt, alloc)?;
+    let mut store = one_document(&rt, rt.alloc())?;
     assert!(rt; store.write(high, b"") == Ok(()));
-    let done = run_script(&rt, alloc, &[], store)?;
     let report = "{\"base\":2305843009213693953,\"status\":10}\n";
-    let _store = ended(&rt, done, 10, report);
+    expect_report(&rt, rt.alloc(), &[], store, 10, report)?;
     Ok(())
 }
 
 /// A segment's postings that are gone are damaged at 0, when a run begins on their commit.
 #[test]
 fn postings_are_gone(rt: HostRuntime) -> Result<(), Fail> {
-    let alloc = rt.alloc();
-    let mut store = one_document(&rt, alloc)?;
+    let mut store = one_document(&rt, rt.alloc())?;
     assert!(rt; store.delete(FileName::Posts(1)) == Ok(()));
-    let second = run_script(&rt, alloc, &[ADD_A2], store)?;
     let report = "{\"at\":0,\"file\":\"seg_1.pst\",\"status\":8}\n";
-    let _store = ended(&rt, second, 8, report);
+    expect_report(&rt, rt.alloc(), &[ADD_A2], store, 8, report)?;
     Ok(())
+}
+
+/// A run over an empty store that adds a document and commits, in which these reads and writes fail.
+fn failing_run<R: Threads + Wait + Sync>(
+    rt: &R,
+    alloc: Global,
+    failing_reads: Vec<u64>,
+    failing_writes: Vec<u64>,
+) -> Result<Done<MemoryStore>, Fail> {
+    let store = MemoryStore::new(alloc);
+    let script = [ADD_A1, COMMIT];
+    Ok(run_over(rt, alloc, &script, store, failing_reads, failing_writes)?)
 }
 
 /// A run whose first read fails ends with status 5, and leaves nothing.
 #[test]
 fn a_failing_source(rt: HostRuntime) -> Result<(), Fail> {
-    let alloc = rt.alloc();
-    let store = MemoryStore::new(alloc);
-    let reads = vec![in alloc; 1u64]?;
-    let done = run_over(&rt, alloc, &[ADD_A1, COMMIT], store, reads, Vec::new(alloc))?;
+    let reads = vec![in rt.alloc(); 1u64]?;
+    let done = failing_run(&rt, rt.alloc(), reads, Vec::new(rt.alloc()))?;
     let mut store = ended(&rt, done, 5, "{\"status\":5,\"why\":\"source\"}\n");
-    let names = store.list(alloc).ok().ok_or("a list that fails")?;
+    let names = store.list(rt.alloc()).ok().ok_or("a list that fails")?;
     assert!(rt; names.is_empty(), "a file");
     Ok(())
 }
@@ -321,19 +338,9 @@ fn a_failing_source(rt: HostRuntime) -> Result<(), Fail> {
 /// A run whose first write fails ends with status 6. What it committed is there.
 #[test]
 fn a_failing_sink(rt: HostRuntime) -> Result<(), Fail> {
-    let alloc = rt.alloc();
-    let store = MemoryStore::new(alloc);
-    let writes = vec![in alloc; 1u64]?;
-    let done = run_over(
-        &rt,
-        alloc,
-        &[ADD_A1, COMMIT],
-        store,
-        Vec::new(alloc),
-        writes,
-    )?;
+    let writes = vec![in rt.alloc(); 1u64]?;
+    let done = failing_run(&rt, rt.alloc(), Vec::new(rt.alloc()), writes)?;
     let store = ended(&rt, done, 6, "");
-    let next = run_script(&rt, alloc, &[ALL], store)?;
-    let _store = ended(&rt, next, 0, ONE_HIT);
+    expect_report(&rt, rt.alloc(), &[ALL], store, 0, ONE_HIT)?;
     Ok(())
 }

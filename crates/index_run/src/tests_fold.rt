@@ -1,6 +1,7 @@
 //! Many small runs whose scripts are drawn from a seed: each case has two or three of them over one
 //! store, and each of their reports is folded from its numbers on a plain list of documents.
-use crate::tests::run_words;
+use crate::tests::{Done, run_words};
+use ix_base::NoMemory;
 use ix_memory::MemoryStore;
 use plain_fold::{
     Draws, Kept, Leaf, Line, Options, Query, answer_text, compare, compare_numbers, last_commit,
@@ -10,6 +11,38 @@ use std::alloc::Global;
 use std::sync::Wait;
 use std::test::*;
 use std::thread::Threads;
+
+/// A run of the script over the store, with these options.
+fn run_with<R: Threads + Wait + Sync>(
+    rt: &R,
+    alloc: Global,
+    options: Options,
+    script: &str,
+    store: MemoryStore,
+) -> Result<Done<MemoryStore>, NoMemory> {
+    let threads = format!(in alloc; "--threads={}", options.threads)?;
+    let buffer = format!(in alloc; "--buffer={}", options.buffer)?;
+    let merge = format!(in alloc; "--merge={}", options.merge)?;
+    let words = ["run", threads.as_str(), buffer.as_str(), merge.as_str()];
+    let none = Vec::new(alloc);
+    run_words(rt, alloc, &words, &[script], store, none, Vec::new(alloc))
+}
+
+/// Compares the report of a run with the one that is folded from its numbers. Returns the last commit
+/// after it.
+fn check_report(
+    alloc: Global,
+    options: Options,
+    lines: &[Line],
+    begun: &Kept,
+    report: &str,
+) -> Result<Kept, Fail> {
+    let numbers = numbers_in(alloc, report)?;
+    compare_numbers(options, begun, lines, numbers.as_slice())?;
+    let wanted = report_of(alloc, begun, lines, numbers.as_slice())?;
+    compare(options.case, report, wanted.as_str())?;
+    last_commit(alloc, begun, lines, numbers.as_slice())
+}
 
 /// Runs the lines over the store, whose last commit this is, and compares the whole report with the one
 /// that is folded from its numbers. Returns the last commit after it, and the store.
@@ -21,38 +54,16 @@ pub(crate) fn check_run<R: Threads + Wait + Sync>(
     begun: &Kept,
     store: MemoryStore,
 ) -> Result<(Kept, MemoryStore), Fail> {
-    let Options {
-        case,
-        threads,
-        buffer,
-        merge,
-    } = options;
-    let threads = format!(in alloc; "--threads={threads}")?;
-    let buffer = format!(in alloc; "--buffer={buffer}")?;
-    let merge = format!(in alloc; "--merge={merge}")?;
-    let words = ["run", threads.as_str(), buffer.as_str(), merge.as_str()];
     let script = script_of(alloc, lines)?;
-    let none = Vec::new(alloc);
-    let done = run_words(
-        rt,
-        alloc,
-        &words,
-        &[script.as_str()],
-        store,
-        none,
-        Vec::new(alloc),
-    )?;
+    let done = run_with(rt, alloc, options, script.as_str(), store)?;
     let report = str::from_utf8(done.written.as_slice())
         .ok()
         .ok_or("no text")?;
     if done.status != 0 {
+        let case = options.case;
         return Err(Fail::new(format_args!("case {case}: stopped with {report}")));
     }
-    let numbers = numbers_in(alloc, report)?;
-    compare_numbers(options, begun, lines, numbers.as_slice())?;
-    let wanted = report_of(alloc, begun, lines, numbers.as_slice())?;
-    compare(case, report, wanted.as_str())?;
-    let last = last_commit(alloc, begun, lines, numbers.as_slice())?;
+    let last = check_report(alloc, options, lines, begun, report)?;
     Ok((last, done.store))
 }
 

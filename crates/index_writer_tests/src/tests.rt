@@ -231,13 +231,44 @@ pub(crate) fn history<R: Threads + Sync>(
     Ok(out)
 }
 
+/// Behind what was told, the rows of each of these commits.
+fn with_commits(
+    alloc: Global,
+    told: String,
+    store: MemoryStore,
+    commits: &[u64],
+) -> Result<String, Fail> {
+    let (mut told, mut store) = (told, store);
+    for number in commits {
+        told.push_str(" / ")?;
+        told.push_str(shown(alloc, &mut store, *number)?.as_str())?;
+    }
+    Ok(told)
+}
+
+/// The history of a new writer with these buffers and this merge factor, and then the rows of each of
+/// these commits.
+pub(crate) fn story<R: Threads + Sync>(
+    rt: &R,
+    alloc: Global,
+    buffer: u32,
+    merge: u32,
+    steps: &[Step<'_>],
+    commits: &[u64],
+) -> Result<String, Fail>
+    requires buffer { (1 ≤ buffer) × (buffer ≤ 65536) }
+    requires merge { (2 ≤ merge) × (merge ≤ 64) }
+{
+    let mut writer = IndexWriter::none(alloc, MemoryStore::new(alloc), buffer, merge);
+    let told = history(rt, alloc, &mut writer, steps)?;
+    with_commits(alloc, told, writer.into_store(), commits)
+}
+
 /// Two writers, deletes across them, and a commit; then a round that isn't closed, and one whose
 /// commit has the rows of all three. The buffers hold two documents each.
 #[test]
 fn three_rounds(rt: HostRuntime) -> Result<(), Fail> {
     use Act::*;
-    let alloc = rt.alloc();
-    let mut writer = IndexWriter::none(alloc, MemoryStore::new(alloc), 2, 8);
     let steps = [
         Step::Round(&[
             (0, Add, "a"),
@@ -253,13 +284,11 @@ fn three_rounds(rt: HostRuntime) -> Result<(), Fail> {
         Step::Round(&[(0, Delete, "f"), (1, Commit, "")]),
         Step::Commit,
     ];
+    let told = story(&rt, rt.alloc(), 2, 8, &steps, &[6, 10])?;
     assert!(rt;
-        history(&rt, alloc, &mut writer, &steps)?.as_str()
-            == "committed 6, 6 pending; 3 rows in 6; ran; committed 10, 10 pending; 2 rows in 10; 10, last commit 10, next id 5"
+        told.as_str()
+            == "committed 6, 6 pending; 3 rows in 6; ran; committed 10, 10 pending; 2 rows in 10; 10, last commit 10, next id 5 / 4: 1 c4 2 d5 3 b2 / 5: 1 c4 3 b2"
     );
-    let mut store = writer.into_store();
-    assert!(rt; shown(alloc, &mut store, 6)?.as_str() == "4: 1 c4 2 d5 3 b2");
-    assert!(rt; shown(alloc, &mut store, 10)?.as_str() == "5: 1 c4 3 b2");
     Ok(())
 }
 
@@ -342,14 +371,18 @@ fn lines_with(alloc: Global, buffer: u32) -> Result<String, Fail>
 
 #[test]
 fn lines_of_a_round(rt: HostRuntime) -> Result<(), Fail> {
+    let told = lines_with(rt.alloc(), 1)?;
     assert!(rt;
-        lines_with(rt.alloc(), 1)?.as_str()
+        told.as_str()
             == " 1 2 3 term 32767 4 5 6 7 closed closed; [0: a1] [0: b2]; [1: c3] [1: d5] [1: e6]"
     );
-    assert!(rt;
-        lines_with(rt.alloc(), 2)?.as_str()
-            == " 1 2 3 term 32767 4 5 6 7 closed closed; [0: a1 b2]; [1: c3 d5]"
-    );
+    Ok(())
+}
+
+#[test]
+fn lines_of_a_round_with_larger_buffers(rt: HostRuntime) -> Result<(), Fail> {
+    let told = lines_with(rt.alloc(), 2)?;
+    assert!(rt; told.as_str() == " 1 2 3 term 32767 4 5 6 7 closed closed; [0: a1 b2]; [1: c3 d5]");
     Ok(())
 }
 
@@ -386,19 +419,28 @@ fn turned(rt: HostRuntime) -> Result<(), Fail> {
     Ok(())
 }
 
+/// A writer whose first write is to fail, after a round that ended with the commit 2.
+fn with_failing_write<R: Threads + Sync>(
+    rt: &R,
+    alloc: Global,
+) -> Result<IndexWriter<MemoryStore>, Fail>
+    ensures { IfOk result (λ writer. IsSound writer.state) }
+{
+    use Act::*;
+    let store = MemoryStore::new(alloc).failing(vec![in alloc; 1u64]?);
+    let mut writer = IndexWriter::none(alloc, store, 2, 8);
+    let steps = [Step::Round(&[(0, Add, "a"), (1, Commit, "")])];
+    let told = history(rt, alloc, &mut writer, &steps)?;
+    if told.as_str() != "committed 2, 2 pending; 2, last commit 0, next id 2" {
+        Err("another history")?;
+    }
+    Ok(writer)
+}
+
 /// A writer whose first write fails is closed then, with the number that it had.
 #[test]
 fn closed_after_a_fault(rt: HostRuntime) -> Result<(), Fail> {
-    use Act::*;
-    let alloc = rt.alloc();
-    let calls = vec![in alloc; 1u64]?;
-    let store = MemoryStore::new(alloc).failing(calls);
-    let mut writer = IndexWriter::none(alloc, store, 2, 8);
-    let steps = [Step::Round(&[(0, Add, "a"), (1, Commit, "")])];
-    assert!(rt;
-        history(&rt, alloc, &mut writer, &steps)?.as_str()
-            == "committed 2, 2 pending; 2, last commit 0, next id 2"
-    );
+    let mut writer = with_failing_write(&rt, rt.alloc())?;
     assert!(rt; faults_of(&mut writer)? == [WriterFault::Store, WriterFault::Closed]);
     assert!(rt; begin_fault(&mut writer)? == WriterFault::Closed);
     assert!(rt; writer.is_closed());
@@ -442,29 +484,43 @@ fn begin_fault(writer: &mut IndexWriter<MemoryStore>) -> Result<WriterFault, Fai
     }
 }
 
+/// A store with the commit 3, of two rows.
+fn store_of_two<R: Threads + Sync>(rt: &R, alloc: Global) -> Result<MemoryStore, Fail> {
+    use Act::*;
+    let mut writer = IndexWriter::none(alloc, MemoryStore::new(alloc), 65536, 8);
+    let steps = [
+        Step::Round(&[(0, Add, "a"), (1, Add, "b"), (1, Commit, "")]),
+        Step::Commit,
+    ];
+    history(rt, alloc, &mut writer, &steps)?;
+    Ok(writer.into_store())
+}
+
+/// The history of a writer on that commit, and then the rows of each of these commits.
+fn story_after_it<R: Threads + Sync>(
+    rt: &R,
+    alloc: Global,
+    steps: &[Step<'_>],
+    commits: &[u64],
+) -> Result<String, Fail> {
+    let mut writer = opened_on(alloc, store_of_two(rt, alloc)?, 3)?;
+    let told = history(rt, alloc, &mut writer, steps)?;
+    with_commits(alloc, told, writer.into_store(), commits)
+}
+
 /// A writer on a commit that was read back goes on from it.
 #[test]
 fn reopened(rt: HostRuntime) -> Result<(), Fail> {
     use Act::*;
-    let alloc = rt.alloc();
-    let mut writer = IndexWriter::none(alloc, MemoryStore::new(alloc), 65536, 8);
-    let first = [
-        Step::Round(&[(0, Add, "a"), (1, Add, "b"), (1, Commit, "")]),
-        Step::Commit,
-    ];
-    history(&rt, alloc, &mut writer, &first)?;
-    let mut writer = opened_on(alloc, writer.into_store(), 3)?;
-    let second = [
+    let steps = [
         Step::Round(&[(1, Delete, "a"), (0, Add, "c"), (0, Commit, "")]),
         Step::Commit,
     ];
+    let told = story_after_it(&rt, rt.alloc(), &steps, &[6, 3])?;
     assert!(rt;
-        history(&rt, alloc, &mut writer, &second)?.as_str()
-            == "committed 6, 6 pending; 2 rows in 6; 6, last commit 6, next id 4"
+        told.as_str()
+            == "committed 6, 6 pending; 2 rows in 6; 6, last commit 6, next id 4 / 4: 2 b2 3 c5 / 3: 1 a1 2 b2"
     );
-    let mut store = writer.into_store();
-    assert!(rt; shown(alloc, &mut store, 6)?.as_str() == "4: 2 b2 3 c5");
-    assert!(rt; shown(alloc, &mut store, 3)?.as_str() == "3: 1 a1 2 b2");
     Ok(())
 }
 

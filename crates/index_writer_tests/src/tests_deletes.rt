@@ -1,9 +1,7 @@
 //! Rounds whose writers have no rows, or none that lives, against what was worked out by hand.
 
 use crate::script_lines::Act;
-use crate::tests::{Step, history, shown};
-use index_writer::IndexWriter;
-use ix_memory::MemoryStore;
+use crate::tests::{Step, story};
 use std::test::*;
 
 /// A round in which one writer adds and the other one only deletes; then two rounds whose writers only
@@ -11,8 +9,6 @@ use std::test::*;
 #[test]
 fn deletes_alone(rt: HostRuntime) -> Result<(), Fail> {
     use Act::*;
-    let alloc = rt.alloc();
-    let mut writer = IndexWriter::none(alloc, MemoryStore::new(alloc), 8, 8);
     let steps = [
         Step::Round(&[
             (0, Add, "a"),
@@ -27,13 +23,11 @@ fn deletes_alone(rt: HostRuntime) -> Result<(), Fail> {
         Step::Round(&[(0, Delete, "c"), (1, Delete, "d"), (1, Commit, "")]),
         Step::Commit,
     ];
+    let told = story(&rt, rt.alloc(), 8, 8, &steps, &[6, 10])?;
     assert!(rt;
-        history(&rt, alloc, &mut writer, &steps)?.as_str()
-            == "committed 6, 6 pending; 3 rows in 6; ran; committed 10, 10 pending; 1 rows in 10; 10, last commit 10, next id 2"
+        told.as_str()
+            == "committed 6, 6 pending; 3 rows in 6; ran; committed 10, 10 pending; 1 rows in 10; 10, last commit 10, next id 2 / 2: 1 b2 a4 c5 / 2: 1 a4"
     );
-    let mut store = writer.into_store();
-    assert!(rt; shown(alloc, &mut store, 6)?.as_str() == "2: 1 b2 a4 c5");
-    assert!(rt; shown(alloc, &mut store, 10)?.as_str() == "2: 1 a4");
     Ok(())
 }
 
@@ -42,18 +36,15 @@ fn deletes_alone(rt: HostRuntime) -> Result<(), Fail> {
 #[test]
 fn dead_in_their_round(rt: HostRuntime) -> Result<(), Fail> {
     use Act::*;
-    let alloc = rt.alloc();
-    let mut writer = IndexWriter::none(alloc, MemoryStore::new(alloc), 8, 8);
     let steps = [
         Step::Round(&[(0, Add, "a"), (1, Add, "b"), (1, Delete, "a")]),
         Step::Round(&[(0, Commit, "")]),
         Step::Commit,
     ];
+    let told = story(&rt, rt.alloc(), 8, 8, &steps, &[4])?;
     assert!(rt;
-        history(&rt, alloc, &mut writer, &steps)?.as_str()
-            == "ran; committed 4, 4 pending; 1 rows in 4; 4, last commit 4, next id 3"
+        told.as_str()
+            == "ran; committed 4, 4 pending; 1 rows in 4; 4, last commit 4, next id 3 / 3: 2 b2"
     );
-    let mut store = writer.into_store();
-    assert!(rt; shown(alloc, &mut store, 4)?.as_str() == "3: 2 b2");
     Ok(())
 }

@@ -1,9 +1,7 @@
 //! Merges between the rounds of a writer and its commits, against what was worked out by hand.
 
 use crate::script_lines::Act;
-use crate::tests::{Step, history, shown};
-use index_writer::IndexWriter;
-use ix_memory::MemoryStore;
+use crate::tests::{Step, story};
 use std::test::*;
 
 /// Two documents, each a segment, are merged while their commit is still to be written. Then one of
@@ -11,8 +9,6 @@ use std::test::*;
 #[test]
 fn deleted_after_a_merge(rt: HostRuntime) -> Result<(), Fail> {
     use Act::*;
-    let alloc = rt.alloc();
-    let mut writer = IndexWriter::none(alloc, MemoryStore::new(alloc), 1, 2);
     let steps = [
         Step::Round(&[(0, Add, "a"), (0, Add, "b"), (0, Commit, "")]),
         Step::Merge,
@@ -21,13 +17,11 @@ fn deleted_after_a_merge(rt: HostRuntime) -> Result<(), Fail> {
         Step::Merge,
         Step::Commit,
     ];
+    let told = story(&rt, rt.alloc(), 1, 2, &steps, &[3, 5])?;
     assert!(rt;
-        history(&rt, alloc, &mut writer, &steps)?.as_str()
-            == "committed 3, 3 pending; merged; 2 rows in 3; committed 5, 5 pending; idle; 1 rows in 5; 5, last commit 5, next id 4"
+        told.as_str()
+            == "committed 3, 3 pending; merged; 2 rows in 3; committed 5, 5 pending; idle; 1 rows in 5; 5, last commit 5, next id 4 / 4: 3 a1 b2 / 4: 3 b2"
     );
-    let mut store = writer.into_store();
-    assert!(rt; shown(alloc, &mut store, 3)?.as_str() == "4: 3 a1 b2");
-    assert!(rt; shown(alloc, &mut store, 5)?.as_str() == "4: 3 b2");
     Ok(())
 }
 
@@ -36,8 +30,6 @@ fn deleted_after_a_merge(rt: HostRuntime) -> Result<(), Fail> {
 #[test]
 fn ties_by_smaller_id(rt: HostRuntime) -> Result<(), Fail> {
     use Act::*;
-    let alloc = rt.alloc();
-    let mut writer = IndexWriter::none(alloc, MemoryStore::new(alloc), 2, 2);
     let steps = [
         Step::Round(&[
             (0, Add, "a"),
@@ -53,13 +45,11 @@ fn ties_by_smaller_id(rt: HostRuntime) -> Result<(), Fail> {
         Step::Merge,
         Step::Commit,
     ];
+    let told = story(&rt, rt.alloc(), 2, 2, &steps, &[6, 7])?;
     assert!(rt;
-        history(&rt, alloc, &mut writer, &steps)?.as_str()
-            == "committed 6, 6 pending; merged; 3 rows in 6; committed 7, 7 pending; merged; 3 rows in 7; 7, last commit 7, next id 6"
+        told.as_str()
+            == "committed 6, 6 pending; merged; 3 rows in 6; committed 7, 7 pending; merged; 3 rows in 7; 7, last commit 7, next id 6 / 5: 3 d4 4 a1 c3 / 6: 5 a1 c3 d4"
     );
-    let mut store = writer.into_store();
-    assert!(rt; shown(alloc, &mut store, 6)?.as_str() == "5: 3 d4 4 a1 c3");
-    assert!(rt; shown(alloc, &mut store, 7)?.as_str() == "6: 5 a1 c3 d4");
     Ok(())
 }
 
@@ -67,8 +57,6 @@ fn ties_by_smaller_id(rt: HostRuntime) -> Result<(), Fail> {
 #[test]
 fn no_row_is_live(rt: HostRuntime) -> Result<(), Fail> {
     use Act::*;
-    let alloc = rt.alloc();
-    let mut writer = IndexWriter::none(alloc, MemoryStore::new(alloc), 1, 2);
     let steps = [
         Step::Round(&[
             (0, Add, "a"),
@@ -82,12 +70,11 @@ fn no_row_is_live(rt: HostRuntime) -> Result<(), Fail> {
         Step::Commit,
         Step::Merge,
     ];
+    let told = story(&rt, rt.alloc(), 1, 2, &steps, &[6])?;
     assert!(rt;
-        history(&rt, alloc, &mut writer, &steps)?.as_str()
-            == "committed 6, 6 pending; merged; 1 rows in 6; idle; 6, last commit 6, next id 4"
+        told.as_str()
+            == "committed 6, 6 pending; merged; 1 rows in 6; idle; 6, last commit 6, next id 4 / 4: 3 c3"
     );
-    let mut store = writer.into_store();
-    assert!(rt; shown(alloc, &mut store, 6)?.as_str() == "4: 3 c3");
     Ok(())
 }
 
@@ -95,8 +82,6 @@ fn no_row_is_live(rt: HostRuntime) -> Result<(), Fail> {
 #[test]
 fn dead_in_its_round(rt: HostRuntime) -> Result<(), Fail> {
     use Act::*;
-    let alloc = rt.alloc();
-    let mut writer = IndexWriter::none(alloc, MemoryStore::new(alloc), 8, 2);
     let steps = [
         Step::Round(&[
             (0, Add, "a"),
@@ -107,11 +92,10 @@ fn dead_in_its_round(rt: HostRuntime) -> Result<(), Fail> {
         Step::Merge,
         Step::Commit,
     ];
+    let told = story(&rt, rt.alloc(), 8, 2, &steps, &[4])?;
     assert!(rt;
-        history(&rt, alloc, &mut writer, &steps)?.as_str()
-            == "committed 4, 4 pending; merged; 1 rows in 4; 4, last commit 4, next id 4"
+        told.as_str()
+            == "committed 4, 4 pending; merged; 1 rows in 4; 4, last commit 4, next id 4 / 4: 3 b2"
     );
-    let mut store = writer.into_store();
-    assert!(rt; shown(alloc, &mut store, 4)?.as_str() == "4: 3 b2");
     Ok(())
 }

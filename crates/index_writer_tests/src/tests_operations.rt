@@ -1,7 +1,7 @@
 //! A round with operations of each kind, against what was worked out by hand.
 ghost use Rattle.std.specs.Prelude.{◌≤◌};
 
-use crate::script_lines::{Act, Script};
+use crate::script_lines::{Act, Line, Script};
 use crate::tests::{Step, history, shown};
 use index_writer::IndexWriter;
 use ix_memory::MemoryStore;
@@ -41,11 +41,9 @@ fn rows_after<R: Threads + Sync>(
 /// Large buffers are given off only at the end. With buffers of two documents, the first pieces end
 /// at 9 (a4, b8), 8 (b5, a7) and 13 (c9, c11, no longer live), and the last ones have b13 and c17,
 /// and c14, which dies: it takes an id, and is in no commit.
-#[test]
-fn operations_of_each_kind(rt: HostRuntime) -> Result<(), Fail> {
+fn operations() -> [Line<'static>; 17] {
     use Act::*;
-    let alloc = rt.alloc();
-    let script = [
+    [
         (1, Delete, "a"),
         (0, Add, "a"),
         (1, Add, "b"),
@@ -63,10 +61,19 @@ fn operations_of_each_kind(rt: HostRuntime) -> Result<(), Fail> {
         (0, Update, "c"),
         (1, Set(8), "b"),
         (1, Commit, ""),
-    ];
-    let large = rows_after(&rt, alloc, 8, &script)?;
-    assert!(rt; large.as_str() == "4: 2 a4=6 b13=8 c17 3 a7=6");
-    let small = rows_after(&rt, alloc, 2, &script)?;
-    assert!(rt; small.as_str() == "6: 2 a4=6 3 b13=8 c17 4 a7=6");
+    ]
+}
+
+#[test]
+fn operations_of_each_kind(rt: HostRuntime) -> Result<(), Fail> {
+    let rows = rows_after(&rt, rt.alloc(), 8, &operations())?;
+    assert!(rt; rows.as_str() == "4: 2 a4=6 b13=8 c17 3 a7=6");
+    Ok(())
+}
+
+#[test]
+fn operations_with_small_buffers(rt: HostRuntime) -> Result<(), Fail> {
+    let rows = rows_after(&rt, rt.alloc(), 2, &operations())?;
+    assert!(rt; rows.as_str() == "6: 2 a4=6 3 b13=8 c17 4 a7=6");
     Ok(())
 }

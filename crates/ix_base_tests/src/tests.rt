@@ -59,18 +59,36 @@ fn key_postings(alloc: Global) -> Result<TermPostings, Fail> {
     })
 }
 
+/// A list of one query.
+fn alone(alloc: Global, query: Query) -> Result<Queries, Fail> {
+    Ok(Queries::from_vec(vec![in alloc; query]?))
+}
+
+fn phrase_query(alloc: Global) -> Result<Query, Fail> {
+    Ok(Query::Phrase(name_of(alloc, "body")?, phrase_of(alloc, "a b")?))
+}
+
+/// A query with a list of none, and two of one.
+fn inner(alloc: Global) -> Result<Query, Fail> {
+    let must_not = alone(alloc, phrase_query(alloc)?)?;
+    Ok(Query::Bool {
+        must: Queries::from_vec(Vec::new(alloc)),
+        should: alone(alloc, Query::All)?,
+        must_not,
+    })
+}
+
+fn two_of_all(alloc: Global) -> Result<Queries, Fail> {
+    let inner = inner(alloc)?;
+    Ok(Queries::from_vec(vec![in alloc; Query::Term(term_of(alloc, "key", "a1")?), inner]?))
+}
+
 /// A query in a query.
 fn nested(alloc: Global) -> Result<Query, Fail> {
-    let inner = Query::Bool {
-        must: Queries::from_vec(Vec::new(alloc)),
-        should: Queries::from_vec(vec![in alloc; Query::All]?),
-        must_not: Queries::from_vec(vec![in alloc;
-            Query::Phrase(name_of(alloc, "body")?, phrase_of(alloc, "a b")?),
-        ]?),
-    };
+    let must = two_of_all(alloc)?;
     Ok(Query::Bool {
-        must: Queries::from_vec(vec![in alloc; Query::Term(term_of(alloc, "key", "a1")?), inner]?),
-        should: Queries::from_vec(vec![in alloc; Query::All]?),
+        must,
+        should: alone(alloc, Query::All)?,
         must_not: Queries::from_vec(Vec::new(alloc)),
     })
 }

@@ -69,17 +69,22 @@ fn dealt(alloc: Global, threads: u32, lines: Vec<Line>) -> Result<String, Fail>
     shown(alloc, &deal(alloc, threads, List::from_vec(lines))?)
 }
 
+/// What is done in each of five lines.
+fn act_of(alloc: Global, line: u32) -> Result<Act, Fail> {
+    match line {
+        1 => adding(alloc, "a1"),
+        2 => Ok(Act::Search(Query::All)),
+        3 => Ok(Act::Do(Operation::Commit)),
+        5 => adding(alloc, "b1"),
+        _ => Ok(Act::Do(Operation::DeleteQuery(Query::All))),
+    }
+}
+
 /// Five lines of three callers, with a line between them that is passed over.
 fn five_lines(alloc: Global) -> Result<Vec<Line>, Fail> {
     let mut lines = Vec::new(alloc);
-    let acts = [
-        (1, 0, adding(alloc, "a1")?),
-        (2, 1, Act::Search(Query::All)),
-        (3, 2, Act::Do(Operation::Commit)),
-        (5, 1, adding(alloc, "b1")?),
-        (6, 0, Act::Do(Operation::DeleteQuery(Query::All))),
-    ];
-    for (line, caller, act) in acts {
+    for (line, caller) in [(1, 0), (2, 1), (3, 2), (5, 1), (6, 0)] {
+        let act = act_of(alloc, line)?;
         lines.push(Line { line, caller, act })?;
     }
     Ok(lines)

@@ -2,30 +2,23 @@
 ghost use Rattle.std.specs.Prelude.{◌≡◌, ◌<◌, length, IfOk, OnOk};
 
 use ix_base::{Name, NoMemory, Numbers};
-use live_docs::{LiveDocs, Mark, with_number};
+use live_docs::{LiveDocs, Mark};
 use std::alloc::Global;
 use std::test::Fail;
-use test_values::name_of;
+use test_values::{name_of, number_of};
 
-fn set(alloc: Global, docs: &mut LiveDocs, bytes: &str, value: i64) -> Result<(), Fail>
-    requires { 2 < length docs.old.marks }
-    ensures { OnOk result (length docs.new.marks ≡ length docs.old.marks) }
-{
-    docs.set_value(alloc, 2, &name_of(alloc, bytes)?, value)?;
-    Ok(())
-}
-
-/// Three rows. The second is killed, twice; in the third `b` is set, then `a`, then `b` again.
-fn three_rows(alloc: Global) -> Result<LiveDocs, Fail>
+/// Three rows. The second is killed, twice; in the third the second name is set, then the first, then the
+/// second again.
+fn three_rows(alloc: Global, first: &Name, second: &Name) -> Result<LiveDocs, NoMemory>
     ensures { IfOk result (λ docs. length docs.marks ≡ 3) }
 {
     let mut docs = LiveDocs::new(alloc, 3, 7)?;
     docs.kill(1);
     docs.kill(1);
-    set(alloc, &mut docs, "b", 1)?;
-    set(alloc, &mut docs, "a", -2)?;
-    set(alloc, &mut docs, "b", 3)?;
-    Ok(docs.clone_in(alloc)?)
+    docs.set_value(alloc, 2, second, 1)?;
+    docs.set_value(alloc, 2, first, -2)?;
+    docs.set_value(alloc, 2, second, 3)?;
+    docs.clone_in(alloc)
 }
 
 /// The first of these names under which this row has another number than the one beside it.
@@ -45,58 +38,87 @@ fn other_number<'a>(
     Ok(None)
 }
 
+fn rows_of_a_and_b(alloc: Global) -> Result<LiveDocs, Fail>
+    ensures { IfOk result (λ docs. length docs.marks ≡ 3) }
+{
+    let first = name_of(alloc, "a")?;
+    let second = name_of(alloc, "b")?;
+    Ok(three_rows(alloc, &first, &second)?)
+}
+
 #[test]
-fn rows_and_numbers(rt: HostRuntime) -> Result<(), Fail> {
-    let alloc = rt.alloc();
-    let docs = three_rows(alloc)?;
-    assert!(rt; docs.applied() == 7);
-    assert!(rt; docs.live_count() == 2);
+fn rows_and_counts(rt: HostRuntime) -> Result<(), Fail> {
+    let docs = rows_of_a_and_b(rt.alloc())?;
+    assert!(rt; (docs.applied(), docs.live_count(), docs.values(2).len()) == (7, 2, 2));
     assert!(rt; docs.is_live(0) && !docs.is_live(1) && docs.is_live(2));
-    assert!(rt; docs.values(2).len() == 2);
+    Ok(())
+}
+
+#[test]
+fn numbers_that_were_set(rt: HostRuntime) -> Result<(), Fail> {
+    let docs = rows_of_a_and_b(rt.alloc())?;
     let set = [("a", Some(-2)), ("b", Some(3)), ("c", None)];
-    assert!(rt; other_number(alloc, &docs, 2, &set)? == None);
+    assert!(rt; other_number(rt.alloc(), &docs, 2, &set)? == None);
+    Ok(())
+}
+
+#[test]
+fn numbers_of_another_row(rt: HostRuntime) -> Result<(), Fail> {
+    let docs = rows_of_a_and_b(rt.alloc())?;
     let none = [("a", None), ("b", None), ("c", None)];
-    assert!(rt; other_number(alloc, &docs, 1, &none)? == None);
+    assert!(rt; other_number(rt.alloc(), &docs, 1, &none)? == None);
     Ok(())
 }
 
 /// Nine rows with numbers in four of them, which are set in falling order, in one of them twice.
 /// Two of the four are killed, one before and one after its number is set, and a further one.
-fn falling_rows(alloc: Global) -> Result<LiveDocs, Fail> {
-    let name = name_of(alloc, "a")?;
+fn falling_rows(alloc: Global, name: &Name) -> Result<LiveDocs, NoMemory> {
     let mut docs = LiveDocs::new(alloc, 9, 7)?;
     docs.kill(3);
-    docs.set_value(alloc, 8, &name, 1)?;
-    docs.set_value(alloc, 5, &name, 2)?;
-    docs.set_value(alloc, 5, &name, 0)?;
-    docs.set_value(alloc, 3, &name, 3)?;
-    docs.set_value(alloc, 0, &name, 4)?;
+    docs.set_value(alloc, 8, name, 1)?;
+    docs.set_value(alloc, 5, name, 2)?;
+    docs.set_value(alloc, 5, name, 0)?;
+    docs.set_value(alloc, 3, name, 3)?;
+    docs.set_value(alloc, 0, name, 4)?;
     docs.kill(8);
     docs.kill(4);
     Ok(docs)
 }
 
+/// Whether these are the rows with numbers.
+fn are_numbered(alloc: Global, docs: &LiveDocs, rows: &[u32]) -> Result<bool, NoMemory> {
+    Ok(docs.numbered_rows(alloc)?.as_slice() == rows)
+}
+
+#[test]
+fn rows_without_numbers(rt: HostRuntime) -> Result<(), Fail> {
+    let none = LiveDocs::new(rt.alloc(), 9, 7)?;
+    assert!(rt; are_numbered(rt.alloc(), &none, &[])?);
+    Ok(())
+}
+
 #[test]
 fn rows_with_numbers(rt: HostRuntime) -> Result<(), Fail> {
-    let alloc = rt.alloc();
-    let none = LiveDocs::new(alloc, 9, 7)?;
-    assert!(rt; none.numbered_rows(alloc)?.is_empty());
-    let docs = falling_rows(alloc)?;
-    assert!(rt; docs.numbered_rows(alloc)?.as_slice() == [0, 3, 5, 8].as_slice());
+    let name = name_of(rt.alloc(), "a")?;
+    let docs = falling_rows(rt.alloc(), &name)?;
+    assert!(rt; are_numbered(rt.alloc(), &docs, &[0, 3, 5, 8])?);
     Ok(())
+}
+
+/// The marks of two rows: those of a live one with these numbers, and those of one with none.
+fn two_marks(alloc: Global, values: Numbers, second_lives: bool) -> Result<Vec<Mark>, NoMemory> {
+    let mut marks = vec![in alloc; Mark { live: true, values }]?;
+    marks.push(Mark {
+        live: second_lives,
+        values: Numbers::none(alloc),
+    })?;
+    Ok(marks)
 }
 
 /// Two rows: a live one with this number set in it, and one with none.
 fn two_rows(alloc: Global, bytes: &str, value: i64, second_lives: bool) -> Result<LiveDocs, Fail> {
-    let none = Numbers::none(alloc);
-    let values = with_number(alloc, &none, &name_of(alloc, bytes)?, value)?;
-    let mut marks = Vec::new(alloc);
-    marks.push(Mark { live: true, values })?;
-    marks.push(Mark {
-        live: second_lives,
-        values: none,
-    })?;
-    Ok(LiveDocs::from_marks(alloc, 9, marks)?)
+    let values = number_of(alloc, bytes, value)?;
+    Ok(LiveDocs::from_marks(alloc, 9, two_marks(alloc, values, second_lives)?)?)
 }
 
 /// Whether live docs have the marks of two rows that are made so.
@@ -112,14 +134,17 @@ fn same_as(
 
 #[test]
 fn compared(rt: HostRuntime) -> Result<(), Fail> {
-    let alloc = rt.alloc();
-    let docs = two_rows(alloc, "a", 1, false)?;
-    assert!(rt; docs.applied() == 9);
-    assert!(rt; docs.live_count() == 1);
-    assert!(rt; same_as(alloc, &docs, "a", 1, false)?);
-    assert!(rt; !same_as(alloc, &docs, "a", 2, false)?);
-    assert!(rt; !same_as(alloc, &docs, "b", 1, false)?);
-    assert!(rt; !same_as(alloc, &docs, "a", 1, true)?);
+    let docs = two_rows(rt.alloc(), "a", 1, false)?;
+    assert!(rt; (docs.applied(), docs.live_count()) == (9, 1));
+    let cases = [
+        ("a", 1, false, true),
+        ("a", 2, false, false),
+        ("b", 1, false, false),
+        ("a", 1, true, false),
+    ];
+    for (bytes, value, second_lives, same) in cases {
+        assert!(rt; same_as(rt.alloc(), &docs, bytes, value, second_lives)? == same);
+    }
     Ok(())
 }
 
@@ -191,54 +216,67 @@ fn first_misplaced(rows: &[u32]) -> Option<u32> {
     None
 }
 
+/// Many rows under the name `a`.
+fn many_rows_of_a(alloc: Global) -> Result<LiveDocs, Fail> {
+    let name = name_of(alloc, "a")?;
+    Ok(many_rows(alloc, &name)?)
+}
+
 #[test]
 fn many_rows_beside_a_plain_list(rt: HostRuntime) -> Result<(), Fail> {
-    let alloc = rt.alloc();
-    let name = name_of(alloc, "a")?;
-    let docs = many_rows(alloc, &name)?;
+    let name = name_of(rt.alloc(), "a")?;
+    let docs = many_rows(rt.alloc(), &name)?;
     assert!(rt; first_other(&docs, &name) == None);
-    assert!(rt; docs.live_count() == 2000);
-    let numbered = docs.numbered_rows(alloc)?;
-    assert!(rt; numbered.len() == 31);
-    assert!(rt; first_misplaced(numbered.as_slice()) == None);
     Ok(())
 }
 
-/// Whether many rows are the same as others where the number was set in one row once more.
-fn same_with(
-    alloc: Global,
-    docs: &LiveDocs,
-    name: &Name,
-    row: u32,
-    value: i64,
-) -> Result<bool, NoMemory>
-    requires { row < 3000 }
-{
+#[test]
+fn many_rows_with_numbers(rt: HostRuntime) -> Result<(), Fail> {
+    let docs = many_rows_of_a(rt.alloc())?;
+    assert!(rt; docs.live_count() == 2000);
+    let numbered = docs.numbered_rows(rt.alloc())?;
+    assert!(rt; (numbered.len(), first_misplaced(numbered.as_slice())) == (31, None));
+    Ok(())
+}
+
+/// Whether many rows are the same where the number was set in one of them once more.
+fn same_with(alloc: Global, name: &Name, row: u32, value: i64) -> Result<bool, NoMemory> {
+    let docs = many_rows(alloc, name)?;
     let mut other = many_rows(alloc, name)?;
-    other.set_value(alloc, row, name, value)?;
+    if row < 3000 {
+        other.set_value(alloc, row, name, value)?;
+    }
     Ok(docs.same_marks(&other))
 }
 
 #[test]
 fn many_rows_compared(rt: HostRuntime) -> Result<(), Fail> {
-    let alloc = rt.alloc();
-    let name = name_of(alloc, "a")?;
-    let docs = many_rows(alloc, &name)?;
-    assert!(rt; docs.same_marks(&many_rows(alloc, &name)?));
-    assert!(rt; same_with(alloc, &docs, &name, 5, -995)?);
-    assert!(rt; same_with(alloc, &docs, &name, 2915, 1915)?);
-    assert!(rt; !same_with(alloc, &docs, &name, 5, -994)?);
-    assert!(rt; !same_with(alloc, &docs, &name, 6, -995)?);
+    let name = name_of(rt.alloc(), "a")?;
+    let cases = [
+        (3000, 0, true),
+        (5, -995, true),
+        (2915, 1915, true),
+        (5, -994, false),
+        (6, -995, false),
+    ];
+    for (row, value, same) in cases {
+        assert!(rt; same_with(rt.alloc(), &name, row, value)? == same);
+    }
     Ok(())
+}
+
+/// Many rows, the last of which is killed.
+fn with_last_killed(alloc: Global) -> Result<LiveDocs, Fail> {
+    let name = name_of(alloc, "a")?;
+    let mut docs = many_rows(alloc, &name)?;
+    docs.kill(2999);
+    Ok(docs)
 }
 
 #[test]
 fn one_row_of_many_dies(rt: HostRuntime) -> Result<(), Fail> {
-    let alloc = rt.alloc();
-    let name = name_of(alloc, "a")?;
-    let docs = many_rows(alloc, &name)?;
-    let mut other = many_rows(alloc, &name)?;
-    other.kill(2999);
+    let docs = many_rows_of_a(rt.alloc())?;
+    let other = with_last_killed(rt.alloc())?;
     assert!(rt; !docs.same_marks(&other));
     Ok(())
 }

@@ -1,22 +1,9 @@
-use ix_base::{Document, Fields, Name, Numbers, PhraseText, Queries, Query, Row, Term, Text};
+use ix_base::{Document, Fields, Numbers, PhraseText, Queries, Query, Row, Term};
 use query_core::{Inverted, PostingsIndex, answer, index_rows};
 use std::alloc::Global;
 use std::fmt::Write;
 use std::test::Fail;
-
-fn text_of(alloc: Global, text: &str) -> Result<Text, Fail> {
-    Ok(Text::new(String::from_str(alloc, text)?).ok_or("long")?)
-}
-
-fn name_of(alloc: Global, name: &str) -> Result<Name, Fail> {
-    Ok(Name::new(text_of(alloc, name)?).ok_or("name")?)
-}
-
-fn term_of(alloc: Global, field: &str, bytes: &str) -> Result<Term, Fail> {
-    let field = name_of(alloc, field)?;
-    let bytes = text_of(alloc, bytes)?;
-    Ok(Term { field, bytes })
-}
+use test_values::{field_of, name_of, term_of, text_of};
 
 fn term(alloc: Global, field: &str, bytes: &str) -> Result<Query, Fail> {
     Ok(Query::Term(term_of(alloc, field, bytes)?))
@@ -36,8 +23,7 @@ fn words(alloc: Global, words: &[&str]) -> Result<Queries, Fail> {
 }
 
 fn row_of(alloc: Global, key: &str, body: &str) -> Result<Row, Fail> {
-    let body = text_of(alloc, body)?;
-    let text = Fields::from_vec(vec![in alloc; (name_of(alloc, "body")?, body)]?);
+    let text = field_of(alloc, "body", body)?;
     let key = text_of(alloc, key)?;
     let doc = Document::new(key, text, Fields::none(alloc), Numbers::none(alloc));
     let doc = doc.ok_or("names aren't apart")?;
@@ -66,20 +52,29 @@ fn shown(alloc: Global, index: &PostingsIndex, query: &Query) -> Result<String, 
     Ok(shown)
 }
 
-fn shown_phrase(
+/// Whether a query finds these rows.
+fn finds(alloc: Global, index: &PostingsIndex, query: &Query, want: &str) -> Result<bool, Fail> {
+    Ok(shown(alloc, index, query)?.as_str() == want)
+}
+
+fn phrase_finds(
     alloc: Global,
     index: &PostingsIndex,
     field: &str,
     text: &str,
-) -> Result<String, Fail> {
-    shown(alloc, index, &phrase(alloc, field, text)?)
+    want: &str,
+) -> Result<bool, Fail> {
+    finds(alloc, index, &phrase(alloc, field, text)?, want)
+}
+
+fn term_finds(alloc: Global, index: &PostingsIndex, bytes: &str, want: &str) -> Result<bool, Fail> {
+    finds(alloc, index, &term(alloc, "body", bytes)?, want)
 }
 
 /// The words of a phrase stand next to one another, in any case.
 #[test]
 fn phrases(rt: HostRuntime) -> Result<(), Fail> {
-    let alloc = rt.alloc();
-    let index = index_of(alloc, ["quick brown fox", "Quick FOX"].as_slice())?;
+    let index = index_of(rt.alloc(), ["quick brown fox", "Quick FOX"].as_slice())?;
     assert!(rt; index.rows() == 2);
     let cases = [
         ("body", "quick fox", "1,"),
@@ -91,8 +86,7 @@ fn phrases(rt: HostRuntime) -> Result<(), Fail> {
         ("body", " ", ""),
     ];
     for (field, text, want) in cases {
-        let shown = shown_phrase(alloc, &index, field, text)?;
-        assert!(rt; shown.as_str() == want, "{field} {text}");
+        assert!(rt; phrase_finds(rt.alloc(), &index, field, text, want)?);
     }
     Ok(())
 }
@@ -100,14 +94,11 @@ fn phrases(rt: HostRuntime) -> Result<(), Fail> {
 /// Text fields are found by folded words; terms are taken as they are.
 #[test]
 fn foldings(rt: HostRuntime) -> Result<(), Fail> {
-    let alloc = rt.alloc();
-    let index = index_of(alloc, ["Stra\u{DF}e", "STRASSE"].as_slice())?;
+    let index = index_of(rt.alloc(), ["Stra\u{DF}e", "STRASSE"].as_slice())?;
     for (bytes, want) in [("strasse", "0,1,"), ("Strasse", "")] {
-        let shown = shown(alloc, &index, &term(alloc, "body", bytes)?)?;
-        assert!(rt; shown.as_str() == want, "term {bytes}");
+        assert!(rt; term_finds(rt.alloc(), &index, bytes, want)?);
     }
-    let shown = shown(alloc, &index, &phrase(alloc, "body", "stra\u{DF}e")?)?;
-    assert!(rt; shown.as_str() == "0,1,");
+    assert!(rt; phrase_finds(rt.alloc(), &index, "body", "stra\u{DF}e", "0,1,")?);
     Ok(())
 }
 
@@ -142,12 +133,30 @@ fn found_in_turn(
     Ok(all)
 }
 
-/// A term's rows are found wherever the search begins: one term after another in their order, and in
-/// the opposite order.
+fn colours(alloc: Global) -> Result<PostingsIndex, Fail> {
+    index_of(alloc, ["red", "red blue", "blue", "green"].as_slice())
+}
+
+/// The first of some places such that the searches for these terms, of which the first begins there,
+/// find something else than this.
+fn first_lost_from(
+    alloc: Global,
+    index: &PostingsIndex,
+    terms: &[(&str, &str)],
+    want: &str,
+) -> Result<Option<usize>, Fail> {
+    for from in [0, 1, 3, 6, 7, 8, 1000, usize::MAX] {
+        if found_in_turn(alloc, index, terms, from)?.as_str() != want {
+            return Ok(Some(from));
+        }
+    }
+    Ok(None)
+}
+
+/// A term's rows are found wherever the search begins, one term after another in their order.
 #[test]
-fn searches_from_any_place(rt: HostRuntime) -> Result<(), Fail> {
-    let alloc = rt.alloc();
-    let index = index_of(alloc, ["red", "red blue", "blue", "green"].as_slice())?;
+fn rising_searches_from_any_place(rt: HostRuntime) -> Result<(), Fail> {
+    let index = colours(rt.alloc())?;
     let rising = [
         ("body", "azure"),
         ("body", "blue"),
@@ -158,10 +167,15 @@ fn searches_from_any_place(rt: HostRuntime) -> Result<(), Fail> {
         ("key", "3"),
         ("key", "4"),
     ];
-    for from in [0, 1, 3, 6, 7, 8, 1000, usize::MAX] {
-        let found = found_in_turn(alloc, &index, &rising, from)?;
-        assert!(rt; found.as_str() == ";1,2,;3,;;0,1,;0,;3,;;", "from {from}");
-    }
+    let want = ";1,2,;3,;;0,1,;0,;3,;;";
+    assert!(rt; first_lost_from(rt.alloc(), &index, &rising, want)? == None);
+    Ok(())
+}
+
+/// The same in the opposite order.
+#[test]
+fn falling_searches_from_any_place(rt: HostRuntime) -> Result<(), Fail> {
+    let index = colours(rt.alloc())?;
     let falling = [
         ("key", "4"),
         ("key", "3"),
@@ -172,10 +186,8 @@ fn searches_from_any_place(rt: HostRuntime) -> Result<(), Fail> {
         ("body", "blue"),
         ("body", "azure"),
     ];
-    for from in [0, 1, 3, 6, 7, 8, 1000, usize::MAX] {
-        let found = found_in_turn(alloc, &index, &falling, from)?;
-        assert!(rt; found.as_str() == ";3,;0,;0,1,;;3,;1,2,;;", "from {from}");
-    }
+    let want = ";3,;0,;0,1,;;3,;1,2,;;";
+    assert!(rt; first_lost_from(rt.alloc(), &index, &falling, want)? == None);
     Ok(())
 }
 
@@ -215,50 +227,55 @@ fn first_lost(alloc: Global, index: &PostingsIndex, count: u32) -> Result<Option
 /// ended, and from the other end.
 #[test]
 fn searches_among_many_terms(rt: HostRuntime) -> Result<(), Fail> {
-    let alloc = rt.alloc();
-    let index = index_of_words(alloc, 2000)?;
-    assert!(rt; first_lost(alloc, &index, 2000)? == None);
+    let index = index_of_words(rt.alloc(), 2000)?;
+    assert!(rt; first_lost(rt.alloc(), &index, 2000)? == None);
     Ok(())
 }
 
-fn shown_bool(
+fn bool_query(
     alloc: Global,
-    index: &PostingsIndex,
     must: &[&str],
     should: &[&str],
     must_not: &[&str],
-) -> Result<String, Fail> {
+) -> Result<Query, Fail> {
     let must = words(alloc, must)?;
     let should = words(alloc, should)?;
     let must_not = words(alloc, must_not)?;
-    let query = Query::Bool {
+    Ok(Query::Bool {
         must,
         should,
         must_not,
-    };
-    shown(alloc, index, &query)
+    })
+}
+
+/// What words must be there, should be there and must not be there, and which rows are found.
+type Case<'a> = (&'a [&'a str], &'a [&'a str], &'a [&'a str], &'a str);
+
+fn bool_finds(alloc: Global, index: &PostingsIndex, case: Case<'_>) -> Result<bool, Fail> {
+    let (must, should, must_not, want) = case;
+    finds(
+        alloc,
+        index,
+        &bool_query(alloc, must, should, must_not)?,
+        want,
+    )
 }
 
 /// `should` counts where `must` is empty, and there alone; without both nothing matches.
 #[test]
 fn bool_queries(rt: HostRuntime) -> Result<(), Fail> {
-    let alloc = rt.alloc();
-    let index = index_of(alloc, ["red", "red blue", "blue", "green"].as_slice())?;
-    let no: [&str; 0] = [];
-    let none = no.as_slice();
-    let cases = [
-        (none, ["red", "blue"].as_slice(), none, "0,1,2,"),
-        (["red", "blue"].as_slice(), none, none, "1,"),
-        (["red"].as_slice(), ["green"].as_slice(), none, "0,1,"),
-        (["red"].as_slice(), none, ["blue"].as_slice(), "0,"),
-        (none, none, ["white"].as_slice(), ""),
-        (none, none, none, ""),
+    let index = colours(rt.alloc())?;
+    let cases: [Case<'static>; 6] = [
+        (&[], &["red", "blue"], &[], "0,1,2,"),
+        (&["red", "blue"], &[], &[], "1,"),
+        (&["red"], &["green"], &[], "0,1,"),
+        (&["red"], &[], &["blue"], "0,"),
+        (&[], &[], &["white"], ""),
+        (&[], &[], &[], ""),
     ];
-    for (must, should, must_not, want) in cases {
-        let shown = shown_bool(alloc, &index, must, should, must_not)?;
-        assert!(rt; shown.as_str() == want);
+    for case in cases {
+        assert!(rt; bool_finds(rt.alloc(), &index, case)?);
     }
-    let shown = shown(alloc, &index, &Query::All)?;
-    assert!(rt; shown.as_str() == "0,1,2,3,");
+    assert!(rt; finds(rt.alloc(), &index, &Query::All, "0,1,2,3,")?);
     Ok(())
 }

@@ -37,14 +37,3 @@ below_born xs doc place n mid new at is made now h =
     let long : length new ≡ length xs + 1 = ap length whole ∙ length-append xs (e ∷ []) in
     subst (All (λ (row : Row). row.birth < length new + 1)) (sym rows)
     (All-push (λ (r : Row). r.birth < length new + 1) (born_rows xs) row (All-weaker (λ (r : Row). r.birth < length xs + 1) (λ r. r.birth < length new + 1) (λ r l. omega (arith, long, l)) (born_rows xs) h) (omega (arith, long, is)))
-
--- three documents that all wait
-pub three_wait : (none one two three : List Staged) (a b c : Document) (place : ℕ) → none ≡ [] → one ≡ none ++ waiting a ∷ [] → two ≡ one ++ waiting b ∷ []
-    → three ≡ two ++ waiting c ∷ [] → place ≡ length none → All (λ (s : Staged). s.birth ≡ None) (drop place three)
-three_wait none one two three a b c place e first second third at =
-    let front : one ≡ waiting a ∷ [] = first ∙ ap (λ (l : List Staged). l ++ waiting a ∷ []) e in
-    let pair : two ≡ waiting a ∷ waiting b ∷ [] = second ∙ ap (λ (l : List Staged). l ++ waiting b ∷ []) front in
-    let whole : three ≡ waiting a ∷ waiting b ∷ waiting c ∷ [] = third ∙ ap (λ (l : List Staged). l ++ waiting c ∷ []) pair in
-    subst (λ (n : ℕ). All (λ (s : Staged). s.birth ≡ None) (drop n three)) (sym (at ∙ ap length e))
-    (subst (All (λ (s : Staged). s.birth ≡ None)) (sym whole)
-    (All-from_recursion (λ (s : Staged). s.birth ≡ None) (waiting a ∷ waiting b ∷ waiting c ∷ []) (refl, (refl, (refl, tt)))))

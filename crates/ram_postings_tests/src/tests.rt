@@ -1,6 +1,7 @@
 //! Three documents, the second of them void, and the rows and places of the other two.
 ghost use Rattle.std.specs.Prelude.{◌<◌, ◌^◌, length};
 
+use crate::tests_large::add;
 use analysis::{analyse, invert};
 use ix_base::{Document, Numbers, Postings, Row, Spots, TermPostings};
 use ram_postings::{Frozen, RamPostings};
@@ -66,69 +67,71 @@ pub fn shown_frozen(alloc: Global, frozen: &Frozen) -> Result<String, Fail> {
     for row in frozen.rows.as_slice() {
         write!(out, "{}{} ", row.doc.key.as_str(), row.birth)?;
     }
-    let places = shown(alloc, &frozen.postings)?;
-    write!(out, "{}", places.as_str())?;
+    out.push_str(shown(alloc, &frozen.postings)?.as_str())?;
     Ok(out)
+}
+
+/// What is taken out of a buffer, which is empty then.
+fn shown_taken(alloc: Global, buffer: RamPostings) -> Result<String, Fail> {
+    let mut buffer = buffer;
+    let frozen = buffer.take_frozen()?;
+    if buffer.rows() != 0 {
+        Err("rows are left")?;
+    }
+    shown_frozen(alloc, &frozen)
 }
 
 /// No document: nothing is there, and nothing is in the postings.
 #[test]
 fn nothing_staged(rt: HostRuntime) -> Result<(), Fail> {
-    let alloc = rt.alloc();
-    let mut buffer = RamPostings::new(alloc);
+    let buffer = RamPostings::new(rt.alloc());
     assert!(rt; buffer.rows() == 0);
-    let frozen = buffer.take_frozen()?;
-    assert!(rt; shown_frozen(alloc, &frozen)?.as_str() == "");
-    assert!(rt; buffer.rows() == 0);
+    assert!(rt; shown_taken(rt.alloc(), buffer)?.as_str() == "");
     Ok(())
 }
 
 /// Three documents, of which the second one gets no number.
 fn with_void_between(alloc: Global) -> Result<RamPostings, Fail> {
     let mut buffer = RamPostings::new(alloc);
-    let first = buffer.stage(analyse(alloc, document_of(alloc, "a", "fish dog fish", "red")?)?)?;
-    let second = buffer.stage(analyse(alloc, document_of(alloc, "b", "fish owl", "blue")?)?)?;
-    let third = buffer.stage(analyse(
-        alloc,
-        document_of(alloc, "c", "the dog saw the fish", "red")?,
-    )?)?;
-    if (first.0, second.0, third.0) != (0, 1, 2) {
-        Err("other places")?;
+    for (key, body, tag, void) in [
+        ("a", "fish dog fish", "red", false),
+        ("b", "fish owl", "blue", true),
+        ("c", "the dog saw the fish", "red", false),
+    ] {
+        let analysed = analyse(alloc, document_of(alloc, key, body, tag)?)?;
+        add(&mut buffer, analysed, void)?;
     }
-    buffer.born(first, 4);
-    buffer.born(third, 9);
     Ok(buffer)
 }
 
 /// A void document keeps its place and is in no row; its own terms are in no postings.
 #[test]
 fn void_document_between(rt: HostRuntime) -> Result<(), Fail> {
-    let alloc = rt.alloc();
-    let mut buffer = with_void_between(alloc)?;
+    let buffer = with_void_between(rt.alloc())?;
     assert!(rt; buffer.rows() == 3);
-    let frozen = buffer.take_frozen()?;
     let expected =
-        "a4 c9 body:dog 0@1, 1@1,;body:fish 0@0,2, 1@4,;body:saw 1@2,;body:the 1@0,3,;key:a 0@0,;key:c 1@0,;tag:red 0@0, 1@0,;";
-    assert!(rt; shown_frozen(alloc, &frozen)?.as_str() == expected);
+        "a1 c3 body:dog 0@1, 1@1,;body:fish 0@0,2, 1@4,;body:saw 1@2,;body:the 1@0,3,;key:a 0@0,;key:c 1@0,;tag:red 0@0, 1@0,;";
+    assert!(rt; shown_taken(rt.alloc(), buffer)?.as_str() == expected);
     Ok(())
 }
 
-/// A buffer whose rows were taken out is empty, and takes documents again: nothing of the earlier
-/// ones is left in it.
-#[test]
-fn taken_and_filled_again(rt: HostRuntime) -> Result<(), Fail> {
-    let alloc = rt.alloc();
+/// That buffer, taken out and filled again with one document.
+fn filled_again(alloc: Global) -> Result<RamPostings, Fail> {
     let mut buffer = with_void_between(alloc)?;
     let earlier = buffer.take_frozen()?;
-    assert!(rt; (buffer.rows(), earlier.rows.len()) == (0, 2));
-    let row = buffer.stage(analyse(alloc, document_of(alloc, "d", "an owl", "blue")?)?)?;
-    assert!(rt; row.0 == 0);
-    buffer.born(row, 10);
-    let frozen = buffer.take_frozen()?;
-    assert!(rt;
-        shown_frozen(alloc, &frozen)?.as_str()
-            == "d10 body:an 0@0,;body:owl 0@1,;key:d 0@0,;tag:blue 0@0,;"
-    );
-    assert!(rt; buffer.rows() == 0);
+    if earlier.rows.len() != 2 {
+        Err("other rows")?;
+    }
+    let analysed = analyse(alloc, document_of(alloc, "d", "an owl", "blue")?)?;
+    add(&mut buffer, analysed, false)?;
+    Ok(buffer)
+}
+
+/// A buffer whose rows were taken out takes documents again: nothing of the earlier ones is left in it.
+#[test]
+fn taken_and_filled_again(rt: HostRuntime) -> Result<(), Fail> {
+    let buffer = filled_again(rt.alloc())?;
+    let expected = "d1 body:an 0@0,;body:owl 0@1,;key:d 0@0,;tag:blue 0@0,;";
+    assert!(rt; shown_taken(rt.alloc(), buffer)?.as_str() == expected);
     Ok(())
 }

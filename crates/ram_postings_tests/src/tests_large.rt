@@ -6,7 +6,7 @@ ghost use Rattle.ram_postings.specs.Buffer.{born_rows};
 use crate::tests::{document_of, inverted, shown};
 use analysis::analyse;
 use ix_base::{Analysed, Document};
-use ram_postings::RamPostings;
+use ram_postings::{Frozen, RamPostings};
 use std::alloc::Global;
 use std::fmt::Write;
 use std::test::Fail;
@@ -25,8 +25,8 @@ fn drawn_document(alloc: Global, number: u32) -> Result<Document, Fail> {
     document_of(alloc, key.as_str(), body.as_str(), "w7")
 }
 
-/// Stages a document, and gives it a number unless it is to be void.
-fn add(buffer: &mut RamPostings, analysed: Analysed, void: bool) -> Result<(), Fail>
+/// Stages a document, and gives it the number after its place unless it is to be void.
+pub(crate) fn add(buffer: &mut RamPostings, analysed: Analysed, void: bool) -> Result<(), Fail>
     requires inversion { IsInversion (analysed.doc ∷ []) analysed.postings }
     requires births { All (λ row. row.birth < length buffer.old + 1) (born_rows buffer.old) }
     ensures { OnOk result (All (λ row. row.birth < length buffer.new + 1) (born_rows buffer.new)) }
@@ -51,16 +51,28 @@ fn drawn_buffer(alloc: Global, count: u32) -> Result<RamPostings, Fail> {
     Ok(buffer)
 }
 
-/// Two thousand documents, of which 286 are void.
+/// What is taken out of a buffer of two thousand documents, of which 286 are void.
+fn thousands(alloc: Global) -> Result<Frozen, Fail> {
+    let mut buffer = drawn_buffer(alloc, 2_000)?;
+    if buffer.rows() != 2_000 {
+        Err("another count of documents")?;
+    }
+    Ok(buffer.take_frozen()?)
+}
+
+/// Whether the postings are the inversion of the rows.
+fn is_inversion(alloc: Global, frozen: &Frozen) -> Result<bool, Fail> {
+    if frozen.rows.len() > 2_000 {
+        Err("rows of no document")?;
+    }
+    let expected = inverted(alloc, frozen.rows.as_slice())?;
+    Ok(shown(alloc, &frozen.postings)?.as_str() == expected.as_str())
+}
+
 #[test]
 fn thousands_of_documents(rt: HostRuntime) -> Result<(), Fail> {
-    let alloc = rt.alloc();
-    let mut buffer = drawn_buffer(alloc, 2_000)?;
-    assert!(rt; buffer.rows() == 2_000);
-    let frozen = buffer.take_frozen()?;
-    assert!(rt; (buffer.rows(), frozen.rows.len()) == (0, 1_714));
-    let found = shown(alloc, &frozen.postings)?;
-    let expected = inverted(alloc, frozen.rows.as_slice())?;
-    assert!(rt; found.as_str() == expected.as_str());
+    let frozen = thousands(rt.alloc())?;
+    assert!(rt; frozen.rows.len() == 1_714);
+    assert!(rt; is_inversion(rt.alloc(), &frozen)?);
     Ok(())
 }

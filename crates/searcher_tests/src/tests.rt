@@ -1,9 +1,11 @@
 //! Searches of segments whose births interleave, and of a commit in a store.
-ghost use Rattle.std.specs.Prelude.{◌≤◌};
+ghost use Rattle.std.specs.Prelude.{◌≡◌, ◌≤◌, length, IfOk};
 
 use analysis::invert;
 use commit_point::OpenFault;
-use ix_base::{Document, Fields, FileName, Hit, List, PhraseText, Queries, Query, Row, Term};
+use ix_base::{
+    Document, Fields, FileName, Hit, List, Name, NoMemory, PhraseText, Queries, Query, Row, Term,
+};
 use ix_memory::MemoryStore;
 use ix_outside::Store;
 use live_docs::LiveDocs;
@@ -57,6 +59,13 @@ fn searcher_of(alloc: Global, first: Vec<Row>, second: Vec<Row>) -> Result<Searc
     })
 }
 
+/// The segment alone.
+fn searcher_of_one(alloc: Global, segment: LiveSegment) -> Result<Searcher, Fail> {
+    Ok(Searcher {
+        segments: List::from_vec(vec![in alloc; segment]?),
+    })
+}
+
 /// Rows with these births, keys, texts and numbers.
 fn given_rows(alloc: Global, given: &[(u64, &str, &str, i64)]) -> Result<Vec<Row>, Fail> {
     let mut rows = Vec::new(alloc);
@@ -96,78 +105,151 @@ fn shown(alloc: Global, searcher: &Searcher, query: &Query) -> Result<String, Fa
     Ok(shown)
 }
 
+/// Whether a query finds this.
+fn finds(alloc: Global, searcher: &Searcher, query: &Query, wanted: &str) -> Result<bool, Fail> {
+    Ok(shown(alloc, searcher, query)?.as_str() == wanted)
+}
+
+/// Whether the query for a term finds this.
+fn term_finds(
+    alloc: Global,
+    searcher: &Searcher,
+    (field, bytes): (&str, &str),
+    wanted: &str,
+) -> Result<bool, Fail> {
+    finds(alloc, searcher, &term(alloc, field, bytes)?, wanted)
+}
+
+/// Whether the query for a phrase finds this.
+fn phrase_finds(
+    alloc: Global,
+    searcher: &Searcher,
+    (field, text): (&str, &str),
+    wanted: &str,
+) -> Result<bool, Fail> {
+    finds(alloc, searcher, &phrase(alloc, field, text)?, wanted)
+}
+
 #[test]
 fn hits_come_by_birth_over_both_segments(rt: HostRuntime) -> Result<(), Fail> {
-    let alloc = rt.alloc();
-    let searcher = four_rows(alloc)?;
-    let all = shown(alloc, &searcher, &Query::All)?;
-    assert!(rt; all.as_str() == "a pages 10;b pages 20;c pages 30;d pages -40;");
-    let red = shown(alloc, &searcher, &term(alloc, "body", "red")?)?;
-    assert!(rt; red.as_str() == "a pages 10;c pages 30;d pages -40;");
+    let searcher = four_rows(rt.alloc())?;
+    let wanted = "a pages 10;b pages 20;c pages 30;d pages -40;";
+    assert!(rt; finds(rt.alloc(), &searcher, &Query::All, wanted)?);
     Ok(())
 }
 
 #[test]
-fn hits_of_one_segment(rt: HostRuntime) -> Result<(), Fail> {
-    let alloc = rt.alloc();
-    let searcher = four_rows(alloc)?;
-    let phrase = shown(alloc, &searcher, &phrase(alloc, "body", "Fox red")?)?;
-    assert!(rt; phrase.as_str() == "c pages 30;");
-    let key = shown(alloc, &searcher, &term(alloc, "key", "d")?)?;
-    assert!(rt; key.as_str() == "d pages -40;");
-    let none = shown(alloc, &searcher, &term(alloc, "body", "white")?)?;
-    assert!(rt; none.as_str() == "");
+fn hits_of_terms(rt: HostRuntime) -> Result<(), Fail> {
+    let searcher = four_rows(rt.alloc())?;
+    let cases = [
+        (("body", "red"), "a pages 10;c pages 30;d pages -40;"),
+        (("key", "d"), "d pages -40;"),
+        (("body", "white"), ""),
+    ];
+    for (term, wanted) in cases {
+        assert!(rt; term_finds(rt.alloc(), &searcher, term, wanted)?);
+    }
     Ok(())
+}
+
+#[test]
+fn hits_of_a_phrase(rt: HostRuntime) -> Result<(), Fail> {
+    let searcher = four_rows(rt.alloc())?;
+    assert!(rt; phrase_finds(rt.alloc(), &searcher, ("body", "Fox red"), "c pages 30;")?);
+    Ok(())
+}
+
+/// A list of the query for one word.
+fn one_word(alloc: Global, word: &str) -> Result<Queries, Fail> {
+    let query = term(alloc, "body", word)?;
+    Ok(Queries::from_vec(vec![in alloc; query]?))
+}
+
+/// The query for the one word, but not the other.
+fn word_but_not(alloc: Global, word: &str, other: &str) -> Result<Query, Fail> {
+    let must = one_word(alloc, word)?;
+    let must_not = one_word(alloc, other)?;
+    Ok(Query::Bool {
+        must,
+        should: Queries::from_vec(Vec::new(alloc)),
+        must_not,
+    })
+}
+
+/// Whether the query for the one word, but not the other, finds this.
+fn finds_but_not(
+    alloc: Global,
+    searcher: &Searcher,
+    (word, other): (&str, &str),
+    wanted: &str,
+) -> Result<bool, Fail> {
+    finds(alloc, searcher, &word_but_not(alloc, word, other)?, wanted)
 }
 
 #[test]
 fn rows_that_must_not_match_are_left_out(rt: HostRuntime) -> Result<(), Fail> {
-    let alloc = rt.alloc();
-    let searcher = four_rows(alloc)?;
-    let blue = vec![in alloc; term(alloc, "body", "blue")?]?;
-    let fox = vec![in alloc; term(alloc, "body", "fox")?]?;
-    let query = Query::Bool {
-        must: Queries::from_vec(fox),
-        should: Queries::from_vec(Vec::new(alloc)),
-        must_not: Queries::from_vec(blue),
-    };
-    let shown = shown(alloc, &searcher, &query)?;
-    assert!(rt; shown.as_str() == "a pages 10;c pages 30;");
+    let searcher = four_rows(rt.alloc())?;
+    let wanted = "a pages 10;c pages 30;";
+    assert!(rt; finds_but_not(rt.alloc(), &searcher, ("fox", "blue"), wanted)?);
     Ok(())
 }
 
-/// The same rows, of which the first is dead and the third has numbers that were set in it.
-fn three_of_four(alloc: Global) -> Result<Searcher, Fail> {
-    let mut segment = segment_of(alloc, 1, first_rows(alloc)?)?;
+/// The live docs of two rows, the first dead, the second with a number under each of these names.
+fn second_lives(alloc: Global, pages: &Name, copies: &Name) -> Result<LiveDocs, NoMemory>
+    ensures { IfOk result (λ live. length live.marks ≡ 2) }
+{
     let mut live = LiveDocs::new(alloc, 2, 4)?;
     live.kill(0);
-    live.set_value(alloc, 1, &name_of(alloc, "pages")?, 41)?;
-    live.set_value(alloc, 1, &name_of(alloc, "copies")?, 2)?;
+    live.set_value(alloc, 1, pages, 41)?;
+    live.set_value(alloc, 1, copies, 2)?;
+    Ok(live)
+}
+
+/// The segment with these live docs, where it has two rows.
+fn with_live(segment: LiveSegment, live: LiveDocs) -> LiveSegment
+    requires { length live.marks ≡ 2 }
+{
+    let mut segment = segment;
     if segment.segment().rows.len() == 2 {
         segment.set_live(live);
     }
-    Ok(Searcher {
-        segments: List::from_vec(vec![in alloc; segment]?),
-    })
+    segment
+}
+
+/// The same, by the names `pages` and `copies`.
+fn second_lives_with_numbers(alloc: Global) -> Result<LiveDocs, Fail>
+    ensures { IfOk result (λ live. length live.marks ≡ 2) }
+{
+    let pages = name_of(alloc, "pages")?;
+    let copies = name_of(alloc, "copies")?;
+    Ok(second_lives(alloc, &pages, &copies)?)
+}
+
+/// Two of the rows, the first dead, the second with numbers that were set in it.
+fn one_of_two(alloc: Global) -> Result<Searcher, Fail> {
+    let segment = segment_of(alloc, 1, first_rows(alloc)?)?;
+    let live = second_lives_with_numbers(alloc)?;
+    searcher_of_one(alloc, with_live(segment, live))
 }
 
 #[test]
-fn dead_rows_are_not_found_and_set_numbers_are_shown(rt: HostRuntime) -> Result<(), Fail> {
-    let alloc = rt.alloc();
-    let searcher = three_of_four(alloc)?;
-    let all = shown(alloc, &searcher, &Query::All)?;
-    assert!(rt; all.as_str() == "d copies 2 pages 41;");
-    let fox = shown(alloc, &searcher, &term(alloc, "body", "fox")?)?;
-    assert!(rt; fox.as_str() == "");
+fn set_numbers_are_shown(rt: HostRuntime) -> Result<(), Fail> {
+    let searcher = one_of_two(rt.alloc())?;
+    assert!(rt; finds(rt.alloc(), &searcher, &Query::All, "d copies 2 pages 41;")?);
+    Ok(())
+}
+
+#[test]
+fn dead_rows_are_not_found(rt: HostRuntime) -> Result<(), Fail> {
+    let searcher = one_of_two(rt.alloc())?;
+    assert!(rt; term_finds(rt.alloc(), &searcher, ("body", "fox"), "")?);
     Ok(())
 }
 
 #[test]
 fn no_segment_no_hit(rt: HostRuntime) -> Result<(), Fail> {
-    let alloc = rt.alloc();
-    let searcher = Searcher::none(alloc);
-    let shown = shown(alloc, &searcher, &Query::All)?;
-    assert!(rt; shown.as_str() == "");
+    let searcher = Searcher::none(rt.alloc());
+    assert!(rt; finds(rt.alloc(), &searcher, &Query::All, "")?);
     Ok(())
 }
 
@@ -190,14 +272,17 @@ fn hits_up_to(alloc: Global, last: u32) -> Result<String, Fail> {
     Ok(wanted)
 }
 
+/// Whether the query for the word of all rows finds those with the births from 1 to this one.
+fn finds_up_to(alloc: Global, searcher: &Searcher, last: u32) -> Result<bool, Fail> {
+    let wanted = hits_up_to(alloc, last)?;
+    term_finds(alloc, searcher, ("body", "word"), wanted.as_str())
+}
+
 #[test]
 fn three_thousand_hits(rt: HostRuntime) -> Result<(), Fail> {
-    let alloc = rt.alloc();
-    let even = many_rows(alloc, 2)?;
-    let odd = many_rows(alloc, 1)?;
-    let searcher = searcher_of(alloc, even, odd)?;
-    let shown = shown(alloc, &searcher, &term(alloc, "body", "word")?)?;
-    assert!(rt; shown.as_str() == hits_up_to(alloc, 3000)?.as_str());
+    let even = many_rows(rt.alloc(), 2)?;
+    let searcher = searcher_of(rt.alloc(), even, many_rows(rt.alloc(), 1)?)?;
+    assert!(rt; finds_up_to(rt.alloc(), &searcher, 3000)?);
     Ok(())
 }
 
@@ -220,10 +305,8 @@ fn many_segments(alloc: Global, count: u32) -> Result<Searcher, Fail> {
 
 #[test]
 fn hits_of_many_segments(rt: HostRuntime) -> Result<(), Fail> {
-    let alloc = rt.alloc();
-    let searcher = many_segments(alloc, 300)?;
-    let shown = shown(alloc, &searcher, &term(alloc, "body", "word")?)?;
-    assert!(rt; shown.as_str() == hits_up_to(alloc, 300)?.as_str());
+    let searcher = many_segments(rt.alloc(), 300)?;
+    assert!(rt; finds_up_to(rt.alloc(), &searcher, 300)?);
     Ok(())
 }
 
@@ -270,58 +353,76 @@ const COMMIT: [u8; 80] = [
 ];
 
 /// Writes the live bits and the set numbers of a segment of two rows: both live, and no number.
-fn put_live(store: &mut MemoryStore, alloc: Global, id: u8) -> Result<(), Fail>
+fn put_live(store: &mut MemoryStore, id: u8) -> Result<(), Fail>
     requires { 1 ≤ id }
 {
-    let head = [0, 0, 0, 0, 0, 0, 0, id, 0, 0, 0, 0, 0, 0, 0, 4, 0, 0, 0, 2];
-    let mut bits = Vec::new(alloc);
-    bits.extend_from_slice(b"IXLIV001")?;
-    bits.extend_from_slice(&head)?;
-    bits.push(3)?;
-    store.write(FileName::Live(u64::from(id), 4), bits.as_slice())?;
-    let mut numbers = Vec::new(alloc);
-    numbers.extend_from_slice(b"IXVAL001")?;
-    numbers.extend_from_slice(&head)?;
-    numbers.extend_from_slice(&[0; 8])?;
-    store.write(FileName::Values(u64::from(id), 4), numbers.as_slice())?;
+    let bits = [
+        b'I', b'X', b'L', b'I', b'V', b'0', b'0', b'1', 0, 0, 0, 0, 0, 0, 0, id, 0, 0, 0, 0, 0, 0,
+        0, 4, 0, 0, 0, 2, 3,
+    ];
+    store.write(FileName::Live(u64::from(id), 4), &bits)?;
+    let numbers = [
+        b'I', b'X', b'V', b'A', b'L', b'0', b'0', b'1', 0, 0, 0, 0, 0, 0, 0, id, 0, 0, 0, 0, 0, 0,
+        0, 4, 0, 0, 0, 2, 0, 0, 0, 0, 0, 0, 0, 0,
+    ];
+    store.write(FileName::Values(u64::from(id), 4), &numbers)?;
     Ok(())
+}
+
+/// Writes the rows and the postings of a segment of two rows.
+fn put_segment(
+    store: &mut MemoryStore,
+    alloc: Global,
+    id: u8,
+    births: [u8; 2],
+    keys: [u8; 2],
+) -> Result<(), Fail>
+    requires { 1 ≤ id }
+{
+    let rows = rows_of(alloc, id, births, keys)?;
+    store.write(FileName::Rows(u64::from(id)), rows.as_slice())?;
+    let posts = posts_of(alloc, id, keys)?;
+    store.write(FileName::Posts(u64::from(id)), posts.as_slice())?;
+    put_live(store, id)
 }
 
 /// A store of this commit, in whose segments the births are 1 and 4, and 2 and 3.
 fn store_of_four(alloc: Global) -> Result<MemoryStore, Fail> {
     let mut store = MemoryStore::new(alloc);
-    let first = rows_of(alloc, 1, [1, 4], [b'a', b'd'])?;
-    let second = rows_of(alloc, 2, [2, 3], [b'b', b'c'])?;
-    store.write(FileName::Rows(1), first.as_slice())?;
-    store.write(FileName::Rows(2), second.as_slice())?;
-    let first = posts_of(alloc, 1, [b'a', b'd'])?;
-    let second = posts_of(alloc, 2, [b'b', b'c'])?;
-    store.write(FileName::Posts(1), first.as_slice())?;
-    store.write(FileName::Posts(2), second.as_slice())?;
-    put_live(&mut store, alloc, 1)?;
-    put_live(&mut store, alloc, 2)?;
+    put_segment(&mut store, alloc, 1, [1, 4], [b'a', b'd'])?;
+    put_segment(&mut store, alloc, 2, [2, 3], [b'b', b'c'])?;
     store.write(FileName::Commit(4), &COMMIT)?;
     Ok(store)
 }
 
+fn opened(alloc: Global) -> Result<Searcher, Fail> {
+    let mut store = store_of_four(alloc)?;
+    Ok(Searcher::open(alloc, &mut store, 4)?)
+}
+
+fn opened_listed(alloc: Global) -> Result<Searcher, Fail> {
+    let mut store = store_of_four(alloc)?;
+    Ok(Searcher::open_listed(alloc, &mut store, 4)?)
+}
+
 #[test]
 fn opens_a_commit_and_finds(rt: HostRuntime) -> Result<(), Fail> {
-    let alloc = rt.alloc();
-    let mut store = store_of_four(alloc)?;
-    let searcher = Searcher::open(alloc, &mut store, 4)?;
-    let all = shown(alloc, &searcher, &Query::All)?;
-    assert!(rt; all.as_str() == "a;b;c;d;");
-    let listed = Searcher::open_listed(alloc, &mut store, 4)?;
-    let one = shown(alloc, &listed, &term(alloc, "key", "c")?)?;
-    assert!(rt; one.as_str() == "c;");
+    let searcher = opened(rt.alloc())?;
+    assert!(rt; finds(rt.alloc(), &searcher, &Query::All, "a;b;c;d;")?);
+    Ok(())
+}
+
+#[test]
+fn opens_a_listed_commit_and_finds(rt: HostRuntime) -> Result<(), Fail> {
+    let searcher = opened_listed(rt.alloc())?;
+    assert!(rt; term_finds(rt.alloc(), &searcher, ("key", "c"), "c;")?);
     Ok(())
 }
 
 #[test]
 fn tells_that_there_is_no_such_commit(rt: HostRuntime) -> Result<(), Fail> {
-    let alloc = rt.alloc();
-    let mut store = store_of_four(alloc)?;
-    let fault = Searcher::open(alloc, &mut store, 3).err();
+    let mut store = store_of_four(rt.alloc())?;
+    let fault = Searcher::open(rt.alloc(), &mut store, 3).err();
     assert!(rt; fault == Some(OpenFault::NoSuch { number: 3 }));
     Ok(())
 }

@@ -29,30 +29,46 @@ fn two_rows(alloc: Global) -> Result<Segment, Fail> {
     })
 }
 
+/// Whether these rows hold the term.
+fn holds(
+    alloc: Global,
+    segment: &Segment,
+    (field, bytes): (&str, &str),
+    rows: &[u32],
+) -> Result<bool, Fail> {
+    let term = term_of(alloc, field, bytes)?;
+    let found = segment.holding(alloc, &term).ok().ok_or("memory")?;
+    Ok(found.as_slice() == rows)
+}
+
+/// Whether the term `body:fox` stands at these places of a row.
+fn is_at(alloc: Global, segment: &Segment, row: u32, places: &[u32]) -> Result<bool, Fail> {
+    let fox = term_of(alloc, "body", "fox")?;
+    let found = segment.places(alloc, &fox, row).ok().ok_or("memory")?;
+    Ok(found.as_slice() == places)
+}
+
 #[test]
 fn a_segment_answers(rt: HostRuntime) -> Result<(), Fail> {
-    let alloc = rt.alloc();
-    let segment = two_rows(alloc)?;
+    let segment = two_rows(rt.alloc())?;
     assert!(rt; segment.rows() == 2);
-    let fox = term_of(alloc, "body", "fox")?;
-    let rows = segment.holding(alloc, &fox).ok().ok_or("memory")?;
-    assert!(rt; rows.as_slice() == [0, 1].as_slice());
-    let places = segment.places(alloc, &fox, 0).ok().ok_or("memory")?;
-    assert!(rt; places.as_slice() == [1, 3].as_slice());
-    let none = segment.places(alloc, &fox, 2).ok().ok_or("memory")?;
-    assert!(rt; none.len() == 0);
+    let cases: [((&str, &str), &[u32]); 3] = [
+        (("body", "fox"), &[0, 1]),
+        (("key", "k2"), &[1]),
+        (("key", "fox"), &[]),
+    ];
+    for (term, rows) in cases {
+        assert!(rt; holds(rt.alloc(), &segment, term, rows)?);
+    }
     Ok(())
 }
 
 #[test]
-fn a_segment_has_no_other_term(rt: HostRuntime) -> Result<(), Fail> {
-    let alloc = rt.alloc();
-    let segment = two_rows(alloc)?;
-    let key = term_of(alloc, "key", "k2")?;
-    let rows = segment.holding(alloc, &key).ok().ok_or("memory")?;
-    assert!(rt; rows.as_slice() == [1].as_slice());
-    let other = term_of(alloc, "key", "fox")?;
-    let rows = segment.holding(alloc, &other).ok().ok_or("memory")?;
-    assert!(rt; rows.len() == 0);
+fn places_in_a_segment(rt: HostRuntime) -> Result<(), Fail> {
+    let segment = two_rows(rt.alloc())?;
+    let cases: [(u32, &[u32]); 3] = [(0, &[1, 3]), (1, &[1]), (2, &[])];
+    for (row, places) in cases {
+        assert!(rt; is_at(rt.alloc(), &segment, row, places)?);
+    }
     Ok(())
 }

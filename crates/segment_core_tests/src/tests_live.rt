@@ -36,9 +36,17 @@ fn take_more(updates: &mut Updates, number: u64, entry: Entry) -> Result<(), Fai
     Ok(())
 }
 
-/// A number that is set in the second row.
-fn setting(alloc: Global) -> Result<Entry, Fail> {
-    let term = term_of(alloc, "key", "k2")?;
+fn delete_of(alloc: Global, key: &str) -> Result<Entry, Fail> {
+    Ok(Entry::DeleteTerm(term_of(alloc, "key", key)?))
+}
+
+fn update_of(alloc: Global, key: &str) -> Result<Entry, Fail> {
+    Ok(Entry::Update(term_of(alloc, "key", key)?))
+}
+
+/// A number that is set in the rows of a key.
+fn setting(alloc: Global, key: &str) -> Result<Entry, Fail> {
+    let term = term_of(alloc, "key", key)?;
     let num = name_of(alloc, "n")?;
     let value = 5;
     Ok(Entry::SetNumber { term, num, value })
@@ -47,12 +55,10 @@ fn setting(alloc: Global) -> Result<Entry, Fail> {
 /// Operations of one number: a delete of the first row, a number set in the second, and an update of
 /// the third.
 fn three_updates(alloc: Global, number: u64) -> Result<Updates, Fail> {
-    let first = Entry::DeleteTerm(term_of(alloc, "key", "k1")?);
-    let third = Entry::Update(term_of(alloc, "key", "k3")?);
     let mut updates = Updates::new(alloc);
-    take_more(&mut updates, number, first)?;
-    take_more(&mut updates, number, setting(alloc)?)?;
-    take_more(&mut updates, number, third)?;
+    take_more(&mut updates, number, delete_of(alloc, "k1")?)?;
+    take_more(&mut updates, number, setting(alloc, "k2")?)?;
+    take_more(&mut updates, number, update_of(alloc, "k3")?)?;
     Ok(updates)
 }
 
@@ -101,11 +107,15 @@ fn shown_at(alloc: Global, number: u64) -> Result<String, Fail> {
 /// Updates act only on rows that were born before them.
 #[test]
 fn updates_at_each_birth(rt: HostRuntime) -> Result<(), Fail> {
-    let alloc = rt.alloc();
-    assert!(rt; shown_at(alloc, 3)?.as_str() == "9 8+0+0+0");
-    assert!(rt; shown_at(alloc, 5)?.as_str() == "9 8-0+0+0");
-    assert!(rt; shown_at(alloc, 7)?.as_str() == "9 8-0+5+0");
-    assert!(rt; shown_at(alloc, 8)?.as_str() == "9 8-0+5-0");
+    let cases = [
+        (3, "9 8+0+0+0"),
+        (5, "9 8-0+0+0"),
+        (7, "9 8-0+5+0"),
+        (8, "9 8-0+5-0"),
+    ];
+    for (number, wanted) in cases {
+        assert!(rt; shown_at(rt.alloc(), number)?.as_str() == wanted);
+    }
     Ok(())
 }
 

@@ -1,6 +1,6 @@
 use Rattle.std.proofs.Common.{◌≡◌, length, ap, arith}
 use Rattle.live_docs.specs.Marks.{Marks}
-use Rattle.live_files_tests.proofs.tests.many_rows.Goals as goal
+use Rattle.live_files_tests.proofs.tests.rows_by.Goals as goal
 
 pub returns : goal.returns
 returns c =
