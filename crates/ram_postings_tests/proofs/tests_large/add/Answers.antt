@@ -1,4 +1,4 @@
-use Rattle.std.proofs.Common.{◌≡◌, ◌<◌, ◌+◌, length, ap, arith}
+use Rattle.std.proofs.Common.{◌<◌, ◌+◌, length, ap, arith}
 use Rattle.ram_postings_tests.proofs.LowBirths.{below_waiting, below_void, below_born}
 use Rattle.ram_postings_tests.proofs.tests_large.add.Goals as goal
 
