@@ -1,18 +1,12 @@
 use analysis::{analyse, invert, long_term, phrase_terms};
-use ix_base::{
-    Document, Fields, Name, Numbers, PhraseText, Postings, Refusal, Refused, Row, Spots,
-    TermPostings, Text,
-};
+use ix_base::{Document, Fields, Numbers, PhraseText, Refusal, Refused, Row, Text};
 use std::alloc::Global;
-use std::fmt::Write;
 use std::test::Fail;
-
-fn text_of(alloc: Global, text: &str) -> Result<Text, Fail> {
-    Ok(Text::new(String::from_str(alloc, text)?).ok_or("long")?)
-}
+use test_texts::shown_postings;
+use test_values::{name_of, text_of};
 
 fn field_of(alloc: Global, name: &str, text: Text) -> Result<Fields, Fail> {
-    let name = Name::new(text_of(alloc, name)?).ok_or("name")?;
+    let name = name_of(alloc, name)?;
     Ok(Fields::from_vec(vec![in alloc; (name, text)]?))
 }
 
@@ -27,39 +21,6 @@ fn words_of(alloc: Global, text: &str) -> Result<String, Fail> {
     for word in phrase_terms(alloc, &phrase)? {
         joined.push_str(word.as_str())?;
         joined.push_str("|")?;
-    }
-    Ok(joined)
-}
-
-fn show_positions(out: &mut String, positions: &[u32]) -> Result<(), Fail> {
-    for position in positions {
-        write!(out, "{position},")?;
-    }
-    Ok(())
-}
-
-fn show_row(alloc: Global, out: &mut String, places: &Spots, row: u32) -> Result<(), Fail> {
-    write!(out, " {row}@")?;
-    let positions = places.positions(alloc, row)?;
-    show_positions(out, positions.as_slice())
-}
-
-fn show_entry(alloc: Global, out: &mut String, entry: &TermPostings) -> Result<(), Fail> {
-    let field = entry.term.field.as_str();
-    let bytes = entry.term.bytes.as_str();
-    write!(out, "{field}:{bytes}")?;
-    let rows = entry.rows.rows(alloc)?;
-    for row in rows.as_slice() {
-        show_row(alloc, out, &entry.rows, *row)?;
-    }
-    write!(out, ";")?;
-    Ok(())
-}
-
-fn shown(alloc: Global, postings: &Postings) -> Result<String, Fail> {
-    let mut joined = String::new(alloc);
-    for entry in postings.terms.as_slice() {
-        show_entry(alloc, &mut joined, entry)?;
     }
     Ok(joined)
 }
@@ -115,7 +76,7 @@ fn remark(alloc: Global) -> Result<Document, Fail> {
 fn terms_of_a_document(rt: HostRuntime) -> Result<(), Fail> {
     let alloc = rt.alloc();
     let analysed = analyse(alloc, quotation(alloc)?)?;
-    let terms = shown(alloc, &analysed.postings)?;
+    let terms = shown_postings(alloc, &analysed.postings)?;
     let want =
         "body:be 0@1,5,;body:not 0@3,;body:or 0@2,;body:to 0@0,4,;key:k1 0@0,;tag:To Be 0@0,;";
     assert!(rt; terms.as_str() == want);
@@ -136,7 +97,7 @@ fn terms_of_two_rows(rt: HostRuntime) -> Result<(), Fail> {
         doc: remark(alloc)?,
     };
     let rows = vec![in alloc; first, second]?;
-    let terms = shown(alloc, &invert(alloc, rows.as_slice())?)?;
+    let terms = shown_postings(alloc, &invert(alloc, rows.as_slice())?)?;
     let want =
         "body:be 0@1,5, 1@0,;body:not 0@3,;body:or 0@2,;body:to 0@0,4,;key:k1 0@0, 1@0,;tag:To Be 0@0,;";
     assert!(rt; terms.as_str() == want);

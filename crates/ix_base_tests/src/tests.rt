@@ -11,38 +11,20 @@ use ix_base::{
 use std::alloc::Global;
 use std::fmt::Write;
 use std::test::Fail;
-
-fn text_of(alloc: Global, text: &str) -> Result<Text, Fail> {
-    Ok(Text::new(String::from_str(alloc, text)?).ok_or("long")?)
-}
-
-fn name_of(alloc: Global, name: &str) -> Result<Name, Fail> {
-    Ok(Name::new(text_of(alloc, name)?).ok_or("no name")?)
-}
+use test_texts::{show_query, show_term, shown_postings};
+use test_values::{document_of, field_of, name_of, number_of, term_of, text_of};
 
 fn phrase_of(alloc: Global, phrase: &str) -> Result<PhraseText, Fail> {
     Ok(PhraseText::new(text_of(alloc, phrase)?).ok_or("long")?)
 }
 
-fn term_of(alloc: Global, field: &str, bytes: &str) -> Result<Term, Fail> {
-    let field = name_of(alloc, field)?;
-    let bytes = text_of(alloc, bytes)?;
-    Ok(Term { field, bytes })
-}
-
-fn fields_of(alloc: Global, name: &str, text: &str) -> Result<Fields, Fail> {
-    let pair = (name_of(alloc, name)?, text_of(alloc, text)?);
-    Ok(Fields::from_vec(vec![in alloc; pair]?))
-}
-
 /// A document with each part filled.
 fn letter(alloc: Global) -> Result<Document, Fail> {
-    let pair = (name_of(alloc, "price")?, -7);
     let doc = Document::new(
         text_of(alloc, "a1")?,
-        fields_of(alloc, "body", "Quick FOX")?,
-        fields_of(alloc, "tag", "x")?,
-        Numbers::from_vec(vec![in alloc; pair]?),
+        field_of(alloc, "body", "Quick FOX")?,
+        field_of(alloc, "tag", "x")?,
+        number_of(alloc, "price", -7)?,
     );
     Ok(doc.ok_or("names aren't apart")?)
 }
@@ -93,13 +75,6 @@ fn nested(alloc: Global) -> Result<Query, Fail> {
     })
 }
 
-fn show_term(out: &mut String, term: &Term) -> Result<(), Fail> {
-    let field = term.field.as_str();
-    let bytes = term.bytes.as_str();
-    write!(out, "{field}:{bytes}")?;
-    Ok(())
-}
-
 fn show_fields(out: &mut String, fields: &Fields) -> Result<(), Fail> {
     for (name, text) in fields.as_slice() {
         let name = name.as_str();
@@ -125,53 +100,6 @@ fn show_document(out: &mut String, doc: &Document) -> Result<(), Fail> {
     show_fields(out, &doc.exact)?;
     out.push_str(" num")?;
     show_numbers(out, &doc.num)
-}
-
-fn show_term_postings(alloc: Global, out: &mut String, entry: &TermPostings) -> Result<(), Fail> {
-    show_term(out, &entry.term)?;
-    for row in entry.rows.rows(alloc)? {
-        let positions = entry.rows.positions(alloc, row)?;
-        let positions = positions.as_slice();
-        write!(out, " {row}@{positions:?}")?;
-    }
-    Ok(())
-}
-
-fn show_postings(alloc: Global, out: &mut String, postings: &Postings) -> Result<(), Fail> {
-    for entry in postings.terms.as_slice() {
-        show_term_postings(alloc, out, entry)?;
-        out.push_str(";")?;
-    }
-    Ok(())
-}
-
-/// Writes a query that is nested at most so deep.
-fn show_query(out: &mut String, query: &Query, depth: u32) -> Result<(), Fail> {
-    match query {
-        Query::All => out.push_str("all")?,
-        Query::Term(term) => show_term(out, term)?,
-        Query::Phrase(field, text) => {
-            let field = field.as_str();
-            let text = text.as_text().as_str();
-            write!(out, "{field}~{text}")?;
-        }
-        Query::Bool {
-            must,
-            should,
-            must_not,
-        } => {
-            let depth = depth.checked_sub(1).ok_or("too deep")?;
-            for (mark, queries) in [("+", must), ("|", should), ("-", must_not)] {
-                out.push_str(mark)?;
-                for query in queries.as_slice() {
-                    out.push_str("(")?;
-                    show_query(out, query, depth)?;
-                    out.push_str(")")?;
-                }
-            }
-        }
-    }
-    Ok(())
 }
 
 fn show_operation(out: &mut String, operation: &Operation) -> Result<(), Fail> {
@@ -249,7 +177,7 @@ fn shown_row(alloc: Global, row: &Row) -> Result<String, Fail> {
 }
 
 fn short_row(alloc: Global, birth: u64) -> Result<Row, Fail> {
-    let doc = Document::of_key(alloc, text_of(alloc, "a2")?);
+    let doc = document_of(alloc, "a2")?;
     Ok(Row { birth, doc })
 }
 
@@ -268,7 +196,7 @@ fn operation_of(alloc: Global, kind: u32) -> Result<Operation, Fail> {
     match kind {
         0 => Ok(Operation::Add(letter(alloc)?)),
         1 => {
-            let doc = Document::of_key(alloc, text_of(alloc, "a2")?);
+            let doc = document_of(alloc, "a2")?;
             Ok(Operation::Update(term_of(alloc, "tag", "x")?, doc))
         }
         2 => Ok(Operation::DeleteTerm(term_of(alloc, "key", "a1")?)),
@@ -342,7 +270,7 @@ fn analysed_letter(alloc: Global) -> Result<Analysed, Fail> {
 fn shown_analysed(alloc: Global, analysed: &Analysed) -> Result<String, Fail> {
     let copy = analysed.clone_in(alloc)?;
     let mut out = String::new(alloc);
-    show_postings(alloc, &mut out, &copy.postings)?;
+    out.push_str(shown_postings(alloc, &copy.postings)?.as_str())?;
     show_document(&mut out, &copy.doc)?;
     Ok(out)
 }
@@ -351,7 +279,7 @@ fn shown_analysed(alloc: Global, analysed: &Analysed) -> Result<String, Fail> {
 fn copies_of_postings(rt: HostRuntime) -> Result<(), Fail> {
     let alloc = rt.alloc();
     let analysed = analysed_letter(alloc)?;
-    let want = "key:a1 3@[0, 2];a1 text body=Quick FOX exact tag=x num price=-7";
+    let want = "key:a1 3@0,2,;a1 text body=Quick FOX exact tag=x num price=-7";
     assert!(rt; shown_analysed(alloc, &analysed)?.as_str() == want);
     Ok(())
 }

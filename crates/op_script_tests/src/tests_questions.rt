@@ -1,41 +1,8 @@
-use ix_base::Query;
 use op_script::{ScriptFault, read_queries};
 use std::alloc::Global;
 use std::fmt::Write;
 use std::test::Fail;
-
-/// Writes a query that is nested at most so deep.
-fn show_query(out: &mut String, query: &Query, depth: u32) -> Result<(), Fail> {
-    match query {
-        Query::All => out.push_str("all")?,
-        Query::Term(term) => {
-            let field = term.field.as_str();
-            let bytes = term.bytes.as_str();
-            write!(out, "{field}:{bytes}")?;
-        }
-        Query::Phrase(field, text) => {
-            let field = field.as_str();
-            let text = text.as_text().as_str();
-            write!(out, "{field}~{text}")?;
-        }
-        Query::Bool {
-            must,
-            should,
-            must_not,
-        } => {
-            let depth = depth.checked_sub(1).ok_or("too deep")?;
-            for (mark, queries) in [("+", must), ("|", should), ("-", must_not)] {
-                out.push_str(mark)?;
-                for query in queries.as_slice() {
-                    out.push_str("(")?;
-                    show_query(out, query, depth)?;
-                    out.push_str(")")?;
-                }
-            }
-        }
-    }
-    Ok(())
-}
+use test_texts::show_query;
 
 /// The questions with their lines, or the bad line and its reason.
 fn answer(alloc: Global, bytes: &[u8]) -> Result<String, Fail> {

@@ -3,11 +3,12 @@ ghost use Rattle.std.specs.Prelude.{◌<◌, ◌^◌, length};
 
 use crate::tests_large::add;
 use analysis::{analyse, invert};
-use ix_base::{Document, Numbers, Postings, Row, Spots, TermPostings};
+use ix_base::{Document, Numbers, Row};
 use ram_postings::{Frozen, RamPostings};
 use std::alloc::Global;
 use std::fmt::Write;
 use std::test::Fail;
+use test_texts::shown_postings;
 use test_values::{field_of, text_of};
 
 pub(crate) fn document_of(
@@ -22,43 +23,10 @@ pub(crate) fn document_of(
     Ok(doc.ok_or("names aren't apart")?)
 }
 
-fn show_positions(out: &mut String, positions: &[u32]) -> Result<(), Fail> {
-    for position in positions {
-        write!(out, "{position},")?;
-    }
-    Ok(())
-}
-
-fn show_row(alloc: Global, out: &mut String, places: &Spots, row: u32) -> Result<(), Fail> {
-    write!(out, " {row}@")?;
-    let positions = places.positions(alloc, row)?;
-    show_positions(out, positions.as_slice())
-}
-
-fn show_entry(alloc: Global, out: &mut String, entry: &TermPostings) -> Result<(), Fail> {
-    let field = entry.term.field.as_str();
-    let bytes = entry.term.bytes.as_str();
-    write!(out, "{field}:{bytes}")?;
-    let rows = entry.rows.rows(alloc)?;
-    for row in rows.as_slice() {
-        show_row(alloc, out, &entry.rows, *row)?;
-    }
-    write!(out, ";")?;
-    Ok(())
-}
-
-pub fn shown(alloc: Global, postings: &Postings) -> Result<String, Fail> {
-    let mut joined = String::new(alloc);
-    for entry in postings.terms.as_slice() {
-        show_entry(alloc, &mut joined, entry)?;
-    }
-    Ok(joined)
-}
-
 pub fn inverted(alloc: Global, rows: &[Row]) -> Result<String, Fail>
     requires { length rows.now < 2 ^ 32 }
 {
-    shown(alloc, &invert(alloc, rows)?)
+    shown_postings(alloc, &invert(alloc, rows)?)
 }
 
 /// The rows with their births, and then the places of the terms in them.
@@ -67,7 +35,7 @@ pub fn shown_frozen(alloc: Global, frozen: &Frozen) -> Result<String, Fail> {
     for row in frozen.rows.as_slice() {
         write!(out, "{}{} ", row.doc.key.as_str(), row.birth)?;
     }
-    out.push_str(shown(alloc, &frozen.postings)?.as_str())?;
+    out.push_str(shown_postings(alloc, &frozen.postings)?.as_str())?;
     Ok(out)
 }
 

@@ -3,13 +3,14 @@ ghost use Rattle.std.specs.Prelude.{◌<◌, ◌+◌, ◌∷◌, [], All, length
 ghost use Rattle.ix_base.specs.Inversion.{IsInversion};
 ghost use Rattle.ram_postings.specs.Buffer.{born_rows};
 
-use crate::tests::{document_of, inverted, shown};
+use crate::tests::{document_of, inverted};
 use analysis::analyse;
 use ix_base::{Analysed, Document};
 use ram_postings::{Frozen, RamPostings};
 use std::alloc::Global;
 use std::fmt::Write;
 use std::test::Fail;
+use test_texts::shown_postings;
 
 /// A document of twelve words of four hundred; some of them come in many documents, some in few.
 fn drawn_document(alloc: Global, number: u32) -> Result<Document, Fail> {
@@ -66,7 +67,7 @@ fn is_inversion(alloc: Global, frozen: &Frozen) -> Result<bool, Fail> {
         Err("rows of no document")?;
     }
     let expected = inverted(alloc, frozen.rows.as_slice())?;
-    Ok(shown(alloc, &frozen.postings)?.as_str() == expected.as_str())
+    Ok(shown_postings(alloc, &frozen.postings)?.as_str() == expected.as_str())
 }
 
 #[test]

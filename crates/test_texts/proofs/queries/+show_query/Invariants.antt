@@ -1,4 +1,4 @@
-use Rattle.ix_base_tests.proofs.tests.+show_query.Given as goal
+use Rattle.test_texts.proofs.queries.+show_query.Given as goal
 
 abbrev pub decreases-show_query : goal.decreases-show_query
 decreases-show_query l = l.depth
