@@ -2,10 +2,10 @@
 ghost use Rattle.std.specs.Prelude.{◌≡◌, ◌<◌, length, IfOk, OnOk};
 
 use ix_base::{Name, NoMemory, Numbers};
-use live_docs::{LiveDocs, Mark};
+use live_docs::{LiveDocs, Mark, with_number};
 use std::alloc::Global;
 use std::test::Fail;
-use test_values::{name_of, number_of};
+use test_values::name_of;
 
 /// Three rows. The second is killed, twice; in the third the second name is set, then the first, then the
 /// second again.
@@ -105,9 +105,18 @@ fn rows_with_numbers(rt: HostRuntime) -> Result<(), Fail> {
     Ok(())
 }
 
+/// One number of this name.
+fn one_number(alloc: Global, bytes: &str, value: i64) -> Result<Numbers, Fail> {
+    let name = name_of(alloc, bytes)?;
+    Ok(with_number(alloc, &Numbers::none(alloc), &name, value)?)
+}
+
 /// The marks of two rows: those of a live one with these numbers, and those of one with none.
-fn two_marks(alloc: Global, values: Numbers, second_lives: bool) -> Result<Vec<Mark>, NoMemory> {
-    let mut marks = vec![in alloc; Mark { live: true, values }]?;
+fn two_marks(alloc: Global, values: Numbers, second_lives: bool) -> Result<Vec<Mark>, NoMemory>
+    ensures { IfOk result (λ marks. length marks.items ≡ 2) }
+{
+    let mut marks = Vec::new(alloc);
+    marks.push(Mark { live: true, values })?;
     marks.push(Mark {
         live: second_lives,
         values: Numbers::none(alloc),
@@ -117,7 +126,7 @@ fn two_marks(alloc: Global, values: Numbers, second_lives: bool) -> Result<Vec<M
 
 /// Two rows: a live one with this number set in it, and one with none.
 fn two_rows(alloc: Global, bytes: &str, value: i64, second_lives: bool) -> Result<LiveDocs, Fail> {
-    let values = number_of(alloc, bytes, value)?;
+    let values = one_number(alloc, bytes, value)?;
     Ok(LiveDocs::from_marks(alloc, 9, two_marks(alloc, values, second_lives)?)?)
 }
 
