@@ -1,38 +1,12 @@
 ghost use Rattle.std.specs.Prelude.{◌≡◌, ◌∷◌, [], IfOk};
 ghost use Rattle.delete_queue.specs.Seats.{IsSeatOf};
-ghost use Rattle.delete_queue.specs.Answers.{IsOperation};
 
 use delete_queue::{Closing, DeleteQueue, Found, Linked, Look, Place, Seat};
 use ix_base::NoMemory;
 use std::alloc::Global;
 use std::test::*;
 use std::thread::{Threads, join};
-
-/// The words of an add.
-fn add() -> [u64; 1]
-    ensures { IsOperation result }
-{
-    [0x1_0000_0000]
-}
-
-/// The words of a delete of the field `key` by the term `abcde`.
-pub(crate) fn delete_of_five() -> [u64; 3]
-    ensures { IsOperation result }
-{
-    [0x3_0000_0010, 0x0000_0003_6b65_7900, 0x0000_0561_6263_6465]
-}
-
-/// The words of a delete of the field `key` by the term `abcdef`.
-fn delete_of_six() -> [u64; 4]
-    ensures { IsOperation result }
-{
-    [
-        0x3_0000_0011,
-        0x0000_0003_6b65_7900,
-        0x0000_0661_6263_6465,
-        0x6600_0000_0000_0000,
-    ]
-}
+use test_operations::{add, delete_of_five, delete_of_six};
 
 /// Links so many deletes, each of four words, and returns whether each got the next number.
 fn link_deletes(queue: &DeleteQueue, seat: &mut Seat, count: u64) -> bool

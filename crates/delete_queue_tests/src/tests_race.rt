@@ -2,11 +2,11 @@
 ghost use Rattle.std.specs.Prelude.{◌≡◌, ◌<◌, IfOk, [], ◌∷◌, length};
 ghost use Rattle.delete_queue.specs.Seats.{IsSeatOf};
 
-use crate::tests::delete_of_five;
 use delete_queue::{Closing, DeleteQueue, Linked, QueueLog, Seat};
 use std::alloc::Global;
 use std::test::*;
 use std::thread::{Threads, join};
+use test_operations::delete_of_five;
 
 /// What one thread has done.
 #[derive(Drop)]

@@ -12,32 +12,7 @@ use frozen_packet::Updates;
 use ix_base::NoMemory;
 use std::alloc::Global;
 use std::test::*;
-
-/// The words of an add.
-fn add() -> [u64; 1]
-    ensures { IsOperation result }
-{
-    [0x1_0000_0000]
-}
-
-/// The words of a delete of the field `key` by the term `abcde`.
-fn delete_of_five() -> [u64; 3]
-    ensures { IsOperation result }
-{
-    [0x3_0000_0010, 0x0000_0003_6b65_7900, 0x0000_0561_6263_6465]
-}
-
-/// The words of a delete of the field `key` by the term `abcdef`.
-fn delete_of_six() -> [u64; 4]
-    ensures { IsOperation result }
-{
-    [
-        0x3_0000_0011,
-        0x0000_0003_6b65_7900,
-        0x0000_0661_6263_6465,
-        0x6600_0000_0000_0000,
-    ]
-}
+use test_operations::{add, delete_of_five, delete_of_six};
 
 /// The words of an entry that sets `n` to 7 where the field `key` holds the term `abcde`.
 fn set_to_seven() -> [u64; 5]

@@ -16,6 +16,7 @@ use std::alloc::Global;
 use std::fmt::Write;
 use std::test::*;
 use std::thread::Threads;
+use test_segments::show_live_row;
 use test_values::{key_term, name_of, row_of};
 use thread_writer::Piece;
 
@@ -135,21 +136,6 @@ fn do_round<R: Threads + Sync>(
     Ok(index.apply_up(rt, alloc, &packet)?)
 }
 
-/// A row of a segment where it is live: its key and birth, and the number that was set.
-fn show_row(alloc: Global, out: &mut String, segment: &LiveSegment, at: u32) -> Result<(), Fail> {
-    let rows = segment.segment().rows.as_slice();
-    if at as usize >= rows.len() || !segment.live().is_live(at) {
-        return Ok(());
-    }
-    let row = &rows[at as usize];
-    write!(out, " {}{}", row.doc.key.as_str(), row.birth)?;
-    match segment.live().value(at, &name_of(alloc, "n")?) {
-        Some(value) => write!(out, "={value}")?,
-        None => {}
-    }
-    Ok(())
-}
-
 /// The number up to which operations are in the index and the next id; then each segment's id, how
 /// many rows it has, the number up to which operations are in it, and its live rows.
 fn shown(alloc: Global, index: &Published) -> Result<String, Fail> {
@@ -160,7 +146,7 @@ fn shown(alloc: Global, index: &Published) -> Result<String, Fail> {
         let applied = segment.live().applied();
         write!(out, "; {}:{rows}@{applied}", segment.segment().id)?;
         for at in 0..8 {
-            show_row(alloc, &mut out, segment, at)?;
+            show_live_row(alloc, &mut out, segment, at)?;
         }
     }
     Ok(out)

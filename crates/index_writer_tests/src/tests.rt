@@ -9,12 +9,12 @@ use commit_point::open_commit;
 use index_writer::{IndexWriter, MergeTurn, RoundEnd, RoundParts, WriterFault, opened_go_on};
 use ix_base::Refusal;
 use ix_memory::MemoryStore;
-use segment_core::LiveSegment;
 use std::alloc::Global;
 use std::fmt::Write;
 use std::test::*;
 use std::thread::Threads;
-use test_values::{name_of, show_told};
+use test_segments::show_live_row;
+use test_values::show_told;
 use thread_writer::Piece;
 
 /// Does a line of a script.
@@ -108,24 +108,10 @@ pub(crate) fn shown(alloc: Global, store: &mut MemoryStore, number: u64) -> Resu
     for segment in opened.segments.as_slice() {
         write!(out, " {}", segment.segment().id)?;
         for at in 0..8 {
-            show_row(alloc, &mut out, segment, at)?;
+            show_live_row(alloc, &mut out, segment, at)?;
         }
     }
     Ok(out)
-}
-
-fn show_row(alloc: Global, out: &mut String, segment: &LiveSegment, at: u32) -> Result<(), Fail> {
-    let rows = segment.segment().rows.as_slice();
-    if at as usize >= rows.len() || !segment.live().is_live(at) {
-        return Ok(());
-    }
-    let row = &rows[at as usize];
-    write!(out, " {}{}", row.doc.key.as_str(), row.birth)?;
-    match segment.live().value(at, &name_of(alloc, "n")?) {
-        Some(value) => write!(out, "={value}")?,
-        None => {}
-    }
-    Ok(())
 }
 
 /// Commits, and returns the number of the commit and how many rows it has.

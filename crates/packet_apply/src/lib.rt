@@ -4,8 +4,6 @@
 mod applying;
 mod laws;
 mod parallel;
-#[cfg(test)]
-mod tests;
 
 pub use applying::apply;
 pub use laws::two_stages;

@@ -13,6 +13,7 @@ use segment_core::{LiveSegment, build};
 use std::alloc::Global;
 use std::fmt::Write;
 use std::test::*;
+use test_segments::show_mark;
 use test_values::{name_of, term_of};
 
 /// Rows born by the operations 3, 5 and 7.
@@ -68,21 +69,6 @@ fn built(alloc: Global, updates: &Updates) -> Result<Option<LiveSegment>, Fail> 
     Ok(build(alloc, 9, frozen, updates, 8)?)
 }
 
-/// A row of a segment: `+` where it is live, `-` where it isn't, and then the number `n` that was set.
-fn show_row(alloc: Global, out: &mut String, segment: &LiveSegment, row: u32) -> Result<(), Fail> {
-    let name = name_of(alloc, "n")?;
-    if (row as usize) < segment.segment().rows.len() {
-        let sign = if segment.live().is_live(row) {
-            "+"
-        } else {
-            "-"
-        };
-        let value = segment.live().value(row, &name).unwrap_or(0);
-        write!(out, "{sign}{value}")?;
-    }
-    Ok(())
-}
-
 /// The segment's number, its applied number, and its rows.
 fn shown(alloc: Global, segment: &LiveSegment) -> Result<String, Fail> {
     let mut out = String::new(alloc);
@@ -90,7 +76,7 @@ fn shown(alloc: Global, segment: &LiveSegment) -> Result<String, Fail> {
     let applied = segment.live().applied();
     write!(out, "{id} {applied}")?;
     for row in 0..4 {
-        show_row(alloc, &mut out, segment, row)?;
+        show_mark(alloc, &mut out, segment, row)?;
     }
     Ok(out)
 }

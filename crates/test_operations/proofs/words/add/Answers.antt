@@ -1,5 +1,5 @@
 use Rattle.delete_queue.proofs.Examples.{is_add}
-use Rattle.delete_slice_tests.proofs.tests.add.Goals as goal
+use Rattle.test_operations.proofs.words.add.Goals as goal
 
 pub returns : goal.returns
 returns c = is_add

@@ -4,17 +4,17 @@ ghost use Rattle.frozen_packet.specs.Updates.{as_operations, NumberedUpTo};
 ghost use Rattle.segment_core.specs.LiveRows.{CanBuild};
 ghost use Rattle.packet_apply.specs.Packets.{Meets};
 
-use crate::applying::apply;
-use crate::parallel::apply_all;
 use analysis::invert;
 use frozen_packet::{Packet, Updates};
 use live_docs::LiveDocs;
 use node_words::Entry;
+use packet_apply::{apply, apply_all};
 use ram_postings::Frozen;
 use segment_core::{LiveSegment, build};
 use std::alloc::Global;
 use std::fmt::Write;
 use std::test::*;
+use test_segments::show_mark;
 use test_values::{key_term, name_of, row_of};
 
 /// Two rows, with the keys `a` and `b`.
@@ -83,23 +83,9 @@ fn shown(alloc: Global, segment: &LiveSegment) -> Result<String, Fail> {
     let mut out = String::new(alloc);
     write!(out, "{}", segment.live().applied())?;
     for row in 0..4 {
-        show_row(alloc, &mut out, segment, row)?;
+        show_mark(alloc, &mut out, segment, row)?;
     }
     Ok(out)
-}
-
-fn show_row(alloc: Global, out: &mut String, segment: &LiveSegment, row: u32) -> Result<(), Fail> {
-    let name = name_of(alloc, "n")?;
-    if (row as usize) < segment.segment().rows.len() {
-        let sign = if segment.live().is_live(row) {
-            "+"
-        } else {
-            "-"
-        };
-        let value = segment.live().value(row, &name).unwrap_or(0);
-        write!(out, "{sign}{value}")?;
-    }
-    Ok(())
 }
 
 /// A segment with rows of this birth, after the packet of this number.
