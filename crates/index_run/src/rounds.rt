@@ -140,6 +140,7 @@ fn finish_round<R: Threads + Sync, S: Store>(
         → IsRound r lines olds news log writer.old.state parts (S.disk writer.old.store)
         → OnErr result (IsCut r lines (S.disk writer.new.store)) }
     ensures out { OnOk result (writer.new.state.out ≡ false) }
+    ensures closed { result ≡ Err WriterFault.Closed → ⊥ }
     ensures open { OnOk result (IsStuck parts → ⊥) }
     ensures later { S.fault_count writer.old.store ≤ S.fault_count writer.new.store }
     ensures failed { result ≡ Err WriterFault.Store
@@ -185,6 +186,7 @@ pub fn do_round<R: Threads + Wait + Sync, S: Store, G: Gate>(
     // Where a task was left, one was told something.
     ensures goes_on { (AreDone shares.items → ⊥)
         → IfOk result (λ x. open_count x.0.items < open_count shares.items) }
+    ensures closed { result ≡ Err WriterFault.Closed → ⊥ }
     ensures later { S.fault_count writer.old.store ≤ S.fault_count writer.new.store }
     ensures failed { result ≡ Err WriterFault.Store
         → Rose (S.fault_count writer.old.store) (S.fault_count writer.new.store) }
