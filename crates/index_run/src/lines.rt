@@ -39,6 +39,7 @@ pub fn do_lines<R: Threads + Wait + Sync, S: Store, G: Gate>(
     ensures cut { OnErr result (IsCut
         (record { workers = threads; first = writer.old.state; start = S.disk writer.old.store })
         lines (S.disk writer.new.store)) }
+    ensures closed { result ≡ Err WriterFault.Closed → ⊥ }
     ensures later { S.fault_count writer.old.store ≤ S.fault_count writer.new.store }
     ensures failed { result ≡ Err WriterFault.Store
         → Rose (S.fault_count writer.old.store) (S.fault_count writer.new.store) }
