@@ -58,6 +58,23 @@ fn nothing_staged(rt: HostRuntime) -> Result<(), Fail> {
     Ok(())
 }
 
+/// Two documents, of which neither has a number yet.
+fn two_waiting(alloc: Global) -> Result<RamPostings, Fail> {
+    let mut buffer = RamPostings::new(alloc);
+    buffer.stage(analyse(alloc, document_of(alloc, "a", "fish", "red")?)?)?;
+    buffer.stage(analyse(alloc, document_of(alloc, "b", "owl", "blue")?)?)?;
+    Ok(buffer)
+}
+
+/// Documents may wait side by side. They are in no row, and their terms are in no postings.
+#[test]
+fn waiting_documents(rt: HostRuntime) -> Result<(), Fail> {
+    let buffer = two_waiting(rt.alloc())?;
+    assert!(rt; buffer.rows() == 2);
+    assert!(rt; shown_taken(rt.alloc(), buffer)?.as_str() == "");
+    Ok(())
+}
+
 /// Three documents, of which the second one gets no number.
 fn with_void_between(alloc: Global) -> Result<RamPostings, Fail> {
     let mut buffer = RamPostings::new(alloc);
