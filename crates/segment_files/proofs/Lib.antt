@@ -6,3 +6,4 @@ pub mod PlacesRead
 pub mod PostsRead
 pub mod Runs
 pub mod Counts
+pub mod Rooms

@@ -6,3 +6,4 @@ pub mod ReadLists
 pub mod Placing
 pub mod Rising
 pub mod PostLaws
+pub mod Sizes

@@ -25,7 +25,7 @@ fn run_len(spots: &[Spot], row: u32) -> usize
 }
 
 /// The row of the first place, the places in it from the first on, and those behind them.
-fn first_row(spots: &[Spot]) -> Option<(u32, &[Spot], &[Spot])>
+pub(crate) fn first_row(spots: &[Spot]) -> Option<(u32, &[Spot], &[Spot])>
     ensures { MatchOption result (spots.now ≡ []) (λ x. IsFirstRow spots.now x.0 x.1.now x.2.now) }
 {
     match spots.first() {
