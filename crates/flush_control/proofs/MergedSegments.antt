@@ -13,7 +13,8 @@ use Rattle.segment_files.specs.PostLaws.{inverted_below}
 use Rattle.commit_point.specs.Writing.{CanWrite, SegmentIdsRise}
 use Rattle.merge_core.specs.Merging.{AreAt, CanMerge, IsMerged, Sources}
 use Rattle.merge_core.specs.Picking.{IsPick}
-use Rattle.flush_control.specs.Merging.{CanBeMerged, EndsMerge, IsMergeOf, MergesStand, is_among, replaced, without}
+use Rattle.merge_core.specs.Picking.{is_among}
+use Rattle.flush_control.specs.Merging.{CanBeMerged, EndsMerge, IsMergeOf, MergesStand, replaced, without}
 use Rattle.flush_control.specs.Published.{IsPublished}
 use Rattle.flush_control.specs.declared.published.Published.{Published}
 use Rattle.flush_control.proofs.Births.{births_permuted}

@@ -10,7 +10,8 @@ use Rattle.segment_core.specs.LiveRows.{Lived}
 use Rattle.commit_point.specs.Writing.{SegmentIdsRise}
 use Rattle.merge_core.specs.Merging.{IdsRise, Sources}
 use Rattle.merge_core.specs.Picking.{rank}
-use Rattle.flush_control.specs.Merging.{is_among, without}
+use Rattle.merge_core.specs.Picking.{is_among}
+use Rattle.flush_control.specs.Merging.{without}
 
 -- ---- a segment in a list
 

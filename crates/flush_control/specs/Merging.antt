@@ -1,11 +1,11 @@
 -- Merges: segments of an index are replaced by the one that they are merged into.
 use Rattle.std.specs.Prelude.{◌≡◌, ◌==◌, ℕ, ◌+◌, ◌≤◌, Bool, not, List, [], ◌∷◌, ◌++◌, Option, Some, None}
-use Rattle.std.specs.List.{filter, list_any}
+use Rattle.std.specs.List.{filter}
 use Rattle.ix_base.specs.declared.document.Row.{Row}
 use Rattle.segment_core.specs.LiveRows.{Lived}
 use Rattle.merge_core.specs.Merging.{IdsRise, Sources, CanMerge, AreAt}
 use Rattle.merge_core.specs.Merging.{Merged as MergedInto}
-use Rattle.merge_core.specs.Picking.{IsPick, HasNoPick}
+use Rattle.merge_core.specs.Picking.{IsPick, HasNoPick, is_among}
 use Rattle.flush_control.specs.Published.{IsPublished, StandsFor}
 use Rattle.flush_control.specs.declared.merging.MergeTurn.{MergeTurn}
 use Rattle.flush_control.specs.declared.merging.MergeTurn.TheVariants.{Idle, Merged}
@@ -29,10 +29,6 @@ pub record IsMergeOf (m : ℕ) (p : Published) (ids : List ℕ) (one : Option Li
   pub merged : MergedInto picked.sources p.next_id p.upto one
 
 -- ---- what takes its place
-
--- whether a segment has one of these ids
-abbrev pub is_among : List ℕ → Lived → Bool
-is_among ids s = list_any (λ id. id == s.segment.id) ids
 
 -- the segments that have none of these ids
 abbrev pub without : List ℕ → List Lived → List Lived

@@ -4,14 +4,14 @@ ghost use Rattle.std.specs.Prelude.{IfOk, MatchOption, OnOk, OnErr};
 ghost use Rattle.segment_core.specs.LiveRows.{Lived};
 ghost use Rattle.merge_core.specs.Merging.{Sources, AreAt, row_count};
 ghost use Rattle.merge_core.specs.Merging.{Merged as MergedInto};
-ghost use Rattle.merge_core.specs.Picking.{HasNoPick};
+ghost use Rattle.merge_core.specs.Picking.{HasNoPick, is_among};
 ghost use Rattle.merge_core.specs.Reading.{HasRead, IsOf};
-ghost use Rattle.flush_control.specs.Merging.{CanBeMerged, IsMergeOf, Turns, is_among, replaced, without};
+ghost use Rattle.flush_control.specs.Merging.{CanBeMerged, IsMergeOf, Turns, replaced, without};
 ghost use Rattle.flush_control.specs.Published.{IsPublished};
 
 use crate::published::Published;
 use ix_base::{List, NoMemory};
-use merge_core::{Merge, Step, pick};
+use merge_core::{Merge, Step, is_one_of, pick};
 use segment_core::LiveSegment;
 use std::alloc::Global;
 use std::mem;
@@ -22,7 +22,8 @@ const STEP_ROWS: u32 = 65_536;
 /// What a merge turn did.
 #[derive(Clone, Copy, Debug, PartialEq, Eq)]
 pub enum MergeTurn {
-    /// Nothing: there are fewer segments than are to be merged, or too many rows of them are live.
+    /// Nothing: there are fewer segments than are to be merged, too many rows of them are live, or one
+    /// file has no room for the rows, or for the postings, of all of them.
     Idle,
     /// Segments were merged.
     Merged,
@@ -173,11 +174,4 @@ fn exchange(
     items.push_reserved(merged);
     *segments = List::from_vec(items);
     Ok(())
-}
-
-/// Whether the segment has one of these ids.
-fn is_one_of(ids: &[u64], segment: &LiveSegment) -> bool
-    ensures { result ≡ is_among ids.now segment.now }
-{
-    ids.contains(&segment.segment().id)
 }

@@ -6,7 +6,8 @@ use Rattle.segment_core.specs.LiveRows.{Lived}
 use Rattle.commit_point.specs.declared.written.Written.{Written}
 use Rattle.commit_point.specs.Writing.{AreWritten, WrittenUpTo}
 use Rattle.merge_core.specs.Picking.{HasNoPick}
-use Rattle.flush_control.specs.Merging.{EndsMerge, IsMergeOf, MergesStand, is_among, replaced, without}
+use Rattle.merge_core.specs.Picking.{is_among}
+use Rattle.flush_control.specs.Merging.{EndsMerge, IsMergeOf, MergesStand, replaced, without}
 use Rattle.flush_control.specs.declared.merging.MergeTurn.TheVariants.{Idle, Merged}
 use Rattle.flush_control.specs.declared.published.Published.{Published}
 use Rattle.index_writer.specs.declared.state.State.{State}

@@ -9,3 +9,4 @@ pub mod Taking
 pub mod Finishing
 pub mod Stepping
 pub mod Picked
+pub mod Summing

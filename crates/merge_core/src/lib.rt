@@ -8,7 +8,9 @@ mod merge;
 mod next_row;
 mod origin;
 mod picking;
+mod room;
 
 pub use laws::reading_stays;
 pub use merge::{Merge, MergeRefused, Step};
 pub use picking::pick;
+pub use room::is_one_of;

@@ -1,7 +1,8 @@
 use Rattle.std.proofs.Common.{rules, ◌∙◌, not, ap}
 use Rattle.std.proofs.lemmas.Fn.{filter_same}
 use Rattle.segment_core.specs.LiveRows.{Lived}
-use Rattle.flush_control.specs.Merging.{is_among, without}
+use Rattle.merge_core.specs.Picking.{is_among}
+use Rattle.flush_control.specs.Merging.{without}
 use Rattle.flush_control.proofs.merging.remove.Goals as goal
 
 pub returns : goal.returns
