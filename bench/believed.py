@@ -6,6 +6,7 @@ definitions that it comes to, without comments and blank lines. Files stand in t
 isn't counted, nor is what only lemmas cite. Crates of the kit and types of Rust sources are named and not counted.
 """
 import argparse
+import os
 import re
 from pathlib import Path
 from typing import NamedTuple
@@ -48,14 +49,15 @@ def joined(lines):
 
 
 def unpacked(lines):
-    """The lines, with those inside `mutual` and `module _` moved to the margin."""
-    flat, inside = [], False
+    """The lines, with those inside `mutual` and `module _` moved to the margin, and a keyword before `mutual` to its items."""
+    flat, inside, keyword = [], False, ""
     for line in lines:
-        if re.match(r"((abbrev|unfoldable) )?mutual$|module _ ", line):
-            inside = True
+        opening = re.match(r"((?:abbrev |unfoldable )?)mutual$|module _ ", line)
+        if opening:
+            inside, keyword = True, opening[1] or ""
             continue
         inside = inside and line.startswith(" ")
-        flat.append(line[2:] if inside else line)
+        flat.append(re.sub("^pub ", keyword + "pub ", line[2:]) if inside else line)
     return flat
 
 
@@ -150,6 +152,11 @@ class Reader:
                 found.append((text.find(name.strip("◌")), path, origin))
         return [(path, name) for _at, path, name in sorted(found)]
 
+    def definitions(self, files):
+        """All definitions of these files."""
+        items = {(item.file, item.name): item for source in self.sources.values() for item in source.items.values()}
+        return [item for item in items.values() if item.file in files and is_definition(item)]
+
     def reached(self, keys):
         """All items that these rest on, and the paths of all else that they name: of the kit, and of Rust sources."""
         items, others, waiting = {}, set(), list(keys)
@@ -182,6 +189,10 @@ def lines_of(items):
     return sum(len(item.lines) for item in items)
 
 
+def is_definition(item):
+    return re.match(r"(pub )?(abbrev|unfoldable|record|data) ", item.lines[0])
+
+
 def by_file(items):
     files = {}
     for item in items.values():
@@ -189,9 +200,10 @@ def by_file(items):
     return files
 
 
-def show(title, items, others, names):
+def show(title, reader, items, others, names):
     files = by_file(items)
-    print(f"{title}: {lines_of(items.values())} lines, {len(items)} definitions, {len(files)} files")
+    print(f"{title}: {lines_of(items.values())} lines, {len(items)} definitions, {len(files)} files; "
+          f"all definitions of these files: {lines_of(reader.definitions(files))} lines")
     for file, held in files.items():
         print(f"{lines_of(held):6}  {file}")
         if names:
@@ -216,11 +228,15 @@ def main():
     parser.add_argument("--names", action="store_true", help="the names of the definitions too")
     parser.add_argument("--table", action="store_true", help="the table of docs/PROOFS.md alone")
     wanted = parser.parse_args()
+    os.chdir(Path(__file__).resolve().parent.parent)
     reader = Reader()
     texts, imports = clauses()
+    unknown = [label for label in wanted.labels if label not in texts]
+    if unknown:
+        parser.error(f"top has no clause {unknown[0]}: {', '.join(texts)}")
     by_label = {label: reader.reached(reader.targets(text, imports, None)) for label, text in texts.items()}
     for label in wanted.labels:
-        show(label, *by_label[label], wanted.names)
+        show(label, reader, *by_label[label], wanted.names)
     if wanted.labels:
         return
     whole = reader.reached(reader.targets("\n".join(texts.values()), imports, None))
@@ -229,8 +245,8 @@ def main():
         return
     for label, (items, _others) in by_label.items():
         print(f"{lines_of(items.values()):6}  {label}")
-    show("headline", *by_label["headline"], wanted.names)
-    show("all of top", *whole, wanted.names)
+    show("headline", reader, *by_label["headline"], wanted.names)
+    show("all of top", reader, *whole, wanted.names)
 
 
 if __name__ == "__main__":
