@@ -8,3 +8,4 @@ pub mod CrashLaws
 pub mod Calls
 pub mod CallLaws
 pub mod Listing
+pub mod Locks

@@ -1,10 +1,11 @@
 //! A directory of the system as a store. It tells nothing of its contents.
-ghost use Rattle.std.specs.Prelude.{◌≡◌, ◌≢◌, ◌↔◌, ◌≤◌, IfErr, IfOk, IsErrOf, IsOk, OnErr, OnOk};
+ghost use Rattle.std.specs.Prelude.{◌≡◌, ◌≢◌, ◌↔◌, ◌≤◌, ◌<◌, length, IfErr, IfOk, IsErrOf, IsOk, OnErr, OnOk};
 ghost use Rattle.std.specs.IoError.{error_kind};
 ghost use Rattle.ix_outside.specs.Causes.{HasStoreCause, Rose};
 
-use crate::directory::Directory;
+use crate::directory::{Directory, fits};
 use crate::fault_count::FaultCount;
+use crate::lock::{Access, LockFile};
 use crate::store::{Store, StoreFault};
 use ix_base::FileName;
 use std::alloc::Global;
@@ -17,31 +18,55 @@ use std::rt::Files;
 /// - The files of the index are the regular files whose names are in the grammar. An entry of
 ///   another kind is no file of the index, whatever its name is: it isn't listed, read, renamed or
 ///   deleted. A symbolic link isn't followed; the directory's own path may lead through some.
+/// - One store at a time changes a directory. At its first call a store locks the directory, and it
+///   holds the lock until it is dropped. The lock is on the directory itself (`flock`), so no file is
+///   added, and the system takes it back when the process ends, however it ends. Where another store
+///   holds the lock, in this process or in another one of this machine, each call fails at once and
+///   changes nothing. A `read_only` store takes no lock, and so reads beside one that writes; each of
+///   its calls that would change something fails.
 /// - A write makes a new file, and removes the entry that had the name, which mustn't be a directory.
 /// - A file is kept open from its write to its sync, so that the sync sees an error of a late write.
 ///   Where 64 files are open already, or memory runs out, the write syncs the file itself.
 /// - A sync puts the file's entry on the disk too: it syncs the directory where a file was made or
 ///   renamed since the directory was last synced, or nobody knows.
+/// - The first sync of the directory syncs its parent too, so that the directory's own entry is on the
+///   disk. Where the process may not open the parent, this is owed by who made the directory, and so
+///   it is for the directories above the parent.
 /// - After a sync that failed each later one fails: nobody knows what the disk has kept.
-/// - An interrupted call is made again, up to 2^64 - 1 times.
+/// - An open, a read, a write, a sync or a lock that is interrupted is made again. About 2^64 tries of
+///   one call are a fault. A rename, a removal or a look at an entry isn't made again.
 ///
 /// Each error of the system is a fault, except where `list` or `read`, which change nothing, are out
-/// of memory. A file of more than 2,147,483,648 bytes that is to be read is a fault too, and so are
-/// an entry whose name isn't UTF-8 and a missing directory.
+/// of memory. A file of more than 2,147,483,648 bytes that is to be read or written is a fault too,
+/// and such a write changes nothing. So are an entry whose name isn't UTF-8 and a missing directory.
 #[derive(Drop)]
 pub struct DirStore<R: Files> {
     directory: Directory<R>,
     faults: FaultCount,
 }
 
-impl<R: Files + AllocGlobal + Clone + Drop> DirStore<R> {
+impl<R: Files + AllocGlobal + Clone + Drop> DirStore<R>
+where
+    R::File: LockFile,
+{
     /// The store of the directory at this path, without a fault yet. It doesn't look at the directory,
-    /// and takes no memory.
+    /// takes no memory, and locks the directory at its first call.
     pub fn new(runtime: R, path: String) -> Self
         ensures faults { result.faults.count ≡ 0 }
     {
         DirStore {
-            directory: Directory::new(runtime, path),
+            directory: Directory::new(runtime, path, Access::Unlocked),
+            faults: FaultCount::new(),
+        }
+    }
+
+    /// The store of the directory at this path, whose files it only reads, without a fault yet. It
+    /// doesn't look at the directory, takes no memory, and never takes the lock.
+    pub fn read_only(runtime: R, path: String) -> Self
+        ensures faults { result.faults.count ≡ 0 }
+    {
+        DirStore {
+            directory: Directory::new(runtime, path, Access::OnlyReading),
             faults: FaultCount::new(),
         }
     }
@@ -86,8 +111,14 @@ fn failed(faults: &mut FaultCount) -> StoreFault
     StoreFault::Failed
 }
 
-impl<R: Files + AllocGlobal + Clone + Drop> Store for DirStore<R> {
+impl<R: Files + AllocGlobal + Clone + Drop> Store for DirStore<R>
+where
+    R::File: LockFile,
+{
     ghost use Rattle.std.specs.Prelude.{None};
+    ghost use Rattle.ix_base.specs.FileNames.{IsFileName};
+    ghost use Rattle.ix_outside.specs.Disk.{Takes};
+    ghost use Rattle.ix_outside.specs.declared.step.Step.TheVariants.{Wrote};
 
     ghost disk = { λ _. None };
 
@@ -104,7 +135,17 @@ impl<R: Files + AllocGlobal + Clone + Drop> Store for DirStore<R> {
         told(&mut self.faults, answer)
     }
 
-    fn write(&mut self, name: FileName, bytes: &[u8]) -> Result<(), StoreFault> {
+    fn write(&mut self, name: FileName, bytes: &[u8]) -> Result<(), StoreFault>
+        requires { IsFileName name }
+        ensures disk { Takes (Wrote name bytes.now) None None result }
+        ensures cause { HasStoreCause self.old.faults.count self.new.faults.count result }
+        ensures large { 2147483648 < length bytes.now → IsErrOf result StoreFault.Failed }
+        ensures unchanged { 2147483648 < length bytes.now
+            → self.new.directory ≡ self.old.directory }
+    {
+        if !fits(bytes.len() as u64) {
+            return Err(failed(&mut self.faults));
+        }
         let path = self.directory.path_of(name)?;
         let answer = self.directory.write_file(name, path.as_str(), bytes);
         changed(&mut self.faults, answer)

@@ -1,9 +1,11 @@
 //! A directory of the system, whose files are opened, written, synced and renamed.
-ghost use Rattle.std.specs.Prelude.{◌≡◌, ◌≤◌, ◌++◌, codes, string_bytes, vec_len, All, IfOk, IfSome, IsErr, IsTrue, OnErr, OnOk};
+ghost use Rattle.std.specs.Prelude.{◌≡◌, ◌≤◌, ◌↔◌, ◌++◌, codes, string_bytes, vec_len, All, IfOk, IfSome, IsErr, IsTrue, OnErr, OnOk};
 ghost use Rattle.std.specs.Io.{StartsWith};
 ghost use Rattle.ix_base.specs.FileNames.{IsFileName, name_text};
 ghost use Rattle.ix_outside.specs.Listing.{Takes};
+ghost use Rattle.ix_outside.specs.Locks.{IsLocked, LacksLock, OnlyReads};
 
+use crate::lock::{Access, LockFile};
 use ix_base::{FileName, NoMemory};
 use std::alloc::Global;
 use std::collections::BTreeMap;
@@ -12,7 +14,7 @@ use std::io::{Error, ErrorKind, Read, Write};
 use std::rt::Files;
 use std::{fs, io};
 
-/// The largest file that is read, in bytes.
+/// The largest file that is read or written, in bytes.
 const LARGEST_FILE: u64 = 2_147_483_648;
 
 /// How many files are kept open at most until they are synced.
@@ -23,25 +25,63 @@ const MOST_OPEN: usize = 64;
 pub struct Directory<R: Files> {
     runtime: R,
     path: String,
+    access: Access<R::File>,
     /// The files that were written and not yet synced.
     open: BTreeMap<FileName, R::File>,
     /// Whether a file may have been made or renamed since the directory was last synced.
     has_new_entries: bool,
+    /// Whether the directory's own entry was brought to the disk, as far as this process may.
+    is_entered: bool,
     /// Whether a sync failed.
     sync_failed: bool,
 }
 
-impl<R: Files + AllocGlobal + Clone + Drop> Directory<R> {
+impl<R: Files + AllocGlobal + Clone + Drop> Directory<R>
+where
+    R::File: LockFile,
+{
     /// The directory at this path, of which nothing is known yet. It takes no memory.
-    pub fn new(runtime: R, path: String) -> Self {
+    pub fn new(runtime: R, path: String, access: Access<R::File>) -> Self
+        ensures { result.access ≡ access }
+    {
         let open = BTreeMap::new(runtime.alloc());
         Directory {
             runtime,
             path,
+            access,
             open,
             has_new_entries: true,
+            is_entered: false,
             sync_failed: false,
         }
+    }
+
+    /// Takes the directory's lock, where it is still to be taken.
+    fn enter(&mut self) -> io::Result<()>
+        ensures entered { OnOk result (LacksLock self.new.access → ⊥) }
+        ensures locked { OnOk result ((OnlyReads self.old.access → ⊥)
+            → IsLocked self.new.access) }
+        ensures reads { OnlyReads self.old.access → self.new ≡ self.old }
+    {
+        if !self.access.lacks_lock() {
+            return Ok(());
+        }
+        let directory = fs::open(&self.runtime, self.path.as_str())?;
+        directory.lock_at_once()?;
+        self.access = Access::Locked(directory);
+        Ok(())
+    }
+
+    /// Takes the directory's lock, where it is still to be taken. It is an error where files are only
+    /// read.
+    fn enter_to_change(&mut self) -> io::Result<()>
+        ensures locked { OnOk result (IsLocked self.new.access) }
+        ensures reads { OnlyReads self.old.access → self.new ≡ self.old }
+    {
+        if self.access.only_reads() {
+            return Err(Error::from(ErrorKind::ReadOnlyFilesystem));
+        }
+        self.enter()
     }
 
     /// The path of the file.
@@ -76,9 +116,11 @@ impl<R: Files + AllocGlobal + Clone + Drop> Directory<R> {
     }
 
     /// The names of the files of the index, in the order of the directory's entries.
-    pub fn list_files(&self, alloc: Global) -> io::Result<Vec<FileName>>
-        ensures { IfOk result (λ names. All IsFileName names.items) }
+    pub fn list_files(&mut self, alloc: Global) -> io::Result<Vec<FileName>>
+        ensures real { IfOk result (λ names. All IsFileName names.items) }
+        ensures locked { OnOk result (LacksLock self.new.access → ⊥) }
     {
+        self.enter()?;
         let mut names = Vec::new(alloc);
         for entry in fs::read_dir(&self.runtime, self.path.as_str())? {
             let entry = entry?;
@@ -90,7 +132,10 @@ impl<R: Files + AllocGlobal + Clone + Drop> Directory<R> {
     }
 
     /// All bytes of the file at this path, or `None` where there is no regular file.
-    pub fn read_file(&self, alloc: Global, path: &str) -> io::Result<Option<Vec<u8>>> {
+    pub fn read_file(&mut self, alloc: Global, path: &str) -> io::Result<Option<Vec<u8>>>
+        ensures locked { OnOk result (LacksLock self.new.access → ⊥) }
+    {
+        self.enter()?;
         match self.open_file(path)? {
             Some(file) => Ok(Some(read_whole(alloc, file)?)),
             None => Ok(None),
@@ -98,7 +143,11 @@ impl<R: Files + AllocGlobal + Clone + Drop> Directory<R> {
     }
 
     /// Makes the file, in place of the entry that is there, and keeps it open.
-    pub fn write_file(&mut self, name: FileName, path: &str, bytes: &[u8]) -> io::Result<()> {
+    pub fn write_file(&mut self, name: FileName, path: &str, bytes: &[u8]) -> io::Result<()>
+        ensures locked { OnOk result (IsLocked self.new.access) }
+        ensures reads { OnlyReads self.old.access → IsErr result }
+    {
+        self.enter_to_change()?;
         self.open.remove(&name);
         self.has_new_entries = true;
         let mut file = self.make_file(path)?;
@@ -118,7 +167,9 @@ impl<R: Files + AllocGlobal + Clone + Drop> Directory<R> {
     }
 
     /// Keeps the file open until it is synced, or syncs it at once where it can't be kept.
-    fn keep_open(&mut self, name: FileName, file: R::File) -> io::Result<()> {
+    fn keep_open(&mut self, name: FileName, file: R::File) -> io::Result<()>
+        ensures access { self.new.access ≡ self.old.access }
+    {
         if self.open.len() >= MOST_OPEN {
             return self.sync_opened(&file);
         }
@@ -129,7 +180,11 @@ impl<R: Files + AllocGlobal + Clone + Drop> Directory<R> {
     }
 
     /// Syncs the file, and the directory where it may have a new entry that isn't on the disk.
-    pub fn sync_file(&mut self, name: FileName, path: &str) -> io::Result<()> {
+    pub fn sync_file(&mut self, name: FileName, path: &str) -> io::Result<()>
+        ensures locked { OnOk result (IsLocked self.new.access) }
+        ensures reads { OnlyReads self.old.access → IsErr result }
+    {
+        self.enter_to_change()?;
         let file = match self.open.remove(&name) {
             Some(file) => file,
             None => self
@@ -144,11 +199,35 @@ impl<R: Files + AllocGlobal + Clone + Drop> Directory<R> {
         }
     }
 
-    /// Syncs the directory, so that its entries are on the disk.
-    pub fn sync_directory(&mut self) -> io::Result<()> {
+    /// Syncs the directory, so that its entries are on the disk, and the first time its parent too, so
+    /// that its own entry is.
+    pub fn sync_directory(&mut self) -> io::Result<()>
+        ensures locked { OnOk result (IsLocked self.new.access) }
+        ensures reads { OnlyReads self.old.access → IsErr result }
+    {
+        self.enter_to_change()?;
         let directory = fs::open(&self.runtime, self.path.as_str())?;
         self.sync_opened(&directory)?;
+        if !self.is_entered {
+            self.sync_parent()?;
+        }
         self.has_new_entries = false;
+        Ok(())
+    }
+
+    /// Syncs the directory's parent. One that this process may not open is left to who made the
+    /// directory.
+    fn sync_parent(&mut self) -> io::Result<()>
+        ensures access { self.new.access ≡ self.old.access }
+    {
+        let mut path = String::from_str(self.runtime.alloc(), self.path.as_str())?;
+        path.push_str("/..")?;
+        match fs::open(&self.runtime, path.as_str()) {
+            Ok(parent) => self.sync_opened(&parent)?,
+            Err(error) if error.kind() == ErrorKind::PermissionDenied => {}
+            Err(error) => return Err(error),
+        }
+        self.is_entered = true;
         Ok(())
     }
 
@@ -156,6 +235,7 @@ impl<R: Files + AllocGlobal + Clone + Drop> Directory<R> {
     fn sync_opened(&mut self, file: &R::File) -> io::Result<()>
         ensures later { IsTrue self.old.sync_failed → IsErr result }
         ensures failed { OnErr result (IsTrue self.new.sync_failed) }
+        ensures access { self.new.access ≡ self.old.access }
     {
         if self.sync_failed {
             return Err(Error::from(ErrorKind::Other));
@@ -166,7 +246,11 @@ impl<R: Files + AllocGlobal + Clone + Drop> Directory<R> {
     }
 
     /// Gives the file another name. Both come with their paths.
-    pub fn rename_file(&mut self, from: (FileName, &str), to: (FileName, &str)) -> io::Result<()> {
+    pub fn rename_file(&mut self, from: (FileName, &str), to: (FileName, &str)) -> io::Result<()>
+        ensures locked { OnOk result (IsLocked self.new.access) }
+        ensures reads { OnlyReads self.old.access → IsErr result }
+    {
+        self.enter_to_change()?;
         if !self.is_file(from.1)? {
             return Err(Error::from(ErrorKind::NotFound));
         }
@@ -180,13 +264,24 @@ impl<R: Files + AllocGlobal + Clone + Drop> Directory<R> {
     }
 
     /// Removes the file, where there is one.
-    pub fn delete_file(&mut self, name: FileName, path: &str) -> io::Result<()> {
+    pub fn delete_file(&mut self, name: FileName, path: &str) -> io::Result<()>
+        ensures locked { OnOk result (IsLocked self.new.access) }
+        ensures reads { OnlyReads self.old.access → IsErr result }
+    {
+        self.enter_to_change()?;
         if !self.is_file(path)? {
             return Ok(());
         }
         self.open.remove(&name);
         fs::remove_file(&self.runtime, path)
     }
+}
+
+/// Whether a file may have so many bytes.
+pub fn fits(length: u64) -> bool
+    ensures { IsTrue result ↔ (length ≤ 2147483648) }
+{
+    length <= LARGEST_FILE
 }
 
 /// Whether the entry is a regular file. One that is gone meanwhile isn't.
@@ -220,7 +315,7 @@ fn read_whole<F: Read + OpenFile + Drop>(alloc: Global, file: F) -> io::Result<V
         (λ left. StartsWith left bytes.items)) }
 {
     let size = file.metadata()?.len();
-    if size > LARGEST_FILE {
+    if !fits(size) {
         return Err(Error::from(ErrorKind::FileTooLarge));
     }
     let mut bytes = Vec::new(alloc);

@@ -8,6 +8,7 @@ mod dir_store;
 mod directory;
 mod fault_count;
 mod gate;
+mod lock;
 mod sink;
 mod source;
 mod step;
@@ -16,6 +17,7 @@ mod streams;
 
 pub use dir_store::DirStore;
 pub use gate::{EmptyGate, Gate};
+pub use lock::LockFile;
 pub use sink::Sink;
 pub use source::{Failed, Source};
 pub use step::Step;

@@ -84,7 +84,8 @@ pub trait Store {
         ensures cause { HasStoreCause (fault_count self.old) (fault_count self.new) result };
 
     /// Makes the file with these bytes, or replaces all that it had. After `Failed` it may hold
-    /// anything, or be absent.
+    /// anything, or be absent. A store whose files have a largest size fails at more bytes than that,
+    /// and then it has changed nothing: what it acknowledges it can read.
     fn write(&mut self, name: FileName, bytes: &[u8]) -> Result<(), StoreFault>
         requires { IsFileName name }
         ensures disk { Takes (Wrote name bytes.now) (disk self.old) (disk self.new) result }

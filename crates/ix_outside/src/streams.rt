@@ -10,7 +10,8 @@ use std::io;
 use std::io::{Error, ErrorKind, Read, Write};
 
 /// A reader as a source. It tells the bytes that are left where the reader tells them. A read that
-/// was interrupted is made again, up to 2^64 - 1 times. Each other error of the reader is a fault.
+/// was interrupted is made again, and is a fault once it was tried 2^64 - 1 times. Each other error of
+/// the reader is a fault.
 #[derive(Drop)]
 pub struct ReadSource<R> {
     reader: R,
@@ -51,9 +52,9 @@ impl<R: Read> Source for ReadSource<R> {
 }
 
 /// A writer as a sink, which flushes the writer after each write. It tells nothing of its bytes, since
-/// a flush can fail once they are taken. A write or a flush that was interrupted is made again, up to
-/// 2^64 - 1 times. Each other error of the writer is a fault, and so is a write that takes no byte of
-/// a piece that has some.
+/// a flush can fail once they are taken. A write or a flush that was interrupted is made again, and is
+/// a fault once it was tried 2^64 - 1 times. Each other error of the writer is a fault, and so is a
+/// write that takes no byte of a piece that has some.
 #[derive(Drop)]
 pub struct WriteSink<W> {
     writer: W,

@@ -1,33 +1,14 @@
 //! What no clause says: what the store of a directory asks of the system, in which order, and what it
 //! makes of the answers.
 use crate::odd_outside::OddDirectory;
-use crate::recorded_system::{Journal, RecordedSystem};
+use crate::opened::{has, lacks, make_directory, puts, reader_at, recorded, recorded_at, store_at};
+use crate::recorded_system::Journal;
 use ix_base::FileName;
 use ix_outside::{DirStore, Store, StoreFault};
-use std::alloc::Global;
 use std::fs;
 use std::fs::OpenFile;
 use std::io::ErrorKind;
 use std::os::unix::fs::symlink;
-
-/// The store of the directory at this path.
-fn store_at(rt: &HostRuntime, path: &str) -> Option<DirStore<HostRuntime>> {
-    let path = String::from_str(rt.alloc(), path).ok()?;
-    Some(DirStore::new(rt.clone().ok()?, path))
-}
-
-/// Whether the file has these bytes.
-fn has<S: Store>(alloc: Global, store: &mut S, name: FileName, want: &[u8]) -> bool {
-    match store.read(alloc, name) {
-        Ok(Some(bytes)) => bytes.as_slice() == want,
-        _ => false,
-    }
-}
-
-/// Whether there is no such file.
-fn lacks<S: Store>(alloc: Global, store: &mut S, name: FileName) -> bool {
-    matches!(store.read(alloc, name), Ok(None))
-}
 
 #[test]
 fn missing_directory_is_a_failure(rt: HostRuntime) {
@@ -107,28 +88,6 @@ fn only_files_are_listed_and_a_name_must_be_text(rt: HostRuntime) {
     assert!(rt; store.faults() == 1);
 }
 
-/// A new, empty directory at this path.
-fn make_directory(rt: &HostRuntime, path: &str) -> bool {
-    let _ = fs::remove_dir_all(rt, path);
-    fs::create_dir(rt, path).is_ok()
-}
-
-/// The store of the directory at this path, with what it asks of the system in the journal.
-fn recorded_at<'a>(
-    rt: &HostRuntime,
-    path: &str,
-    journal: &'a Journal,
-) -> Option<DirStore<RecordedSystem<'a>>> {
-    let path = String::from_str(rt.alloc(), path).ok()?;
-    let system = RecordedSystem::new(rt.clone().ok()?, journal);
-    Some(DirStore::new(system, path))
-}
-
-/// Whether the journal has these lines, which it forgets.
-fn recorded(rt: &HostRuntime, journal: &Journal, want: &str) -> bool {
-    journal.take_lines(rt.alloc()).as_str() == want
-}
-
 #[test]
 fn what_is_asked_of_the_system_in_which_order(rt: HostRuntime) {
     let path = "ix_outside_order";
@@ -146,7 +105,7 @@ fn what_is_asked_of_the_system_in_which_order(rt: HostRuntime) {
         recorded(
             &rt,
             &journal,
-            "make seg_1.row\nwrite seg_1.row\nmake seg_1.row\nremove seg_1.row\nmake seg_1.row\nwrite seg_1.row\nsync seg_1.row\nopen ix_outside_order\nsync ix_outside_order\nopen seg_1.row\nsync seg_1.row\n"
+            "open ix_outside_order\nlock ix_outside_order\nmake seg_1.row\nwrite seg_1.row\nmake seg_1.row\nremove seg_1.row\nmake seg_1.row\nwrite seg_1.row\nsync seg_1.row\nopen ix_outside_order\nsync ix_outside_order\nopen ..\nsync ..\nopen seg_1.row\nsync seg_1.row\n"
         )
     );
     assert!(rt; store.write(pending, b"two") == Ok(()));
@@ -165,7 +124,13 @@ fn what_is_asked_of_the_system_in_which_order(rt: HostRuntime) {
     assert!(rt; store.delete(rows) == Ok(()));
     assert!(rt; store.delete(rows) == Ok(()));
     assert!(rt; lacks(rt.alloc(), &mut store, rows));
-    assert!(rt; recorded(&rt, &journal, "open segments_1\nremove seg_1.row\n"));
+    assert!(rt;
+        recorded(
+            &rt,
+            &journal,
+            "open segments_1\nread segments_1\nremove seg_1.row\n"
+        )
+    );
     assert!(rt; store.faults() == 0);
     assert!(rt; store.sync(rows) == Err(StoreFault::Failed));
     assert!(rt; store.rename(rows, pending) == Err(StoreFault::Failed));
@@ -207,18 +172,21 @@ fn large_files_in_short_steps(rt: HostRuntime) {
         bytes.push((place % 251) as u8).expect(&rt, "memory");
     }
     let journal = Journal::new(rt.alloc());
-    let (Some(mut recorded), Some(mut plain)) = (
-        recorded_at(&rt, path, &journal),
-        store_at(&rt, path),
-    ) else {
+    let Some(mut writer) = recorded_at(&rt, path, &journal) else {
         panic!(rt; "memory");
     };
-    assert!(rt; recorded.write(FileName::Rows(1), bytes.as_slice()) == Ok(()));
-    assert!(rt; recorded.sync(FileName::Rows(1)) == Ok(()));
-    assert!(rt; plain.write(FileName::Pending(2), bytes.as_slice()) == Ok(()));
-    assert!(rt; plain.sync(FileName::Pending(2)) == Ok(()));
+    assert!(rt; puts(&mut writer, FileName::Rows(1), bytes.as_slice()));
+    assert!(rt; has(rt.alloc(), &mut writer, FileName::Rows(1), bytes.as_slice()));
+    drop(writer);
+    let Some(mut plain) = store_at(&rt, path) else {
+        panic!(rt; "memory");
+    };
+    assert!(rt; puts(&mut plain, FileName::Pending(2), bytes.as_slice()));
+    let Some(mut reader) = reader_at(&rt, path, &journal) else {
+        panic!(rt; "memory");
+    };
     for name in [FileName::Rows(1), FileName::Pending(2)] {
-        assert!(rt; has(rt.alloc(), &mut recorded, name, bytes.as_slice()));
+        assert!(rt; has(rt.alloc(), &mut reader, name, bytes.as_slice()));
         assert!(rt; has(rt.alloc(), &mut plain, name, bytes.as_slice()));
     }
     let mut names = plain.list(rt.alloc()).unwrap_or(Vec::new(rt.alloc()));

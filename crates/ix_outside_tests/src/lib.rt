@@ -4,7 +4,13 @@
 #[cfg(test)]
 mod directory_tests;
 #[cfg(test)]
+mod fault_tests;
+#[cfg(test)]
+mod lock_tests;
+#[cfg(test)]
 mod odd_outside;
+#[cfg(test)]
+mod opened;
 #[cfg(test)]
 mod recorded_system;
 #[cfg(test)]

@@ -88,7 +88,8 @@ impl Write for OddWriter<'_> {
 }
 
 /// The system, but that each directory has the entries of these names, each ended by a NUL. Of those
-/// that end in a digit 2 is a directory, 3 a symbolic link, 4 gone meanwhile, and others are files.
+/// that end in a digit 2 is a directory, 3 a symbolic link, 4 gone meanwhile, 7 may not be looked at,
+/// and others are files.
 #[derive(Clone, Drop)]
 pub struct OddDirectory<'a> {
     system: HostRuntime,
@@ -132,6 +133,7 @@ impl<'a> Files for OddDirectory<'a> {
             Some(b'2') => Ok(Metadata::of_dir()),
             Some(b'3') => Ok(Metadata::of_symlink(1)),
             Some(b'4') => Err(Error::from(ErrorKind::NotFound)),
+            Some(b'7') => Err(Error::from(ErrorKind::PermissionDenied)),
             _ => Ok(Metadata::of_file(0)),
         }
     }

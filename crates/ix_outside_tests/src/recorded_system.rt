@@ -1,4 +1,5 @@
 //! The system of tests, which writes down what is asked of it, and fails where it is told to.
+use ix_outside::LockFile;
 use std::alloc::{AllocError, Allocator, Global};
 use std::cell::{Cell, RefCell};
 use std::fs::{File, Metadata, OpenFile, OpenOptions};
@@ -6,11 +7,12 @@ use std::io;
 use std::io::{Error, ErrorKind, Read, Seek, SeekFrom, Write};
 use std::rt::Files;
 
-/// The calls that change something, each as a line `VERB NAME`, and what is to go wrong.
+/// The calls that open, lock, read or change something, each as a line `VERB NAME`, and what is to go
+/// wrong.
 #[derive(Drop)]
 pub struct Journal {
     lines: RefCell<String>,
-    /// Calls of this verb fail.
+    /// Calls of this verb fail, or of this verb and name.
     failing: Cell<&'static str>,
     /// The error that they give.
     kind: Cell<ErrorKind>,
@@ -29,7 +31,8 @@ impl Journal {
         }
     }
 
-    /// From now on calls of this verb fail with this error.
+    /// From now on calls of this verb, or of this verb and name, fail with this error. The verb `look`
+    /// is that of a look at an entry, which isn't written down.
     pub fn fail(&self, verb: &'static str, kind: ErrorKind) {
         self.failing.set(verb);
         self.kind.set(kind);
@@ -54,7 +57,16 @@ impl Journal {
             lines.push_str(name)?;
             lines.push('\n')?;
         }
-        if self.failing.get() == verb {
+        self.pass(verb, name)
+    }
+
+    /// The error that a call of this verb and name is to have.
+    fn pass(&self, verb: &'static str, name: &str) -> io::Result<()> {
+        let fails = match self.failing.get().split_once(' ') {
+            Some((failing, at)) => failing == verb && at == name,
+            None => self.failing.get() == verb,
+        };
+        if fails {
             return Err(Error::from(self.kind.get()));
         }
         Ok(())
@@ -89,8 +101,18 @@ impl RecordedFile<'_> {
     }
 }
 
+impl LockFile for RecordedFile<'_> {
+    fn lock_at_once(&self) -> io::Result<()> {
+        self.journal.note("lock", self.name.as_str())?;
+        self.file.lock_at_once()
+    }
+}
+
 impl Read for RecordedFile<'_> {
     fn read(&mut self, buffer: &mut [u8]) -> io::Result<usize> {
+        if self.calls == 0 {
+            self.journal.note("read", self.name.as_str())?;
+        }
         self.be_interrupted()?;
         let most = buffer.len().min(1000);
         let count = self.file.read(&mut buffer[..most])?;
@@ -195,6 +217,7 @@ impl<'a> Files for RecordedSystem<'a> {
     }
 
     fn symlink_metadata(&self, path: &str) -> io::Result<Metadata> {
+        self.journal.pass("look", last_name(path))?;
         self.system.symlink_metadata(path)
     }
 

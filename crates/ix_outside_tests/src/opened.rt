@@ -1,0 +1,67 @@
+//! Directories of tests, and stores of them.
+ghost use Rattle.ix_base.specs.FileNames.{IsFileName};
+
+use crate::recorded_system::{Journal, RecordedSystem};
+use ix_base::FileName;
+use ix_outside::{DirStore, Store};
+use std::alloc::Global;
+use std::fs;
+
+/// A new, empty directory at this path.
+pub fn make_directory(rt: &HostRuntime, path: &str) -> bool {
+    let _ = fs::remove_dir_all(rt, path);
+    fs::create_dir(rt, path).is_ok()
+}
+
+/// The store of the directory at this path.
+pub fn store_at(rt: &HostRuntime, path: &str) -> Option<DirStore<HostRuntime>> {
+    let path = String::from_str(rt.alloc(), path).ok()?;
+    Some(DirStore::new(rt.clone().ok()?, path))
+}
+
+/// The store of the directory at this path, with what it asks of the system in the journal.
+pub fn recorded_at<'a>(
+    rt: &HostRuntime,
+    path: &str,
+    journal: &'a Journal,
+) -> Option<DirStore<RecordedSystem<'a>>> {
+    let path = String::from_str(rt.alloc(), path).ok()?;
+    let system = RecordedSystem::new(rt.clone().ok()?, journal);
+    Some(DirStore::new(system, path))
+}
+
+/// The same, but a store that only reads.
+pub fn reader_at<'a>(
+    rt: &HostRuntime,
+    path: &str,
+    journal: &'a Journal,
+) -> Option<DirStore<RecordedSystem<'a>>> {
+    let path = String::from_str(rt.alloc(), path).ok()?;
+    let system = RecordedSystem::new(rt.clone().ok()?, journal);
+    Some(DirStore::read_only(system, path))
+}
+
+/// Whether the journal has these lines, which it forgets.
+pub fn recorded(rt: &HostRuntime, journal: &Journal, want: &str) -> bool {
+    journal.take_lines(rt.alloc()).as_str() == want
+}
+
+/// Whether the file has these bytes.
+pub fn has<S: Store>(alloc: Global, store: &mut S, name: FileName, want: &[u8]) -> bool {
+    match store.read(alloc, name) {
+        Ok(Some(bytes)) => bytes.as_slice() == want,
+        _ => false,
+    }
+}
+
+/// Whether there is no such file.
+pub fn lacks<S: Store>(alloc: Global, store: &mut S, name: FileName) -> bool {
+    matches!(store.read(alloc, name), Ok(None))
+}
+
+/// Whether the store writes the file and syncs it.
+pub fn puts<S: Store>(store: &mut S, name: FileName, bytes: &[u8]) -> bool
+    requires { IsFileName name }
+{
+    store.write(name, bytes) == Ok(()) && store.sync(name) == Ok(())
+}
