@@ -5,3 +5,5 @@ pub mod InPostings
 pub mod Joining
 pub mod Unique
 pub mod Windows
+pub mod NumberWindows
+pub mod Phrases

@@ -4,18 +4,9 @@ ghost use Rattle.std.specs.List.{range_with_len};
 ghost use Rattle.ix_base.specs.Inversion.{has_number};
 ghost use Rattle.query_core.specs.Answers.{IsRising};
 
+use crate::number_search::has_from;
 use ix_base::NoMemory;
 use std::alloc::Global;
-
-/// Whether a number stands in a rising list.
-pub fn has(numbers: &[u32], number: u64) -> bool
-    ensures { IsRising numbers.now → result ≡ has_number numbers.now number }
-{
-    match u32::try_from(number) {
-        Ok(number) => numbers.binary_search(&number).is_ok(),
-        Err(_) => false,
-    }
-}
 
 /// The numbers that stand in the others too.
 pub fn in_both(alloc: Global, numbers: &[u32], others: &[u32]) -> Result<Vec<u32>, NoMemory>
@@ -23,8 +14,9 @@ pub fn in_both(alloc: Global, numbers: &[u32], others: &[u32]) -> Result<Vec<u32
         → kept.items ≡ filter (has_number others.now) numbers.now) }
 {
     let mut kept = Vec::new(alloc);
+    let mut place = 0;
     for number in numbers {
-        if has(others, u64::from(*number)) {
+        if has_from(others, u64::from(*number), &mut place) {
             kept.push(*number)?;
         }
     }
@@ -37,8 +29,9 @@ pub fn in_first(alloc: Global, numbers: &[u32], others: &[u32]) -> Result<Vec<u3
         → kept.items ≡ filter (λ x. not (has_number others.now x)) numbers.now) }
 {
     let mut kept = Vec::new(alloc);
+    let mut place = 0;
     for number in numbers {
-        if !has(others, u64::from(*number)) {
+        if !has_from(others, u64::from(*number), &mut place) {
             kept.push(*number)?;
         }
     }
@@ -57,8 +50,9 @@ pub fn followed(
         → kept.items ≡ filter (λ x. has_number others.now (x + distance)) numbers.now) }
 {
     let mut kept = Vec::new(alloc);
+    let mut place = 0;
     for number in numbers {
-        if has(others, u64::from(*number) + distance) {
+        if has_from(others, u64::from(*number) + distance, &mut place) {
             kept.push(*number)?;
         }
     }
