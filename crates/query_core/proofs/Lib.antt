@@ -7,3 +7,4 @@ pub mod Unique
 pub mod Windows
 pub mod NumberWindows
 pub mod Phrases
+pub mod Unions
