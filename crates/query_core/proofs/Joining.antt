@@ -69,7 +69,7 @@ kept_where false true false false e = refl
 kept_where true false rest here e = refl
 kept_where false false rest here e = refl
 
-has_filter : (keep : ℕ → Bool) (xs : List ℕ) (x : ℕ) → has_number (filter keep xs) x ≡ (has_number xs x && keep x)
+pub has_filter : (keep : ℕ → Bool) (xs : List ℕ) (x : ℕ) → has_number (filter keep xs) x ≡ (has_number xs x && keep x)
 has_filter keep [] x = refl
 has_filter keep (y ∷ ys) x =
     has_cond (keep y) y x (filter keep ys)
@@ -107,7 +107,7 @@ starts_next words i e docs row starts places kept in' h p k at =
 
 -- ---- a phrase
 
-stand_hold : (words : List Term) (doc : Document) (at : ℕ) → terms_stand_at (terms doc) words at ≡ true → holds_all words doc ≡ true
+pub stand_hold : (words : List Term) (doc : Document) (at : ℕ) → terms_stand_at (terms doc) words at ≡ true → holds_all words doc ≡ true
 stand_hold [] doc at h = refl
 stand_hold (word ∷ words) doc at h =
     let parts = and_parts (stands_at (terms doc) word.field word.bytes at) (terms_stand_at (terms doc) words (at + 1)) h in
@@ -115,18 +115,10 @@ stand_hold (word ∷ words) doc at h =
     let here : holds_term word.field word.bytes doc ≡ true = list_any_at (is_term word.field word.bytes) (terms doc) a.0 a.1 a.2 (ap (is_term word.field word.bytes) a.3 ∙ (and_parts (is_term word.field word.bytes a.1) (a.1.position == at) a.4).0) in
     λ i. here i && stand_hold words doc (at + 1) parts.1 i
 
-implied : (a b : Bool) → (b ≡ true → a ≡ true) → (a && b) ≡ b
+pub implied : (a b : Bool) → (b ≡ true → a ≡ true) → (a && b) ≡ b
 implied true b f = refl
 implied false true f = let q : false ≡ true = f refl in cc
 implied false false f = refl
-
--- the rows that hold all the words and in which they stand are those in which they stand
-pub standing_rows : (words : List Term) (docs : List Document) → rows_where (λ d. holds_all words d && terms_stand words d) docs ≡ rows_where (terms_stand words) docs
-standing_rows words docs =
-    rows_where-agree (λ d. holds_all words d && terms_stand words d) (terms_stand words) docs
-    (λ d. implied (holds_all words d) (terms_stand words d) (λ h.
-    let a = Any-from_list_any (λ place. terms_stand_at (terms d) words place.position) (terms d) h in
-    stand_hold words d a.1.position a.4))
 
 -- they stand somewhere where there is a start
 found_start : (words : List Term) (doc : Document) (starts : List ℕ) → 0 < length words → ((at : ℕ) → has_number starts at ≡ terms_stand_at (terms doc) words at) → nat_lt 0 (length starts) ≡ terms_stand words doc

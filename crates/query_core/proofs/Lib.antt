@@ -5,3 +5,6 @@ pub mod InPostings
 pub mod Joining
 pub mod Unique
 pub mod Windows
+pub mod NumberWindows
+pub mod Phrases
+pub mod Unions

@@ -58,39 +58,44 @@ module _ (entries : List TermPostings) (lawful : IsPostings entries) (term : Ter
       go (inr (inl below)) = absurd (apart (get_or entries k d).term (get_or entries at d).term (lawful.rise k at d below within) (sym same))
       go (inr (inr above)) = absurd (apart (get_or entries at d).term (get_or entries k d).term (lawful.rise at k d above lt) same)
 
+-- ---- a part of a list
+
+module _ {X : Type 0} (xs : List X) (from to : ℕ) where
+  -- a place in the part is a place of the list
+  pub inside : (k : ℕ) → k < length (slice_range xs from to) → (k < to - from) × (from + k < length xs)
+  inside k lt =
+      let long : length (slice_range xs from to) ≡ min (to - from) (length (drop from xs)) = length-take (to - from) (drop from xs) in
+      let rest : length (drop from xs) ≡ length xs - from = length-drop from xs in
+      (omega arith, omega arith)
+
+  pub part_at : (k : ℕ) (d : X) → k < length (slice_range xs from to) → get_or (slice_range xs from to) k d ≡ get_or xs (from + k) d
+  part_at k d lt = get_or-take (to - from) (drop from xs) k d (inside k lt).0 ∙ get_or-drop from xs k d
+
+  -- a place of the list within the bounds is one of the part
+  pub in_part : (k : ℕ) → to ≤ length xs → from ≤ k → k < to → (k - from < length (slice_range xs from to)) × (from + (k - from) ≡ k)
+  in_part k end first last =
+      let long : length (slice_range xs from to) ≡ min (to - from) (length (drop from xs)) = length-take (to - from) (drop from xs) in
+      let rest : length (drop from xs) ≡ length xs - from = length-drop from xs in
+      (omega arith, omega arith)
+
 -- ---- a part of the entries
 
 module _ (entries : List TermPostings) (from to : ℕ) where
-  -- a place in the part is a place of the entries
-  inside : (k : ℕ) → k < length (slice_range entries from to) → (k < to - from) × (from + k < length entries)
-  inside k lt =
-      let long : length (slice_range entries from to) ≡ min (to - from) (length (drop from entries)) = length-take (to - from) (drop from entries) in
-      let rest : length (drop from entries) ≡ length entries - from = length-drop from entries in
-      (omega arith, omega arith)
-
-  part_at : (k : ℕ) (d : TermPostings) → k < length (slice_range entries from to) → get_or (slice_range entries from to) k d ≡ get_or entries (from + k) d
-  part_at k d lt = get_or-take (to - from) (drop from entries) k d (inside k lt).0 ∙ get_or-drop from entries k d
-
   pub part_lawful : IsPostings entries → IsPostings (slice_range entries from to)
   part_lawful lawful =
       record {
         rise = λ i j d lt within.
-            subst (λ (a : TermPostings). term_cmp a.term (get_or (slice_range entries from to) j d).term ≡ Less) (sym (part_at i d (omega arith)))
-            (subst (λ (b : TermPostings). term_cmp (get_or entries (from + i) d).term b.term ≡ Less) (sym (part_at j d within)) (lawful.rise (from + i) (from + j) d (omega arith) (inside j within).1));
+            subst (λ (a : TermPostings). term_cmp a.term (get_or (slice_range entries from to) j d).term ≡ Less) (sym (part_at entries from to i d (omega arith)))
+            (subst (λ (b : TermPostings). term_cmp (get_or entries (from + i) d).term b.term ≡ Less) (sym (part_at entries from to j d within)) (lawful.rise (from + i) (from + j) d (omega arith) (inside entries from to j within).1));
         each = All-take IsTermPostings (to - from) (drop from entries) (All-drop IsTermPostings from entries lawful.each);
       }
 
   pub part_found : (term : Term) (i : ℕ) → IsTermAt (slice_range entries from to) term i → IsTermAt entries term (from + i)
-  part_found term i found = ((inside i found.0).1, λ d. ap (λ (p : TermPostings). p.term) (sym (part_at i d found.0)) ∙ found.1 d)
+  part_found term i found = ((inside entries from to i found.0).1, λ d. ap (λ (p : TermPostings). p.term) (sym (part_at entries from to i d found.0)) ∙ found.1 d)
 
   -- a term that stands within the part, and not in it, stands nowhere
   pub part_nowhere : (term : Term) → to ≤ length entries → StandsWithin entries term from to → All (λ p. p.term ≢ term) (slice_range entries from to) → All (λ p. p.term ≢ term) entries
   part_nowhere term end stands none k d lt is =
       let within : (from ≤ k) × (k < to) = stands k d lt is in
-      let first : from ≤ k = within.0 in
-      let last : k < to = within.1 in
-      let long : length (slice_range entries from to) ≡ min (to - from) (length (drop from entries)) = length-take (to - from) (drop from entries) in
-      let rest : length (drop from entries) ≡ length entries - from = length-drop from entries in
-      let place : k - from < length (slice_range entries from to) = omega arith in
-      let there : from + (k - from) ≡ k = omega arith in
-      none (k - from) d place (ap (λ (p : TermPostings). p.term) (part_at (k - from) d place) ∙ ap (λ i. (get_or entries i d).term) there ∙ is)
+      let place = in_part entries from to k end within.0 within.1 in
+      none (k - from) d place.0 (ap (λ (p : TermPostings). p.term) (part_at entries from to (k - from) d place.0) ∙ ap (λ i. (get_or entries i d).term) place.1 ∙ is)

@@ -16,3 +16,11 @@ StandsNotBefore entries term from = (k : ℕ) (d : TermPostings) → k < length 
 abbrev pub StandsWithin : List TermPostings → Term → ℕ → ℕ → Type 0
 StandsWithin entries term from to = (k : ℕ) (d : TermPostings) → k < length entries
     → (get_or entries k d).term ≡ term → (from ≤ k) × (k < to)
+
+-- the number stands nowhere before this place
+abbrev pub IsNotBefore : List ℕ → ℕ → ℕ → Type 0
+IsNotBefore numbers number from = (k : ℕ) → k < length numbers → get_or numbers k 0 ≡ number → from ≤ k
+
+-- the number stands nowhere but from the first place on, and before the second
+abbrev pub IsWithin : List ℕ → ℕ → ℕ → ℕ → Type 0
+IsWithin numbers number from to = (k : ℕ) → k < length numbers → get_or numbers k 0 ≡ number → (from ≤ k) × (k < to)

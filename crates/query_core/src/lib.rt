@@ -9,6 +9,7 @@ mod finding;
 mod index;
 mod inverted;
 mod matching;
+mod number_search;
 mod phrase;
 mod row_lists;
 

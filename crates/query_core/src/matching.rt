@@ -7,7 +7,7 @@ ghost use Rattle.query_core.specs.Answers.{AreRowsWhere, IsRising};
 
 use crate::inverted::Inverted;
 use crate::phrase::phrase_rows;
-use crate::row_lists::{below, distinct, in_both, in_first};
+use crate::row_lists::{below, distinct_below, in_both, in_first};
 use ix_base::{NoMemory, Queries, Query};
 use std::alloc::Global;
 
@@ -67,18 +67,27 @@ fn all_of<I: Inverted>(alloc: Global, queries: &Queries, index: &I) -> Result<Ve
     }
 }
 
-/// The rows that match one of the queries at least.
+/// The rows that match one of the queries at least. What is held of the rows that were found, some of
+/// them more than once, is no more than three times as many as there are rows; it stops where all
+/// rows are found.
 #[cycle(answer)]
 fn any_of<I: Inverted>(alloc: Global, queries: &Queries, index: &I) -> Result<Vec<u32>, NoMemory>
     ensures { IfOk result (λ rows.
         AreRowsWhere (I.inverts index.now) (any_matches queries.now) rows.items) }
 {
+    let total = index.rows();
     let mut rows = Vec::new(alloc);
     for query in queries.as_slice() {
         let found = answer(alloc, query, index)?;
         rows.extend_from_slice(found.as_slice())?;
+        if rows.len() / 2 > total as usize {
+            rows = distinct_below(alloc, rows, total)?;
+            if rows.len() == total as usize {
+                return Ok(rows);
+            }
+        }
     }
-    distinct(rows)
+    distinct_below(alloc, rows, total)
 }
 
 /// The rows so far, if there are any limits yet, that are among those found.

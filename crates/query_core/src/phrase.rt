@@ -1,82 +1,138 @@
 //! Phrases.
-ghost use Rattle.std.specs.Prelude.{◌≡◌, ◌<◌, ℕ, map, length, IfOk};
+//!
+//! What a phrase finds is made of the lists of its different words: each is taken from the index
+//! once for its rows, and once in each row for its positions. A search ends as soon as no row, or no
+//! position, is left.
+ghost use Rattle.std.specs.Prelude.{◌≡◌, ◌<◌, ℕ, List, [], All, map, length, IfOk};
+ghost use Rattle.std.specs.List.{AllZip};
 ghost use Rattle.ix_base.specs.Terms.{terms, folded_words};
 ghost use Rattle.ix_base.specs.Matches.{phrase_stands};
 ghost use Rattle.ix_base.specs.Inversion.{has_number, at_row};
-ghost use Rattle.query_core.specs.Answers.{AreRowsWhere, term_of, holds_all, terms_stand_at, terms_stand};
+ghost use Rattle.ix_base.specs.declared.document.Term.{Term};
+ghost use Rattle.query_core.specs.Answers.{AreRowsWhere, ArePositions, IsRising, term_of, holds_all, terms_stand};
+ghost use Rattle.query_core.specs.Phrases.{AreWords, lists_of, in_turn, follow_from};
 
 use crate::inverted::Inverted;
 use crate::row_lists::{followed, in_both};
-use analysis::phrase_terms;
+use analysis::{TermKey, phrase_terms};
+use indexmap::IndexSet;
 use ix_base::{Name, NoMemory, PhraseText, Term};
 use std::alloc::Global;
 
+/// The words of a phrase: its different terms, and of each word which of them it is.
+#[derive(Drop)]
+struct PhraseWords {
+    terms: IndexSet<TermKey>,
+    order: Vec<usize>,
+}
+
 /// The words of a phrase as terms of its field.
-fn words_of(alloc: Global, field: &Name, text: &PhraseText) -> Result<Vec<Term>, NoMemory>
-    ensures { IfOk result (λ words. words.items ≡ map (term_of field.now) (folded_words text.now)) }
+fn words_of(alloc: Global, field: &Name, text: &PhraseText) -> Result<PhraseWords, NoMemory>
+    ensures { IfOk result (λ words. AreWords words.terms.keys words.order.items
+        (map (term_of field.now) (folded_words text.now))) }
 {
+    let mut terms = IndexSet::new(alloc);
+    let mut order = Vec::new(alloc);
     let texts = phrase_terms(alloc, text)?;
-    let mut words = Vec::new(alloc);
     for bytes in &texts {
-        words.push(Term {
-            field: field.clone_in(alloc)?,
-            bytes: bytes.clone_in(alloc)?,
-        })?;
+        let field = field.clone_in(alloc)?;
+        let bytes = bytes.clone_in(alloc)?;
+        let (at, _) = terms.insert_full(TermKey::new(Term { field, bytes }))?;
+        order.push(at)?;
     }
-    Ok(words)
+    Ok(PhraseWords { terms, order })
 }
 
 /// The rows that hold each of these terms.
-fn holding_all<I: Inverted>(alloc: Global, index: &I, words: &[Term]) -> Result<Vec<u32>, NoMemory>
-    requires { 0 < length words.now }
+fn holding_all<I: Inverted>(
+    alloc: Global,
+    index: &I,
+    terms: &[TermKey],
+) -> Result<Vec<u32>, NoMemory>
+    requires { 0 < length terms.now }
     ensures { IfOk result (λ rows.
-        AreRowsWhere (I.inverts index.now) (holds_all words.now) rows.items) }
+        AreRowsWhere (I.inverts index.now) (holds_all terms.now) rows.items) }
 {
-    let mut rows = index.holding(alloc, &words[0])?;
-    for i in 1..words.len() {
-        let holding = index.holding(alloc, &words[i])?;
+    let mut rows = index.holding(alloc, terms[0].term())?;
+    for i in 1..terms.len() {
+        if rows.is_empty() {
+            return Ok(rows);
+        }
+        let holding = index.holding(alloc, terms[i].term())?;
         rows = in_both(alloc, rows.as_slice(), holding.as_slice())?;
     }
     Ok(rows)
 }
 
-/// The positions in a row from which the terms stand one after another.
-fn starts<I: Inverted>(
+/// The positions of each of these terms in a row.
+fn positions_in<I: Inverted>(
     alloc: Global,
     index: &I,
-    words: &[Term],
+    terms: &[TermKey],
     row: u32,
-) -> Result<Vec<u32>, NoMemory>
-    requires { 0 < length words.now }
-    ensures { IfOk result (λ starts. (docs : _) → I.inverts index.now docs → (at : ℕ)
-        → has_number starts.items at ≡ at_row (λ doc.
-        terms_stand_at (terms doc) words.now at) docs row) }
+) -> Result<Vec<Vec<u32>>, NoMemory>
+    ensures long { IfOk result (λ lists. length lists.items ≡ length terms.now) }
+    ensures lists { IfOk result (λ lists. (docs : _) → I.inverts index.now docs
+        → AllZip (λ term places. ArePositions docs term row places) terms.now
+        (lists_of lists.items)) }
 {
-    let mut starts = index.places(alloc, &words[0], row)?;
-    for i in 1..words.len() {
-        let places = index.places(alloc, &words[i], row)?;
+    let mut lists = Vec::new(alloc);
+    for term in terms {
+        lists.push(index.places(alloc, term.term(), row)?)?;
+    }
+    Ok(lists)
+}
+
+/// The positions from which lists of positions, in this order, have one after another.
+fn starts(alloc: Global, lists: &[Vec<u32>], order: &[usize]) -> Result<Vec<u32>, NoMemory>
+    requires some { 0 < length order.now }
+    requires within { All (λ i. i < length lists.now) order.now }
+    ensures { IfOk result (λ starts. All IsRising (lists_of lists.now) → (at : ℕ)
+        → has_number starts.items at
+        ≡ follow_from (in_turn [] (lists_of lists.now) order.now) at) }
+{
+    let mut starts = lists[order[0]].as_slice().to_vec(alloc)?;
+    for i in 1..order.len() {
+        if starts.is_empty() {
+            return Ok(starts);
+        }
+        let places = &lists[order[i]];
         starts = followed(alloc, starts.as_slice(), places.as_slice(), i as u64)?;
     }
     Ok(starts)
 }
 
-/// Whether the terms stand in a row one after another.
-fn stands<I: Inverted>(alloc: Global, index: &I, words: &[Term], row: u32) -> Result<bool, NoMemory>
-    requires { 0 < length words.now }
-    ensures { IfOk result (λ found. (docs : _) → I.inverts index.now docs
-        → found ≡ at_row (terms_stand words.now) docs row) }
+/// Whether the words stand in a row one after another.
+fn stands<I: Inverted>(
+    alloc: Global,
+    index: &I,
+    words: &PhraseWords,
+    row: u32,
+) -> Result<bool, NoMemory>
+    requires some { 0 < length words.now.order.items }
+    requires within { All (λ i. i < length words.now.terms.keys) words.now.order.items }
+    ensures { IfOk result (λ found. (docs : _) → I.inverts index.now docs → (list : List Term)
+        → AreWords words.now.terms.keys words.now.order.items list
+        → found ≡ at_row (terms_stand list) docs row) }
 {
-    let starts = starts(alloc, index, words, row)?;
+    let lists = positions_in(alloc, index, words.terms.as_slice(), row)?;
+    let starts = starts(alloc, lists.as_slice(), words.order.as_slice())?;
     Ok(starts.len() > 0)
 }
 
-/// The rows in which the terms stand one after another.
-fn standing<I: Inverted>(alloc: Global, index: &I, words: &[Term]) -> Result<Vec<u32>, NoMemory>
-    requires { 0 < length words.now }
-    ensures { IfOk result (λ rows.
-        AreRowsWhere (I.inverts index.now) (terms_stand words.now) rows.items) }
+/// The rows in which the words stand one after another.
+fn standing<I: Inverted>(
+    alloc: Global,
+    index: &I,
+    words: &PhraseWords,
+) -> Result<Vec<u32>, NoMemory>
+    requires some { 0 < length words.now.order.items }
+    requires within { All (λ i. i < length words.now.terms.keys) words.now.order.items }
+    ensures { IfOk result (λ rows. (list : List Term)
+        → AreWords words.now.terms.keys words.now.order.items list
+        → AreRowsWhere (I.inverts index.now) (terms_stand list) rows.items) }
 {
-    let rows = holding_all(alloc, index, words)?;
+    let rows = holding_all(alloc, index, words.terms.as_slice())?;
     let mut kept = Vec::new(alloc);
     for row in &rows {
         if stands(alloc, index, words, *row)? {
@@ -99,8 +155,8 @@ pub fn phrase_rows<I: Inverted>(
         phrase_stands (terms doc) field.now (folded_words text.now)) rows.items) }
 {
     let words = words_of(alloc, field, text)?;
-    if words.is_empty() {
+    if words.order.is_empty() {
         return Ok(Vec::new(alloc));
     }
-    standing(alloc, index, words.as_slice())
+    standing(alloc, index, &words)
 }

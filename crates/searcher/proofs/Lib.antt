@@ -3,3 +3,4 @@ pub mod Order
 pub mod Gathering
 pub mod Ordering
 pub mod Opening
+pub mod MergedNumbers

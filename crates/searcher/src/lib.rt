@@ -2,6 +2,7 @@
 #![tactic(auto)]
 
 mod found;
+mod numbers;
 mod searcher;
 mod shown;
 

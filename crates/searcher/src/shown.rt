@@ -1,11 +1,11 @@
 //! The rows of a segment as a search shows them: with the numbers that were set in them.
 ghost use Rattle.std.specs.Prelude.{◌≡◌, length, IfOk};
 ghost use Rattle.std.specs.Option.{option_map};
-ghost use Rattle.segment_core.specs.LiveRows.{IsWhole, with_numbers};
 ghost use Rattle.searcher.specs.Finding.{found_of, live_at};
 
-use ix_base::{Hit, Name, NoMemory, Numbers, Row};
-use live_docs::{LiveDocs, with_number};
+use crate::numbers::numbers_with;
+use ix_base::{Hit, NoMemory, Row};
+use live_docs::LiveDocs;
 use std::alloc::Global;
 
 /// A hit, with the birth of its row.
@@ -13,24 +13,6 @@ use std::alloc::Global;
 pub struct Found {
     pub birth: u64,
     pub hit: Hit,
-}
-
-/// The numbers with these ones set in them.
-fn numbers_with(
-    alloc: Global,
-    numbers: &Numbers,
-    values: &[(Name, i64)],
-) -> Result<Numbers, NoMemory>
-    ensures { IfOk result (λ made. made ≡ with_numbers values.now numbers.now) }
-{
-    let mut made = numbers.clone_in(alloc)?;
-    let mut left = values.len();
-    while left > 0 {
-        left -= 1;
-        let pair = &values[left];
-        made = with_number(alloc, &made, &pair.0, pair.1)?;
-    }
-    Ok(made)
 }
 
 /// The row of this number as a search shows it, where it is live.
