@@ -5,6 +5,7 @@ mod comparing;
 mod laws;
 mod live_docs;
 mod numbers;
+mod row_numbers;
 mod set_numbers;
 
 pub use laws::set_numbers_are_a_map;
