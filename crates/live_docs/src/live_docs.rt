@@ -4,7 +4,7 @@ ghost use Rattle.ix_base.specs.Limits.{names_rise};
 ghost use Rattle.live_docs.specs.Marks.{fresh, mark_with, killed, valued, changed_at, count_live, value_of, numbered_rows, same_marks};
 
 use crate::row_numbers::place_of;
-use crate::set_numbers::SetNumbers;
+use crate::shared_numbers::SharedNumbers;
 use ix_base::{Name, NoMemory, Numbers};
 use std::alloc::Global;
 use std::marker::Model;
@@ -19,13 +19,14 @@ pub struct Mark {
 
 /// Of each row of a segment, whether it is live, and the numbers that were set in it. Rows are
 /// named by their places in the segment, from 0. `applied` is the number up to which operations are
-/// in it: a later operation isn't. A row in which no number was set takes a byte.
+/// in it: a later operation isn't. A row in which no number was set takes a byte. Copies share the
+/// numbers that were set until one of them is changed.
 #[derive(Drop)]
 pub struct LiveDocs {
     applied: u64,
     live: u32,
     flags: Vec<bool>,
-    numbers: SetNumbers,
+    numbers: SharedNumbers,
 }
 
 impl Model for LiveDocs {
@@ -48,13 +49,14 @@ impl LiveDocs {
         ensures { IfOk result (λ docs. docs
             ≡ record { applied = applied; marks = replicate rows fresh }) }
     {
+        let numbers = SharedNumbers::none(alloc)?;
         let mut flags = Vec::new(alloc);
         flags.resize(rows as usize, true)?;
         Ok(LiveDocs {
             applied,
             live: rows,
             flags,
-            numbers: SetNumbers::none(alloc),
+            numbers,
         })
     }
 
@@ -92,7 +94,8 @@ impl LiveDocs {
         Ok(())
     }
 
-    /// A copy of these.
+    /// A copy of these. It takes a byte for each row: the numbers that were set are shared with it,
+    /// and are copied once a number is set in one of both.
     pub fn clone_in(&self, alloc: Global) -> Result<LiveDocs, NoMemory>
         ensures { IfOk result (λ docs. docs ≡ self.now) }
     {
@@ -100,7 +103,7 @@ impl LiveDocs {
             applied: self.applied,
             live: self.live,
             flags: Vec::from_slice(alloc, &self.flags)?,
-            numbers: self.numbers.clone_in(alloc)?,
+            numbers: self.numbers.share()?,
         })
     }
 
