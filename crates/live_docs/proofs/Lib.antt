@@ -4,4 +4,5 @@ pub mod SetRows
 mod SameFlagged
 mod NumbersRise
 mod SetValues
+mod Places
 pub mod NumberedRows

@@ -18,6 +18,10 @@ pub record Marks : Type 0 where
 abbrev pub fresh : Mark
 fresh = record { live = true; values = [] }
 
+-- the mark of a row that is live or isn't, with these numbers set
+abbrev pub mark_with : Bool → List Named → Mark
+mark_with live values = record { live = live; values = values }
+
 -- the mark of a row that is no longer live
 abbrev pub killed : Mark → Mark
 killed m = record m { live = false }

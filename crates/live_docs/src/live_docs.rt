@@ -1,9 +1,10 @@
 //! Live bits and set values of the rows of a segment.
 ghost use Rattle.std.specs.Prelude.{◌≡◌, ◌+◌, ◌<◌, ◌^◌, ◌++◌, [], ◌∷◌, true, length, map, replicate, IfOk, OnOk, OnErr, slice_index_or};
 ghost use Rattle.ix_base.specs.Limits.{names_rise};
-ghost use Rattle.live_docs.specs.Marks.{fresh, killed, valued, changed_at, count_live, value_of, numbered_rows, same_marks};
+ghost use Rattle.live_docs.specs.Marks.{fresh, mark_with, killed, valued, changed_at, count_live, value_of, numbered_rows, same_marks};
 
-use crate::set_numbers::{SetNumbers, is_none};
+use crate::row_numbers::place_of;
+use crate::shared_numbers::SharedNumbers;
 use ix_base::{Name, NoMemory, Numbers};
 use std::alloc::Global;
 use std::marker::Model;
@@ -18,13 +19,14 @@ pub struct Mark {
 
 /// Of each row of a segment, whether it is live, and the numbers that were set in it. Rows are
 /// named by their places in the segment, from 0. `applied` is the number up to which operations are
-/// in it: a later operation isn't. A row in which no number was set takes a byte.
+/// in it: a later operation isn't. A row in which no number was set takes a byte. Copies share the
+/// numbers that were set until one of them is changed.
 #[derive(Drop)]
 pub struct LiveDocs {
     applied: u64,
     live: u32,
     flags: Vec<bool>,
-    numbers: SetNumbers,
+    numbers: SharedNumbers,
 }
 
 impl Model for LiveDocs {
@@ -47,13 +49,14 @@ impl LiveDocs {
         ensures { IfOk result (λ docs. docs
             ≡ record { applied = applied; marks = replicate rows fresh }) }
     {
+        let numbers = SharedNumbers::none(alloc)?;
         let mut flags = Vec::new(alloc);
         flags.resize(rows as usize, true)?;
         Ok(LiveDocs {
             applied,
             live: rows,
             flags,
-            numbers: SetNumbers::none(alloc),
+            numbers,
         })
     }
 
@@ -64,27 +67,35 @@ impl LiveDocs {
     {
         let mut docs = LiveDocs::new(alloc, 0, applied)?;
         for mark in marks {
-            docs.push(mark)?;
+            docs.push(alloc, mark.live, mark.values.as_slice())?;
         }
         Ok(docs)
     }
 
-    /// Adds a row with this mark behind all others.
-    fn push(&mut self, mark: Mark) -> Result<(), NoMemory>
-        requires { length self.old.marks + 1 < 2 ^ 32 }
-        ensures { OnOk result (self.new ≡ record self.old { marks = self.old.marks ++ mark ∷ [] }) }
+    /// Adds a row behind all others: whether it is live, and a copy of the numbers that were set in
+    /// it. After an error all is as before.
+    pub fn push(
+        &mut self,
+        alloc: Global,
+        live: bool,
+        values: &[(Name, i64)],
+    ) -> Result<(), NoMemory>
+        requires room { length self.old.marks + 1 < 2 ^ 32 }
+        requires rise { names_rise (map (λ number. number.0) values.now) ≡ true }
+        ensures ok { let marks = self.old.marks ++ mark_with live values.now ∷ [] in
+            OnOk result (self.new ≡ record self.old { marks = marks }) }
+        ensures err { OnErr result (self.new ≡ self.old) }
     {
-        let Mark { live, values } = mark;
+        self.flags.reserve(1)?;
         let row = self.flags.len() as u32;
+        self.numbers.put(alloc, row, values)?;
         self.flags.push(live)?;
         self.live += u32::from(live);
-        if is_none(&values) {
-            return Ok(());
-        }
-        self.numbers.put(row, values)
+        Ok(())
     }
 
-    /// A copy of these.
+    /// A copy of these. It takes a byte for each row: the numbers that were set are shared with it,
+    /// and are copied once a number is set in one of both.
     pub fn clone_in(&self, alloc: Global) -> Result<LiveDocs, NoMemory>
         ensures { IfOk result (λ docs. docs ≡ self.now) }
     {
@@ -92,7 +103,7 @@ impl LiveDocs {
             applied: self.applied,
             live: self.live,
             flags: Vec::from_slice(alloc, &self.flags)?,
-            numbers: self.numbers.clone_in(alloc)?,
+            numbers: self.numbers.share()?,
         })
     }
 
@@ -191,12 +202,11 @@ impl LiveDocs {
 
 /// The number by this name among these.
 fn value_in(values: &[(Name, i64)], name: &Name) -> Option<i64>
+    requires { names_rise (map (λ number. number.0) values.now) ≡ true }
     ensures { result ≡ value_of name.now values.now }
 {
-    for pair in values {
-        if pair.0.as_str() == name.as_str() {
-            return Some(pair.1);
-        }
+    match place_of(values, name) {
+        Ok(place) => Some(values[place].1),
+        Err(_) => None,
     }
-    None
 }

@@ -2,10 +2,11 @@
 ghost use Rattle.std.specs.Prelude.{◌≡◌, ◌<◌, length, IfOk, OnOk};
 
 use ix_base::{Name, NoMemory, Numbers};
-use live_docs::{LiveDocs, Mark, with_number};
+use live_docs::{LiveDocs, Mark};
 use std::alloc::Global;
+use std::fmt::Write;
 use std::test::Fail;
-use test_values::name_of;
+use test_values::{name_of, number_of};
 
 /// Three rows. The second is killed, twice; in the third the second name is set, then the first, then the
 /// second again.
@@ -105,12 +106,6 @@ fn rows_with_numbers(rt: HostRuntime) -> Result<(), Fail> {
     Ok(())
 }
 
-/// One number of this name.
-fn one_number(alloc: Global, bytes: &str, value: i64) -> Result<Numbers, Fail> {
-    let name = name_of(alloc, bytes)?;
-    Ok(with_number(alloc, &Numbers::none(alloc), &name, value)?)
-}
-
 /// The marks of two rows: those of a live one with these numbers, and those of one with none.
 fn two_marks(alloc: Global, values: Numbers, second_lives: bool) -> Result<Vec<Mark>, NoMemory>
     ensures { IfOk result (λ marks. length marks.items ≡ 2) }
@@ -126,7 +121,7 @@ fn two_marks(alloc: Global, values: Numbers, second_lives: bool) -> Result<Vec<M
 
 /// Two rows: a live one with this number set in it, and one with none.
 fn two_rows(alloc: Global, bytes: &str, value: i64, second_lives: bool) -> Result<LiveDocs, Fail> {
-    let values = one_number(alloc, bytes, value)?;
+    let values = number_of(alloc, bytes, value)?;
     Ok(LiveDocs::from_marks(alloc, 9, two_marks(alloc, values, second_lives)?)?)
 }
 
@@ -287,5 +282,73 @@ fn one_row_of_many_dies(rt: HostRuntime) -> Result<(), Fail> {
     let docs = many_rows_of_a(rt.alloc())?;
     let other = with_last_killed(rt.alloc())?;
     assert!(rt; !docs.same_marks(&other));
+    Ok(())
+}
+
+/// The name of one of many numbers.
+fn name_at(alloc: Global, at: u32) -> Result<Name, Fail> {
+    let mut text = String::new(alloc);
+    write!(text, "n{at}")?;
+    name_of(alloc, text.as_str())
+}
+
+/// Two rows. In the second forty numbers are set twice each, in an order that isn't that of their
+/// names: at the step s the number of s * 7 % 40 gets the value s.
+fn forty_numbers(alloc: Global) -> Result<LiveDocs, Fail>
+    ensures { IfOk result (λ docs. length docs.marks ≡ 2) }
+{
+    let mut docs = LiveDocs::new(alloc, 2, 1)?;
+    for step in 0..80 {
+        let name = name_at(alloc, step * 7 % 40)?;
+        docs.set_value(alloc, 1, &name, i64::from(step))?;
+    }
+    Ok(docs)
+}
+
+/// The first of the forty numbers that hasn't the value that was set last. As 7 * 23 is 1 more than
+/// a multiple of 40, the number `at` was set last at the step 40 + at * 23 % 40.
+fn first_other_number(alloc: Global, docs: &LiveDocs) -> Result<Option<u32>, Fail>
+    requires { length docs.now.marks ≡ 2 }
+{
+    for at in 0..40 {
+        let wanted = Some(i64::from(40 + at * 23 % 40));
+        if docs.value(1, &name_at(alloc, at)?) != wanted {
+            return Ok(Some(at));
+        }
+    }
+    Ok(None)
+}
+
+#[test]
+fn forty_numbers_of_a_row(rt: HostRuntime) -> Result<(), Fail> {
+    let docs = forty_numbers(rt.alloc())?;
+    assert!(rt; (docs.values(0).len(), docs.values(1).len()) == (0, 40));
+    assert!(rt; first_other_number(rt.alloc(), &docs)? == None);
+    Ok(())
+}
+
+/// The number of the third of three rows, and that of a copy in which it was set anew.
+fn set_in_copy(alloc: Global) -> Result<(Option<i64>, Option<i64>), Fail> {
+    let name = name_of(alloc, "a")?;
+    let docs = rows_of_a_and_b(alloc)?;
+    let mut copy = docs.clone_in(alloc)?;
+    copy.set_value(alloc, 2, &name, 9)?;
+    Ok((docs.value(2, &name), copy.value(2, &name)))
+}
+
+/// The same, where the number is set anew in what the copy is a copy of.
+fn set_in_first(alloc: Global) -> Result<(Option<i64>, Option<i64>), Fail> {
+    let name = name_of(alloc, "a")?;
+    let mut docs = rows_of_a_and_b(alloc)?;
+    let copy = docs.clone_in(alloc)?;
+    docs.set_value(alloc, 2, &name, 9)?;
+    Ok((docs.value(2, &name), copy.value(2, &name)))
+}
+
+/// A copy shares its numbers until one of both is changed.
+#[test]
+fn copies_change_apart(rt: HostRuntime) -> Result<(), Fail> {
+    assert!(rt; set_in_copy(rt.alloc())? == (Some(-2), Some(9)));
+    assert!(rt; set_in_first(rt.alloc())? == (Some(9), Some(-2)));
     Ok(())
 }

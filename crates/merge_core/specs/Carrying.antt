@@ -1,8 +1,7 @@
--- What reading one row does to a merge, and what is carried to a row of the merged segment.
+-- What reading one row does to a merge.
 use Rattle.std.specs.Prelude.{◌≡◌, ℕ, ◌+◌, ◌<◌, ◌≤◌, List, [], ◌∷◌, ◌++◌, Bool, true, false, Some, All, length, set, slice_get, slice_index, slice_index_or, if◌then◌else◌}
-use Rattle.ix_base.specs.Steps.{Named}
 use Rattle.ix_base.specs.declared.document.Row.{Row}
-use Rattle.live_docs.specs.Marks.{fresh, killed, valued}
+use Rattle.live_docs.specs.Marks.{fresh, killed}
 use Rattle.live_docs.specs.declared.live_docs.Mark.{Mark}
 use Rattle.ram_postings.specs.Buffer.{born_rows}
 use Rattle.segment_core.specs.LiveRows.{Lived}
@@ -49,14 +48,3 @@ TakesNext old new s source = (row : Row) → slice_get s.segment.rows (slice_ind
 abbrev pub ReadOne : Merge → List Lived → ℕ → Bool → Type 0
 ReadOne m sources count true = HasRead m sources (count + 1)
 ReadOne m sources count false = HasRead m sources count × (count ≡ row_count sources)
-
--- ---- marks that are carried
-
--- a mark with these numbers set in it, in order
-abbrev pub numbers_set : List Named → Mark → Mark
-numbers_set [] m = m
-numbers_set (v ∷ values) m = numbers_set values (valued v.0 v.1 m)
-
--- a mark to which another one is carried
-abbrev pub carry : Mark → Mark → Mark
-carry from m = numbers_set from.values (if from.live then m else killed m)

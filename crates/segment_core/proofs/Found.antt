@@ -11,10 +11,10 @@ use Rattle.ix_base.specs.declared.document.Term.{Term}
 use Rattle.ix_base.specs.declared.query.Query.{Query}
 use Rattle.ix_base.specs.declared.document.Operation.TheVariants.{DeleteTerm, DeleteQuery, SetNumber}
 use Rattle.live_docs.specs.declared.live_docs.Mark.{Mark}
-use Rattle.live_docs.specs.Marks.{killed, valued, changed_at}
+use Rattle.live_docs.specs.Marks.{killed, changed_at}
 use Rattle.row_fates.specs.Fate.{Numbered}
 use Rattle.segment_core.specs.LiveRows.{above}
-use Rattle.segment_core.specs.Marking.{marks_touched, marks_after, with_rows, born_before, hit, hits}
+use Rattle.segment_core.specs.Marking.{valued_live, marks_touched, marks_after, with_rows, born_before, hit, hits}
 use borrow.Author.Tests.{ltb-true}
 
 -- ---- by the rows that were found
@@ -144,10 +144,10 @@ query_taken low n q rest rows found marks lt long is =
 
 pub setting_taken : (low n : ℕ) (t : Term) (name : List ℕ) (value : ℤ) (rest : List Numbered) (rows : List Row) (found : List ℕ) (marks : List Mark) → low < n → length marks ≡ length rows
     → found ≡ rows_where (holds_term t.field t.bytes) (map (λ (row : Row). row.doc) rows)
-    → marks_after (above low rest) rows (hits n (valued name value) rows found marks) ≡ marks_after (above low ((n, SetNumber t name value) ∷ rest)) rows marks
+    → marks_after (above low rest) rows (hits n (valued_live name value) rows found marks) ≡ marks_after (above low ((n, SetNumber t name value) ∷ rest)) rows marks
 setting_taken low n t name value rest rows found marks lt long is =
-    taken_more low (n, SetNumber t name value) rest rows marks (hits n (valued name value) rows found marks) lt
-    (ap (λ f. hits n (valued name value) rows f marks) is ∙ found_where n (valued name value) (holds_term t.field t.bytes) rows marks long)
+    taken_more low (n, SetNumber t name value) rest rows marks (hits n (valued_live name value) rows found marks) lt
+    (ap (λ f. hits n (valued_live name value) rows f marks) is ∙ found_where n (valued_live name value) (holds_term t.field t.bytes) rows marks long)
 
 -- ---- as the calls tell it
 

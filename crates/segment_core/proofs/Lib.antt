@@ -4,3 +4,4 @@ mod Marking
 mod Found
 mod Later
 mod BuiltRows
+mod SetLive

@@ -9,12 +9,12 @@ use Rattle.ix_base.specs.declared.document.Row.{Row}
 use Rattle.ix_base.specs.declared.document.Operation.{Operation}
 use Rattle.ix_base.specs.declared.document.Operation.TheVariants.{Add, Update, DeleteTerm, DeleteQuery, SetNumber, Commit}
 use Rattle.live_docs.specs.declared.live_docs.Mark.{Mark}
-use Rattle.live_docs.specs.Marks.{fresh, killed, valued}
+use Rattle.live_docs.specs.Marks.{fresh, killed}
 use Rattle.row_fates.specs.Fate.{Numbered, effect, touched, fate, renumbered}
 use Rattle.row_fates.proofs.Fates.{chosen_twice, same_is}
 use Rattle.row_fates.proofs.Renumbered.{matches_renumbered}
 use Rattle.segment_core.specs.LiveRows.{with_numbers, marked, live_rows, above}
-use Rattle.segment_core.specs.Marking.{mark_effect, mark_touched, marks_touched, marks_after}
+use Rattle.segment_core.specs.Marking.{valued_live, mark_effect, mark_touched, marks_touched, marks_after}
 use Rattle.segment_core.proofs.SetOver.{set_last}
 
 -- ---- one row and its mark
@@ -49,7 +49,7 @@ effect_follows (DeleteQuery q) row vs =
     by false = refl
 effect_follows (SetNumber t name value) row vs = by (holds_term t.field t.bytes row.doc)
   where
-    by : (h : Bool) → marked row (if h then valued name value (alive vs) else alive vs) ≡ Some (if h then with_value name value (shown vs row) else shown vs row)
+    by : (h : Bool) → marked row (if h then valued_live name value (alive vs) else alive vs) ≡ Some (if h then with_value name value (shown vs row) else shown vs row)
     by true = ap (λ ns. Some (renumbered ns row)) (set_last name value vs row.doc.num)
     by false = refl
 effect_follows Commit row vs = refl
@@ -73,7 +73,7 @@ dead_stays (DeleteQuery q) row vs = by (matches (tree_of q) row.doc)
     by false = refl
 dead_stays (SetNumber t name value) row vs = by (holds_term t.field t.bytes row.doc)
   where
-    by : (h : Bool) → marked row (if h then valued name value (dead vs) else dead vs) ≡ None
+    by : (h : Bool) → marked row (if h then valued_live name value (dead vs) else dead vs) ≡ None
     by true = refl
     by false = refl
 dead_stays Commit row vs = refl

@@ -1,5 +1,5 @@
 -- What operations make of the marks of rows.
-use Rattle.std.specs.Prelude.{ℕ, zero, suc, List, [], ◌∷◌, Bool, false, if◌then◌else◌, nat_lt}
+use Rattle.std.specs.Prelude.{ℕ, ℤ, zero, suc, List, [], ◌∷◌, Bool, false, if◌then◌else◌, nat_lt}
 use Rattle.ix_base.specs.Matches.{matches, holds_term}
 use Rattle.ix_base.specs.Query.{tree_of}
 use Rattle.ix_base.specs.Documents.{Document}
@@ -10,13 +10,17 @@ use Rattle.live_docs.specs.Marks.{killed, valued, changed_at}
 use Rattle.live_docs.specs.declared.live_docs.Mark.{Mark}
 use Rattle.row_fates.specs.Fate.{Numbered}
 
+-- a mark with this number set where its row is live; no number is set in a row that isn't
+abbrev pub valued_live : List ℕ → ℤ → Mark → Mark
+valued_live name value m = if m.live then valued name value m else m
+
 -- what an operation makes of the mark of a row that stands when it comes
 abbrev pub mark_effect : Operation → Document → Mark → Mark
 mark_effect (Add added) doc m = m
 mark_effect (Update term added) doc m = if holds_term term.field term.bytes doc then killed m else m
 mark_effect (DeleteTerm term) doc m = if holds_term term.field term.bytes doc then killed m else m
 mark_effect (DeleteQuery query) doc m = if matches (tree_of query) doc then killed m else m
-mark_effect (SetNumber term name value) doc m = if holds_term term.field term.bytes doc then valued name value m else m
+mark_effect (SetNumber term name value) doc m = if holds_term term.field term.bytes doc then valued_live name value m else m
 mark_effect Commit doc m = m
 
 -- an operation acts only on rows that were born before it

@@ -2,10 +2,10 @@
 //! that they hit, not with updates times rows.
 ghost use Rattle.std.specs.Prelude.{◌≡◌, ◌<◌, map, length, OnOk, IsTrue};
 ghost use Rattle.frozen_packet.specs.Updates.{as_operations, term_delete, query_delete, setting};
-ghost use Rattle.live_docs.specs.Marks.{killed, valued};
+ghost use Rattle.live_docs.specs.Marks.{killed, valued, changed_at};
 ghost use Rattle.segment_core.specs.Segments.{documents, IsInverted};
 ghost use Rattle.segment_core.specs.LiveRows.{IsWhole, above, Fated, MarksLater};
-ghost use Rattle.segment_core.specs.Marking.{marks_after, born_before, hit, hits};
+ghost use Rattle.segment_core.specs.Marking.{marks_after, valued_live, born_before, hit, hits};
 
 use crate::segment::Segment;
 use frozen_packet::{DeletedTerms, QueryDelete, Setting, Updates};
@@ -36,7 +36,40 @@ fn kill_older(number: u64, rows: &[Row], row: u32, live: &mut LiveDocs)
     }
 }
 
-/// Sets a number of the row if it was born before the setting's own number.
+/// Sets a number of the row.
+fn set_number(
+    alloc: Global,
+    setting: &Setting,
+    row: u32,
+    live: &mut LiveDocs,
+) -> Result<(), NoMemory>
+    requires { row < length live.old.marks }
+    ensures { let change = valued setting.now.num setting.now.value in
+        let marks = changed_at change row live.old.marks in
+        OnOk result (live.new ≡ record live.old { marks = marks }) }
+{
+    live.set_value(alloc, row, &setting.num, setting.value)
+}
+
+/// Sets a number of the row if it is live.
+fn set_in_live(
+    alloc: Global,
+    setting: &Setting,
+    row: u32,
+    live: &mut LiveDocs,
+) -> Result<(), NoMemory>
+    requires { row < length live.old.marks }
+    ensures { let change = valued_live setting.now.num setting.now.value in
+        let marks = changed_at change row live.old.marks in
+        OnOk result (live.new ≡ record live.old { marks = marks }) }
+{
+    if !live.is_live(row) {
+        return Ok(());
+    }
+    set_number(alloc, setting, row, live)
+}
+
+/// Sets a number of the row if it is live and was born before the setting's own number.
 fn set_older(
     alloc: Global,
     setting: &Setting,
@@ -45,12 +78,12 @@ fn set_older(
     live: &mut LiveDocs,
 ) -> Result<(), NoMemory>
     requires { length live.old.marks ≡ length rows.now }
-    ensures { let change = valued setting.now.num setting.now.value in
+    ensures { let change = valued_live setting.now.num setting.now.value in
         let marks = hit setting.now.number change rows.now row live.old.marks in
         OnOk result (live.new ≡ record live.old { marks = marks }) }
 {
     if is_born_before(setting.number, rows, row) {
-        live.set_value(alloc, row, &setting.num, setting.value)
+        set_in_live(alloc, setting, row, live)
     } else {
         Ok(())
     }
@@ -67,7 +100,8 @@ fn kill_found(rows: &[Row], live: &mut LiveDocs, found: &[u32], number: u64)
     }
 }
 
-/// Sets a number in those of the found rows that were born before the setting's own number.
+/// Sets a number in those of the found rows that are live and were born before the setting's own
+/// number.
 fn set_found(
     alloc: Global,
     rows: &[Row],
@@ -76,7 +110,7 @@ fn set_found(
     setting: &Setting,
 ) -> Result<(), NoMemory>
     requires { length live.old.marks ≡ length rows.now }
-    ensures { let change = valued setting.now.num setting.now.value in
+    ensures { let change = valued_live setting.now.num setting.now.value in
         let marks = hits setting.now.number change rows.now found.now live.old.marks in
         OnOk result (live.new ≡ record live.old { marks = marks }) }
 {
@@ -192,7 +226,7 @@ fn mark_updates<I: Inverted>(
 }
 
 /// Applies to the segment's live docs the updates that are numbered above `low`: rows die, and
-/// numbers are set. Updates act only on rows that were born before them. The live docs keep their
+/// numbers are set in live rows. Updates act only on rows that were born before them. The live docs keep their
 /// applied number. After an error some of the updates may be in them.
 pub fn apply_updates(
     alloc: Global,
