@@ -2,14 +2,14 @@
 //! where its workers are at work at the same time. No contract can say what such a gate has heard,
 //! since several threads tell it; its calls return what they read.
 //!
-//! A line that waits in vain is let go after 1,000,000,000 turns. The gate is late then, and no line
-//! waits any more.
+//! A line that waits in vain is let go after 4,000,000 turns, in each of which it lets other threads
+//! go on: after about a second of a processor's time. The gate is late then, and no line waits any more.
 use ix_outside::Gate;
 use std::sync::atomic::{AtomicU64, Ordering};
 use std::thread;
 
 /// How often a waiting gate looks before it is late.
-const MOST_TURNS: u64 = 1_000_000_000;
+const MOST_TURNS: u64 = 4_000_000;
 
 /// Eight numbers, all 0.
 fn zeros() -> [AtomicU64; 8] {
@@ -25,19 +25,15 @@ fn zeros() -> [AtomicU64; 8] {
     ]
 }
 
-/// Waits until the number isn't below `least`, for 1,000,000,000 turns at most, past which it is late.
-/// Where it was late before, it doesn't wait.
+/// Waits until the number isn't below `least`, for 4,000,000 turns at most, past which it is late. Where
+/// it was late before, it doesn't wait.
 fn wait_for(number: &AtomicU64, least: u64, late: &AtomicU64) {
-    for turn in 0..MOST_TURNS {
-        if number.load(Ordering::SeqCst) >= least {
+    for _ in 0..MOST_TURNS {
+        let is_due = number.load(Ordering::SeqCst) >= least;
+        if is_due || late.load(Ordering::SeqCst) != 0 {
             return;
         }
-        if turn % 64 == 0 {
-            if late.load(Ordering::SeqCst) != 0 {
-                return;
-            }
-            thread::yield_now();
-        }
+        thread::yield_now();
     }
     late.store(1, Ordering::SeqCst);
 }
@@ -163,7 +159,7 @@ impl MeetingGate {
         }
     }
 
-    /// Whether a line waited for 1,000,000,000 turns, and was then let go.
+    /// Whether a line waited for 4,000,000 turns, and was then let go.
     pub fn is_late(&self) -> bool {
         self.late.load(Ordering::SeqCst) != 0
     }
@@ -206,7 +202,7 @@ impl GroupsGate {
         }
     }
 
-    /// Whether a line waited for 1,000,000,000 turns, and was then let go.
+    /// Whether a line waited for 4,000,000 turns, and was then let go.
     pub fn is_late(&self) -> bool {
         self.late.load(Ordering::SeqCst) != 0
     }
@@ -254,7 +250,7 @@ impl InOrderGate {
         }
     }
 
-    /// Whether a line waited for 1,000,000,000 turns, and was then let go.
+    /// Whether a line waited for 4,000,000 turns, and was then let go.
     pub fn is_late(&self) -> bool {
         self.late.load(Ordering::SeqCst) != 0
     }
