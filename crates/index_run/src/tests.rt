@@ -85,18 +85,19 @@ pub(crate) fn run_words<R: Threads + Wait + Sync, S: Store + Drop>(
     run_top(rt, alloc, words, input, out, store, &EmptyGate)
 }
 
-/// A run of the script by so many threads over an empty store, which this gate watches.
+/// A run of the script by so many threads over the store, which this gate watches.
 pub(crate) fn run_watched<R: Threads + Wait + Sync, G: Gate>(
     rt: &R,
     alloc: Global,
     threads: &str,
     script: &[&str],
+    store: MemoryStore,
     gate: &G,
 ) -> Result<Done<MemoryStore>, NoMemory> {
     let words = ["run", "--threads", threads];
     let input = MemorySource::failing(joined(alloc, script)?, Vec::new(alloc));
-    let out = MemorySink::failing(alloc, 65_536, Vec::new(alloc))?;
-    run_top(rt, alloc, &words, input, out, MemoryStore::new(alloc), gate)
+    let out = MemorySink::failing(alloc, 1_048_576, Vec::new(alloc))?;
+    run_top(rt, alloc, &words, input, out, store, gate)
 }
 
 /// A run of the script over the store, by one worker: the lines get their numbers in the order of the

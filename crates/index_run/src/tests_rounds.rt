@@ -1,6 +1,6 @@
 //! Whole runs with several writers, small buffers and many rounds.
-use crate::tests::{ADD_A1, ADD_A2, ALL, COMMIT, Done, ended, run_words};
-use ix_memory::MemoryStore;
+use crate::tests::{ADD_A1, ADD_A2, ALL, COMMIT, Done, ended, run_watched, run_words};
+use ix_memory::{CountingGate, MemoryStore};
 use ix_outside::Store;
 use plain_fold::deletes_and_report;
 use std::alloc::Global;
@@ -81,17 +81,21 @@ fn the_same_whatever_the_buffer(rt: HostRuntime) -> Result<(), Fail> {
     Ok(())
 }
 
-/// More deletes than one writer's part of a queue holds: the numbers run on without a gap.
+/// More deletes than one writer's part of a queue holds: the numbers run on without a gap, and the gate
+/// hears twice of the line that found no room before it is tried, and of each other line once.
 #[test]
 fn more_than_one_round_holds(rt: HostRuntime) -> Result<(), Fail> {
     let alloc = rt.alloc();
+    let gate = CountingGate::new(4161);
     let (script, report) = deletes_and_report(alloc).ok().ok_or("memory")?;
-    let done = run_with(&rt, alloc, &["run"], &[script.as_str()])?;
+    let store = MemoryStore::new(alloc);
+    let done = run_watched(&rt, alloc, "4", &[script.as_str()], store, &gate)?;
     assert!(rt; done.status == 0);
     assert!(rt;
         done.written.as_slice() == report.as_bytes(),
         "another report"
     );
+    assert!(rt; gate.counts() == (2, 1) && gate.all() == 4163);
     Ok(())
 }
 

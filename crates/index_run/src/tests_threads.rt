@@ -6,7 +6,7 @@ use crate::doing::{self, do_script};
 use crate::telling::Form;
 use crate::tests::run_watched;
 use crate::tests_fold::check_run;
-use ix_memory::{GroupsGate, MeetingGate, MemoryStore};
+use ix_memory::{GroupsGate, InOrderGate, MeetingGate, MemoryStore};
 use ix_outside::{EmptyGate, Gate};
 use plain_fold::{
     Act, Kept, Leaf, Line, Options, Query, Term, document_of, numbers_in, place_of, script_of,
@@ -129,7 +129,8 @@ fn watched<R: Threads + Wait + Sync, G: Gate>(
     gate: &G,
 ) -> Result<Vec<u8>, Fail> {
     let script = script_of(alloc, lines)?;
-    let done = run_watched(rt, alloc, threads, &[script.as_str()], gate);
+    let store = MemoryStore::new(alloc);
+    let done = run_watched(rt, alloc, threads, &[script.as_str()], store, gate);
     let done = done.ok().ok_or("memory")?;
     if done.status != 0 {
         Err("another status")?;
@@ -137,50 +138,89 @@ fn watched<R: Threads + Wait + Sync, G: Gate>(
     Ok(done.written)
 }
 
-/// Two callers meet: each line is under way before the other is told. One worker after the other, in
-/// either order, doesn't pass the gate.
+/// So many lines by so many callers in turn, each of which adds a document.
+fn adds(alloc: Global, callers: u64, count: u64) -> Result<Vec<Line>, Fail>
+    requires { 0 < callers }
+{
+    let mut lines = Vec::new(alloc);
+    for at in 0..count {
+        let act = Act::Add(document_of(1));
+        let caller = at % callers;
+        lines.push(Line { caller, act })?;
+    }
+    Ok(lines)
+}
+
+/// Two callers meet: the first line of each is under way before the other's is told, and the gate hears
+/// of a line before it is linked. One worker after the other, in either order, doesn't pass the gate.
 #[test]
 fn two_callers_meet(rt: HostRuntime) -> Result<(), Fail> {
     let gate = MeetingGate::new();
-    let lines = [
-        Line {
-            caller: 0,
-            act: Act::Add(document_of(1)),
-        },
-        Line {
-            caller: 1,
-            act: Act::Add(document_of(2)),
-        },
-    ];
-    let report = watched(&rt, rt.alloc(), "2", &lines, &gate)?;
+    let lines = adds(rt.alloc(), 2, 4)?;
+    let report = watched(&rt, rt.alloc(), "2", lines.as_slice(), &gate)?;
     assert!(rt; !gate.is_late());
-    assert!(rt; gate.counts() == (2, 2));
     assert!(rt;
-        report.as_slice() == b"{\"line\":1,\"seq\":2}\n{\"line\":2,\"seq\":1}\n".as_slice()
+        report.as_slice()
+            == b"{\"line\":1,\"seq\":3}\n{\"line\":2,\"seq\":1}\n{\"line\":3,\"seq\":4}\n{\"line\":4,\"seq\":2}\n".as_slice()
     );
     Ok(())
 }
 
-/// Four callers meet at each of eight groups of lines: those of each group get the next four numbers.
+/// A commit of one caller comes before the other caller's last line, which had begun: the queue is
+/// closed, and the line is begun once more in the next round.
 #[test]
-fn four_callers_meet(rt: HostRuntime) -> Result<(), Fail> {
-    let gate = GroupsGate::new();
-    let mut lines = Vec::new(rt.alloc());
-    for at in 0..32u64 {
-        let caller = at % 4;
-        lines.push(Line {
-            caller,
-            act: Act::Add(document_of(1)),
-        })?;
-    }
-    let report = watched(&rt, rt.alloc(), "4", lines.as_slice(), &gate)?;
+fn a_line_that_is_begun_again(rt: HostRuntime) -> Result<(), Fail> {
+    let gate = InOrderGate::new();
+    let acts = [
+        (0, Act::Add(document_of(1))),
+        (1, Act::Add(document_of(2))),
+        (0, Act::Commit),
+        (1, Act::Add(document_of(3))),
+    ];
+    let lines = acts.map(|(caller, act)| Line { caller, act });
+    let report = watched(&rt, rt.alloc(), "2", &lines, &gate)?;
     assert!(rt; !gate.is_late());
+    for (line, wanted) in [(1, (1, 1)), (2, (1, 1)), (3, (1, 1)), (4, (2, 1))] {
+        assert!(rt; gate.counts(line) == wanted);
+    }
+    assert!(rt;
+        report.as_slice()
+            == b"{\"line\":1,\"seq\":1}\n{\"line\":2,\"seq\":2}\n{\"docs\":2,\"line\":3,\"seq\":3}\n{\"line\":4,\"seq\":4}\n".as_slice()
+    );
+    Ok(())
+}
+
+/// The numbers of 32 lines by so many callers, each of which adds a document by a thread of its own. A
+/// line waits until all callers have begun theirs.
+fn numbers_of_groups<R: Threads + Wait + Sync>(
+    rt: &R,
+    alloc: Global,
+    callers: u32,
+    threads: &str,
+) -> Result<Vec<u64>, Fail>
+    requires { 0 < callers }
+{
+    let gate = GroupsGate::new(callers);
+    let lines = adds(alloc, u64::from(callers), 32)?;
+    let report = watched(rt, alloc, threads, lines.as_slice(), &gate)?;
+    if gate.is_late() {
+        Err("a line that waited in vain")?;
+    }
     let text = str::from_utf8(report.as_slice()).ok().ok_or("no text")?;
-    let numbers = numbers_in(rt.alloc(), text)?;
-    assert!(rt; numbers.len() == 32);
-    for number in 1..=32u64 {
-        let place = place_of(numbers.as_slice(), number).ok_or("a number that is missing")?;
-        assert!(rt; place as u64 / 4 == (number - 1) / 4);
+    Ok(numbers_in(alloc, text)?)
+}
+
+/// Four callers, and sixteen, meet at each group of their lines: those of each group get the next
+/// numbers. With fewer threads than callers no group is begun as a whole.
+#[test]
+fn callers_meet(rt: HostRuntime) -> Result<(), Fail> {
+    for (callers, threads) in [(4u32, "4"), (16u32, "16")] {
+        let numbers = numbers_of_groups(&rt, rt.alloc(), callers, threads)?;
+        assert!(rt; numbers.len() == 32);
+        for number in 1..=32u64 {
+            let place = place_of(numbers.as_slice(), number).ok_or("a number that is missing")?;
+            assert!(rt; place as u64 / u64::from(callers) == (number - 1) / u64::from(callers));
+        }
     }
     Ok(())
 }

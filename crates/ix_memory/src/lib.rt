@@ -21,7 +21,7 @@ mod steady_source;
 mod steady_store;
 
 pub use fuse_store::FuseStore;
-pub use gates::{GroupsGate, MeetingGate, RecordingGate};
+pub use gates::{CountingGate, GroupsGate, InOrderGate, MeetingGate, RecordingGate};
 pub use memory_sink::MemorySink;
 pub use memory_source::MemorySource;
 pub use memory_store::MemoryStore;

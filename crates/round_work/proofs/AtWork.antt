@@ -43,12 +43,13 @@ back_none (x ∷ xs) ys none = absurd (let zero_is = ap length none in omega (ar
 -- nothing was told
 pub told_nothing : (q : DeleteQueue) (old new : ThreadWriter) (gave given : List Piece) → IsWriter q new → Grows old.seat new.seat → new.size ≡ old.size
     → (own_of old.seat ≡ [] → own_of new.seat ≡ []) → ((before : List NumberedOperation) → Did q (parts_of old) before gave → Did q (parts_of new) before given)
-    → WorksOn q [] old gave new given
-told_nothing q old new gave given writer grows size still history = record {
+    → (pieces : List Piece) → given ≡ gave ++ pieces → WorksOn q [] old gave new given
+told_nothing q old new gave given writer grows size still history pieces given_is = record {
   writer = writer;
   number_is = grows.number;
   size_is = size;
   history = λ before did. subst (λ (told : List NumberedOperation). Did q (parts_of new) told given) (sym (append-nil before)) (history before did);
+  gave_more = (pieces, given_is);
   above = tt;
   still = λ own none. still own;
 }
@@ -60,6 +61,7 @@ works_not q w gave writer = record {
   number_is = refl;
   size_is = refl;
   history = λ before did. subst (λ (told : List NumberedOperation). Did q (parts_of w) told gave) (sym (append-nil before)) did;
+  gave_more = ([], sym (append-nil gave));
   above = tt;
   still = λ own none. own;
 }
@@ -73,6 +75,10 @@ works_then q xs ys a b c one two three first second = record {
   size_is = second.size_is ∙ first.size_is;
   history = λ before did.
       subst (λ (told : List NumberedOperation). Did q (parts_of c) told three) (append_assoc before xs ys) (second.history (before ++ xs) (first.history before did));
+  gave_more =
+      let some = first.gave_more.0 in
+      let others = second.gave_more.0 in
+      (some ++ others, second.gave_more.1 ∙ (ap (λ (ps : List Piece). ps ++ others) first.gave_more.1 ∙ append_assoc one some others));
   above = all_append (λ (t : NumberedOperation). base_of q < t.0) xs ys first.above second.above;
   still = λ own none. second.still (first.still own (front_none xs ys none)) (back_none xs ys none);
 }
@@ -86,7 +92,7 @@ works_on q xs a b c one two three first second =
 stayed : (q : DeleteQueue) (old new : ThreadWriter) (gave : List Piece) → IsWriter q new → Grows old.seat new.seat → new.size ≡ old.size → Stays q old new
     → WorksOn q [] old gave new gave
 stayed q old new gave writer grows size stays =
-    told_nothing q old new gave gave writer grows size (λ own. stays.own ∙ own) (λ before did. stays.history before gave did)
+    told_nothing q old new gave gave writer grows size (λ own. stays.own ∙ own) (λ before did. stays.history before gave did) [] (sym (append-nil gave))
 
 -- a line was tried
 pub lined : (q : DeleteQueue) (is : Operation) (said : Told) (old new : ThreadWriter) (gave : List Piece) → IsWriter q new → Grows old.seat new.seat
@@ -97,6 +103,7 @@ lined q is (told.Numbered n) old new gave writer grows size numbers stays = reco
   number_is = grows.number;
   size_is = size;
   history = λ before did. numbers.history before gave did;
+  gave_more = ([], sym (append-nil gave));
   above = (numbers.above, tt);
   still = λ own none. absurd (let zero_is = ap length none in omega (arith, zero_is));
 }

@@ -1,5 +1,5 @@
 -- The workers of a round.
-use Rattle.std.proofs.Common.{◌≡◌, ◌∙◌, suc, ◌<◌, List, [], ◌∷◌, ◌++◌, length, refl, sym, ap, subst, arith, append-nil, append_assoc}
+use Rattle.std.proofs.Common.{◌≡◌, suc, List, [], ◌∷◌, ◌++◌, length, refl, sym, ap, subst}
 use Rattle.std.specs.List.{AllZip}
 use Rattle.delete_queue.specs.declared.queue.DeleteQueue.{DeleteQueue}
 use Rattle.thread_writer.specs.declared.writer.ThreadWriter.{ThreadWriter}
@@ -36,52 +36,45 @@ worked_all q (w ∷ ws) (s ∷ ss) [] xs are back = absurd are
 worked_all q (w ∷ ws) (s ∷ ss) (t ∷ ts) [] are back = absurd back
 worked_all q (w ∷ ws) (s ∷ ss) (t ∷ ts) (x ∷ xs) are back = (back.0 q w s are.0, worked_all q ws ss ts xs are.1 back.1)
 
--- ---- on the way
+-- ---- the last worker
 
--- Some workers were started: those of these writers, with the first of the shares. The others may begin, each with one of
--- the shares that are left.
-pub record AreUnderWay (q : DeleteQueue) (shares : List Share) (gone to_come : List ThreadWriter) (left : List Share) (started : List Started) : Type 0 where
-  pub seen : List Share
-  pub items : shares ≡ seen ++ left
-  pub are : AreStarted q gone seen started
-  pub rest : AllZip (IsAtWork q) to_come left
+no_more : {A B : Type 0} (R : A → B → Type 0) (ys : List B) (y : B) → AllZip R [] (ys ++ y ∷ []) → ⊥
+no_more R [] y all = all
+no_more R (b ∷ ys) y all = all
 
-both : (q : DeleteQueue) (ws : List ThreadWriter) (ss : List Share) (w : ThreadWriter) (more : List ThreadWriter) (s : Share) (others : List Share)
-    → AllZip (IsAtWork q) ws ss → ws ≡ w ∷ more → ss ≡ s ∷ others → IsAtWork q w s × AllZip (IsAtWork q) more others
-both q ws ss w more s others all writers_are shares_are =
-    subst (λ (xs : List ThreadWriter). AllZip (IsAtWork q) xs (s ∷ others)) writers_are (subst (λ (ys : List Share). AllZip (IsAtWork q) ws ys) shares_are all)
+none_before : {A B : Type 0} (R : A → B → Type 0) (xs : List A) (x : A) → AllZip R (xs ++ x ∷ []) [] → ⊥
+none_before R [] x all = all
+none_before R (a ∷ xs) x all = all
 
--- the next writer can go on with the next share
-pub next_at_work : (q : DeleteQueue) (ws : List ThreadWriter) (ss : List Share) (w : ThreadWriter) (more : List ThreadWriter) (s : Share) (others : List Share)
-    → AllZip (IsAtWork q) ws ss → ws ≡ w ∷ more → ss ≡ s ∷ others → IsAtWork q w s
-next_at_work q ws ss w more s others all writers_are shares_are = (both q ws ss w more s others all writers_are shares_are).0
+-- the last two, and those before them
+pub zip_last : {A B : Type 0} (R : A → B → Type 0) (xs : List A) (ys : List B) (x : A) (y : B) → AllZip R (xs ++ x ∷ []) (ys ++ y ∷ [])
+    → AllZip R xs ys × R x y
+zip_last R [] [] x y all = (tt, all.0)
+zip_last R [] (b ∷ ys) x y all = absurd (no_more R ys y all.1)
+zip_last R (a ∷ xs) [] x y all = absurd (none_before R xs x all.1)
+zip_last R (a ∷ xs) (b ∷ ys) x y all = let rest = zip_last R xs ys x y all.1 in ((all.0, rest.0), rest.1)
 
--- and there is one
-pub share_left : (q : DeleteQueue) (ws : List ThreadWriter) (ss : List Share) (w : ThreadWriter) (more : List ThreadWriter) → AllZip (IsAtWork q) ws ss
-    → ws ≡ w ∷ more → 0 < length ss
-share_left q [] ss w more all is = absurd (let zero_is = ap length is in omega (arith, zero_is))
-share_left q (x ∷ ws) [] w more all is = absurd all
-share_left q (x ∷ ws) (s ∷ ss) w more all is = omega arith
+-- the last writer can go on with the last share, and those before it with the others
+pub last_at_work : (q : DeleteQueue) (ws before : List ThreadWriter) (ss left : List Share) (w : ThreadWriter) (s : Share) → AllZip (IsAtWork q) ws ss
+    → ws ≡ before ++ w ∷ [] → ss ≡ left ++ s ∷ [] → AllZip (IsAtWork q) before left × IsAtWork q w s
+last_at_work q ws before ss left w s all writers_are shares_are =
+    zip_last (IsAtWork q) before left w s
+    (subst (λ (xs : List ThreadWriter). AllZip (IsAtWork q) xs (left ++ s ∷ [])) writers_are (subst (λ (ys : List Share). AllZip (IsAtWork q) ws ys) shares_are all))
 
-pub under_way_next : (q : DeleteQueue) (shares : List Share) (gone to_come more : List ThreadWriter) (left others : List Share) (started : List Started) (w : ThreadWriter)
-    (s : Share) (t : Started) → AreUnderWay q shares gone to_come left started → to_come ≡ w ∷ more → left ≡ s ∷ others → Starts q w s t
-    → AreUnderWay q shares (gone ++ w ∷ []) more others (started ++ t ∷ [])
-under_way_next q shares gone to_come more left others started w s t way writers_are left_is starts = record {
-  seen = way.seen ++ s ∷ [];
-  items = way.items ∙ (ap (λ (ss : List Share). way.seen ++ ss) left_is ∙ sym (append_assoc way.seen (s ∷ []) others));
-  are = started_more q gone way.seen started w s t way.are starts;
-  rest = (both q to_come left w more s others way.rest writers_are left_is).1;
-}
+-- the last worker was started after those before it
+pub started_last : (q : DeleteQueue) (ws before : List ThreadWriter) (ss left : List Share) (w : ThreadWriter) (s : Share) (ts some : List Started) (t : Started)
+    → ws ≡ before ++ w ∷ [] → ss ≡ left ++ s ∷ [] → ts ≡ some ++ t ∷ [] → AreStarted q before left some → Starts q w s t → AreStarted q ws ss ts
+started_last q ws before ss left w s ts some t writers_are shares_are items are starts =
+    subst (λ (xs : List ThreadWriter). AreStarted q xs ss ts) (sym writers_are)
+    (subst (λ (ys : List Share). AreStarted q (before ++ w ∷ []) ys ts) (sym shares_are)
+    (subst (λ (zs : List Started). AreStarted q (before ++ w ∷ []) (left ++ s ∷ []) zs) (sym items) (started_more q before left some w s t are starts)))
 
--- all writers were started, and no share is left
-pub all_started : (q : DeleteQueue) (shares : List Share) (ws : List ThreadWriter) (left : List Share) (started : List Started)
-    → AreUnderWay q shares ws [] left started → AreStarted q ws shares started
-all_started q shares ws left started way =
-    subst (λ (ss : List Share). AreStarted q ws ss started) (sym (way.items ∙ (ap (λ (ss : List Share). way.seen ++ ss) (no_share left way.rest) ∙ append-nil way.seen))) way.are
-  where
-    no_share : (ss : List Share) → AllZip (IsAtWork q) [] ss → ss ≡ []
-    no_share [] all = refl
-    no_share (s ∷ ss) all = absurd all
+-- as many of the one as of the other
+pub zip_many : {A B : Type 0} (R : A → B → Type 0) (xs : List A) (ys : List B) → AllZip R xs ys → length xs ≡ length ys
+zip_many R [] [] all = refl
+zip_many R [] (b ∷ ys) all = absurd all
+zip_many R (a ∷ xs) [] all = absurd all
+zip_many R (a ∷ xs) (b ∷ ys) all = ap suc (zip_many R xs ys all.1)
 
 -- as many were started as there are writers
 pub started_many : (q : DeleteQueue) (ws : List ThreadWriter) (ss : List Share) (ts : List Started) → AreStarted q ws ss ts → length ts ≡ length ws

@@ -56,8 +56,8 @@ told_in (t ∷ ts) (r ∷ rs) = told_by t.operation r ++ told_in ts rs
 -- ---- a writer
 
 -- Whatever the writer of the queue had been told, it was told these operations besides, all of them numbered above the
--- base of the queue; and it gave the new pieces off. Where it had linked nothing and was told nothing, it has linked
--- nothing.
+-- base of the queue; and it gave the new pieces off, behind those that it had given off. Where it had linked nothing and
+-- was told nothing, it has linked nothing.
 pub record WorksOn (q : DeleteQueue) (more : List NumberedOperation) (old : ThreadWriter) (gave : List Piece)
     (new : ThreadWriter) (given : List Piece) : Type 0 where
   pub writer : IsWriter q new
@@ -65,6 +65,7 @@ pub record WorksOn (q : DeleteQueue) (more : List NumberedOperation) (old : Thre
   pub size_is : new.size ≡ old.size
   pub history : (before : List NumberedOperation) → Did q (parts_of old) before gave
       → Did q (parts_of new) (before ++ more) given
+  pub gave_more : (pieces : List Piece) × (given ≡ gave ++ pieces)
   pub above : AllByRecursion (λ (t : NumberedOperation). base_of q < t.0) more
   pub still : own_of old.seat ≡ [] → more ≡ [] → own_of new.seat ≡ []
 

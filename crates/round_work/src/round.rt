@@ -34,8 +34,7 @@ impl Promise<Worked> for WorkPromise {
     ghost kept_by = { λ p worked. Works p.queue.value p.writer.value p.share.value worked };
 }
 
-/// A worker that was started: one in a thread, or one whose thread couldn't be started, and which
-/// was done here.
+/// A worker that was started in a thread, or one that was done here.
 #[derive(Drop)]
 pub(crate) enum Started {
     Thread(PromisedHandle<Worked, WorkPromise>),
@@ -43,8 +42,9 @@ pub(crate) enum Started {
 }
 
 /// Does the shares of a round, each by its writer in a thread of its own, and waits for all. A
-/// worker whose thread can't be started is done by the caller. What comes back is in the order of the
-/// workers. It asks for as many shares as writers, each with the pieces that its writer gave off.
+/// worker whose share is done needs no thread. A worker whose thread can't be started is done by the
+/// caller, after the others were started. What comes back is in the order of the workers. It asks for
+/// as many shares as writers, each with the pieces that its writer gave off.
 ///
 /// The only error is out of memory: nothing was begun.
 pub fn run_round<R: Threads + Wait, G: Gate>(
@@ -76,55 +76,51 @@ pub fn run_round<R: Threads + Wait, G: Gate>(
     ))
 }
 
-/// Starts each worker, in order.
+/// Starts each worker in a thread, the last of them first. A worker whose share is done, and one
+/// whose thread can't be started, is done here once the workers before it were started.
 fn start_all<'s, E, G: Gate>(
     scope: &Scope<'s, E>,
     queue: &'s DeleteQueue,
-    writers: Vec<ThreadWriter>,
-    shares: Vec<Share>,
+    mut writers: Vec<ThreadWriter>,
+    mut shares: Vec<Share>,
     gate: &'s G,
-    mut started: Vec<Started>,
+    started: Vec<Started>,
 ) -> Vec<Started>
     requires workers { AllZip (IsAtWork queue.now) writers.items shares.items }
-    requires room { (started.items ≡ []) × (length writers.items ≤ vec_capacity started) }
-    ensures { AreStarted queue.now writers.items shares.items result.items }
+    requires empty { started.items ≡ [] }
+    requires room { length writers.items ≤ vec_capacity started }
+    ensures started { AreStarted queue.now writers.items shares.items result.items }
+    ensures room { vec_capacity result ≡ vec_capacity started }
 {
-    let mut shares = shares.into_iter();
-    for writer in writers {
-        let Some(share) = shares.next() else {
-            unreachable!()
-        };
-        started.push_reserved(start_one(scope, queue, writer, share, gate));
+    let Some(writer) = writers.pop() else {
+        return started;
+    };
+    let Some(share) = shares.pop() else {
+        unreachable!()
+    };
+    if share.is_done() {
+        let mut started = start_all(scope, queue, writers, shares, gate, started);
+        started.push_reserved(Started::Here(work(queue, writer, share, gate)));
+        return started;
     }
-    started
-}
-
-/// Starts a worker in a thread, or does its work where none can be started.
-fn start_one<'s, E, G: Gate>(
-    scope: &Scope<'s, E>,
-    queue: &'s DeleteQueue,
-    writer: ThreadWriter,
-    share: Share,
-    gate: &'s G,
-) -> Started
-    requires { IsAtWork queue.now writer share }
-    ensures { Starts queue.now writer share result }
-{
     let promise = WorkPromise {
         queue: Snapshot::of(queue),
         writer: Snapshot::of(&writer),
         share: Snapshot::of(&share),
     };
-    match scope.spawn_with(
+    let child = scope.spawn_with(
         promise,
         move || -> Worked
             requires { IsAtWork queue.now writer share }
             ensures { Works queue.entry.now writer share result }
         { work(queue, writer, share, gate) },
-    ) {
+    );
+    let mut started = start_all(scope, queue, writers, shares, gate, started);
+    started.push_reserved(match child {
         Ok(child) => Started::Thread(child),
         Err(refused) => Started::Here((refused.value)()),
-    }
+    });
+    started
 }
 
 /// Waits for each worker, in order.

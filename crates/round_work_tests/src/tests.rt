@@ -1,5 +1,5 @@
 //! Workers of small queues, against what was worked out by hand.
-ghost use Rattle.std.specs.Prelude.{◌≡◌, ◌≤◌, [], length, IfOk};
+ghost use Rattle.std.specs.Prelude.{◌≡◌, ◌<◌, ◌≤◌, [], length, IfOk};
 ghost use Rattle.std.specs.List.{AllZip};
 ghost use Rattle.delete_queue.specs.Making.{AreNewFrom};
 ghost use Rattle.delete_queue.specs.Seats.{IsSeatOf, own_of};
@@ -76,7 +76,7 @@ fn one_round<G: Gate>(
     gate: &G,
     out: &mut String,
 ) -> Result<Share, Fail>
-    requires base { base ≤ 4 }
+    requires base { base ≤ 1000 }
     requires few { length share.replies ≤ length share.tasks }
     requires gave { share.gave ≡ [] }
     ensures few { IfOk result (λ share. length share.replies ≤ length share.tasks) }
@@ -95,12 +95,12 @@ fn one_round<G: Gate>(
     Ok(share)
 }
 
-/// What becomes of a share in two rounds.
+/// What becomes of a share in two rounds, the first of them behind the number 250.
 fn two_rounds<G: Gate>(alloc: Global, gate: &G) -> Result<String, Fail> {
     let mut out = String::new(alloc);
     let share = Share::new(alloc, four_tasks(alloc)?);
-    let share = one_round(alloc, 0, share, gate, &mut out)?;
-    let share = one_round(alloc, 2, share, gate, &mut out)?;
+    let share = one_round(alloc, 250, share, gate, &mut out)?;
+    let share = one_round(alloc, 252, share, gate, &mut out)?;
     write!(out, " {}", share.tasks().len())?;
     Ok(out)
 }
@@ -111,10 +111,20 @@ fn two_rounds<G: Gate>(alloc: Global, gate: &G) -> Result<String, Fail> {
 fn worker_of_two_rounds(rt: HostRuntime) -> Result<(), Fail> {
     let gate = RecordingGate::new();
     let shown = two_rounds(rt.alloc(), &gate)?;
-    let expected = " 1 term 32767 2 closed 1; 1 term 32767 2 3 done 0; 4";
+    let expected = " 251 term 32767 252 closed 1; 251 term 32767 252 253 done 0; 4";
     assert!(rt; shown.as_str() == expected);
     assert!(rt; gate.count() == 7);
-    for (place, wanted) in [1, 101, 2, 3, 302, 4, 403, 0].iter().enumerate() {
+    let heard = [
+        (1, 0),
+        (1, 251),
+        (2, 0),
+        (3, 0),
+        (3, 252),
+        (4, 0),
+        (4, 253),
+        (0, 0),
+    ];
+    for (place, wanted) in heard.iter().enumerate() {
         assert!(rt; gate.heard(place) == *wanted);
     }
     Ok(())
@@ -171,12 +181,13 @@ fn round<R: Threads + Wait, G: Gate>(
     Ok(run_round(rt, alloc, &queue, writers, shares, gate)?)
 }
 
-/// Two workers meet. Neither order of them, one after the other, passes the gate.
+/// Two workers meet: each has begun its first line before the other's is told, and the gate hears of a
+/// line before it is linked. Neither order of the workers, one after the other, passes the gate.
 #[test]
 fn two_workers_meet(rt: HostRuntime) -> Result<(), Fail> {
     let gate = MeetingGate::new();
     let mut out = String::new(rt.alloc());
-    for worked in round(&rt, rt.alloc(), 2, 1, &gate)? {
+    for worked in round(&rt, rt.alloc(), 2, 2, &gate)? {
         let Worked {
             mut share,
             stop,
@@ -186,30 +197,44 @@ fn two_workers_meet(rt: HostRuntime) -> Result<(), Fail> {
         show(&mut out, stop, &share, pieces)?;
     }
     assert!(rt; !gate.is_late());
-    assert!(rt; out.as_str() == " 2 done 0; 1 done 0;");
+    assert!(rt; out.as_str() == " 3 4 done 1; 1 2 done 1;");
     Ok(())
 }
 
-/// Four workers go on side by side: the lines of each group get the next four numbers.
-#[test]
-fn four_workers(rt: HostRuntime) -> Result<(), Fail> {
-    let gate = GroupsGate::new();
-    let mut seen = [false; 33];
-    for worked in round(&rt, rt.alloc(), 4, 8, &gate)? {
-        assert!(rt; worked.stop == Stop::Done && worked.share.is_done());
-        let replies = worked.share.into_replies();
-        assert!(rt; replies.len() == 8);
-        for (group, reply) in replies.iter().enumerate() {
-            let Reply::Numbered(number) = reply else {
-                return Err("a refusal")?;
-            };
-            let number = *number;
-            assert!(rt; number >= 1 && number <= 32);
-            assert!(rt; (number - 1) / 4 == group as u64);
-            assert!(rt; !seen[number as usize]);
-            seen[number as usize] = true;
+/// Whether the replies are the numbers of the groups in turn, where each group has so many numbers.
+/// The numbers are noted as seen, and were not seen before.
+fn follow(replies: &[Reply], workers: u64, seen: &mut [bool]) -> bool
+    requires { (0 < workers) × (length seen.old ≡ 33) }
+{
+    for (group, reply) in replies.iter().enumerate() {
+        let Reply::Numbered(number) = reply else {
+            return false;
+        };
+        let number = *number;
+        if number < 1 || number > 32 || (number - 1) / workers != group as u64 {
+            return false;
         }
+        if seen[number as usize] {
+            return false;
+        }
+        seen[number as usize] = true;
     }
-    assert!(rt; !gate.is_late());
+    true
+}
+
+/// Workers go on side by side, each with so many adds: the lines of each group, one of each worker, get
+/// the next numbers. With fewer threads than workers no group is begun as a whole.
+#[test]
+fn workers_side_by_side(rt: HostRuntime) -> Result<(), Fail> {
+    for (workers, each) in [(4, 8), (16, 2)] {
+        let gate = GroupsGate::new(workers);
+        let mut seen = [false; 33];
+        for worked in round(&rt, rt.alloc(), workers, each, &gate)? {
+            assert!(rt; worked.stop == Stop::Done && worked.share.is_done());
+            let replies = worked.share.replies();
+            assert!(rt; follow(replies, u64::from(workers), &mut seen));
+        }
+        assert!(rt; !gate.is_late());
+    }
     Ok(())
 }

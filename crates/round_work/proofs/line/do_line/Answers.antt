@@ -1,4 +1,4 @@
-use Rattle.std.proofs.Common.{◌≡◌, ◌∙◌, [], Result, IfOk, length, sym, ap, subst, arith}
+use Rattle.std.proofs.Common.{◌≡◌, ◌∙◌, [], Result, IfOk, length, sym, ap, subst, arith, append-nil}
 use Rattle.ix_base.specs.Entry.{entry_of}
 use Rattle.ix_base.specs.Words.{entry_words}
 use Rattle.delete_queue.specs.Seats.{SawClosed, own_of, the_view}
@@ -36,7 +36,7 @@ returns-clause-works c =
           works_on q more ready done w.turn.new.self gave gave gave line
           (told_nothing q done w.turn.new.self gave gave w.turn.ensures.writer w.turn.ensures.grows w.turn.ensures.buffer.1
           (λ own. absurd (let some = full.some in let zero_is = ap length own in omega (arith, some, zero_is)))
-          (λ so_far did. w.turn.ensures.history so_far gave did)))
+          (λ so_far did. w.turn.ensures.history so_far gave did) [] (sym (append-nil gave))))
       | in_default w ↦ subst (λ (v : ThreadWriter). WorksOn q more ready gave v gave) (sym w.writer-is) line
     ]))
 

@@ -15,3 +15,4 @@ returns-in-Some-clause-works c =
     let gives = subst (λ (is : Option Piece). IfSome is (λ p. Gives q p c.args.writer.now new)) c.in-Some.is taken.gives in
     told_nothing q c.args.writer.now new gave c.push_reserved.new.self.items taken.writer taken.grows taken.size (λ own. taken.own ∙ own)
     (λ before did. subst (λ (ps : List Piece). Did q (parts_of new) before ps) (sym given) (gives.history before gave did))
+    (c.in-Some.piece ∷ []) given

@@ -2,7 +2,7 @@ use Rattle.std.proofs.Common.{◌≡◌, ◌∙◌, ℕ, ◌<◌, length, sym, s
 use Rattle.std.specs.Prelude.{slice_index_or}
 use Rattle.round_work.specs.Shares.{share_of}
 use Rattle.round_work.proofs.AtWork.{works_not}
-use Rattle.round_work.proofs.Tasks.{does_next, does_start, going_next}
+use Rattle.round_work.proofs.Tasks.{does_next, does_start, does_stop, going_next}
 use Rattle.round_work.proofs.Turning.{stop_turns}
 use Rattle.round_work.proofs.working.do_tasks.Goals as goal
 
@@ -53,6 +53,15 @@ loop-replies-preserved g c =
     going_next c.args.queue.now c.args.writer.now at.writer after.writer start at.replies.items after.replies.items at.gave.items after.gave.items t c.in-Ok.field-0 at.invariant
     inside (subst (λ (i : ℕ). slice_index_or c.args.tasks.now i t ≡ t) same (sym c.index-tasks-len.is)) done.reply done.noted done.works
     (sym c.is_commit.ensures ∙ c.if-is_commit.false) done.turned
+
+pub returns-in-Err-clause-does : goal.returns-in-Err-clause-does
+returns-in-Err-clause-does g c =
+    let start = share_of c.args.tasks.now c.args.replies.now.items c.args.gave.now.items in
+    let at = c.loop-replies in
+    let after = c.do_task.new in
+    let halted = c.in-Err.ensures in
+    does_stop c.args.queue.now c.args.writer.now at.writer after.writer start at.replies.items after.replies.items at.gave.items after.gave.items at.invariant
+    halted.same halted.works
 
 pub returns-in-Err-clause-turned : goal.returns-in-Err-clause-turned
 returns-in-Err-clause-turned g c =

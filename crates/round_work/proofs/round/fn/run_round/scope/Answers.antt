@@ -8,7 +8,7 @@ come_all-requires g c =
     record {
       room = (
         c.requires.empty.1,
-        (let many = started_many q c.captures.writers.items c.captures.shares.items c.start_all-started.result.items c.start_all-started.ensures in
+        (let many = started_many q c.captures.writers.items c.captures.shares.items c.start_all-started.result.items c.start_all-started.ensures.started in
             let all = c.requires.all in
             omega (arith, many, all)),
       );
@@ -17,4 +17,4 @@ come_all-requires g c =
 pub returns : goal.returns
 returns g c =
     worked_all c.captures.queue.now c.captures.writers.items c.captures.shares.items c.start_all-started.result.items c.come_all.result.items
-    c.start_all-started.ensures c.come_all.ensures
+    c.start_all-started.ensures.started c.come_all.ensures
