@@ -9,6 +9,7 @@
 //! atomic step. No call but `make` and `finish` takes memory, and none waits.
 #![tactic(auto)]
 
+mod blank;
 mod copy;
 mod entry;
 mod finish;
@@ -21,6 +22,7 @@ mod read;
 mod seat;
 mod steps;
 
+pub use blank::Blank;
 pub use finish::FinishRefused;
 pub use log::QueueLog;
 pub use queue::DeleteQueue;

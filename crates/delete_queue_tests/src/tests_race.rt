@@ -6,7 +6,7 @@ use delete_queue::{Closing, DeleteQueue, Linked, QueueLog, Seat};
 use std::alloc::Global;
 use std::test::*;
 use std::thread::{Threads, join};
-use test_operations::delete_of_five;
+use test_operations::{delete_of_five, new_queue};
 
 /// What one thread has done.
 #[derive(Drop)]
@@ -75,7 +75,7 @@ fn ends_with_commit(log: &QueueLog, deletes: u64) -> bool
 
 /// One queue: made, filled by two threads, closed and finished.
 fn race<R: Threads>(rt: &R, alloc: Global) -> Result<bool, Fail> {
-    let (queue, mut seats) = DeleteQueue::make(alloc, 0, 2)?;
+    let (queue, mut seats) = new_queue(alloc, 0, 2)?;
     let second = seats.pop().ok_or("a seat")?;
     let first = seats.pop().ok_or("a seat")?;
     let (a, b) = fill_both(rt, &queue, first, second);

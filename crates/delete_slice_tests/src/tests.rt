@@ -12,7 +12,7 @@ use frozen_packet::Updates;
 use ix_base::NoMemory;
 use std::alloc::Global;
 use std::test::*;
-use test_operations::{add, delete_of_five, delete_of_six};
+use test_operations::{add, delete_of_five, delete_of_six, new_queue};
 
 /// The words of an entry that sets `n` to 7 where the field `key` holds the term `abcde`.
 fn set_to_seven() -> [u64; 5]
@@ -110,7 +110,7 @@ fn link_two(queue: &DeleteQueue, seat: &mut Seat) -> bool
 #[test]
 fn slices_of_a_queue(rt: HostRuntime) -> Result<(), Fail> {
     let alloc = rt.alloc();
-    let (queue, mut seats) = DeleteQueue::make(alloc, 3, 1)?;
+    let (queue, mut seats) = new_queue(alloc, 3, 1)?;
     let mut seat = seats.pop().ok_or("a seat")?;
     let mut first = Slice::start(&seat);
     assert!(rt; link_three(&queue, &mut seat));
@@ -195,7 +195,7 @@ fn numbers_in(alloc: Global, updates: &Updates) -> Result<Vec<u64>, NoMemory> {
 #[test]
 fn slices_of_thousands(rt: HostRuntime) -> Result<(), Fail> {
     let alloc = rt.alloc();
-    let (queue, mut seats) = DeleteQueue::make(alloc, 0, 1)?;
+    let (queue, mut seats) = new_queue(alloc, 0, 1)?;
     let mut seat = seats.pop().ok_or("a seat")?;
     let mut first = Slice::start(&seat);
     assert!(rt; link_thousands(&queue, &mut seat));

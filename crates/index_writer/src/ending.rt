@@ -1,6 +1,6 @@
 //! What came back of a round, put together: the pieces of all its writers, and the packet of all its
 //! operations.
-ghost use Rattle.std.specs.Prelude.{◌≡◌, ◌≤◌, List, map, length, IfOk, OnOk};
+ghost use Rattle.std.specs.Prelude.{◌≡◌, ◌↔◌, ◌≤◌, List, map, length, IfOk, OnOk};
 ghost use Rattle.std.specs.List.{AllByRecursion};
 ghost use Rattle.ix_base.specs.Words.{head_kind};
 ghost use Rattle.delete_queue.specs.Log.{entries_of, last_head_or, last_number};
@@ -10,7 +10,7 @@ ghost use Rattle.thread_writer.specs.Writing.{parts_of};
 ghost use Rattle.flush_control.specs.Logs.{IsLast, IsPacketOf, TakesAll};
 ghost use Rattle.index_writer.specs.Rounds.{ArePartsOf};
 ghost use Rattle.index_writer.specs.Ending.{AreEnded, CanEnd, IsGathered, rests_of};
-ghost use Rattle.index_writer.specs.Working.{IsStuck};
+ghost use Rattle.index_writer.specs.Working.{IsStuck, SomeTurned};
 
 use crate::round::RoundParts;
 use delete_queue::{Place, QueueLog, Seat};
@@ -52,6 +52,7 @@ pub fn gather(alloc: Global, base: u64, parts: RoundParts) -> Result<Gathered, N
     ensures gathered { (told : List (List Numbered)) → ArePartsOf base told parts
         → IfOk result (IsGathered base told) }
     ensures open { OnOk result (IsStuck parts → ⊥) }
+    ensures turned { IfOk result (λ g. (g.kind ≡ 7) ↔ SomeTurned parts) }
 {
     rounds_are_ordered();
     logs_are_in_grammar();
