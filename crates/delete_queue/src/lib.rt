@@ -9,7 +9,6 @@
 //! atomic step. No call but `make` and `finish` takes memory, and none waits.
 #![tactic(auto)]
 
-mod blank;
 mod copy;
 mod entry;
 mod finish;
@@ -19,11 +18,12 @@ mod make;
 mod meet;
 mod queue;
 mod read;
+mod reserve;
 mod seat;
 mod steps;
 
-pub use blank::Blank;
 pub use finish::FinishRefused;
 pub use log::QueueLog;
 pub use queue::DeleteQueue;
+pub use reserve::Reserve;
 pub use seat::{Closing, Found, Linked, Look, Place, Seat};

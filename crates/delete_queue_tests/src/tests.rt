@@ -1,7 +1,7 @@
 ghost use Rattle.std.specs.Prelude.{◌≡◌, ◌∷◌, [], IfOk};
 ghost use Rattle.delete_queue.specs.Seats.{IsSeatOf};
 
-use delete_queue::{Closing, DeleteQueue, Found, Linked, Look, Place, Seat};
+use delete_queue::{Closing, DeleteQueue, Found, Linked, Look, Place, Reserve, Seat};
 use ix_base::NoMemory;
 use std::alloc::Global;
 use std::test::*;
@@ -128,7 +128,10 @@ fn two_seats_link(rt: HostRuntime) -> Result<(), Fail> {
     let mut back = Vec::new(alloc);
     back.push(first)?;
     back.push(second)?;
-    let log = queue.finish(back).ok().ok_or("memory")?;
+    let log = queue
+        .finish(back, &mut Reserve::new(alloc))
+        .ok()
+        .ok_or("memory")?;
     assert!(rt; log.len() == 2000);
     for i in 0..log.len() {
         let (number, kind, words) = log.entry(i);

@@ -2,7 +2,7 @@
 ghost use Rattle.std.specs.Prelude.{◌≡◌, ◌<◌, IfOk, [], ◌∷◌, length};
 ghost use Rattle.delete_queue.specs.Seats.{IsSeatOf};
 
-use delete_queue::{Closing, DeleteQueue, Linked, QueueLog, Seat};
+use delete_queue::{Closing, DeleteQueue, Linked, QueueLog, Reserve, Seat};
 use std::alloc::Global;
 use std::test::*;
 use std::thread::{Threads, join};
@@ -93,7 +93,10 @@ fn race<R: Threads>(rt: &R, alloc: Global) -> Result<bool, Fail> {
     let mut both = Vec::with_capacity(alloc, 2)?;
     both.push(first)?;
     both.push(second)?;
-    let log = queue.finish(both).ok().ok_or("a log")?;
+    let log = queue
+        .finish(both, &mut Reserve::new(alloc))
+        .ok()
+        .ok_or("a log")?;
     Ok(full && closed && ends_with_commit(&log, 8320))
 }
 

@@ -6,7 +6,7 @@ ghost use Rattle.delete_queue.specs.Seats.{IsSeatOf, Extends, Learns};
 ghost use Rattle.delete_slice.specs.Laws.{IsInGrammar};
 ghost use Rattle.delete_slice.specs.Slices.{IsSliceOf};
 
-use delete_queue::{DeleteQueue, Linked, QueueLog, Seat};
+use delete_queue::{DeleteQueue, Linked, QueueLog, Reserve, Seat};
 use delete_slice::Slice;
 use frozen_packet::Updates;
 use ix_base::NoMemory;
@@ -64,7 +64,7 @@ fn log_of(alloc: Global, queue: DeleteQueue, seat: Seat) -> Result<QueueLog, NoM
 {
     let mut seats = Vec::new(alloc);
     seats.push(seat)?;
-    match queue.finish(seats) {
+    match queue.finish(seats, &mut Reserve::new(alloc)) {
         Ok(log) => Ok(log),
         Err(_) => Err(NoMemory),
     }

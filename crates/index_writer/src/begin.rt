@@ -8,7 +8,7 @@ ghost use Rattle.index_writer.specs.Ready.{IsSound};
 use crate::fault::WriterFault;
 use crate::round::Round;
 use crate::writer::IndexWriter;
-use delete_queue::{Blank, DeleteQueue, Seat};
+use delete_queue::{DeleteQueue, Reserve, Seat};
 use ix_base::NoMemory;
 use std::alloc::Global;
 use thread_writer::ThreadWriter;
@@ -36,7 +36,7 @@ impl<S> IndexWriter<S> {
             return Err(WriterFault::Closed);
         }
         let upto = self.state.published.upto;
-        let round = new_round(self.alloc, upto, n, self.state.buffer, &mut self.blank)?;
+        let round = new_round(self.alloc, upto, n, self.state.buffer, &mut self.reserve)?;
         self.state.out = true;
         Ok(round)
     }
@@ -48,7 +48,7 @@ fn new_round(
     base: u64,
     n: u32,
     buffer: u32,
-    blank: &mut Blank,
+    reserve: &mut Reserve,
 ) -> Result<Round, NoMemory>
     requires base { base ≤ 2 ^ 62 }
     requires seats { (1 ≤ n) × (n ≤ 16) }
@@ -58,7 +58,7 @@ fn new_round(
     ensures all { IfOk result (λ round. length round.writers.items ≡ n) }
     ensures writers { IfOk result (λ round. AreBegunFrom round.queue buffer 0 round.writers.items) }
 {
-    let (queue, seats) = DeleteQueue::make(alloc, base, n, blank)?;
+    let (queue, seats) = DeleteQueue::make(alloc, base, n, reserve)?;
     let writers = writers_of(alloc, &queue, seats, buffer)?;
     Ok(Round { queue, writers })
 }

@@ -13,6 +13,7 @@ use crate::round::{RoundEnd, RoundParts};
 use crate::state::State;
 use crate::writer::IndexWriter;
 use commit_point::Written;
+use delete_queue::Reserve;
 use flush_control::{rounds_meet, rounds_stand};
 use ix_base::{List, NoMemory};
 use std::alloc::Global;
@@ -64,7 +65,10 @@ impl<S> IndexWriter<S> {
                 fault: WriterFault::Closed,
             });
         }
-        match self.state.take_parts(rt, self.alloc, parts) {
+        match self
+            .state
+            .take_parts(rt, self.alloc, &mut self.reserve, parts)
+        {
             Ok(end) => Ok(end),
             Err(_) => {
                 self.state.closed = true;
@@ -84,6 +88,7 @@ impl State {
         &mut self,
         rt: &R,
         alloc: Global,
+        reserve: &mut Reserve,
         parts: RoundParts,
     ) -> Result<RoundEnd, NoMemory>
         requires ready { IsReady self.old }
@@ -98,7 +103,7 @@ impl State {
         ensures open { OnOk result (IsStuck parts → ⊥) }
         ensures turned { IfOk result (TurnsExactly parts) }
     {
-        let gathered = gather(alloc, self.published.upto, parts)?;
+        let gathered = gather(alloc, self.published.upto, reserve, parts)?;
         self.take(rt, alloc, gathered)
     }
 

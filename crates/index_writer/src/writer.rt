@@ -5,7 +5,7 @@ ghost use Rattle.index_writer.specs.Ready.{CanFollow, IsReady, opened_on, writte
 use crate::fault::OpenRefused;
 use crate::state::State;
 use commit_point::{HeadSegment, Opened, Written};
-use delete_queue::Blank;
+use delete_queue::Reserve;
 use flush_control::Published;
 use ix_base::{List, NoMemory};
 use segment_core::LiveSegment;
@@ -16,8 +16,8 @@ use std::alloc::Global;
 pub struct IndexWriter<S> {
     pub(crate) store: S,
     pub(crate) state: State,
-    /// What the queues of its rounds are made of.
-    pub(crate) blank: Blank,
+    /// The memory that the queues of its rounds use, one after another.
+    pub(crate) reserve: Reserve,
     pub(crate) alloc: Global,
 }
 
@@ -54,7 +54,7 @@ impl<S> IndexWriter<S> {
                 pending: None,
                 closed: false,
             },
-            blank: Blank::new(alloc),
+            reserve: Reserve::new(alloc),
             alloc,
         }
     }
@@ -98,7 +98,7 @@ impl<S> IndexWriter<S> {
                 pending: None,
                 closed: false,
             },
-            blank: Blank::new(alloc),
+            reserve: Reserve::new(alloc),
             alloc,
         })
     }
