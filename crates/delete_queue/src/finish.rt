@@ -5,11 +5,10 @@ ghost use Rattle.delete_queue.specs.Seats.{IsSeatOf, seats_of};
 ghost use Rattle.delete_queue.specs.Copying.{HasSpace};
 ghost use Rattle.delete_queue.specs.Log.{TakesIn, IsLogOf};
 
-use crate::copy::Room;
 use crate::log::QueueLog;
 use crate::queue::DeleteQueue;
+use crate::reserve::Reserve;
 use crate::seat::Seat;
-use ix_base::NoMemory;
 
 /// Out of memory for the log. The queue and its seats are given back as they were.
 #[derive(Drop)]
@@ -21,17 +20,6 @@ pub struct FinishRefused {
 }
 
 impl DeleteQueue {
-    // Room for a log of all that the table can hold.
-    fn room(&self) -> Result<Room, NoMemory>
-        ensures empty { IfOk result (λ r. (r.ends.items ≡ []) × (r.words.items ≡ [])) }
-        ensures space { IfOk result (λ r. HasSpace r (seats_of self.now)) }
-    {
-        let seats = self.seats as usize;
-        let ends = Vec::with_capacity(self.alloc, 8321 * seats)?;
-        let words = Vec::with_capacity(self.alloc, 16642 * seats)?;
-        Ok(Room { ends, words })
-    }
-
     // One of the seats takes the others over. `None` where there is no seat.
     fn meet_all(&self, seats: Vec<Seat>) -> Option<Seat>
         requires seats { Each (IsSeatOf self.now) seats.items }
@@ -54,15 +42,15 @@ impl DeleteQueue {
     ///
     /// The log is the whole list: each seat's entries in it are those that it linked, at their
     /// places; what a seat knows of an entry's words is what the log has; nothing follows an entry
-    /// that closes the queue. The only error is out of memory: the queue and the seats are then given
-    /// back as they were.
-    pub fn finish(self, seats: Vec<Seat>) -> Result<QueueLog, FinishRefused>
+    /// that closes the queue. Memory that an earlier log left in the reserve is used again. The only
+    /// error is out of memory: the queue and the seats are then given back as they were.
+    pub fn finish(self, seats: Vec<Seat>, reserve: &mut Reserve) -> Result<QueueLog, FinishRefused>
         requires some { 0 < length seats.items }
         requires seats { Each (IsSeatOf self) seats.items }
         ensures log { IfOk result (λ log. IsLogOf self seats.items log) }
         ensures refused { IfErr result (λ r. (r.queue ≡ self) × (r.seats ≡ seats)) }
     {
-        let Ok(mut room) = self.room() else {
+        let Ok(mut room) = reserve.room(self.alloc, self.seats) else {
             return Err(FinishRefused { queue: self, seats });
         };
         let Some(mut seat) = self.meet_all(seats) else {

@@ -18,10 +18,12 @@ mod make;
 mod meet;
 mod queue;
 mod read;
+mod reserve;
 mod seat;
 mod steps;
 
 pub use finish::FinishRefused;
 pub use log::QueueLog;
 pub use queue::DeleteQueue;
+pub use reserve::Reserve;
 pub use seat::{Closing, Found, Linked, Look, Place, Seat};

@@ -23,3 +23,8 @@ pub struct DeleteQueue {
     ghost many: { seats ≡ table.shared.key },
     ghost wide: { table.shared.table_id.words ≡ start table.shared.key },
 }
+
+// The queue holds nothing beside its table, two numbers and the allocator, and so no lock.
+const _: () = prove!(
+    size_of::<DeleteQueue>() == size_of::<Table<(), View, u64, QueueRule, Global>>() + 16
+);

@@ -26,6 +26,9 @@ pub(crate) struct Progress {
     pub(crate) head: u64,
 }
 
+// A seat holds nothing beside its seat at the table and six numbers, and so no lock.
+const _: () = prove!(size_of::<Seat>() == size_of::<TableSeat<(), View>>() + 48);
+
 /// A place in the list: which entry, from 1, and its address. (0, 0) stands before the first.
 #[derive(Clone, Copy, Debug, PartialEq, Eq)]
 pub struct Place {

@@ -1,12 +1,12 @@
 ghost use Rattle.std.specs.Prelude.{◌≡◌, ◌∷◌, [], IfOk};
 ghost use Rattle.delete_queue.specs.Seats.{IsSeatOf};
 
-use delete_queue::{Closing, DeleteQueue, Found, Linked, Look, Place, Seat};
+use delete_queue::{Closing, DeleteQueue, Found, Linked, Look, Place, Reserve, Seat};
 use ix_base::NoMemory;
 use std::alloc::Global;
 use std::test::*;
 use std::thread::{Threads, join};
-use test_operations::{add, delete_of_five, delete_of_six};
+use test_operations::{add, delete_of_five, delete_of_six, new_queue};
 
 /// Links so many deletes, each of four words, and returns whether each got the next number.
 fn link_deletes(queue: &DeleteQueue, seat: &mut Seat, count: u64) -> bool
@@ -23,7 +23,7 @@ fn link_deletes(queue: &DeleteQueue, seat: &mut Seat, count: u64) -> bool
 
 #[test]
 fn seat_filled(rt: HostRuntime) -> Result<(), Fail> {
-    let (queue, mut seats) = DeleteQueue::make(rt.alloc(), 0, 1)?;
+    let (queue, mut seats) = new_queue(rt.alloc(), 0, 1)?;
     let mut seat = seats.pop().ok_or("a seat")?;
     assert!(rt; link_deletes(&queue, &mut seat, 4159));
     assert!(rt; queue.link(&mut seat, &delete_of_six()) == Linked::Full { need: 5, left: 4 });
@@ -37,7 +37,7 @@ fn seat_filled(rt: HostRuntime) -> Result<(), Fail> {
 
 #[test]
 fn look_shows(rt: HostRuntime) -> Result<(), Fail> {
-    let (queue, mut seats) = DeleteQueue::make(rt.alloc(), 7, 2)?;
+    let (queue, mut seats) = new_queue(rt.alloc(), 7, 2)?;
     let mut second = seats.pop().ok_or("a seat")?;
     let mut first = seats.pop().ok_or("a seat")?;
     assert!(rt; queue.link(&mut first, &delete_of_five()) == Linked::At(8));
@@ -113,7 +113,7 @@ fn rises(numbers: &[u64]) -> bool {
 #[test]
 fn two_seats_link(rt: HostRuntime) -> Result<(), Fail> {
     let alloc = rt.alloc();
-    let (queue, mut seats) = DeleteQueue::make(alloc, 0, 2)?;
+    let (queue, mut seats) = new_queue(alloc, 0, 2)?;
     let second = seats.pop().ok_or("a seat")?;
     let first = seats.pop().ok_or("a seat")?;
     let (a, b) = link_both(&rt, alloc, &queue, first, second);
@@ -128,7 +128,10 @@ fn two_seats_link(rt: HostRuntime) -> Result<(), Fail> {
     let mut back = Vec::new(alloc);
     back.push(first)?;
     back.push(second)?;
-    let log = queue.finish(back).ok().ok_or("memory")?;
+    let log = queue
+        .finish(back, &mut Reserve::new(alloc))
+        .ok()
+        .ok_or("memory")?;
     assert!(rt; log.len() == 2000);
     for i in 0..log.len() {
         let (number, kind, words) = log.entry(i);

@@ -2,11 +2,11 @@
 ghost use Rattle.std.specs.Prelude.{◌≡◌, ◌<◌, IfOk, [], ◌∷◌, length};
 ghost use Rattle.delete_queue.specs.Seats.{IsSeatOf};
 
-use delete_queue::{Closing, DeleteQueue, Linked, QueueLog, Seat};
+use delete_queue::{Closing, DeleteQueue, Linked, QueueLog, Reserve, Seat};
 use std::alloc::Global;
 use std::test::*;
 use std::thread::{Threads, join};
-use test_operations::delete_of_five;
+use test_operations::{delete_of_five, new_queue};
 
 /// What one thread has done.
 #[derive(Drop)]
@@ -75,7 +75,7 @@ fn ends_with_commit(log: &QueueLog, deletes: u64) -> bool
 
 /// One queue: made, filled by two threads, closed and finished.
 fn race<R: Threads>(rt: &R, alloc: Global) -> Result<bool, Fail> {
-    let (queue, mut seats) = DeleteQueue::make(alloc, 0, 2)?;
+    let (queue, mut seats) = new_queue(alloc, 0, 2)?;
     let second = seats.pop().ok_or("a seat")?;
     let first = seats.pop().ok_or("a seat")?;
     let (a, b) = fill_both(rt, &queue, first, second);
@@ -93,7 +93,10 @@ fn race<R: Threads>(rt: &R, alloc: Global) -> Result<bool, Fail> {
     let mut both = Vec::with_capacity(alloc, 2)?;
     both.push(first)?;
     both.push(second)?;
-    let log = queue.finish(both).ok().ok_or("a log")?;
+    let log = queue
+        .finish(both, &mut Reserve::new(alloc))
+        .ok()
+        .ok_or("a log")?;
     Ok(full && closed && ends_with_commit(&log, 8320))
 }
 

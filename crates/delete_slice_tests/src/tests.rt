@@ -6,13 +6,13 @@ ghost use Rattle.delete_queue.specs.Seats.{IsSeatOf, Extends, Learns};
 ghost use Rattle.delete_slice.specs.Laws.{IsInGrammar};
 ghost use Rattle.delete_slice.specs.Slices.{IsSliceOf};
 
-use delete_queue::{DeleteQueue, Linked, QueueLog, Seat};
+use delete_queue::{DeleteQueue, Linked, QueueLog, Reserve, Seat};
 use delete_slice::Slice;
 use frozen_packet::Updates;
 use ix_base::NoMemory;
 use std::alloc::Global;
 use std::test::*;
-use test_operations::{add, delete_of_five, delete_of_six};
+use test_operations::{add, delete_of_five, delete_of_six, new_queue};
 
 /// The words of an entry that sets `n` to 7 where the field `key` holds the term `abcde`.
 fn set_to_seven() -> [u64; 5]
@@ -64,7 +64,7 @@ fn log_of(alloc: Global, queue: DeleteQueue, seat: Seat) -> Result<QueueLog, NoM
 {
     let mut seats = Vec::new(alloc);
     seats.push(seat)?;
-    match queue.finish(seats) {
+    match queue.finish(seats, &mut Reserve::new(alloc)) {
         Ok(log) => Ok(log),
         Err(_) => Err(NoMemory),
     }
@@ -110,7 +110,7 @@ fn link_two(queue: &DeleteQueue, seat: &mut Seat) -> bool
 #[test]
 fn slices_of_a_queue(rt: HostRuntime) -> Result<(), Fail> {
     let alloc = rt.alloc();
-    let (queue, mut seats) = DeleteQueue::make(alloc, 3, 1)?;
+    let (queue, mut seats) = new_queue(alloc, 3, 1)?;
     let mut seat = seats.pop().ok_or("a seat")?;
     let mut first = Slice::start(&seat);
     assert!(rt; link_three(&queue, &mut seat));
@@ -195,7 +195,7 @@ fn numbers_in(alloc: Global, updates: &Updates) -> Result<Vec<u64>, NoMemory> {
 #[test]
 fn slices_of_thousands(rt: HostRuntime) -> Result<(), Fail> {
     let alloc = rt.alloc();
-    let (queue, mut seats) = DeleteQueue::make(alloc, 0, 1)?;
+    let (queue, mut seats) = new_queue(alloc, 0, 1)?;
     let mut seat = seats.pop().ok_or("a seat")?;
     let mut first = Slice::start(&seat);
     assert!(rt; link_thousands(&queue, &mut seat));

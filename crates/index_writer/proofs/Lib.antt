@@ -6,3 +6,4 @@ mod Committing
 mod MergedState
 mod Following
 mod Opened
+mod Turned

@@ -8,7 +8,7 @@ ghost use Rattle.index_writer.specs.Ready.{IsSound};
 use crate::fault::WriterFault;
 use crate::round::Round;
 use crate::writer::IndexWriter;
-use delete_queue::{DeleteQueue, Seat};
+use delete_queue::{DeleteQueue, Reserve, Seat};
 use ix_base::NoMemory;
 use std::alloc::Global;
 use thread_writer::ThreadWriter;
@@ -35,14 +35,21 @@ impl<S> IndexWriter<S> {
         if self.state.closed {
             return Err(WriterFault::Closed);
         }
-        let round = new_round(self.alloc, self.state.published.upto, n, self.state.buffer)?;
+        let upto = self.state.published.upto;
+        let round = new_round(self.alloc, upto, n, self.state.buffer, &mut self.reserve)?;
         self.state.out = true;
         Ok(round)
     }
 }
 
 /// A new queue of this base, and a writer for each of its seats.
-fn new_round(alloc: Global, base: u64, n: u32, buffer: u32) -> Result<Round, NoMemory>
+fn new_round(
+    alloc: Global,
+    base: u64,
+    n: u32,
+    buffer: u32,
+    reserve: &mut Reserve,
+) -> Result<Round, NoMemory>
     requires base { base ≤ 2 ^ 62 }
     requires seats { (1 ≤ n) × (n ≤ 16) }
     requires buffer { (1 ≤ buffer) × (buffer ≤ 65536) }
@@ -51,7 +58,7 @@ fn new_round(alloc: Global, base: u64, n: u32, buffer: u32) -> Result<Round, NoM
     ensures all { IfOk result (λ round. length round.writers.items ≡ n) }
     ensures writers { IfOk result (λ round. AreBegunFrom round.queue buffer 0 round.writers.items) }
 {
-    let (queue, seats) = DeleteQueue::make(alloc, base, n)?;
+    let (queue, seats) = DeleteQueue::make(alloc, base, n, reserve)?;
     let writers = writers_of(alloc, &queue, seats, buffer)?;
     Ok(Round { queue, writers })
 }

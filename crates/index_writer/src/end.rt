@@ -1,11 +1,11 @@
 //! The end of a round.
-ghost use Rattle.std.specs.Prelude.{◌≡◌, ◌≤◌, ◌+◌, ◌-◌, List, length, Some, None};
+ghost use Rattle.std.specs.Prelude.{◌≡◌, ◌↔◌, ◌≤◌, ◌+◌, ◌-◌, List, length, Some, None};
 ghost use Rattle.std.specs.Prelude.{IfOk, IfErr, OnOk, OnErr, Err, IsTrue, true, false};
 ghost use Rattle.row_fates.specs.Fate.{Numbered};
 ghost use Rattle.index_writer.specs.Rounds.{ArePartsOf, Ends};
 ghost use Rattle.index_writer.specs.Ready.{IsReady, IsSound};
 ghost use Rattle.index_writer.specs.Ending.{IsGathered, end_of, with_none};
-ghost use Rattle.index_writer.specs.Working.{IsStuck};
+ghost use Rattle.index_writer.specs.Working.{IsStuck, TurnsExactly};
 
 use crate::ending::{Gathered, gather};
 use crate::fault::{EndRefused, WriterFault};
@@ -13,6 +13,7 @@ use crate::round::{RoundEnd, RoundParts};
 use crate::state::State;
 use crate::writer::IndexWriter;
 use commit_point::Written;
+use delete_queue::Reserve;
 use flush_control::{rounds_meet, rounds_stand};
 use ix_base::{List, NoMemory};
 use std::alloc::Global;
@@ -20,7 +21,9 @@ use std::thread::Threads;
 
 impl<S> IndexWriter<S> {
     /// Ends the round that was begun: puts what its writers did into the segments, on the threads of
-    /// `rt`. The store isn't touched. Where the round ended with a commit, that is still to be written.
+    /// `rt`. The store isn't touched. `Committed` comes exactly where the queue's last entry is a
+    /// commit, which is still to be written then; `Turned` where it is a turn; `Ran` where it is
+    /// neither or there is none.
     ///
     /// `Closed` comes exactly where the writer is closed: then nothing changes, and the round is given
     /// back. The only other error is out of memory. The round is lost then, and the writer is closed.
@@ -54,6 +57,7 @@ impl<S> IndexWriter<S> {
         ensures last { OnErr result (self.new.state.last ≡ self.old.state.last) }
         // What closes a queue was linked by one of its writers.
         ensures open { self.old.state.closed ≡ false → OnOk result (IsStuck parts → ⊥) }
+        ensures turned { self.old.state.closed ≡ false → IfOk result (TurnsExactly parts) }
     {
         if self.state.closed {
             return Err(EndRefused {
@@ -61,7 +65,10 @@ impl<S> IndexWriter<S> {
                 fault: WriterFault::Closed,
             });
         }
-        match self.state.take_parts(rt, self.alloc, parts) {
+        match self
+            .state
+            .take_parts(rt, self.alloc, &mut self.reserve, parts)
+        {
             Ok(end) => Ok(end),
             Err(_) => {
                 self.state.closed = true;
@@ -81,6 +88,7 @@ impl State {
         &mut self,
         rt: &R,
         alloc: Global,
+        reserve: &mut Reserve,
         parts: RoundParts,
     ) -> Result<RoundEnd, NoMemory>
         requires ready { IsReady self.old }
@@ -93,8 +101,9 @@ impl State {
         ensures upto { OnErr result (self.new.published.upto ≡ self.old.published.upto) }
         ensures last { OnErr result (self.new.last ≡ self.old.last) }
         ensures open { OnOk result (IsStuck parts → ⊥) }
+        ensures turned { IfOk result (TurnsExactly parts) }
     {
-        let gathered = gather(alloc, self.published.upto, parts)?;
+        let gathered = gather(alloc, self.published.upto, reserve, parts)?;
         self.take(rt, alloc, gathered)
     }
 
@@ -115,6 +124,7 @@ impl State {
         ensures ready { OnOk result (IsReady self.new) }
         ensures upto { OnErr result (self.new.published.upto ≡ self.old.published.upto) }
         ensures last { OnErr result (self.new.last ≡ self.old.last) }
+        ensures turned { IfOk result (λ end. (end ≡ RoundEnd.Turned) ↔ (gathered.kind ≡ 7)) }
     {
         rounds_meet();
         rounds_stand();

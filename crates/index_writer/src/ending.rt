@@ -1,6 +1,6 @@
 //! What came back of a round, put together: the pieces of all its writers, and the packet of all its
 //! operations.
-ghost use Rattle.std.specs.Prelude.{◌≡◌, ◌≤◌, List, map, length, IfOk, OnOk};
+ghost use Rattle.std.specs.Prelude.{◌≡◌, ◌↔◌, ◌≤◌, List, map, length, IfOk, OnOk};
 ghost use Rattle.std.specs.List.{AllByRecursion};
 ghost use Rattle.ix_base.specs.Words.{head_kind};
 ghost use Rattle.delete_queue.specs.Log.{entries_of, last_head_or, last_number};
@@ -10,10 +10,10 @@ ghost use Rattle.thread_writer.specs.Writing.{parts_of};
 ghost use Rattle.flush_control.specs.Logs.{IsLast, IsPacketOf, TakesAll};
 ghost use Rattle.index_writer.specs.Rounds.{ArePartsOf};
 ghost use Rattle.index_writer.specs.Ending.{AreEnded, CanEnd, IsGathered, rests_of};
-ghost use Rattle.index_writer.specs.Working.{IsStuck};
+ghost use Rattle.index_writer.specs.Working.{IsStuck, SomeTurned};
 
 use crate::round::RoundParts;
-use delete_queue::{Place, QueueLog, Seat};
+use delete_queue::{Place, QueueLog, Reserve, Seat};
 use delete_slice::{Slice, logs_are_in_grammar};
 use flush_control::{last_heads, rounds_are_ordered};
 use frozen_packet::{Packet, Updates};
@@ -47,11 +47,17 @@ pub struct Gathered {
 /// Ends the queue, whose first entry has the number after `base`, and puts together what its writers
 /// did: each writer's pieces, of which the last one is made of its rest, and the packet of the whole
 /// queue.
-pub fn gather(alloc: Global, base: u64, parts: RoundParts) -> Result<Gathered, NoMemory>
+pub fn gather(
+    alloc: Global,
+    base: u64,
+    reserve: &mut Reserve,
+    parts: RoundParts,
+) -> Result<Gathered, NoMemory>
     requires parts { (told : List (List Numbered)) × ArePartsOf base told parts }
     ensures gathered { (told : List (List Numbered)) → ArePartsOf base told parts
         → IfOk result (IsGathered base told) }
     ensures open { OnOk result (IsStuck parts → ⊥) }
+    ensures turned { IfOk result (λ g. (g.kind ≡ 7) ↔ SomeTurned parts) }
 {
     rounds_are_ordered();
     logs_are_in_grammar();
@@ -61,12 +67,13 @@ pub fn gather(alloc: Global, base: u64, parts: RoundParts) -> Result<Gathered, N
         pieces,
     } = parts;
     let (seats, rests) = handed_back(alloc, writers, pieces)?;
-    let Ok(log) = queue.finish(seats) else {
+    let Ok(log) = queue.finish(seats, reserve) else {
         return Err(NoMemory);
     };
     let (upto, kind) = last_of(&log, base);
     let pieces = pieces_of(alloc, base, rests)?;
     let packet = packet_of(alloc, &log, base, upto)?;
+    reserve.keep(log);
     Ok(Gathered {
         pieces,
         packet,
@@ -120,7 +127,9 @@ fn last_of(log: &QueueLog, base: u64) -> (u64, u64)
 }
 
 /// The last piece of a writer, which is made of its rest, in a round whose first operation has the
-/// number after `base`. None of the round's operations is in it: the packet has them all.
+/// number after `base`. None of the round's operations is in it: the packet has them all, and brings
+/// them to its rows. So a rest of which the round deletes every row takes an id and becomes a segment
+/// without a live row. No commit lists that, and the next commit or a merge lets it go.
 fn last_piece(
     alloc: Global,
     base: u64,

@@ -5,6 +5,7 @@ ghost use Rattle.index_writer.specs.Ready.{CanFollow, IsReady, opened_on, writte
 use crate::fault::OpenRefused;
 use crate::state::State;
 use commit_point::{HeadSegment, Opened, Written};
+use delete_queue::Reserve;
 use flush_control::Published;
 use ix_base::{List, NoMemory};
 use segment_core::LiveSegment;
@@ -15,6 +16,8 @@ use std::alloc::Global;
 pub struct IndexWriter<S> {
     pub(crate) store: S,
     pub(crate) state: State,
+    /// The memory that the queues of its rounds use, one after another.
+    pub(crate) reserve: Reserve,
     pub(crate) alloc: Global,
 }
 
@@ -51,6 +54,7 @@ impl<S> IndexWriter<S> {
                 pending: None,
                 closed: false,
             },
+            reserve: Reserve::new(alloc),
             alloc,
         }
     }
@@ -94,6 +98,7 @@ impl<S> IndexWriter<S> {
                 pending: None,
                 closed: false,
             },
+            reserve: Reserve::new(alloc),
             alloc,
         })
     }

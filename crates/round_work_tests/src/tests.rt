@@ -5,7 +5,7 @@ ghost use Rattle.delete_queue.specs.Making.{AreNewFrom};
 ghost use Rattle.delete_queue.specs.Seats.{IsSeatOf, own_of};
 ghost use Rattle.round_work.specs.Working.{IsAtWork};
 
-use delete_queue::{DeleteQueue, Seat};
+use delete_queue::{DeleteQueue, Reserve, Seat};
 use ix_base::{Document, Operation, Refusal, Text};
 use ix_memory::{GroupsGate, MeetingGate, RecordingGate};
 use ix_outside::Gate;
@@ -82,7 +82,7 @@ fn one_round<G: Gate>(
     ensures few { IfOk result (λ share. length share.replies ≤ length share.tasks) }
     ensures gave { IfOk result (λ share. share.gave ≡ []) }
 {
-    let (queue, mut seats) = DeleteQueue::make(alloc, base, 1)?;
+    let (queue, mut seats) = DeleteQueue::make(alloc, base, 1, &mut Reserve::new(alloc))?;
     let seat = seats.pop().ok_or("a seat")?;
     let writer = writer_for(alloc, &queue, seat, &share);
     let Worked {
@@ -176,7 +176,7 @@ fn round<R: Threads + Wait, G: Gate>(
 ) -> Result<Vec<Worked>, Fail>
     requires { (1 ≤ workers) × (workers ≤ 16) × (each ≤ 8) }
 {
-    let (queue, seats) = DeleteQueue::make(alloc, 0, workers)?;
+    let (queue, seats) = DeleteQueue::make(alloc, 0, workers, &mut Reserve::new(alloc))?;
     let (writers, shares) = begin_all(alloc, &queue, seats, workers, each)?;
     Ok(run_round(rt, alloc, &queue, writers, shares, gate)?)
 }

@@ -24,6 +24,6 @@ pub struct HandedBack {
     pub seat: Seat,
     /// The buffer, with the rows that were in no piece.
     pub rest: RamPostings,
-    /// The part of the queue since the buffer was begun.
+    /// The part of the queue since the buffer was begun. Its updates are in no piece.
     pub slice: Slice,
 }

@@ -5,7 +5,7 @@ ghost use Rattle.thread_writer.specs.Answers.{IfFull};
 ghost use Rattle.thread_writer.specs.Writing.{IsWriter};
 
 use crate::{Piece, ThreadWriter, Told};
-use delete_queue::{DeleteQueue, Linked};
+use delete_queue::{DeleteQueue, Linked, Reserve};
 use frozen_packet::Updates;
 use ix_base::{Operation, Query, Term};
 use std::alloc::Global;
@@ -52,7 +52,7 @@ fn one_writer(alloc: Global, buffer: u32) -> Result<(DeleteQueue, ThreadWriter),
     requires { (1 ≤ buffer) × (buffer ≤ 65536) }
     ensures { IfOk result (λ r. IsWriter r.0 r.1) }
 {
-    let (queue, mut seats) = DeleteQueue::make(alloc, 0, 1)?;
+    let (queue, mut seats) = DeleteQueue::make(alloc, 0, 1, &mut Reserve::new(alloc))?;
     let seat = seats.pop().ok_or("a seat")?;
     Ok((queue, ThreadWriter::make(alloc, seat, buffer)))
 }
@@ -66,7 +66,7 @@ fn two_writers(
     ensures first { IfOk result (λ r. IsWriter r.0 r.1) }
     ensures second { IfOk result (λ r. IsWriter r.0 r.2) }
 {
-    let (queue, mut seats) = DeleteQueue::make(alloc, 0, 2)?;
+    let (queue, mut seats) = DeleteQueue::make(alloc, 0, 2, &mut Reserve::new(alloc))?;
     let second = ThreadWriter::make(alloc, seats.pop().ok_or("a seat")?, buffer);
     let first = ThreadWriter::make(alloc, seats.pop().ok_or("a seat")?, buffer);
     Ok((queue, first, second))

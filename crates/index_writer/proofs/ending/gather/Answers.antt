@@ -1,11 +1,14 @@
-use Rattle.std.proofs.Common.{List, sym, subst}
+use Rattle.std.proofs.Common.{◌≡◌, ℕ, List, sym, subst}
+use Rattle.std.specs.Prelude.{◌↔◌}
 use Rattle.std.specs.List.{AllByRecursion}
 use Rattle.delete_queue.specs.Seats.{IsSeatOf}
 use Rattle.queue_rule.specs.Lists.{Each}
 use Rattle.index_writer.specs.declared.ending.Rest.{Rest}
 use Rattle.index_writer.specs.Ending.{AreEnded, CanEnd}
+use Rattle.index_writer.specs.Working.{SomeTurned}
 use Rattle.index_writer.proofs.Gathering.{gathered, workers}
 use Rattle.index_writer.proofs.Opened.{not_stuck}
+use Rattle.index_writer.proofs.Turned.{turned}
 use Rattle.index_writer.proofs.ending.gather.Goals as goal
 
 pub handed_back-requires : goal.handed_back-requires
@@ -36,3 +39,8 @@ returns-clause-gathered c = λ told are.
 pub returns-clause-open : goal.returns-clause-open
 returns-clause-open c = λ stuck.
     not_stuck c.args.base c.requires.parts.0 c.args.parts c.in_ok-seats.seats.items c.in-Ok.log c.requires.parts.1 c.in_ok-seats.ensures.seats c.in-Ok.ensures.log stuck
+
+pub returns-clause-turned : goal.returns-clause-turned
+returns-clause-turned c =
+    subst (λ (k : ℕ). (k ≡ 7) ↔ SomeTurned c.args.parts) (sym c.last_of-upto.ensures.kind)
+    (turned c.args.base c.requires.parts.0 c.args.parts c.in_ok-seats.seats.items c.in-Ok.log c.requires.parts.1 c.in_ok-seats.ensures.seats c.in-Ok.ensures.log)
