@@ -109,7 +109,11 @@ fn two_runs<R: Threads + Wait + Sync + Abort>(
     let (none, more) = (Vec::new(alloc), [ADD_A1, COMMIT, ALL]);
     let done = run_words(rt, alloc, first, &script, store, none, Vec::new(alloc))?;
     let mut store = ended(rt, done, 0, runs.first.as_str());
-    let segments = head(alloc, &mut store, number).ok().ok_or("a fault")?.segments.len();
+    let segments = head(alloc, &mut store, number)
+        .ok()
+        .ok_or("a fault")?
+        .segments
+        .len();
     let none = Vec::new(alloc);
     let done = run_words(rt, alloc, second, &more, store, none, Vec::new(alloc))?;
     let store = ended(rt, done, 0, runs.second.as_str());
@@ -124,7 +128,14 @@ fn two_runs<R: Threads + Wait + Sync + Abort>(
 fn many_segments(rt: HostRuntime) -> Result<(), Fail> {
     let runs = three_hundred(rt.alloc())?;
     let first = ["run", "--threads", "1", "--buffer", "1", "--merge", "64"];
-    let segments = two_runs(&rt, rt.alloc(), &first, &["run", "--threads", "1"], &runs, 301)?;
+    let segments = two_runs(
+        &rt,
+        rt.alloc(),
+        &first,
+        &["run", "--threads", "1"],
+        &runs,
+        301,
+    )?;
     assert!(rt; segments == 237);
     Ok(())
 }

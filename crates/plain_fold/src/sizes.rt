@@ -43,7 +43,10 @@ impl Writing {
     fn commit(&mut self, docs: u32) -> Result<(), Fail> {
         let line = self.line;
         writeln!(self.script, "{{\"c\":0,\"op\":\"commit\"}}")?;
-        writeln!(self.report, "{{\"docs\":{docs},\"line\":{line},\"seq\":{line}}}")?;
+        writeln!(
+            self.report,
+            "{{\"docs\":{docs},\"line\":{line},\"seq\":{line}}}"
+        )?;
         self.line = line.wrapping_add(1);
         Ok(())
     }
@@ -51,7 +54,10 @@ impl Writing {
     /// Adds a search of this commit, with these hits.
     fn search(&mut self, query: &str, commit: u32, hits: &str) -> Result<(), Fail> {
         let line = self.line;
-        writeln!(self.script, "{{\"c\":0,\"op\":\"search\",\"query\":{query}}}")?;
+        writeln!(
+            self.script,
+            "{{\"c\":0,\"op\":\"search\",\"query\":{query}}}"
+        )?;
         writeln!(
             self.report,
             "{{\"commit\":{commit},\"hits\":[{hits}],\"line\":{line}}}"
@@ -144,9 +150,7 @@ fn delete_by_queries(alloc: Global, writing: &mut Writing) -> Result<(), Fail> {
 
 /// Sets a number in all that have the tag, and forty numbers in the document `numbers`.
 fn set_numbers(alloc: Global, writing: &mut Writing) -> Result<(), Fail> {
-    writing.numbered(
-        "\"op\":\"set\",\"field\":\"tag\",\"term\":\"x\",\"num\":\"s\",\"value\":-5",
-    )?;
+    writing.numbered("\"op\":\"set\",\"field\":\"tag\",\"term\":\"x\",\"num\":\"s\",\"value\":-5")?;
     for number in 10..50u32 {
         writing.numbered(&format!(in alloc;
             "\"op\":\"set\",\"field\":\"key\",\"term\":\"numbers\",\"num\":\"n{number}\",\"value\":{number}"
