@@ -6,6 +6,8 @@ mod tests;
 #[cfg(test)]
 mod tests_damage;
 #[cfg(test)]
+mod tests_faults;
+#[cfg(test)]
 mod tests_files;
 #[cfg(test)]
 mod tests_live;

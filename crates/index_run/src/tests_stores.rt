@@ -1,12 +1,14 @@
-//! What whole runs leave in the store.
-use crate::tests::run_script;
+//! What whole runs leave in the store, and how they end where it fails.
+use crate::tests::{ADD_A1, ADD_A2, ALL, COMMIT, run_script, run_words};
 use commit_point::{OpenFault, head, list_commits, open_commit};
 use ix_base::{FileName, NoMemory};
-use ix_memory::MemoryStore;
+use ix_memory::{FuseStore, MemoryStore};
 use ix_outside::Store;
 use segment_core::LiveSegment;
 use std::alloc::Global;
+use std::sync::Wait;
 use std::test::*;
+use std::thread::Threads;
 
 /// A document of a key alone, a commit and a search.
 const SHORT: &str = "{\"c\":0,\"op\":\"add\",\"doc\":{\"key\":\"a1\"}}\n\
@@ -140,5 +142,81 @@ fn commits_are_read_back(rt: HostRuntime) -> Result<(), Fail> {
     let absent = OpenFault::NoSuch { number: 3 };
     assert!(rt; head(alloc, &mut store, 3).err() == Some(absent));
     assert!(rt; open_commit(alloc, &mut store, 3).err() == Some(absent));
+    Ok(())
+}
+
+/// How a call with these words and this input ends over what a run of the script `before` has left, in
+/// a store that passes so many calls on and fails each later one. Where it ends with 7, the line that
+/// says so is all that it has written.
+fn status_after<R: Threads + Wait + Sync>(
+    rt: &R,
+    alloc: Global,
+    before: &[&str],
+    words: &[&str],
+    input: &[&str],
+    passes: u64,
+) -> Result<u8, Fail> {
+    let left = run_script(rt, alloc, before, MemoryStore::new(alloc))?;
+    let fuse = FuseStore::new(left.store, passes);
+    let none = Vec::new(alloc);
+    let done = run_words(rt, alloc, words, input, fuse, none, Vec::new(alloc));
+    let done = done.ok().ok_or("memory")?;
+    let line = "{\"status\":7,\"why\":\"store\"}\n".as_bytes();
+    if done.status == 7 && done.written.as_slice() != line {
+        Err("another line")?;
+    }
+    Ok(done.status)
+}
+
+/// How many calls of the store pass where this call doesn't end with 7, and how it ends then.
+fn first_end<R: Threads + Wait + Sync>(
+    rt: &R,
+    alloc: Global,
+    before: &[&str],
+    words: &[&str],
+    input: &[&str],
+) -> Result<(u64, u8), Fail> {
+    for passes in 0..60u64 {
+        let status = status_after(rt, alloc, before, words, input, passes)?;
+        if status != 7 {
+            return Ok((passes, status));
+        }
+    }
+    Ok((60, 7))
+}
+
+/// The commit of the caller 1.
+const COMMIT_1: &str = "{\"c\":1,\"op\":\"commit\"}\n";
+
+/// A search by the caller 1.
+const ALL_1: &str = "{\"c\":1,\"op\":\"search\",\"query\":\"all\"}\n";
+
+/// Whichever call of the store fails, it is told as the store's fault, and each commit is read once,
+/// however many lines search it: there are the list of the files, twelve calls of a commit that has a
+/// new segment and four of one that has not, and the reads of a commit file and of the four files of
+/// each of its segments.
+#[test]
+fn each_store_call_fails(rt: HostRuntime) -> Result<(), Fail> {
+    let alloc = rt.alloc();
+    let run: &[&str] = &["run", "--threads", "1"];
+    let make: &[&str] = &["make", "--seed", "1", "--lines", "10", "--callers", "1"];
+    let added: &[&str] = &[ADD_A1, COMMIT];
+    let cases: [(&[&str], &[&str], &[&str], u64); 6] = [
+        (&[], run, &[ADD_A1, COMMIT, ALL], 1 + 12 + 5),
+        (&[], run, &[ADD_A1, COMMIT, ALL, ALL, ALL, ALL], 1 + 12 + 5),
+        (
+            added,
+            run,
+            &[ADD_A2, COMMIT, COMMIT_1, ALL, ALL_1, ALL, ALL_1],
+            6 + 12 + 4 + 9 + 9,
+        ),
+        (&[], make, &[], 1 + 12 + 5),
+        (added, &["ask"], &["\"all\"\n", "\"all\"\n"], 1 + 5),
+        (added, &["list"], &[], 1 + 1),
+    ];
+    for (before, words, input, calls) in cases {
+        let end = first_end(&rt, alloc, before, words, input)?;
+        assert!(rt; end == (calls, 0), "calls {calls}");
+    }
     Ok(())
 }

@@ -257,6 +257,43 @@ fn copies_of_queries(rt: HostRuntime) -> Result<(), Fail> {
     Ok(())
 }
 
+/// Queries of 12,000 keys, which are numbers.
+fn many_queries(alloc: Global) -> Result<Queries, Fail> {
+    let mut items = Vec::new(alloc);
+    for number in 0..12_000u32 {
+        let key = format!(in alloc; "{number}")?;
+        items.push(Query::Term(term_of(alloc, "key", key.as_str())?))?;
+    }
+    Ok(Queries::from_vec(items))
+}
+
+/// Whether a query is one for the key of this number.
+fn is_of_key(alloc: Global, query: &Query, number: usize) -> Result<bool, Fail> {
+    let key = format!(in alloc; "{number}")?;
+    Ok(match query {
+        Query::Term(term) => term.bytes.as_str() == key.as_str(),
+        _ => false,
+    })
+}
+
+/// How many queries of their copy stand in their place.
+fn copied(alloc: Global) -> Result<usize, Fail> {
+    let copy = many_queries(alloc)?.clone_in(alloc)?;
+    let mut same = 0usize;
+    for (number, query) in copy.as_slice().iter().enumerate() {
+        if is_of_key(alloc, query, number)? {
+            same = same.wrapping_add(1);
+        }
+    }
+    Ok(same)
+}
+
+#[test]
+fn a_copy_of_many_queries(rt: HostRuntime) -> Result<(), Fail> {
+    assert!(rt; copied(rt.alloc())? == 12_000);
+    Ok(())
+}
+
 /// A document beside postings, which needn't be its own here.
 fn analysed_letter(alloc: Global) -> Result<Analysed, Fail> {
     let postings = key_postings(alloc)?;

@@ -4,4 +4,6 @@
 #[cfg(test)]
 mod tests;
 #[cfg(test)]
+mod tests_large;
+#[cfg(test)]
 mod tests_questions;

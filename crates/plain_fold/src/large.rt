@@ -96,10 +96,10 @@ pub fn asked_four_times(alloc: Global) -> Result<(String, String), NoMemory> {
     Ok(("\"all\"\n".repeat(alloc, 4)?, answers))
 }
 
-/// Members of 300 names, each with this value.
+/// Members of 1,200 names, each with this value.
 pub fn members(alloc: Global, letter: &str, value: &str) -> Result<String, Fail> {
     let mut list = String::new(alloc);
-    for number in 100..400u32 {
+    for number in 1_000..2_200u32 {
         if !list.is_empty() {
             list.push_str(",")?;
         }
@@ -108,7 +108,7 @@ pub fn members(alloc: Global, letter: &str, value: &str) -> Result<String, Fail>
     Ok(list)
 }
 
-/// A script that adds a document with 300 names of each kind, of which these are the numbers.
+/// A script that adds a document with 1,200 names of each kind, of which these are the numbers.
 pub fn script_of_names(alloc: Global, num: &str) -> Result<String, Fail> {
     let text = members(alloc, "t", "\"a b\"")?;
     let exact = members(alloc, "e", "\"x\"")?;

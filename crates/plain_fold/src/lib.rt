@@ -7,6 +7,7 @@ mod fold;
 mod large;
 mod made;
 mod script;
+mod sizes;
 
 pub use draws::Draws;
 pub use fold::{
@@ -18,3 +19,4 @@ pub use large::{
 };
 pub use made::plain_sum;
 pub use script::{Act, Document, Leaf, Line, Query, Term, document_of, script_of};
+pub use sizes::{TwoRuns, ten_thousand, three_hundred};

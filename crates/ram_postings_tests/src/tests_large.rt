@@ -52,10 +52,10 @@ fn drawn_buffer(alloc: Global, count: u32) -> Result<RamPostings, Fail> {
     Ok(buffer)
 }
 
-/// What is taken out of a buffer of two thousand documents, of which 286 are void.
-fn thousands(alloc: Global) -> Result<Frozen, Fail> {
-    let mut buffer = drawn_buffer(alloc, 2_000)?;
-    if buffer.rows() != 2_000 {
+/// What is taken out of a buffer of so many documents.
+fn taken(alloc: Global, count: u32) -> Result<Frozen, Fail> {
+    let mut buffer = drawn_buffer(alloc, count)?;
+    if buffer.rows() != count {
         Err("another count of documents")?;
     }
     Ok(buffer.take_frozen()?)
@@ -63,17 +63,26 @@ fn thousands(alloc: Global) -> Result<Frozen, Fail> {
 
 /// Whether the postings are the inversion of the rows.
 fn is_inversion(alloc: Global, frozen: &Frozen) -> Result<bool, Fail> {
-    if frozen.rows.len() > 2_000 {
+    if frozen.rows.len() > 6_000 {
         Err("rows of no document")?;
     }
     let expected = inverted(alloc, frozen.rows.as_slice())?;
     Ok(shown_postings(alloc, &frozen.postings)?.as_str() == expected.as_str())
 }
 
+/// Of 6,000 documents 857 are void.
 #[test]
 fn thousands_of_documents(rt: HostRuntime) -> Result<(), Fail> {
-    let frozen = thousands(rt.alloc())?;
-    assert!(rt; frozen.rows.len() == 1_714);
+    let frozen = taken(rt.alloc(), 6_000)?;
+    assert!(rt; frozen.rows.len() == 5_143);
     assert!(rt; is_inversion(rt.alloc(), &frozen)?);
+    Ok(())
+}
+
+/// More documents than any buffer of the program holds, of which 9,429 are void.
+#[test]
+fn more_than_a_full_buffer(rt: HostRuntime) -> Result<(), Fail> {
+    let frozen = taken(rt.alloc(), 66_000)?;
+    assert!(rt; frozen.rows.len() == 56_571);
     Ok(())
 }

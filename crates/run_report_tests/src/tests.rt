@@ -1,9 +1,11 @@
 //! Reports of lines that search nothing, of a search before any commit, and of one with many hits.
+use commit_point::OpenFault;
 use ix_base::{FileName, NoMemory, Query, Refusal};
-use ix_memory::MemoryStore;
+use ix_memory::{FuseStore, MemoryStore};
 use ix_outside::{Store, StoreFault};
 use run_report::{Answer, Outcome, report};
 use std::alloc::Global;
+use std::test::Fail;
 
 /// Outcomes of six lines, of which two search where there is no commit.
 fn six_outcomes(alloc: Global) -> Result<Vec<Outcome>, NoMemory> {
@@ -153,4 +155,41 @@ fn a_search_has_all_its_hits(rt: HostRuntime) {
         panic!(rt; "the commit is whole");
     };
     assert!(rt; bytes.as_slice() == wanted.as_slice());
+}
+
+/// So many searches of the commit of a thousand documents, every second one behind a search where
+/// there is no commit.
+fn searches(alloc: Global, count: u32) -> Result<Vec<Outcome>, NoMemory> {
+    let mut outcomes = Vec::new(alloc);
+    for line in 1..=count {
+        let number = if line % 2 == 0 { 0 } else { 1000 };
+        outcomes.push(Outcome {
+            line,
+            answer: Answer::Searched(number, Query::All),
+        })?;
+    }
+    Ok(outcomes)
+}
+
+/// How many calls of the store pass where so many lines search. With fewer the store is told to have
+/// failed.
+fn calls_of_searches(alloc: Global, count: u32) -> Result<u64, Fail> {
+    let outcomes = searches(alloc, count)?;
+    for passes in 0..40u64 {
+        let mut store = FuseStore::new(store_of_thousand(alloc)?, passes);
+        match report(alloc, &mut store, outcomes.as_slice()) {
+            Ok(_) => return Ok(passes),
+            Err(OpenFault::Store) => {}
+            Err(_) => Err("another fault")?,
+        }
+    }
+    Ok(40)
+}
+
+/// Twenty searches of a commit make the calls that one makes: they read its five files once.
+#[test]
+fn a_commit_is_read_once(rt: HostRuntime) -> Result<(), Fail> {
+    assert!(rt; calls_of_searches(rt.alloc(), 1)? == 5);
+    assert!(rt; calls_of_searches(rt.alloc(), 20)? == 5);
+    Ok(())
 }

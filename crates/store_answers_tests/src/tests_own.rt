@@ -4,7 +4,7 @@
 use crate::tests::put;
 use commit_point::OpenFault;
 use ix_base::{Damaged, FileName, Hit};
-use ix_memory::MemoryStore;
+use ix_memory::{FuseStore, MemoryStore};
 use std::alloc::Global;
 use std::fmt::Write;
 use std::test::*;
@@ -115,5 +115,26 @@ fn a_commit_that_is_not_there(rt: HostRuntime) -> Result<(), Fail> {
     let (file, at) = (FileName::Commit(5), 0);
     let fault = own_hits(alloc, &mut store, 5, 4).err();
     assert!(rt; fault == Some(OpenFault::Damaged(Damaged { file, at })));
+    Ok(())
+}
+
+/// How many calls of the store pass where the rows of commit 9 are found. With fewer the store is told
+/// to have failed.
+fn calls_of_own(alloc: Global) -> Result<u64, Fail> {
+    for passes in 0..20u64 {
+        let mut store = FuseStore::new(two_commits(alloc)?, passes);
+        match own_hits(alloc, &mut store, 9, 4) {
+            Ok(_) => return Ok(passes),
+            Err(OpenFault::Store) => {}
+            Err(_) => Err("another fault")?,
+        }
+    }
+    Ok(20)
+}
+
+/// Its calls are the reads of the commit file and of the four files of each of its two segments.
+#[test]
+fn each_call_fails(rt: HostRuntime) -> Result<(), Fail> {
+    assert!(rt; calls_of_own(rt.alloc())? == 9);
     Ok(())
 }
