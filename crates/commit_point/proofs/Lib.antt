@@ -5,6 +5,7 @@ pub mod Names
 pub mod Made
 pub mod Making
 pub mod Settled
+pub mod Standing
 pub mod LiveCounts
 pub mod Segments
 pub mod CommitNumbers

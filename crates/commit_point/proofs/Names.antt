@@ -11,6 +11,7 @@ use Rattle.segment_core.specs.LiveRows.{Lived}
 use Rattle.commit_point.specs.declared.written.Written.{Written}
 use Rattle.commit_point.specs.Encoding.{own_files}
 use Rattle.commit_point.specs.Publishing.{File, IsNoneOf, AreApart, AreThere, SameBesides, CanPublish}
+use Rattle.commit_point.specs.Steps.{IsNoCommit}
 use Rattle.commit_point.specs.Writing.{SegmentIdsRise, IsOldId, IsElsewhere, SameElsewhere, is_same, is_alive, row_files, live_files, files_of, commit_files}
 
 -- ---- lists of files
@@ -204,7 +205,7 @@ none_where s w g name not =
         (rows_differ s g.segment.id name apart, (posts_differ s g.segment.id name apart, tt))
     rows (Some w) not = tt
 
-none_elsewhere : (s : ℕ) (gs : List Lived) (ws : List (Option Written)) (name : FileName) → IsElsewhere s (IsOldId gs ws) name → IsNoneOf (commit_files s gs ws) name
+pub none_elsewhere : (s : ℕ) (gs : List Lived) (ws : List (Option Written)) (name : FileName) → IsElsewhere s (IsOldId gs ws) name → IsNoneOf (commit_files s gs ws) name
 none_elsewhere s [] ws name not = tt
 none_elsewhere s (g ∷ gs) [] name not = tt
 none_elsewhere s (g ∷ gs) (w ∷ ws) name not =
@@ -214,3 +215,17 @@ none_elsewhere s (g ∷ gs) (w ∷ ws) name not =
 pub elsewhere_of : (s : ℕ) (gs : List Lived) (ws : List (Option Written)) (a c : Files) → SameBesides (commit_files s gs ws) (Pending s) (Commit s) a c → SameElsewhere s (IsOldId gs ws) a c
 elsewhere_of s gs ws a c same name not =
     same name (none_elsewhere s gs ws name not) (λ e. subst (IsElsewhere s (IsOldId gs ws)) e not refl) (λ e. subst (IsElsewhere s (IsOldId gs ws)) e not refl)
+
+-- none of them is a commit's own file
+no_own : (s : ℕ) (w : Option Written) (g : Lived) → AllByRecursion (λ (f : File). IsNoCommit f.0) (own_files s w g)
+no_own s w g =
+    of_alive (λ (f : File). IsNoCommit f.0) s w g
+    (all_append (λ (f : File). IsNoCommit f.0) (row_files w g) (live_files s w g)
+    (of_rows (λ (f : File). IsNoCommit f.0) w g (λ bytes. tt) (λ bytes. tt))
+    (of_live (λ (f : File). IsNoCommit f.0) s w g (λ bytes. tt) (λ bytes. tt)))
+
+pub no_commits : (s : ℕ) (gs : List Lived) (ws : List (Option Written)) → AllByRecursion (λ (f : File). IsNoCommit f.0) (commit_files s gs ws)
+no_commits s [] ws = tt
+no_commits s (g ∷ gs) [] = tt
+no_commits s (g ∷ gs) (w ∷ ws) =
+    all_append (λ (f : File). IsNoCommit f.0) (own_files s w g) (commit_files s gs ws) (no_own s w g) (no_commits s gs ws)

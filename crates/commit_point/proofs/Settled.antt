@@ -20,14 +20,14 @@ use Rattle.commit_point.specs.Laws.{one_head}
 use Rattle.commit_point.specs.Settling.{Settles}
 use Rattle.commit_point.specs.Writing.{AreWritten, ComesAfter, Commits, IsElsewhere, IsOldId, entries_of, listed}
 
-by_number : {A : Type 0} (t s : ℕ) → (t ≡ s → A) → (t ≢ s → A) → A
+pub by_number : {A : Type 0} (t s : ℕ) → (t ≡ s → A) → (t ≢ s → A) → A
 by_number {A} t s same other = by (eqb t s) refl
   where
     by : (b : Bool) → eqb t s ≡ b → A
     by true e = same (eqb-true t s e)
     by false e = other (λ is. absurd (let both : true ≡ false = sym (eq-eqb t s is) ∙ e in cc))
 
-none_is_there : (o : Option (List ℕ)) → o ≡ None → IsSome o → ⊥
+pub none_is_there : (o : Option (List ℕ)) → o ≡ None → IsSome o → ⊥
 none_is_there o none some = let both : false ≡ true = sym (ap is_some none) ∙ some in absurd cc
 
 -- what holds of each holds of one
@@ -77,7 +77,7 @@ earlier_elsewhere s t Old e name lt old fit among = by among
     by (inr (inr (inr (inr none)))) = absurd none
 
 -- a file of an earlier commit was one before
-was_file : (s t : ℕ) (gs : List Lived) (ws : List (Option Written)) (files now : Files) (name : FileName) → t < s → ComesAfter files s gs ws → now (Commit t) ≡ files (Commit t)
+pub was_file : (s t : ℕ) (gs : List Lived) (ws : List (Option Written)) (files now : Files) (name : FileName) → t < s → ComesAfter files s gs ws → now (Commit t) ≡ files (Commit t)
     → IsFileOf now t name → IsFileOf files t name × IsElsewhere s (IsOldId gs ws) name
 was_file s t gs ws files now name lt after same (inl is) =
     (inl is, subst (IsElsewhere s (IsOldId gs ws)) (sym is) (λ e. absurd (omega (arith, e, lt))))

@@ -3,6 +3,9 @@ pub mod Fits
 pub mod Holds
 pub mod Reading
 pub mod Writing
+pub mod Steps
+pub mod StepLaws
+pub mod KeptLaws
 pub mod Encoding
 pub mod Settling
 pub mod HeadLaws

@@ -4,12 +4,13 @@ ghost use Rattle.std.specs.List.{AllByRecursion};
 ghost use Rattle.ix_base.specs.declared.file_name.FileName.TheVariants.{Commit};
 ghost use Rattle.ix_outside.specs.Calls.{LeavesOnly};
 ghost use Rattle.ix_outside.specs.Crash.{MayHold};
-ghost use Rattle.ix_outside.specs.Disk.{Does, told_files};
+ghost use Rattle.ix_outside.specs.Disk.{Does, Told, told_files};
 ghost use Rattle.ix_outside.specs.Files.{Files, Changes};
 ghost use Rattle.ix_outside.specs.Images.{Follows, IsDurable, Reaches};
 ghost use Rattle.commit_point.specs.Publishing.{BlamesRefusal};
 ghost use Rattle.commit_point.specs.Settling.{Settles};
-ghost use Rattle.commit_point.specs.Writing.{Commits, MayCommit, SameElsewhere, IsOldId, CanCommit, commit_files, commit_steps, new_head};
+ghost use Rattle.commit_point.specs.Steps.{KeepsMade, OnlyCommits};
+ghost use Rattle.commit_point.specs.Writing.{ComesAfter, Commits, MayCommit, SameElsewhere, IsOldId, CanCommit, commit_files, commit_steps, new_head};
 
 use crate::fault::CommitRefused;
 use crate::heads::Head;
@@ -50,10 +51,20 @@ pub fn write_commit<S: Store>(
     // What the call does, success, error and crash alike. The clauses below read it out.
     ensures steps { Does (commit_steps number next_id segments.now written.now)
         (S.disk store.old) (S.disk store.new) result }
+    // Each step is one by which commits are made: none deletes. Where the commit comes after those
+    // that are there, each commit that stands at some moment of the call stands from then on.
+    ensures only { Told OnlyCommits (S.disk store.old) (S.disk store.new) }
+    ensures standing { (files : Files) → told_files (S.disk store.old) ≡ Some files
+        → ComesAfter files number segments.now written.now
+        → Told KeepsMade (S.disk store.old) (S.disk store.new) }
     ensures ok { OnOk result (next_id ≤ 2 ^ 62
         → Changes (Commits number next_id segments.now written.now)
         (told_files (S.disk store.old)) (told_files (S.disk store.new))) }
     ensures err { OnErr result (Changes (SameElsewhere number (IsOldId segments.now written.now))
+        (told_files (S.disk store.old)) (told_files (S.disk store.new))) }
+    // After an error the files have the commit whole, or its commit file is as before.
+    ensures left { next_id ≤ 2 ^ 62 → OnErr result
+        (Changes (MayCommit number next_id segments.now written.now)
         (told_files (S.disk store.old)) (told_files (S.disk store.new))) }
 
     // Once it is acknowledged, what a crash leaves is what one before the call might have left, with this commit whole.

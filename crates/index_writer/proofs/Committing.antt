@@ -1,6 +1,6 @@
 -- The commit of a writer.
-use Rattle.std.proofs.Common.{◌≡◌, ◌∙◌, ℕ, ◌+◌, ◌<◌, ◌≤◌, cond, Bool, true, false, List, [], ◌∷◌, ◌++◌, Option, Some, None, length, refl, sym, ap, subst, arith, IsPermutation}
-use Rattle.std.specs.Prelude.{◌↔◌, IfSome, IsSome, IsTrue}
+use Rattle.std.proofs.Common.{◌≡◌, ◌∙◌, ℕ, ◌+◌, ◌<◌, ◌≤◌, cond, Bool, true, false, List, [], ◌∷◌, ◌++◌, Option, Some, None, length, refl, sym, ap, subst, inl, arith, IsPermutation}
+use Rattle.std.specs.Prelude.{◌↔◌, IfSome, IsSome, IsTrue, OnErr, Result, Ok, Err}
 use Rattle.std.specs.List.{AllByRecursion, cons_option, filter}
 use Rattle.std.proofs.lemmas.Bool.{ltb-false}
 use Rattle.std.proofs.lemmas.List.Sorted.{length_permutation}
@@ -10,7 +10,7 @@ use Rattle.ix_base.specs.declared.file_name.FileName.TheVariants.{Commit, Pendin
 use Rattle.ix_outside.specs.declared.store.StoreFault.{StoreFault}
 use Rattle.ix_outside.specs.declared.store.StoreFault.TheVariants.{Failed, NoMemory}
 use Rattle.ix_outside.specs.Disk.{Disk}
-use Rattle.ix_outside.specs.Files.{Files}
+use Rattle.ix_outside.specs.Files.{Files, Changes, stays}
 use Rattle.live_docs.specs.Marks.{count_live, same_marks}
 use Rattle.live_docs.specs.declared.live_docs.Mark.{Mark}
 use Rattle.row_fates.specs.Fate.{renumbered}
@@ -21,12 +21,12 @@ use Rattle.commit_point.specs.declared.written.Written.{Written}
 use Rattle.commit_point.specs.Holds.{HasSegment, HaveSegments}
 use Rattle.commit_point.specs.Settling as settling
 use Rattle.commit_point.specs.Writing as commit
-use Rattle.commit_point.specs.Writing.{AreWritten, CanCommit, CanWrite, IsOldId, SegmentIdsRise, WrittenUpTo, entries_of, entry_of, is_alive, listed, version}
+use Rattle.commit_point.specs.Writing.{AreWritten, CanCommit, ComesAfter, CanWrite, IsOldId, SegmentIdsRise, WrittenUpTo, entries_of, entry_of, is_alive, listed, version}
 use Rattle.index_writer.specs.declared.fault.WriterFault.{WriterFault}
 use Rattle.index_writer.specs.declared.fault.WriterFault.TheVariants.{Store, NoMemory as OutOfMemory}
 use Rattle.index_writer.specs.declared.state.State.{State}
 use Rattle.index_writer.specs.Ready.{CanBePending, HasRows, IsReady, IsStored, NewIdsFrom}
-use Rattle.index_writer.specs.Storing.{Commits, SameBelow, Settles, on_commit, renewed}
+use Rattle.index_writer.specs.Storing.{Commits, GoesOn, MayCommit, SameBelow, Settles, on_commit, renewed}
 
 -- ---- segments without a live row
 
@@ -251,12 +251,23 @@ commits s new files now ready is made = record {
       (renewed_stands now s.published.upto s.published.segments s.written ready.count (made.spelled stored).each);
 }
 
+pub on_err : {T E : Type 0} (r : Result T E) (P : Type 0) → P → OnErr r P
+on_err (Ok x) P p = tt
+on_err (Err x) P p = p
+
+-- nothing was written
+pub unmade : (s : State) (a : Option Files) → Changes (MayCommit s) a a
+unmade s a = stays (MayCommit s) a a (λ x. record { elsewhere = λ name not. refl; whole = inl refl }) refl
+
+-- the commit comes after those of the files that the writer can go on from
+pub comes : (s : State) (files : Files) → IsReady s → s.last < s.published.upto → GoesOn files s
+    → ComesAfter files s.published.upto s.published.segments s.written
+comes s files ready less goes = record {
+  none_from = λ t le. goes.none_above t (omega (arith, le, less));
+  new_ids = λ t e lists. old_ids s.since e.id s.published.segments s.written ready.new_ids (goes.ids t e lists);
+}
+
 pub settles : (s : State) (old new : Option Disk) → IsReady s → s.last < s.published.upto
     → settling.Settles s.published.upto s.published.segments s.written old new → Settles s old new
 settles s old new ready less settled = λ files now told told_now goes images.
-    settled files now told told_now
-    (record {
-      none_from = λ t le. goes.none_above t (omega (arith, le, less));
-      new_ids = λ t e lists. old_ids s.since e.id s.published.segments s.written ready.new_ids (goes.ids t e lists);
-    })
-    goes.stored images
+    settled files now told told_now (comes s files ready less goes) goes.stored images

@@ -7,12 +7,13 @@ ghost use Rattle.ix_base.specs.declared.file_name.FileName.TheVariants.{Commit};
 ghost use Rattle.ix_outside.specs.Calls.{LeavesOnly};
 ghost use Rattle.ix_outside.specs.Causes.{Rose};
 ghost use Rattle.ix_outside.specs.Crash.{MayHold};
-ghost use Rattle.ix_outside.specs.Disk.{told_files};
+ghost use Rattle.ix_outside.specs.Disk.{Told, told_files};
 ghost use Rattle.ix_outside.specs.Files.{Files, Changes};
 ghost use Rattle.ix_outside.specs.Images.{Follows, Reaches};
+ghost use Rattle.commit_point.specs.Steps.{KeepsMade, OnlyCommits};
 ghost use Rattle.commit_point.specs.Writing.{listed};
 ghost use Rattle.index_writer.specs.Ready.{HasRows, IsSound};
-ghost use Rattle.index_writer.specs.Storing.{Commits, MayCommit, SameBelow, Settles, on_commit, own_written, renewed};
+ghost use Rattle.index_writer.specs.Storing.{Commits, GoesOn, MayCommit, SameBelow, Settles, on_commit, own_written, renewed};
 
 use crate::fault::WriterFault;
 use crate::round::CommitInfo;
@@ -49,6 +50,16 @@ impl<S: Store> IndexWriter<S> {
         ensures elsewhere { OnErr result (Changes
             (SameBelow self.old.state.published.upto self.old.state.since)
             (told_files (S.disk self.old.store)) (told_files (S.disk self.new.store))) }
+        // After an error the files have the commit whole, or its commit file is as before.
+        ensures left { self.old.state.published.next_id ≤ 2 ^ 62
+            → OnErr result (Changes (MayCommit self.old.state)
+            (told_files (S.disk self.old.store)) (told_files (S.disk self.new.store))) }
+        // Each step is one by which commits are made: none deletes. Where the writer can go on from
+        // the files, each commit that stands at some moment of the call stands from then on.
+        ensures only { Told OnlyCommits (S.disk self.old.store) (S.disk self.new.store) }
+        ensures standing { (files : Files) → told_files (S.disk self.old.store) ≡ Some files
+            → GoesOn files self.old.state
+            → Told KeepsMade (S.disk self.old.store) (S.disk self.new.store) }
         // Once it is acknowledged every image has the commit whole; a crash meanwhile leaves it whole or not at all.
         ensures acknowledged { self.old.state.published.next_id ≤ 2 ^ 62
             → OnOk result (Follows (Commits self.old.state self.new.state)

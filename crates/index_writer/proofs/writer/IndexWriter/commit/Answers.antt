@@ -3,18 +3,20 @@ use Rattle.std.specs.Prelude.{IsSome}
 use Rattle.ix_base.specs.declared.file_name.FileName.TheVariants.{Commit}
 use Rattle.ix_outside.specs.CallLaws.{leaves_none}
 use Rattle.ix_outside.specs.Crash.{MayHold}
-use Rattle.ix_outside.specs.Disk.{told_files}
+use Rattle.ix_outside.specs.Disk.{Told, told_files}
 use Rattle.ix_outside.specs.Files.{Changes, onto}
 use Rattle.ix_outside.specs.Images.{Reaches}
 use Rattle.segment_core.specs.LiveRows.{Lived, all_live}
 use Rattle.commit_point.specs.declared.heads.Head.{Head}
 use Rattle.commit_point.specs.declared.written.Written.{Written}
 use Rattle.commit_point.specs.Settling as settling
+use Rattle.commit_point.specs.StepLaws.{goes_none}
+use Rattle.commit_point.specs.Steps.{KeepsMade, KeepsStanding, MakesCommits}
 use Rattle.commit_point.specs.Writing as commit
 use Rattle.index_writer.specs.declared.state.State.{State}
 use Rattle.index_writer.specs.Ready.{HasRows, IsReady}
 use Rattle.index_writer.specs.Storing.{Commits, MayCommit, SameBelow}
-use Rattle.index_writer.proofs.Committing.{at_state, commits, counted, is_on, less_of, on_ready, rows_on, same_below, settles, tells_renamed}
+use Rattle.index_writer.proofs.Committing.{at_state, comes, commits, counted, is_on, less_of, on_err, on_ready, rows_on, same_below, settles, tells_renamed, unmade}
 use Rattle.index_writer.proofs.writer.IndexWriter.commit.Goals as goal
 
 pub returns-then-self-clause-crash : goal.returns-then-self-clause-crash
@@ -26,6 +28,54 @@ pub returns-in_err-renewed-clause-crash : goal.returns-in_err-renewed-clause-cra
 returns-in_err-renewed-clause-crash g c room =
     leaves_none _ (Reaches (MayCommit c.args.self.now.state) (MayHold _))
     (λ image may. (image, may, record { elsewhere = λ name x. refl; whole = inl refl }))
+
+pub returns-then-self-clause-only : goal.returns-then-self-clause-only
+returns-then-self-clause-only g c = goes_none (λ step older. MakesCommits step) _
+
+pub returns-then-self-clause-standing : goal.returns-then-self-clause-standing
+returns-then-self-clause-standing g c = λ was told goes. goes_none KeepsStanding _
+
+pub returns-then-self-clause-left : goal.returns-then-self-clause-left
+returns-then-self-clause-left g c room = unmade c.args.self.now.state _
+
+pub returns-in_err-renewed-clause-only : goal.returns-in_err-renewed-clause-only
+returns-in_err-renewed-clause-only g c = goes_none (λ step older. MakesCommits step) _
+
+pub returns-in_err-renewed-clause-standing : goal.returns-in_err-renewed-clause-standing
+returns-in_err-renewed-clause-standing g c = λ was told goes. goes_none KeepsStanding _
+
+pub returns-in_err-renewed-clause-left : goal.returns-in_err-renewed-clause-left
+returns-in_err-renewed-clause-left g c room =
+    on_err c.from_residual.result _
+    (unmade c.args.self.now.state (told_files (g.S.Store.disk c.args.self.now.store)))
+
+pub returns-in-Ok-clause-standing : goal.returns-in-Ok-clause-standing
+returns-in-Ok-clause-standing g c = λ was told goes.
+    let s = c.args.self.now.state in
+    let ready = c.requires.sound c.if-self.false in
+    let stands = at_state
+    (λ (gs : List Lived) (ws : List (Option Written)). commit.ComesAfter was s.published.upto gs ws
+    → Told KeepsMade (g.S.Store.disk c.args.self.now.store) (g.S.Store.disk c.write_commit.new.store)) _ _ s
+    c.as_slice-segments.ensures c.as_slice-written.ensures (c.write_commit.ensures.standing was told) in
+    stands (comes s was ready (less_of s ready (c.requires.pending c.if-self.false)) goes)
+
+pub returns-in-Err-clause-standing : goal.returns-in-Err-clause-standing
+returns-in-Err-clause-standing g c = λ was told goes.
+    let s = c.args.self.now.state in
+    let ready = c.requires.sound c.if-self.false in
+    let stands = at_state
+    (λ (gs : List Lived) (ws : List (Option Written)). commit.ComesAfter was s.published.upto gs ws
+    → Told KeepsMade (g.S.Store.disk c.args.self.now.store) (g.S.Store.disk c.write_commit.new.store)) _ _ s
+    c.as_slice-segments.ensures c.as_slice-written.ensures (c.write_commit.ensures.standing was told) in
+    stands (comes s was ready (less_of s ready (c.requires.pending c.if-self.false)) goes)
+
+pub returns-in-Err-clause-left : goal.returns-in-Err-clause-left
+returns-in-Err-clause-left g c room =
+    let s = c.args.self.now.state in
+    at_state
+    (λ (gs : List Lived) (ws : List (Option Written)). Changes (commit.MayCommit s.published.upto s.published.next_id gs ws)
+    (told_files (g.S.Store.disk c.args.self.now.store)) (told_files (g.S.Store.disk c.write_commit.new.store))) _ _ s
+    c.as_slice-segments.ensures c.as_slice-written.ensures (c.in-Err.ensures.left room)
 
 pub returns-in-Ok-clause-sound : goal.returns-in-Ok-clause-sound
 returns-in-Ok-clause-sound g c still =
