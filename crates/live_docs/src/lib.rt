@@ -4,11 +4,9 @@
 mod comparing;
 mod laws;
 mod live_docs;
-mod numbers;
 mod row_numbers;
 mod set_numbers;
 mod shared_numbers;
 
 pub use laws::set_numbers_are_a_map;
 pub use live_docs::{LiveDocs, Mark};
-pub use numbers::with_number;
