@@ -279,3 +279,189 @@ fn bool_queries(rt: HostRuntime) -> Result<(), Fail> {
     assert!(rt; finds(rt.alloc(), &index, &Query::All, "0,1,2,3,")?);
     Ok(())
 }
+
+/// The index of documents with these texts, each so many times.
+fn index_of_repeated(alloc: Global, given: &[(&str, usize)]) -> Result<PostingsIndex, Fail> {
+    let mut texts = Vec::new(alloc);
+    for (text, times) in given {
+        texts.push(text.repeat(alloc, *times)?)?;
+    }
+    let mut bodies = Vec::new(alloc);
+    for text in &texts {
+        bodies.push(text.as_str())?;
+    }
+    index_of(alloc, bodies.as_slice())
+}
+
+/// Whether the phrase of a text, so many times, finds these rows.
+fn repeated_finds(
+    alloc: Global,
+    index: &PostingsIndex,
+    (text, times): (&str, usize),
+    want: &str,
+) -> Result<bool, Fail> {
+    let text = text.repeat(alloc, times)?;
+    phrase_finds(alloc, index, "body", text.as_str(), want)
+}
+
+/// Phrases of up to 122 words, of which one or two are different: as many stand one after another in
+/// the rows as these have.
+#[test]
+fn phrases_of_repeated_words(rt: HostRuntime) -> Result<(), Fail> {
+    let bodies = [("red blue ", 60), ("red blue ", 50), ("red ", 120)];
+    let index = index_of_repeated(rt.alloc(), &bodies)?;
+    let cases = [
+        (("red blue ", 50), "0,1,"),
+        (("red blue ", 51), "0,"),
+        (("red blue ", 61), ""),
+        (("blue red ", 59), "0,"),
+        (("blue red ", 60), ""),
+        (("red ", 120), "2,"),
+        (("red ", 121), ""),
+        (("red red ", 60), "2,"),
+    ];
+    for (repeated, want) in cases {
+        assert!(rt; repeated_finds(rt.alloc(), &index, repeated, want)?);
+    }
+    Ok(())
+}
+
+/// Different words from the one of this number up to that of the last, but for the one of the second
+/// number.
+fn different_words(alloc: Global, from: u32, but: u32, to: u32) -> Result<String, Fail> {
+    let mut words = String::new(alloc);
+    for at in from..to {
+        if at != but {
+            write!(words, "w{at} ")?;
+        }
+    }
+    Ok(words)
+}
+
+/// Whether the phrase of such words is found in a document that has 100 of them, from 0 on.
+fn different_stand(alloc: Global, from: u32, but: u32, to: u32) -> Result<bool, Fail> {
+    let body = different_words(alloc, 0, 100, 100)?;
+    let index = index_of(alloc, [body.as_str()].as_slice())?;
+    let text = different_words(alloc, from, but, to)?;
+    phrase_finds(alloc, &index, "body", text.as_str(), "0,")
+}
+
+/// A phrase of 70 different words, and the same with a gap.
+#[test]
+fn phrases_of_many_different_words(rt: HostRuntime) -> Result<(), Fail> {
+    assert!(rt; different_stand(rt.alloc(), 20, 100, 90)?);
+    assert!(rt; !different_stand(rt.alloc(), 20, 60, 90)?);
+    Ok(())
+}
+
+/// Whether a phrase of two words with so many blanks between them finds these rows.
+fn blanks_find(
+    alloc: Global,
+    index: &PostingsIndex,
+    (first, blanks, last): (&str, usize, &str),
+    want: &str,
+) -> Result<bool, Fail> {
+    let blanks = " ".repeat(alloc, blanks)?;
+    let text = format!(in alloc; "{first}{}{last}", blanks.as_str())?;
+    phrase_finds(alloc, index, "body", text.as_str(), want)
+}
+
+/// A phrase's text may be long: how long it is doesn't matter.
+#[test]
+fn phrases_of_long_texts(rt: HostRuntime) -> Result<(), Fail> {
+    let index = colours(rt.alloc())?;
+    assert!(rt; blanks_find(rt.alloc(), &index, ("red", 150_000, "blue"), "1,")?);
+    Ok(())
+}
+
+/// The query for a word, so many times.
+fn times(alloc: Global, word: &str, count: usize) -> Result<Queries, Fail> {
+    let mut queries = Vec::new(alloc);
+    for _ in 0..count {
+        queries.push(term(alloc, "body", word)?)?;
+    }
+    Ok(Queries::from_vec(queries))
+}
+
+/// Whether these rows are found where `red` must be there so many times, `green` should, and `blue`
+/// must not.
+fn times_find(
+    alloc: Global,
+    index: &PostingsIndex,
+    (must, should, must_not): (usize, usize, usize),
+    want: &str,
+) -> Result<bool, Fail> {
+    let query = Query::Bool {
+        must: times(alloc, "red", must)?,
+        should: times(alloc, "green", should)?,
+        must_not: times(alloc, "blue", must_not)?,
+    };
+    finds(alloc, index, &query, want)
+}
+
+/// Three hundred clauses count as one of them does.
+#[test]
+fn queries_of_many_clauses(rt: HostRuntime) -> Result<(), Fail> {
+    let index = colours(rt.alloc())?;
+    let cases = [
+        ((300, 0, 0), "0,1,"),
+        ((0, 300, 0), "3,"),
+        ((300, 0, 300), "0,"),
+        ((0, 300, 300), "3,"),
+        ((300, 300, 300), "0,"),
+    ];
+    for (counts, want) in cases {
+        assert!(rt; times_find(rt.alloc(), &index, counts, want)?);
+    }
+    Ok(())
+}
+
+/// The words with the numbers below `count`, in turn, as one query that wants one of them.
+fn should_of(alloc: Global, count: u64, turns: u64) -> Result<Query, Fail> {
+    let mut should = Vec::new(alloc);
+    for at in 0..count.saturating_mul(turns) {
+        let word = format!(in alloc; "w{}", at.checked_rem(count).unwrap_or(0))?;
+        should.push(term(alloc, "body", word.as_str())?)?;
+    }
+    Ok(Query::Bool {
+        must: Queries::from_vec(Vec::new(alloc)),
+        should: Queries::from_vec(should),
+        must_not: Queries::from_vec(Vec::new(alloc)),
+    })
+}
+
+/// The rows of 2,000 whose words have numbers below `count`.
+fn rows_below(alloc: Global, count: u64) -> Result<String, Fail> {
+    let mut rows = String::new(alloc);
+    for at in 0..2000u64 {
+        if at * 7 % 2000 < count {
+            write!(rows, "{at},")?;
+        }
+    }
+    Ok(rows)
+}
+
+fn should_finds(
+    alloc: Global,
+    index: &PostingsIndex,
+    count: u64,
+    turns: u64,
+) -> Result<bool, Fail> {
+    let want = rows_below(alloc, count)?;
+    finds(
+        alloc,
+        index,
+        &should_of(alloc, count, turns)?,
+        want.as_str(),
+    )
+}
+
+/// Few and many rows are found by one of many clauses, some more than once, and all rows.
+#[test]
+fn should_of_many_words(rt: HostRuntime) -> Result<(), Fail> {
+    let index = index_of_words(rt.alloc(), 2000)?;
+    for (count, turns) in [(3, 1), (3, 30), (1500, 1), (1500, 4), (2000, 3)] {
+        assert!(rt; should_finds(rt.alloc(), &index, count, turns)?);
+    }
+    Ok(())
+}
