@@ -3,9 +3,8 @@
 //! `make` runs a script that is made from a seed.
 #![tactic(auto)]
 
-use ix_outside::{DirStore, EmptyGate, ReadSource, WriteSink};
-use std::io::ErrorKind;
-use std::process::ExitCode;
+use crate::program::{ProgramEnd, run_program};
+use ix_outside::{ReadSource, WriteSink};
 use std::rt::Env;
 use std::{env, io};
 
@@ -18,6 +17,7 @@ mod input;
 mod lines;
 mod outcomes;
 mod output;
+mod program;
 mod reading;
 mod rounds;
 mod stop;
@@ -39,6 +39,8 @@ mod tests_large;
 #[cfg(test)]
 mod tests_operations;
 #[cfg(test)]
+mod tests_program;
+#[cfg(test)]
 mod tests_rounds;
 #[cfg(test)]
 mod tests_stores;
@@ -48,39 +50,12 @@ mod words;
 
 pub use call::{Ended, top};
 
-/// The status where memory ran out.
-const NO_MEMORY: u8 = 4;
-
-/// The status for words that are no command.
-const NO_COMMAND: u8 = 2;
-
-/// Calls `top` over the directory that the first word names and the standard streams, with the
-/// other words, and ends with its status. Without a first word nothing is printed.
-fn main(rt: HostRuntime) -> ExitCode {
-    let mut words = match words_of(&rt) {
-        Ok(words) => words,
-        Err(error) if error.kind() == ErrorKind::OutOfMemory => return ExitCode::from(NO_MEMORY),
-        Err(_) => return ExitCode::from(NO_COMMAND),
-    };
-    if words.is_empty() {
-        return ExitCode::from(NO_COMMAND);
-    }
-    let directory = words.remove(0);
-    let Ok(runtime) = rt.clone() else {
-        return ExitCode::from(NO_MEMORY);
-    };
+/// Runs the program with the words of the command line over the standard streams, and ends with its
+/// status.
+fn main(rt: HostRuntime) -> ProgramEnd {
     let mut input = ReadSource::new(rt.stdin());
     let mut out = WriteSink::new(rt.stdout());
-    let ended = top(
-        &rt,
-        rt.alloc(),
-        words.as_slice(),
-        &mut input,
-        &mut out,
-        DirStore::new(runtime, directory),
-        &EmptyGate,
-    );
-    ExitCode::from(ended.status)
+    run_program(&rt, words_of(&rt), &mut input, &mut out)
 }
 
 /// The words of the command line, without the program's own name.

@@ -78,11 +78,3 @@ fn thousands_of_documents(rt: HostRuntime) -> Result<(), Fail> {
     assert!(rt; is_inversion(rt.alloc(), &frozen)?);
     Ok(())
 }
-
-/// More documents than any buffer of the program holds, of which 9,429 are void.
-#[test]
-fn more_than_a_full_buffer(rt: HostRuntime) -> Result<(), Fail> {
-    let frozen = taken(rt.alloc(), 66_000)?;
-    assert!(rt; frozen.rows.len() == 56_571);
-    Ok(())
-}
