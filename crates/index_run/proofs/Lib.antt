@@ -9,6 +9,7 @@ pub mod SomeRows
 pub mod RunEnds
 pub mod RunBegins
 pub mod Rounding
+pub mod RoundCount
 pub mod Workers
 pub mod Counting
 pub mod Left

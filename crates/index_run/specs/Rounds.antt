@@ -1,13 +1,19 @@
--- What comes back of a round's workers.
+-- What the rounds of a run do, and what comes back of a round's workers.
 use Rattle.std.specs.Prelude.{◌≡◌, ℕ, List, [], ◌∷◌, ◌++◌, map, Option, Some, None}
-use Rattle.std.specs.List.{AllByRecursion}
+use Rattle.std.specs.List.{AllByRecursion, filter}
 use Rattle.std.specs.Global.{Vec}
+use Rattle.op_script.specs.declared.script.Line.{Line}
 use Rattle.round_work.specs.declared.share.Share.{Share}
 use Rattle.round_work.specs.declared.worked.Stop.TheVariants.{NoMemory}
 use Rattle.round_work.specs.declared.worked.Worked.{Worked}
 use Rattle.thread_writer.specs.declared.piece.Piece.{Piece}
 use Rattle.thread_writer.specs.declared.writer.ThreadWriter.{ThreadWriter}
+use Rattle.line_shares.specs.Shares.{is_doing}
 use Rattle.index_writer.specs.declared.round.CommitInfo.{CommitInfo}
+
+-- the lines that write or commit
+abbrev pub doing_lines : List Line → List Line
+doing_lines lines = filter (λ (l : Line). is_doing l.act) lines
 
 -- the workers' writers
 abbrev pub writers_of : List Worked → List ThreadWriter

@@ -1,5 +1,5 @@
 //! The rounds of a run: each is begun, done by its workers, ended and committed.
-ghost use Rattle.std.specs.Prelude.{◌≡◌, ◌≤◌, ◌<◌, ℕ, List, map, IfOk, OnOk, OnErr, IsTrue, Err, None, true, false};
+ghost use Rattle.std.specs.Prelude.{◌≡◌, ◌+◌, ◌≤◌, ◌<◌, ℕ, List, map, IfOk, OnOk, OnErr, IsTrue, Err, None, true, false};
 ghost use Rattle.std.specs.List.{AllByRecursion};
 ghost use Rattle.ix_outside.specs.Causes.{Rose};
 ghost use Rattle.op_script.specs.declared.script.Line.{Line};
@@ -24,12 +24,17 @@ use std::alloc::Global;
 use std::sync::Wait;
 use std::thread::Threads;
 
-/// No round is begun after a number above this, and no commit written or round begun where the next
-/// segment's id is above it: 2^62. Over a store that this program made no script leads there.
+/// No round is begun after a number above this or after more rounds, and no commit written or round
+/// begun where the next segment's id is above it: 2^62. Over a store that this program made no script
+/// leads there.
 const MOST: u64 = 4_611_686_018_427_387_904;
 
-/// Begins the next round, of so many writers.
-fn begin_round<S: Store>(writer: &mut IndexWriter<S>, threads: u32) -> Result<Round, WriterFault>
+/// Begins the next round, of so many writers, and counts it.
+fn begin_round<S: Store>(
+    writer: &mut IndexWriter<S>,
+    threads: u32,
+    rounds: &mut u64,
+) -> Result<Round, WriterFault>
     requires sound { IsSound writer.old.state }
     requires threads { (1 ≤ threads) × (threads ≤ 16) }
     requires out { writer.old.state.out ≡ false }
@@ -39,10 +44,12 @@ fn begin_round<S: Store>(writer: &mut IndexWriter<S>, threads: u32) -> Result<Ro
     ensures store { writer.new.store ≡ writer.old.store }
     ensures closed { result ≡ Err WriterFault.Closed → IsTrue writer.old.state.closed }
     ensures outside { result ≡ Err WriterFault.Store → ⊥ }
+    ensures counted { OnOk result (rounds.new ≡ rounds.old + 1) }
 {
-    if writer.upto() > MOST || writer.next_id() > MOST {
+    if writer.upto() > MOST || writer.next_id() > MOST || *rounds > MOST {
         return Err(WriterFault::NoMemory);
     }
+    *rounds += 1;
     writer.begin_round(threads)
 }
 
@@ -163,7 +170,8 @@ fn finish_round<R: Threads + Sync, S: Store>(
 
 /// Does a round: its workers go on with their shares at the same time, each by a writer of its own,
 /// until the lines are done or one of them closes the queue. Then the round is ended, with its commit.
-/// It returns the shares as the workers left them, and the commit, if there was one.
+/// It returns the shares as the workers left them, and the commit, if there was one. It asks that a
+/// worker has a line that was told nothing, and counts the round.
 pub fn do_round<R: Threads + Wait + Sync, S: Store, G: Gate>(
     rt: &R,
     alloc: Global,
@@ -171,8 +179,10 @@ pub fn do_round<R: Threads + Wait + Sync, S: Store, G: Gate>(
     writer: &mut IndexWriter<S>,
     threads: u32,
     shares: Vec<Share>,
+    rounds: &mut u64,
 ) -> Result<(Vec<Share>, Option<CommitInfo>), WriterFault>
     requires threads { (1 ≤ threads) × (threads ≤ 16) }
+    requires open { AreDone shares.items → ⊥ }
     requires come { (r : Run) × (lines : List Line) × (commits : List (ℕ × ℕ))
         × (r.workers ≡ threads)
         × HasCome r lines shares.items commits writer.old.state (S.disk writer.old.store) }
@@ -186,12 +196,13 @@ pub fn do_round<R: Threads + Wait + Sync, S: Store, G: Gate>(
     // Where a task was left, one was told something.
     ensures goes_on { (AreDone shares.items → ⊥)
         → IfOk result (λ x. open_count x.0.items < open_count shares.items) }
+    ensures counted { OnOk result (rounds.new ≡ rounds.old + 1) }
     ensures closed { result ≡ Err WriterFault.Closed → ⊥ }
     ensures later { S.fault_count writer.old.store ≤ S.fault_count writer.new.store }
     ensures failed { result ≡ Err WriterFault.Store
         → Rose (S.fault_count writer.old.store) (S.fault_count writer.new.store) }
 {
-    let Round { queue, writers } = begin_round(writer, threads)?;
+    let Round { queue, writers } = begin_round(writer, threads, rounds)?;
     let worked = run_round(rt, alloc, &queue, writers, shares, gate)?;
     let (parts, shares) = part(alloc, queue, worked)?;
     let commit = finish_round(rt, writer, parts)?;

@@ -1,0 +1,74 @@
+-- No more rounds than lines that write or commit.
+use Rattle.std.proofs.Common.{◌≡◌, ℕ, zero, suc, ◌+◌, ◌-◌, ◌<◌, ◌≤◌, ◌%◌, Bool, true, false, cond, eqb, ◌&&◌, List, [], ◌∷◌, length, map, refl, sym, ap, arith, ne_eqb}
+use Rattle.std.proofs.lemmas.Bool.{eqb-true}
+use Rattle.std.proofs.lemmas.List.{length-map}
+use Rattle.op_script.specs.declared.script.Line.{Line}
+use Rattle.round_work.specs.declared.share.Share.{Share}
+use Rattle.line_shares.specs.Shares.{AreShares, AreSharesFrom, is_doing, open_count, own_lines, task_of}
+use Rattle.index_run.specs.Rounds.{doing_lines}
+
+-- how many lines so many of n workers have, from this one on
+abbrev pub sum_own : ℕ → ℕ → List Line → ℕ → ℕ
+sum_own n worker lines zero = 0
+sum_own n worker lines (suc k) = length (own_lines n worker lines) + sum_own n (worker + 1) lines k
+
+-- the workers above the line's one don't have it
+above : (n worker : ℕ) (l : Line) (ls : List Line) (k : ℕ) → l.caller % n < worker → sum_own n worker (l ∷ ls) k ≤ sum_own n worker ls k
+above n worker l ls zero low = omega arith
+above n worker l ls (suc k) low =
+    let rest = above n (worker + 1) l ls k (omega (arith, low)) in
+    let other = ne_eqb (l.caller % n) worker (λ e. absurd (omega (arith, e, low))) in by (is_doing l.act) rest other
+  where
+    by : (b : Bool) → sum_own n (worker + 1) (l ∷ ls) k ≤ sum_own n (worker + 1) ls k → eqb (l.caller % n) worker ≡ false
+        → length (cond (b && eqb (l.caller % n) worker) (l ∷ own_lines n worker ls) (own_lines n worker ls)) + sum_own n (worker + 1) (l ∷ ls) k ≤ length (own_lines n worker ls) + sum_own n (worker + 1) ls k
+    by true rest other = rw other (omega (arith, rest))
+    by false rest other = omega (arith, rest)
+
+-- one of them at most has it
+one_more : (n worker : ℕ) (l : Line) (ls : List Line) (k : ℕ) → sum_own n worker (l ∷ ls) k ≤ sum_own n worker ls k + 1
+one_more n worker l ls zero = omega arith
+one_more n worker l ls (suc k) = by (is_doing l.act && eqb (l.caller % n) worker) refl (one_more n (worker + 1) l ls k)
+  where
+    both : (a b : Bool) → (a && b) ≡ true → b ≡ true
+    both true b e = e
+    both false b e = absurd cc
+
+    by : (b : Bool) → (is_doing l.act && eqb (l.caller % n) worker) ≡ b → sum_own n (worker + 1) (l ∷ ls) k ≤ sum_own n (worker + 1) ls k + 1
+        → length (cond b (l ∷ own_lines n worker ls) (own_lines n worker ls)) + sum_own n (worker + 1) (l ∷ ls) k ≤ length (own_lines n worker ls) + sum_own n (worker + 1) ls k + 1
+    by true is rest =
+        let same = eqb-true (l.caller % n) worker (both (is_doing l.act) (eqb (l.caller % n) worker) is) in
+        let none_above = above n (worker + 1) l ls k (omega (arith, same)) in omega (arith, none_above)
+    by false is rest = omega (arith, rest)
+
+-- none of them has a line that only searches
+no_more : (n worker : ℕ) (l : Line) (ls : List Line) (k : ℕ) → is_doing l.act ≡ false → sum_own n worker (l ∷ ls) k ≤ sum_own n worker ls k
+no_more n worker l ls zero is = omega arith
+no_more n worker l ls (suc k) is = let rest = no_more n (worker + 1) l ls k is in rw is (omega (arith, rest))
+
+none : (n worker k : ℕ) → sum_own n worker [] k ≤ 0
+none n worker zero = omega arith
+none n worker (suc k) = let rest = none n (worker + 1) k in omega (arith, rest)
+
+-- together they have no more than there are
+few_own : (n worker : ℕ) (lines : List Line) (k : ℕ) → sum_own n worker lines k ≤ length (doing_lines lines)
+few_own n worker [] k = none n worker k
+few_own n worker (l ∷ ls) k = by (is_doing l.act) refl (few_own n worker ls k)
+  where
+    by : (b : Bool) → is_doing l.act ≡ b → sum_own n worker ls k ≤ length (doing_lines ls)
+        → sum_own n worker (l ∷ ls) k ≤ length (cond b (l ∷ doing_lines ls) (doing_lines ls))
+    by true is rest = let one = one_more n worker l ls k in omega (arith, rest, one)
+    by false is rest = let no = no_more n worker l ls k is in omega (arith, rest, no)
+
+-- no more tasks are open than these
+open_own : (n worker : ℕ) (lines : List Line) (shares : List Share) → AreSharesFrom n worker lines shares
+    → open_count shares ≤ sum_own n worker lines (length shares)
+open_own n worker lines [] are = omega arith
+open_own n worker lines (s ∷ ss) are =
+    let rest = open_own n (worker + 1) lines ss are.1 in
+    let tasks = ap length are.0.tasks in
+    let same = length-map (own_lines n worker lines) task_of in omega (arith, rest, tasks, same)
+
+pub few_open : (n : ℕ) (lines : List Line) (shares : List Share) → AreShares n lines shares → open_count shares ≤ length (doing_lines lines)
+few_open n lines shares are =
+    let open_ones = open_own n 0 lines shares are.each in
+    let few = few_own n 0 lines (length shares) in omega (arith, open_ones, few)

@@ -1,0 +1,18 @@
+use Rattle.std.proofs.Common.{◌≡◌, ◌+◌, ◌≤◌, List, []}
+use Rattle.op_script.specs.declared.script.Line.{Line}
+use Rattle.line_shares.specs.Shares.{open_count}
+use Rattle.index_run.specs.Driving.{HasCome, Run}
+use Rattle.index_run.proofs.lines.do_rounds.Given as goal
+
+abbrev pub invariant-loop-alloc : goal.invariant-loop-alloc
+invariant-loop-alloc g l =
+    record {
+      come : (r : Run) (lines : List Line) → r.workers ≡ l.fn.threads
+          → HasCome r lines l.fn.shares.items [] l.fn.writer.state (g.S.Store.disk l.fn.writer.store)
+          → HasCome r lines l.shares.items l.commits.items l.writer.state (g.S.Store.disk l.writer.store);
+      few : l.count + open_count l.shares.items ≤ open_count l.fn.shares.items;
+      later : g.S.Store.fault_count l.fn.writer.store ≤ g.S.Store.fault_count l.writer.store;
+    }
+
+abbrev pub decreases-loop-alloc : goal.decreases-loop-alloc
+decreases-loop-alloc g l = open_count l.shares.items
