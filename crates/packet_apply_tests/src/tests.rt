@@ -6,6 +6,7 @@ ghost use Rattle.packet_apply.specs.Packets.{Meets};
 
 use analysis::invert;
 use frozen_packet::{Packet, Updates};
+use ix_base::Query;
 use live_docs::LiveDocs;
 use node_words::Entry;
 use packet_apply::{apply, apply_all};
@@ -139,16 +140,16 @@ fn all_segments_in_order(rt: HostRuntime) -> Result<(), Fail> {
     Ok(())
 }
 
-/// 2,000 rows, each second one with the key `a`.
+/// 12,000 rows, each second one with the key `a`.
 fn many_rows(alloc: Global) -> Result<Frozen, Fail>
     ensures { IfOk result (λ frozen. CanBuild frozen.rows.items frozen.postings) }
 {
     let mut rows = Vec::new(alloc);
-    for at in 0..2000 {
+    for at in 0..12000 {
         let key = if at % 2 == 0 { "a" } else { "b" };
         rows.push(row_of(alloc, 1, key)?)?;
     }
-    if rows.len() > 2000 {
+    if rows.len() > 12000 {
         Err("many rows")?;
     }
     let postings = invert(alloc, rows.as_slice())?;
@@ -166,17 +167,91 @@ fn large_segment(alloc: Global, packet: &Packet) -> Result<LiveSegment, Fail>
     }
 }
 
-/// A packet that hits a thousand rows, and once more where these are dead.
-#[test]
-fn thousands_of_rows(rt: HostRuntime) -> Result<(), Fail> {
-    let alloc = rt.alloc();
+/// How many rows are live and in how many a number was set, after the packet was applied once and
+/// once more.
+fn applied_twice(alloc: Global) -> Result<[usize; 4], Fail> {
     let packet = packet_of(alloc, 8)?;
     let mut segment = large_segment(alloc, &packet)?;
     let made = apply(alloc, &segment, &packet)?;
-    assert!(rt; made.live_count() == 1000);
+    let first = (made.live_count(), made.numbered_rows(alloc)?.len());
     segment.set_live(made);
     let again = apply(alloc, &segment, &packet)?;
-    assert!(rt; again.live_count() == 1000);
+    let second = (again.live_count(), again.numbered_rows(alloc)?.len());
+    Ok([first.0 as usize, first.1, second.0 as usize, second.1])
+}
+
+/// A packet that kills 6,000 rows and sets a number in as many, and once more where the first are
+/// dead.
+#[test]
+fn thousands_of_rows(rt: HostRuntime) -> Result<(), Fail> {
+    assert!(rt; applied_twice(rt.alloc())? == [6000, 6000, 6000, 6000]);
+    Ok(())
+}
+
+/// A delete by a query of this key.
+fn query_delete(alloc: Global, key: &str) -> Result<Entry, Fail> {
+    Ok(Entry::DeleteQuery(Query::Term(key_term(alloc, key)?)))
+}
+
+/// Three hundred deletes by query, of which the last alone finds a row, `a`.
+fn delete_often(alloc: Global, updates: &mut Updates) -> Result<(), Fail>
+    requires { NumberedUpTo 8 (as_operations updates.old) }
+    ensures { OnOk result (NumberedUpTo 8 (as_operations updates.new)) }
+{
+    for at in 0..300 {
+        let key = if at == 299 { "a" } else { "x" };
+        take_more(updates, 8, query_delete(alloc, key)?)?;
+    }
+    Ok(())
+}
+
+/// One of many numbers that are set in the row `b`.
+fn setting_at(alloc: Global, at: u32) -> Result<Entry, Fail> {
+    let mut text = String::new(alloc);
+    write!(text, "n{at}")?;
+    let term = key_term(alloc, "b")?;
+    let num = name_of(alloc, text.as_str())?;
+    let value = 4;
+    Ok(Entry::SetNumber { term, num, value })
+}
+
+/// Forty numbers that are set in the row `b`.
+fn set_forty(alloc: Global, updates: &mut Updates) -> Result<(), Fail>
+    requires { NumberedUpTo 8 (as_operations updates.old) }
+    ensures { OnOk result (NumberedUpTo 8 (as_operations updates.new)) }
+{
+    for at in 0..40 {
+        take_more(updates, 8, setting_at(alloc, at)?)?;
+    }
+    Ok(())
+}
+
+/// A packet of all these, and how many numbers were set in the row `b` by it, if `a` alone is dead.
+fn numbers_after_many(alloc: Global) -> Result<Option<usize>, Fail> {
+    let mut updates = Updates::new(alloc);
+    delete_often(alloc, &mut updates)?;
+    set_forty(alloc, &mut updates)?;
+    let packet = Packet {
+        after: 5,
+        upto: 9,
+        updates,
+    };
+    let mut segment = segment_of(alloc, 1, &packet)?;
+    let made = apply(alloc, &segment, &packet)?;
+    segment.set_live(made);
+    if segment.segment().rows.len() != 2 {
+        return Ok(None);
+    }
+    let live = segment.live();
+    if live.is_live(0) || !live.is_live(1) {
+        return Ok(None);
+    }
+    Ok(Some(live.values(1).len()))
+}
+
+#[test]
+fn many_updates_of_one_packet(rt: HostRuntime) -> Result<(), Fail> {
+    assert!(rt; numbers_after_many(rt.alloc())? == Some(40));
     Ok(())
 }
 
