@@ -146,3 +146,43 @@ fn sizes_of_terms(rt: HostRuntime) -> Result<(), Fail> {
     }
     Ok(())
 }
+
+/// A document whose text has two words, so many times.
+fn repeated_document(alloc: Global, times: usize) -> Result<Document, Fail> {
+    let body = "ab cd ".repeat(alloc, times)?;
+    let body = field_of(alloc, "body", text_of(alloc, body.as_str())?)?;
+    document_of(alloc, "k", body, Fields::none(alloc))
+}
+
+/// How many terms such a document has, how often the second stands in it, and where it stands last.
+fn second_word(alloc: Global, times: usize) -> Result<(usize, usize, Option<u32>), Fail> {
+    let analysed = analyse(alloc, repeated_document(alloc, times)?)?;
+    let terms = analysed.postings.terms.as_slice();
+    let second = terms.get(1).ok_or("one term")?;
+    let positions = second.rows.positions(alloc, 0)?;
+    let last = positions.as_slice().last().copied();
+    Ok((terms.len(), positions.len(), last))
+}
+
+/// A text of 300,000 bytes with 100,000 words, by turns `ab` and `cd`; the third term is the key.
+#[test]
+fn a_long_text(rt: HostRuntime) -> Result<(), Fail> {
+    let told = second_word(rt.alloc(), 50_000)?;
+    assert!(rt; told == (3, 50_000, Some(99_999)));
+    Ok(())
+}
+
+/// The words of a phrase whose text has so many blanks.
+fn words_apart(alloc: Global, blanks: usize) -> Result<String, Fail> {
+    let blanks = " ".repeat(alloc, blanks)?;
+    let text = format!(in alloc; "ab{}cd", blanks.as_str())?;
+    words_of(alloc, text.as_str())
+}
+
+/// A phrase whose text has 200,004 bytes.
+#[test]
+fn a_long_phrase(rt: HostRuntime) -> Result<(), Fail> {
+    let words = words_apart(rt.alloc(), 200_000)?;
+    assert!(rt; words.as_str() == "ab|cd|");
+    Ok(())
+}

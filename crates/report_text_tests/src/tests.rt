@@ -1,4 +1,4 @@
-use ix_base::{Damaged, FileName, Hit, Operation, Refusal};
+use ix_base::{Damaged, FileName, Hit, Numbers, Operation, Refusal, Text};
 use op_script::{Act, BadLine, Why, read_script};
 use report_text::{
     Fault, Summary, commit_text, listed_text, refused_text, search_text, summary_text, write_text,
@@ -209,5 +209,39 @@ fn searches(rt: HostRuntime) -> Result<(), Fail> {
         two.as_slice()
             == "{\"commit\":5,\"hits\":[{\"key\":\"say \\\"\u{e9}\\n\\\"\",\"num\":{\"n\":-7}},{\"key\":\"bob/1\",\"num\":{\"date\":20240301,\"size\":298}},{\"key\":\"ann/1\",\"num\":{\"date\":20240301,\"size\":412}}],\"line\":9}\n".as_bytes()
     );
+    Ok(())
+}
+
+/// So many hits of documents that have the key `a` and nothing else.
+fn hits_of_one_key(alloc: Global, count: usize) -> Result<Vec<Hit>, Fail> {
+    let mut hits = Vec::new(alloc);
+    for _ in 0..count {
+        hits.push(Hit {
+            key: Text::copy_of(alloc, "a").ok().ok_or("memory")?,
+            num: Numbers::none(alloc),
+        })?;
+    }
+    Ok(hits)
+}
+
+/// Whether the line of a search tells so many such hits and one more.
+fn tells_hits(alloc: Global, count: usize) -> Result<bool, Fail> {
+    let hits = hits_of_one_key(alloc, count.saturating_add(1))?;
+    let line = search_text(alloc, 1, hits.as_slice(), 2)
+        .ok()
+        .ok_or("memory")?;
+    let most = "{\"key\":\"a\",\"num\":{}},".repeat(alloc, count)?;
+    let last = "{\"key\":\"a\",\"num\":{}}";
+    let want = format!(in alloc;
+        "{{\"commit\":1,\"hits\":[{}{last}],\"line\":2}}\n",
+        most.as_str()
+    )?;
+    Ok(line.as_slice() == want.as_str().as_bytes())
+}
+
+/// A line may tell of some thousand hits.
+#[test]
+fn searches_with_many_hits(rt: HostRuntime) -> Result<(), Fail> {
+    assert!(rt; tells_hits(rt.alloc(), 5000)?);
     Ok(())
 }

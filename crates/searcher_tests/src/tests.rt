@@ -239,6 +239,62 @@ fn set_numbers_are_shown(rt: HostRuntime) -> Result<(), Fail> {
     Ok(())
 }
 
+/// The name of a number: before `pages` where the number is even, and after it where it is odd.
+fn name_at(alloc: Global, at: u8) -> Result<Name, Fail> {
+    let first = if at % 2 == 0 { "a" } else { "z" };
+    name_of(alloc, format!(in alloc; "{first}{at}")?.as_str())
+}
+
+/// The live docs of two rows, the first dead, the second with the numbers 10 to 59 by these names.
+fn second_lives_with_many(alloc: Global) -> Result<LiveDocs, Fail>
+    ensures { IfOk result (λ live. length live.marks ≡ 2) }
+{
+    let mut live = LiveDocs::new(alloc, 2, 4)?;
+    live.kill(0);
+    for at in 10..60u8 {
+        live.set_value(alloc, 1, &name_at(alloc, at)?, i64::from(at))?;
+    }
+    Ok(live)
+}
+
+/// The even or the odd ones of these numbers, with their names.
+fn show_every_other(shown: &mut String, letter: &str, from: u8) -> Result<(), Fail> {
+    for at in 0..25u8 {
+        let number = u64::from(from) + 2 * u64::from(at);
+        write!(shown, " {letter}{number} {number}")?;
+    }
+    Ok(())
+}
+
+/// The hit of the second row with these numbers.
+fn hit_with_many(alloc: Global) -> Result<String, Fail> {
+    let mut shown = String::from_str(alloc, "d")?;
+    show_every_other(&mut shown, "a", 10)?;
+    write!(shown, " pages -40")?;
+    show_every_other(&mut shown, "z", 11)?;
+    write!(shown, ";")?;
+    Ok(shown)
+}
+
+/// Whether a search of these two rows finds the second with its number and 50 others.
+fn finds_with_many(alloc: Global) -> Result<bool, Fail> {
+    let segment = segment_of(alloc, 1, first_rows(alloc)?)?;
+    let searcher = searcher_of_one(alloc, with_live(segment, second_lives_with_many(alloc)?))?;
+    finds(
+        alloc,
+        &searcher,
+        &Query::All,
+        hit_with_many(alloc)?.as_str(),
+    )
+}
+
+/// Fifty numbers that were set in a row stand by name among its own.
+#[test]
+fn many_set_numbers_are_shown(rt: HostRuntime) -> Result<(), Fail> {
+    assert!(rt; finds_with_many(rt.alloc())?);
+    Ok(())
+}
+
 #[test]
 fn dead_rows_are_not_found(rt: HostRuntime) -> Result<(), Fail> {
     let searcher = one_of_two(rt.alloc())?;
