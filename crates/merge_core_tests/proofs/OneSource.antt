@@ -1,14 +1,15 @@
 -- A merge of a single segment.
-use Rattle.std.proofs.Common.{◌≡◌, ◌∙◌, ℕ, suc, ◌+◌, ◌<◌, ◌≤◌, List, [], ◌∷◌, ◌++◌, Bool, true, false, cond, length, Option, Some, None, refl, sym, ap, subst, arith}
+use Rattle.std.proofs.Common.{◌≡◌, ◌∙◌, ℕ, ◌+◌, ◌≤◌, List, [], ◌∷◌, length, Option, Some, None, refl, sym, ap, subst, arith, rules}
 use Rattle.std.specs.List.{cons_option}
 use Rattle.std.proofs.lemmas.List.{append-nil}
 use Rattle.ix_base.specs.declared.document.Row.{Row}
 use Rattle.live_docs.specs.declared.live_docs.Mark.{Mark}
 use Rattle.segment_files.specs.Fits.{BirthsRise}
 use Rattle.segment_core.specs.Births.{at_most_one, births_at}
-use Rattle.segment_core.specs.LiveRows.{Lived, marked, live_rows, live, MarksLater}
+use Rattle.frozen_packet.specs.declared.updates.Updates.{Updates}
+use Rattle.segment_core.specs.LiveRows.{Lived, Built, IsBuilt, marked, live_rows, live, MarksLater}
 use Rattle.segment_core.specs.declared.segment.Segment.{Segment}
-use Rattle.merge_core.specs.Merging.{CanMerge, Sources, IdsRise, IsLater, AreLater, row_count}
+use Rattle.merge_core.specs.Merging.{CanMerge, Sources, row_count}
 use Rattle.merge_core.specs.Reading.{HasRead, IsOf, IsStep, CanFinish, ReadingStays}
 use Rattle.merge_core.specs.declared.merge.Merge.{Merge}
 use Rattle.merge_core.specs.declared.merge.Step.{Step}
@@ -38,8 +39,14 @@ source_of given s rise long rows id = record {
     own : BirthsRise 1 4 s.segment.rows
     own = subst (BirthsRise 1 4) (sym rows) rise
 
+pub built_source : (given : List Row) (updates : Updates) (made : Option Lived) (s : Lived) → made ≡ Some s → Built given updates 1 9 made
+    → BirthsRise 1 4 given → length given ≡ 4 → IsSource s
+built_source given updates made s is built rise long =
+    let own : IsBuilt given updates 1 9 s = subst (λ (o : Option Lived). Built given updates 1 9 o) is built in
+    source_of given s rise long own.rows own.id
+
 alone : (s : Lived) (ids : List ℕ) → s.segment.id ≡ 1 → ids ≡ 1 ∷ [] → Sources (s ∷ []) ids (s ∷ [])
-alone s ids id is = subst (λ (l : List ℕ). Sources (s ∷ []) l (s ∷ [])) (sym is) (((0, (omega arith, refl)), id), tt)
+alone s ids id is = subst (λ (l : List ℕ). Sources (s ∷ []) l (s ∷ [])) (sym is) (((0, omega arith, refl), id), tt)
 
 pub is_of : (m : Merge) (s : Lived) (count : ℕ) → ReadsOne m s count → IsOf m (s ∷ [])
 is_of m s count reads = record {

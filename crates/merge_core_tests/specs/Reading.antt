@@ -1,5 +1,5 @@
 -- A merge that reads a single segment.
-use Rattle.std.specs.Prelude.{◌≡◌, ℕ, List, [], ◌∷◌}
+use Rattle.std.specs.Prelude.{◌≡◌, ℕ, [], ◌∷◌}
 use Rattle.segment_core.specs.LiveRows.{Lived}
 use Rattle.merge_core.specs.Merging.{CanMerge}
 use Rattle.merge_core.specs.Reading.{HasRead}

@@ -1,3 +1,4 @@
+use Rattle.std.proofs.Common.{rules}
 use Rattle.merge_core_tests.proofs.OneSource.{starts}
 use Rattle.merge_core_tests.proofs.tests_changes.start.Goals as goal
 
