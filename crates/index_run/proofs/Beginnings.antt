@@ -15,11 +15,12 @@ use Rattle.index_writer.specs.declared.state.State.{State}
 use Rattle.index_writer.specs.Laws.{OpenedGoOn}
 use Rattle.index_writer.specs.Ready.{CanFollow, IsStored, opened_on, written_of}
 use Rattle.run_log.specs.Headline.{CanRun, Given, HasNoCommit, IsLast, IsOn}
-use Rattle.index_run.specs.Beginning.{BeginsOn, IsGivenCommit, IsSpelled, last_or_zero}
+use Rattle.run_log.specs.OnlyLaws.{none_of}
+use Rattle.index_run.specs.Beginning.{BeginsOn, CanBeginOn, IsBase, IsGivenCommit, IsOpened, IsSpelled, last_or_zero}
 use Rattle.index_run.specs.Doing.{IsOnGiven}
-use Rattle.index_run.proofs.KeptThere.{none_of}
 use Rattle.index_run.proofs.LogNumbers.{nat_or}
 use Rattle.index_run.proofs.RunBegins.{begins_lawful}
+use Rattle.index_run.proofs.SomeRows.{some_rows}
 
 -- ---- the last of the numbers that are listed
 
@@ -129,6 +130,41 @@ lawful_given g can some = by can.1
         → IsLawful g.files g.base g.next g.rows
     by (inl none) = absurd (omega (arith, none.0, some))
     by (inr on) = on.1
+
+-- the last commit of files that are told
+base_there : (told : Option Files) (base : ℕ) (files : Files) → told ≡ Some files → IsBase told base → IsLast files base
+base_there told base files is found =
+    let was : Was (Some files) found.0 = subst (λ (o : Option Files). Was o found.0) is found.1 in
+    subst (λ (f : Files). IsLast f base) (sym was) found.2
+
+-- a run begins on files without a commit, and on those whose last one was read
+pub begins_opened : (told : Option Files) (last : Option Opened) → IsOpened told last → (files : Files)
+    → told ≡ Some files → CanBeginOn files
+begins_opened told None found files is = (
+  record { lines = []; files = files; base = 0; next = 1; rows = [] },
+  refl,
+  base_there told 0 files is found,
+  inl (refl, refl, refl),
+  omega arith,
+)
+begins_opened told (Some opened) found files is =
+    let was : Was (Some files) found.1.0 = subst (λ (o : Option Files). Was o found.1.0) is found.1.1 in
+    let spelled : IsSpelled files opened = subst (λ (f : Files). IsSpelled f opened) (sym was) found.1.2 in
+    let rows = some_rows files opened.number opened.next_id opened.entries opened.segments spelled.spelled in (
+      record { lines = []; files = files; base = opened.number; next = opened.next_id; rows = rows.0 },
+      refl,
+      base_there told opened.number files is found.0,
+      inr (
+        spelled.some,
+        record {
+          entries = opened.entries;
+          segments = opened.segments;
+          spelled = spelled.spelled;
+          rows_are = rows.1;
+        },
+      ),
+      spelled.room,
+    )
 
 -- ---- a writer on a commit that was read
 

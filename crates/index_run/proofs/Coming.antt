@@ -30,7 +30,7 @@ use Rattle.index_run.specs.RepliedLaws.{outcomes_counted}
 use Rattle.index_run.specs.Outcomes.{AreOutcomes}
 use Rattle.index_run.specs.Rounds.{gave_of, given, pieces_of, share_of, writers_of}
 use Rattle.index_run.proofs.DiskAfter.{disk_same, disk_start}
-use Rattle.index_run.proofs.RunEnds.{keeps, stops, stops_files}
+use Rattle.index_run.proofs.RunEnds.{stops, stops_files}
 use Rattle.index_run.proofs.Workers.{all_go_on, parts_back}
 use Rattle.index_run.proofs.WriterOn.{writer_same, writer_start}
 
@@ -55,9 +55,10 @@ cut_start r lines can =
       log = numbered lines;
       numbering = λ caller. refl;
       crash = λ g on are. stops g r.first r.first [] (numbered lines) 0 r.start r.start on on.of_commits are disk;
-      files = λ g told on are.
+      files = λ g told on.
           stops_files g r.first r.first [] (numbered lines) 0 r.start r.start on (omega arith) told disk;
-      kept = λ g told on. keeps g r.first r.first [] 0 r.start r.start on told disk;
+      only = disk.only;
+      standing = disk.standing;
     }
 
 pub come_start : (r : Run) (lines : List Line) (shares : List Share) → CanBegin r.first → r.first.out ≡ false

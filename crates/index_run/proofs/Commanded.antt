@@ -78,7 +78,7 @@ pub script_undone : (IsScript : List Line → Type 0) (form : Form) (input : Opt
     → RunsScript IsScript (form_text form) (record { input = input; store = store; left = left; text = Err s })
 script_undone IsScript form input store left s still outside = record {
   runs = λ g is can. tt;
-  stops = λ g is can. stops_none g store left still is.stored;
+  stops = λ g is can. stops_none g store left still is.stored can;
   high = λ g is above. listed_onto (stop_status s) (4 ∷ 5 ∷ []) (4 ∷ 5 ∷ 7 ∷ 10 ∷ []) (refl, (refl, tt)) (outside g.lines is.script);
   whole = λ g is can. listed_onto (stop_status s) (4 ∷ 5 ∷ []) (4 ∷ 5 ∷ 7 ∷ []) (refl, (refl, tt)) (outside g.lines is.script);
 }

@@ -6,11 +6,13 @@ use Rattle.std.proofs.lemmas.List.{length-append}
 use Rattle.ix_outside.specs.Calls.{LeavesOnly}
 use Rattle.ix_outside.specs.CallLaws.{leaves_less, leaves_none, leaves_then}
 use Rattle.ix_outside.specs.Crash.{MayHold}
-use Rattle.ix_outside.specs.Disk.{Disk, told_files}
+use Rattle.ix_outside.specs.Disk.{Disk, Told, told_files}
 use Rattle.ix_outside.specs.Files.{Files, Changes, onto, stays, then}
 use Rattle.ix_outside.specs.Images.{Follows, Reaches}
 use Rattle.commit_point.specs.declared.written.Written.{Written}
 use Rattle.commit_point.specs.Holds.{AreKept}
+use Rattle.commit_point.specs.StepLaws.{goes_none, goes_then}
+use Rattle.commit_point.specs.Steps.{KeepsMade, KeepsStanding, MakesCommits, OnlyCommits}
 use Rattle.commit_point.specs.Writing.{AreWritten}
 use Rattle.flush_control.specs.declared.published.Published.{Published}
 use Rattle.op_script.specs.declared.script.Line.{Line}
@@ -23,8 +25,8 @@ use Rattle.index_writer.specs.Storing.{Commits, GoesOn, MayCommit, Settles, on_c
 use Rattle.run_log.specs.Headline.{commit_numbers}
 use Rattle.index_run.specs.Doing.{CanBegin, IsWriterOn}
 use Rattle.index_run.specs.Leaving.{CommitLaws, HasFront, HasSomeFront, IsDiskAfter, IsNextCommit, Stands, first_numbers}
-use Rattle.index_run.proofs.LogNumbers.{numbers_front, numbers_whole, rises_last}
-use Rattle.run_log.specs.CommitLaws.{Rises, commits_rise}
+use Rattle.index_run.proofs.LogNumbers.{numbers_front, numbers_whole}
+use Rattle.run_log.specs.CommitLaws.{Rises, commits_rise, rises_last}
 use Rattle.index_run.proofs.MadeCommits.{ComesNext, front_crash, front_higher, front_longer, front_none, stands_commit}
 
 -- ---- files that are told
@@ -62,6 +64,8 @@ disk_start first disk can = record {
   images = λ c image. (c, image, stands_none first [] c);
   crash = leaves_none disk (Reaches (HasSomeFront first []) (MayHold disk))
       (λ c image. (c, image, (0, omega arith, front_none first [] (first.published.next_id + 2 * 0) c)));
+  only = goes_none (λ step older. MakesCommits step) disk;
+  standing = λ was told goes. goes_none KeepsStanding disk;
   settled = λ was is told_was told_is goes images kept.
       let same : was ≡ is = cc in subst (λ (f : Files). AreKept f (MayHold disk)) same kept;
 }
@@ -107,6 +111,8 @@ disk_other first log count w v start now stored last since disk =
           let d = disk.images c image in
           (d.0, d.1, stands_other first log numbers w v d.0 c stored last since d.2);
       crash = disk.crash;
+      only = disk.only;
+      standing = disk.standing;
       settled = disk.settled;
     }
 
@@ -156,6 +162,8 @@ disk_longer first log more count w start now le disk =
       crash = leaves_less start now (Reaches (HasSomeFront first log) (MayHold start))
           (Reaches (HasSomeFront first (log ++ more)) (MayHold start)) disk.crash
           (λ c left. (left.0, left.1, some_longer first log more left.0 c left.2));
+      only = disk.only;
+      standing = disk.standing;
       settled = disk.settled;
     }
 
@@ -177,6 +185,8 @@ disk_count first log count more w start now same disk = record {
   files = subst (λ (ns : List ℕ). Changes (Stands first log ns w) (told_files start) (told_files now)) same disk.files;
   images = subst (λ (ns : List ℕ). Follows (Stands first log ns w) (MayHold start) (MayHold now)) same disk.images;
   crash = disk.crash;
+  only = disk.only;
+  standing = disk.standing;
   settled = disk.settled;
 }
 
@@ -202,7 +212,7 @@ all_numbers : (first : State) (log : List Line) (count s : ℕ)
 all_numbers first log count s numbers = sym (numbers_whole first.published.upto log ∙ numbers)
 
 -- a crash while the commit is made
-some_crash : (first w : State) (log : List Line) (count : ℕ) (old mid new : Files) → count ≤ length log
+pub some_crash : (first w : State) (log : List Line) (count : ℕ) (old mid new : Files) → count ≤ length log
     → w.since ≤ first.published.next_id + 2 * length log
     → IsNextCommit first log count w.published.upto
     → ComesNext first log (first_numbers first log count) w → Stands first log (first_numbers first log count) w old mid
@@ -259,6 +269,17 @@ settled_commit first w v log count start mid now settles disk was is told_was to
     (λ d image. let b = disk.images d image in b.2.stored (images b.0 b.1).stored)
     (disk.settled was m.0 told_was m.1 goes images kept)
 
+-- no commit that stood lost its files or bytes, before the commit was made and meanwhile
+pub standing_commit : (first w : State) (log : List Line) (count : ℕ) (start mid now : Option Disk)
+    → ((files : Files) → told_files mid ≡ Some files → GoesOn files w → Told KeepsMade mid now)
+    → IsDiskAfter first log count w start mid → (was : Files) → told_files start ≡ Some was → GoesOn was first
+    → Told KeepsMade start now
+standing_commit first w log count start mid now stands disk was told goes =
+    let numbers = first_numbers first log count in
+    let m = the_files (told_files mid) (Stands first log numbers w was)
+    (changed (Stands first log numbers w) (told_files start) (told_files mid) was told disk.files) in
+    goes_then KeepsStanding start mid now (disk.standing was told goes) (stands m.0 m.1 (m.2.goes_on goes))
+
 pub disk_commit : (first w v : State) (log : List Line) (count : ℕ) (start mid now : Option Disk) → CommitLaws
     → CanBegin first → IsWriterOn first log w → count ≤ length log
     → IsNextCommit first log count w.published.upto
@@ -267,8 +288,10 @@ pub disk_commit : (first w v : State) (log : List Line) (count : ℕ) (start mid
     → (w.published.next_id ≤ 2 ^ 62 → Follows (Commits w v) (MayHold mid) (MayHold now))
     → (w.published.next_id ≤ 2 ^ 62 → Settles w mid now)
     → (w.published.next_id ≤ 2 ^ 62 → LeavesOnly mid now (Reaches (MayCommit w) (MayHold mid)))
+    → Told OnlyCommits mid now
+    → ((files : Files) → told_files mid ≡ Some files → GoesOn files w → Told KeepsMade mid now)
     → IsDiskAfter first log count w start mid → IsDiskAfter first log (length log) v start now
-disk_commit first w v log count start mid now laws begun on le numbers is room made acknowledged settled crash disk =
+disk_commit first w v log count start mid now laws begun on le numbers is room made acknowledged settled crash only standing disk =
     let before = first_numbers first log count in
     let all = first_numbers first log (length log) in
     let next = comes_next first w log count laws begun on disk.low numbers in
@@ -283,6 +306,8 @@ disk_commit first w v log count start mid now laws begun on le numbers is room m
           let b = disk.images d.0 d.1 in
           (b.0, b.1, whole b.0 d.0 c next b.2 d.2);
       crash = crash_commit first w log count start mid now laws begun on le numbers (crash room) disk;
+      only = goes_then (λ step older. MakesCommits step) start mid now disk.only only;
+      standing = standing_commit first w log count start mid now standing disk;
       settled = settled_commit first w v log count start mid now (settled room) disk;
     }
   where

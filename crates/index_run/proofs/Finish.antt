@@ -1,6 +1,6 @@
 -- A script that was done, and one that stopped.
 use Rattle.std.proofs.Common.{◌≡◌, ◌∙◌, ◌⊎◌, inl, inr, ℕ, ◌+◌, ◌-◌, ◌≤◌, List, [], ◌∷◌}
-use Rattle.std.proofs.Common.{length, map, Some, Ok, Err, Result, refl, sym, ap, subst, Vec, arith}
+use Rattle.std.proofs.Common.{length, map, Some, None, Ok, Err, Result, refl, sym, ap, subst, Vec, arith}
 use Rattle.std.specs.Prelude.{Option, IfOk, IfErr, IsSomeAnd, count_by}
 use Rattle.std.specs.List.{AllByRecursion}
 use Rattle.std.specs.declared.alloc.Global.{Global}
@@ -9,11 +9,15 @@ use Rattle.ix_base.specs.Hits.{hit_of}
 use Rattle.ix_base.specs.declared.damaged.Damaged.{Damaged}
 use Rattle.ix_base.specs.declared.document.Row.{Row}
 use Rattle.ix_outside.specs.Calls.{LeavesOnly}
-use Rattle.ix_outside.specs.CallLaws.{leaves_none}
+use Rattle.ix_outside.specs.CallLaws.{leaves_less, leaves_none}
 use Rattle.ix_outside.specs.Crash.{MayHold}
-use Rattle.ix_outside.specs.Disk.{Disk, told_files}
+use Rattle.ix_outside.specs.Disk.{Disk, Told, files as read_files, told_files}
 use Rattle.ix_outside.specs.Files.{Files}
 use Rattle.commit_point.specs.Holds.{HoldsInverted, KeepsCommits}
+use Rattle.commit_point.specs.StepLaws.{goes_none}
+use Rattle.commit_point.specs.Steps.{KeepsStanding, OnlyCommits}
+use Rattle.index_writer.specs.declared.fault.WriterFault.{WriterFault}
+use Rattle.index_writer.specs.declared.fault.WriterFault.TheVariants as writing
 use Rattle.index_writer.specs.declared.state.State.{State}
 use Rattle.made_runs.specs.Summary.{MadeRuns, script_summary}
 use Rattle.op_script.specs.Shape.{LinesRise}
@@ -25,26 +29,27 @@ use Rattle.report_text.specs.declared.fault.Fault.TheVariants as fault
 use Rattle.run_report.specs.declared.outcome.Outcome.{Outcome}
 use Rattle.run_report.specs.Searching.{CanSearch, ReadsCommit}
 use Rattle.run_report.specs.Texts.{texts}
+use Rattle.run_log.specs.AgainLaws.{commits_run_on}
 use Rattle.run_log.specs.CountLaws.{same_count}
-use Rattle.run_log.specs.Headline.{CanRun, Given, HasAll, HasSome, Interleaves, IsIn, IsKept, IsOn, Keeps, Runs, Stops}
+use Rattle.run_log.specs.Headline.{CanRun, CanRunOn, Given, HasAll, HasOnly, HasSome, Interleaves, IsIn, IsKept, IsLast, IsOn, Keeps, Runs, Stops}
 use Rattle.run_log.specs.Headline.{commit_numbers, is_commit, numbered, report, rows_at}
+use Rattle.run_log.specs.OnlyLaws.{only_image, only_itself}
 use Rattle.index_run.specs.declared.stop.Stop.{Stop}
 use Rattle.index_run.specs.declared.stop.Stop.TheVariants as stop
 use Rattle.index_run.specs.declared.telling.Form.{Form}
 use Rattle.index_run.specs.declared.telling.Form.TheVariants.{Report, Summary}
-use Rattle.index_run.specs.Beginning.{BeginsOn, IsBase}
-use Rattle.index_run.specs.Causes.{IsOneOf, stop_status}
+use Rattle.index_run.specs.Beginning.{BeginsOn, CanBeginOn, IsBase}
+use Rattle.index_run.specs.Causes.{IsOneOf, LeavesStore, stop_by, stop_status}
 use Rattle.index_run.specs.Commands.{IsMade, form_text}
 use Rattle.index_run.specs.Damage.{ReadsDamaged}
 use Rattle.index_run.specs.Doing.{IsOnGiven}
 use Rattle.index_run.specs.Driving.{IsCut, IsDocs, IsOver, Run, base_of}
-use Rattle.index_run.specs.Leaving.{HasOnly}
 use Rattle.index_run.specs.OutcomeLaws.{asked_by, outcomes_weaker, texts_with_none}
 use Rattle.index_run.specs.Outcomes.{AreOutcomes, IsAskedBy, rows_of}
 use Rattle.index_run.specs.Telling.{CanTell, TellsDamaged, is_committed}
 use Rattle.index_run.proofs.DiskAfter.{some_onto, the_files}
-use Rattle.index_run.proofs.KeptThere.{only_image, only_itself}
-use Rattle.index_run.proofs.RunEnds.{ends_again, ends_files, ends_images, keeps, keeps_some, reads, stops}
+use Rattle.index_run.proofs.Listed.{at_err}
+use Rattle.index_run.proofs.RunEnds.{ends_again, ends_files, ends_images, keeps_some, reads, stops}
 use Rattle.index_run.proofs.Searchable.{can_read, can_search, is_asked, no_rows}
 use Rattle.index_run.proofs.Summarised.{commits_counted, last_above, last_in, summarised}
 
@@ -76,21 +81,34 @@ none_crash g log disk are =
 some_told : (P : Files → Type 0) (o : Option Files) (x : Files) → o ≡ Some x → P x → IsSomeAnd o P
 some_told P o x told h = subst (λ (y : Option Files). IsSomeAnd y P) (sym told) h
 
-pub stops_none : (g : Given) (disk now : Option Disk) → now ≡ disk → told_files disk ≡ Some g.files → Stops g disk now
-stops_none g disk now same told =
-    subst (λ (d : Option Disk). Stops g disk d) (sym same) (record {
-      log = numbered g.lines;
-      numbering = λ caller. refl;
-      files = λ are. some_told (HasSome g (numbered g.lines)) (told_files disk) g.files told
-          (none_first g (numbered g.lines) g.files (only_itself g.files));
-      crash = none_crash g (numbered g.lines) disk;
-    })
+-- what follows from the first of a log's commits
+stops_by : (g : Given) (log : List Line) (old now : Option Disk) → CanRun g → Interleaves g.lines log
+    → IsSomeAnd (told_files now) (HasSome g log) → (IsKept g old → LeavesOnly old now (HasSome g log)) → Stops g old now
+stops_by g log old now can numbering has crash = record {
+  log = log;
+  numbering = numbering;
+  files = has;
+  crash = crash;
+  again = λ room.
+      some_onto (told_files now) (HasSome g log) CanRunOn (λ f some. commits_run_on g log f can numbering room some) has;
+  restarts = λ are room.
+      leaves_less old now (HasSome g log) CanRunOn (crash are) (λ c some. commits_run_on g log c can numbering room some);
+}
+
+pub stops_none : (g : Given) (disk now : Option Disk) → now ≡ disk → told_files disk ≡ Some g.files → CanRun g
+    → Stops g disk now
+stops_none g disk now same told can =
+    subst (λ (d : Option Disk). Stops g disk d) (sym same)
+    (stops_by g (numbered g.lines) disk disk can (λ caller. refl)
+    (some_told (HasSome g (numbered g.lines)) (told_files disk) g.files told
+    (none_first g (numbered g.lines) g.files (only_itself g.files))) (none_crash g (numbered g.lines) disk))
 
 pub keeps_none : (g : Given) (disk now : Option Disk) → now ≡ disk → told_files disk ≡ Some g.files → Keeps g disk now
 keeps_none g disk now same told =
     subst (λ (d : Option Disk). Keeps g disk d) (sym same) (record {
       kept = some_told (KeepsCommits g.files) (told_files disk) g.files told (only_itself g.files).kept;
       crash = λ are. keeps_some g [] disk disk (none_crash g [] disk are);
+      standing = goes_none KeepsStanding disk;
     })
 
 -- ---- a run that stopped
@@ -99,19 +117,24 @@ numbering_of : (given lines log : List Line) → given ≡ lines → Interleaves
 numbering_of given lines log same numbering =
     subst (λ (ls : List Line). Interleaves ls log) (sym same) numbering
 
-pub cut_stops : (g : Given) (r : Run) (lines : List Line) (now : Option Disk) → g.lines ≡ lines
+pub cut_stops : (g : Given) (r : Run) (lines : List Line) (now : Option Disk) → g.lines ≡ lines → CanRun g
     → told_files r.start ≡ Some g.files → IsOnGiven g r.first → IsCut r lines now → Stops g r.start now
-cut_stops g r lines now same told on cut = record {
-  log = cut.log;
-  numbering = numbering_of g.lines lines cut.log same cut.numbering;
-  files = λ are. cut.files g told on are;
-  crash = λ are. cut.crash g on are;
-}
+cut_stops g r lines now same can told on cut =
+    stops_by g cut.log r.start now can (numbering_of g.lines lines cut.log same cut.numbering) (cut.files g told on)
+    (λ are. cut.crash g on are)
+
+-- where the first of the log's commits are there, those that were there are kept
+kept_some : (g : Given) (log : List Line) (now : Option Disk) → IsSomeAnd (told_files now) (HasSome g log)
+    → IsSomeAnd (told_files now) (KeepsCommits g.files)
+kept_some g log now = some_onto (told_files now) (HasSome g log) (KeepsCommits g.files) (λ f some. some.1.kept)
 
 pub cut_keeps : (g : Given) (r : Run) (lines : List Line) (now : Option Disk) → told_files r.start ≡ Some g.files
     → IsOnGiven g r.first → IsCut r lines now → Keeps g r.start now
-cut_keeps g r lines now told on cut =
-    record { kept = cut.kept g told on; crash = λ are. keeps_some g cut.log r.start now (cut.crash g on are) }
+cut_keeps g r lines now told on cut = record {
+  kept = kept_some g cut.log now (cut.files g told on);
+  crash = λ are. keeps_some g cut.log r.start now (cut.crash g on are);
+  standing = cut.standing g.files told on.goes_on;
+}
 
 -- ---- a run that was done
 
@@ -129,23 +152,26 @@ over_crash g r lines outcomes w now on o are =
     subst (λ (ls : List Line). LeavesOnly r.start now (HasSome g ls)) (append-nil o.log)
     (stops g r.first w o.log [] (length o.log) r.start now on on.of_commits are o.over.disk)
 
+over_files : (g : Given) (r : Run) (lines : List Line) (outcomes : List Outcome) (w : State) (now : Option Disk)
+    → told_files r.start ≡ Some g.files → IsOnGiven g r.first → (o : IsOver r lines outcomes w now)
+    → IsSomeAnd (told_files now) (HasSome g o.log)
+over_files g r lines outcomes w now told on o =
+    some_onto (told_files now) (HasAll g o.log) (HasSome g o.log) (λ f all. (length o.log, all))
+    (ends_files g r.first w o.log r.start now on told o.over.disk)
+
 pub over_stops : (g : Given) (r : Run) (lines : List Line) (outcomes : List Outcome) (w : State) (now : Option Disk)
-    → g.lines ≡ lines → told_files r.start ≡ Some g.files → IsOnGiven g r.first → IsOver r lines outcomes w now
-    → Stops g r.start now
-over_stops g r lines outcomes w now same told on o = record {
-  log = o.log;
-  numbering = numbering_of g.lines lines o.log same o.numbering;
-  files = λ are.
-      some_onto (told_files now) (HasAll g o.log) (HasSome g o.log) (λ f all. (length o.log, all))
-      (ends_files g r.first w o.log r.start now on told o.over.disk);
-  crash = over_crash g r lines outcomes w now on o;
-}
+    → g.lines ≡ lines → CanRun g → told_files r.start ≡ Some g.files → IsOnGiven g r.first
+    → IsOver r lines outcomes w now → Stops g r.start now
+over_stops g r lines outcomes w now same can told on o =
+    stops_by g o.log r.start now can (numbering_of g.lines lines o.log same o.numbering)
+    (over_files g r lines outcomes w now told on o) (over_crash g r lines outcomes w now on o)
 
 pub over_keeps : (g : Given) (r : Run) (lines : List Line) (outcomes : List Outcome) (w : State) (now : Option Disk)
     → told_files r.start ≡ Some g.files → IsOnGiven g r.first → IsOver r lines outcomes w now → Keeps g r.start now
 over_keeps g r lines outcomes w now told on o = record {
-  kept = keeps g r.first w o.log (length o.log) r.start now on told o.over.disk;
+  kept = kept_some g o.log now (over_files g r lines outcomes w now told on o);
   crash = λ are. keeps_some g o.log r.start now (over_crash g r lines outcomes w now on o are);
+  standing = o.over.disk.standing g.files told on.goes_on;
 }
 
 -- what became of the lines, by what was given
@@ -187,7 +213,7 @@ over_runs g r lines outcomes w now text wrote same can told on o written = recor
   again = λ are room.
       let count : length o.log ≡ length (numbered g.lines) =
       same_count o.log (numbered lines) o.numbering ∙ sym (ap (λ (ls : List Line). length (numbered ls)) same) in
-      ends_again g r.first w o.log r.start now o.over.first on on.of_commits can told are
+      ends_again g r.first w o.log r.start now on on.of_commits can told are
       (omega (arith, room, count)) o.over.disk;
 }
 
@@ -315,28 +341,87 @@ whole_in law g r form lines outcomes w now upto (Err s) rise made on told here l
         subst (ReadsCommit found.0) (sym last)
         (found.2 (g.base + length o.log) (inr (last_in law lines o.log g.base (made refl) o.numbering)))
 
+-- a store that tells nothing goes on telling nothing
+none_still : (old now : Option Disk) → Told OnlyCommits old now → old ≡ None → now ≡ None
+none_still None None only is = refl
+none_still None (Some disk) only is = absurd only
+none_still (Some disk) now only is = absurd cc
+
+-- where something is damaged after the lines were done, the store tells nothing
+pub untold : MadeRuns → (r : Run) (form : Form) (lines : List Line) (outcomes : List Outcome) (w : State)
+    (now : Option Disk) (upto : ℕ) (result : Result Bytes Stop) (damaged : Damaged) → LinesRise 1 lines
+    → (form ≡ Summary → IsMade lines) → ((f : Files) → told_files r.start ≡ Some f → CanBeginOn f)
+    → ((g : Given) → told_files r.start ≡ Some g.files → IsLast g.files g.base → IsOn g → BeginsOn g r.first)
+    → upto ≡ w.published.upto → IsOver r lines outcomes w now
+    → ((f : Files) → told_files now ≡ Some f → CanTell form upto f outcomes
+    → IfErr result (λ s. (s ≡ stop.Fault fault.Store) ⊎ (s ≡ stop.NoMemory)))
+    → result ≡ Err (stop.Fault (fault.Damaged damaged)) → (r.start ≡ None) × (now ≡ None)
+untold law r form lines outcomes w now upto result damaged rise made begins on last_is o whole is =
+    let start = by r.start refl in (start, none_still r.start now o.over.disk.only start)
+  where
+    not_told : (f : Files) → told_files r.start ≡ Some f → ⊥
+    not_told f told =
+        let can = begins f told in
+        let given : told_files r.start ≡ Some can.0.files = told ∙ ap Some (sym can.1) in
+        let listed : IsOneOf 8 (4 ∷ 7 ∷ []) =
+        at_err result (stop.Fault (fault.Damaged damaged)) (λ s. IsOneOf (stop_status s) (4 ∷ 7 ∷ [])) is
+        (whole_in law can.0 r form lines outcomes w now upto result rise made can.3 given (on can.0 given can.2 can.3)
+        last_is o whole) in
+        cc
+
+    by : (d : Option Disk) → r.start ≡ d → r.start ≡ None
+    by None e = e
+    by (Some disk) e = absurd (not_told (read_files disk) (ap told_files e))
+
+-- at a status that leaves the store as it was it is so
+pub same_told : (result : Result Bytes Stop) (start now : Option Disk)
+    → IfErr result (λ s. (s ≡ stop.Fault fault.Store) ⊎ ((s ≡ stop.NoMemory)
+    ⊎ ((damaged : Damaged) × (s ≡ stop.Fault (fault.Damaged damaged)))))
+    → ((damaged : Damaged) → result ≡ Err (stop.Fault (fault.Damaged damaged)) → (start ≡ None) × (now ≡ None))
+    → IfErr result (λ s. LeavesStore (stop_status s) → now ≡ start)
+same_told (Ok bytes) start now others none = tt
+same_told (Err s) start now (inl e) none = λ listed.
+    absurd (let store : LeavesStore 7 = subst (λ (x : Stop). LeavesStore (stop_status x)) e listed in cc)
+same_told (Err s) start now (inr (inl e)) none = λ listed.
+    absurd (let memory : LeavesStore 4 = subst (λ (x : Stop). LeavesStore (stop_status x)) e listed in cc)
+same_told (Err s) start now (inr (inr found)) none = λ listed.
+    let both = none found.0 (ap Err found.1) in both.1 ∙ sym both.0
+
+-- at none of these does the writer stop
+pub none_stopped : (why : WriterFault) (s : Stop) → s ≡ stop_by why → LeavesStore (stop_status s) → ⊥
+none_stopped writing.Store s is listed =
+    let store : LeavesStore 7 = subst (λ (x : Stop). LeavesStore (stop_status x)) is listed in cc
+none_stopped writing.Closed s is listed =
+    let memory : LeavesStore 4 = subst (λ (x : Stop). LeavesStore (stop_status x)) is listed in cc
+none_stopped writing.NoMemory s is listed =
+    let memory : LeavesStore 4 = subst (λ (x : Stop). LeavesStore (stop_status x)) is listed in cc
+
 -- what is damaged after the lines were done was to be read
 pub damaged_in : MadeRuns → (r : Run) (form : Form) (lines : List Line) (outcomes : List Outcome) (w : State)
     (old now : Option Disk) (base upto : ℕ) (damaged : Damaged) → (form ≡ Summary → IsMade lines)
     → IsBase (told_files old) (base_of r) → upto ≡ w.published.upto → IsOver r lines outcomes w now
-    → TellsDamaged form upto outcomes (told_files now) damaged
+    → (told_files old ≡ None) × (told_files now ≡ None) → TellsDamaged form upto outcomes (told_files now) damaged
     → ReadsDamaged form lines (told_files old) (told_files now) damaged
-damaged_in law r Report lines outcomes w old now base upto damaged made is_base last_is o found = record {
+damaged_in law r Report lines outcomes w old now base upto damaged made is_base last_is o none found = record {
   base = base_of r;
   last = is_base;
   number = found.2.number;
   some = found.2.some;
-  reads = inr (is_asked (base_of r) o.log lines outcomes found.0 found.2.number found.2.query o.numbering
-      (over_asked r lines outcomes w now o) found.1 found.2.searches);
+  reads = inr (
+    none.0,
+    none.1,
+    is_asked (base_of r) o.log lines outcomes found.0 found.2.number found.2.query o.numbering
+        (over_asked r lines outcomes w now o) found.1 found.2.searches,
+  );
   broken = found.2.broken;
 }
-damaged_in law r Summary lines outcomes w old now base upto damaged made is_base last_is o found =
+damaged_in law r Summary lines outcomes w old now base upto damaged made is_base last_is o none found =
     let last : upto ≡ base_of r + length o.log = (let end = o.over.writer.upto in omega (arith, last_is, end)) in
     record {
       base = base_of r;
       last = is_base;
       number = upto;
       some = (let above = last_above law lines o.log (base_of r) (made refl) o.numbering in omega (arith, last, above));
-      reads = inr (record { log = o.log; numbering = o.numbering; is = last });
+      reads = inr (none.0, none.1, record { log = o.log; numbering = o.numbering; is = last });
       broken = found;
     }

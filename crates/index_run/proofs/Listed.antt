@@ -48,6 +48,11 @@ at_err_and result s P is h = subst (λ r. IsErrAnd r P) is h
 pub no_err : {T : Type 0} (result : Result T Stop) (x : T) (P : Stop → Type 0) → result ≡ Ok x → IsErrAnd result P → ⊥
 no_err result x P is h = subst (λ r. IsErrAnd r P) is h
 
+-- what is true of every stop
+pub err_always : {T : Type 0} (result : Result T Stop) (P : Stop → Type 0) → ((s : Stop) → P s) → IfErr result P
+err_always (Ok x) P h = tt
+err_always (Err s) P h = h s
+
 -- ---- the outside
 
 -- only the store or memory stops what is said to be whole

@@ -12,7 +12,6 @@ use Rattle.ix_base.specs.declared.document.Row.{Row}
 use Rattle.ix_base.specs.Steps.{after, numbered_from, step}
 use Rattle.op_script.specs.declared.script.Line.{Line}
 use Rattle.row_fates.specs.Fate.{added, rows_added}
-use Rattle.run_log.specs.CommitLaws.{Rises}
 use Rattle.run_log.specs.Headline.{IsIn, act_operation, commit_numbers, is_commit, operations, rows_at}
 
 -- ---- numbers
@@ -22,47 +21,6 @@ nat_or s t = elim (cases_lt s t) [
   | inl lt ↦ inr (λ e. absurd (omega (arith, e)))
   | inr le ↦ elim (cases_lt t s) [ inl gt ↦ inr (λ e. absurd (omega (arith, e))) | inr ge ↦ inl (omega arith) ]
 ]
-
--- each number is below s
-abbrev pub AllBelow : ℕ → List ℕ → Type 0
-AllBelow s [] = Unit {0}
-AllBelow s (n ∷ ns) = (n < s) × AllBelow s ns
-
--- the last of rising numbers is above the others
-pub rises_last : (low s : ℕ) (ns : List ℕ) → Rises low (ns ++ s ∷ []) → (low < s) × AllBelow s ns
-rises_last low s [] rise = (rise.0, tt)
-rises_last low s (n ∷ ns) rise =
-    let rest = rises_last n s ns rise.1 in (omega (arith, rise.0, rest.0), (rest.0, rest.1))
-
-pub rises_above : (low s : ℕ) (ns : List ℕ) → Rises low ns → IsIn ns s → low < s
-rises_above low s [] rise among = absurd among
-rises_above low s (n ∷ ns) rise (inl e) = omega (arith, rise.0, e)
-rises_above low s (n ∷ ns) rise (inr among) = omega (arith, rise.0, rises_above n s ns rise.1 among)
-
-pub in_push : (ns : List ℕ) (s t : ℕ) → IsIn ns t → IsIn (ns ++ s ∷ []) t
-in_push [] s t among = absurd among
-in_push (n ∷ ns) s t (inl e) = inl e
-in_push (n ∷ ns) s t (inr among) = inr (in_push ns s t among)
-
-pub in_last : (ns : List ℕ) (s : ℕ) → IsIn (ns ++ s ∷ []) s
-in_last [] s = inl refl
-in_last (n ∷ ns) s = inr (in_last ns s)
-
-pub in_most : (ns : List ℕ) (s t : ℕ) → AllBelow s ns → IsIn (ns ++ s ∷ []) t → t ≤ s
-in_most [] s t below (inl e) = omega (arith, e)
-in_most [] s t below (inr among) = absurd among
-in_most (n ∷ ns) s t below (inl e) = omega (arith, e, below.0)
-in_most (n ∷ ns) s t below (inr among) = in_most ns s t below.1 among
-
--- there is no number, or a last one
-pub split_last : (ns : List ℕ) → (ns ≡ []) ⊎ ((front : List ℕ) × (s : ℕ) × (ns ≡ front ++ s ∷ []))
-split_last [] = inl refl
-split_last (n ∷ ns) = by (split_last ns)
-  where
-    by : (ns ≡ []) ⊎ ((front : List ℕ) × (s : ℕ) × (ns ≡ front ++ s ∷ []))
-        → (n ∷ ns ≡ []) ⊎ ((front : List ℕ) × (s : ℕ) × (n ∷ ns ≡ front ++ s ∷ []))
-    by (inl e) = inr ([], n, ap (λ (xs : List ℕ). n ∷ xs) e)
-    by (inr h) = inr (n ∷ h.0, h.1, ap (λ (xs : List ℕ). n ∷ xs) h.2)
 
 -- ---- a log that grows
 

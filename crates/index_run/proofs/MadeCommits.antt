@@ -24,9 +24,10 @@ use Rattle.index_writer.specs.declared.state.State.{State}
 use Rattle.index_writer.specs.Ready.{IsReady, IsStored, NewIdsFrom}
 use Rattle.index_writer.specs.Storing.{Commits, GoesOn, MayCommit, SameBelow, on_commit}
 use Rattle.run_log.specs.Headline.{IsIn, operations, rows_at}
+use Rattle.run_log.specs.CommitLaws.{AllBelow, in_last, in_push}
 use Rattle.index_run.specs.Doing.{CanBegin, IsWriterOn}
 use Rattle.index_run.specs.Leaving.{AreMade, CommitLaws, HasFront, IsMade, Stands}
-use Rattle.index_run.proofs.LogNumbers.{AllBelow, in_last, in_push, nat_or, rows_front, rows_whole}
+use Rattle.index_run.proofs.LogNumbers.{nat_or, rows_front, rows_whole}
 
 -- ---- what lists what
 

@@ -7,7 +7,7 @@ use Rattle.command_words.specs.declared.command.Command.TheVariants as command
 use Rattle.report_text.specs.declared.fault.Fault.{Fault}
 use Rattle.run_log.specs.Headline.{CanRun, Given, IsGiven, Runs, Stops}
 use Rattle.index_run.specs.Causes.{IsOneOf, stop_status}
-use Rattle.index_run.specs.Commands.{HasScript, run_text}
+use Rattle.index_run.specs.Commands.{HasScript, OnlyReads, run_text}
 use Rattle.index_run.specs.Endings.{Caused, CausedBy, Met}
 use Rattle.index_run.specs.Promises.{Call, CanComplete, Does}
 
@@ -25,6 +25,13 @@ does_stop (Run threads buffer merge) call does g is can = does.stops g is can
 does_stop (Ask commit) call does g is can = absurd is.script
 does_stop command.List call does g is can = absurd is.script
 does_stop (Make seed count callers) call does g is can = does.stops g is can
+
+-- a command that only reads leaves the store as it was
+pub does_read : (c : Command) (call : Call) → Does c call → OnlyReads c → call.left ≡ call.store
+does_read (Run threads buffer merge) call does only = absurd only
+does_read (Ask commit) call does only = does.same
+does_read command.List call does only = does.same
+does_read (Make seed count callers) call does only = absurd only
 
 -- it stops at a last commit that is too high
 pub does_high : (c : Command) (call : Call) → Does c call → (g : Given) → IsGiven g (HasScript c call.input) call.store

@@ -9,9 +9,11 @@ use Rattle.ix_base.specs.declared.document.Operation.TheVariants.{Commit}
 use Rattle.ix_base.specs.declared.document.Row.{Row}
 use Rattle.ix_outside.specs.Calls.{LeavesOnly}
 use Rattle.ix_outside.specs.Crash.{MayHold}
-use Rattle.ix_outside.specs.Disk.{Disk, told_files}
-use Rattle.ix_outside.specs.Files.{Changes}
+use Rattle.ix_outside.specs.Disk.{Disk, Told, told_files}
+use Rattle.ix_outside.specs.Files.{Files, Changes}
 use Rattle.ix_outside.specs.Images.{Follows, Reaches}
+use Rattle.commit_point.specs.StepLaws.{goes_then}
+use Rattle.commit_point.specs.Steps.{KeepsMade, MakesCommits, OnlyCommits}
 use Rattle.op_script.specs.declared.script.Line.{Line}
 use Rattle.round_order.specs.Order.{NoCommit, seconds}
 use Rattle.round_work.specs.declared.share.Share.{Share}
@@ -26,7 +28,7 @@ use Rattle.index_writer.specs.declared.round.RoundEnd.{RoundEnd}
 use Rattle.index_writer.specs.declared.round.RoundParts.{RoundParts}
 use Rattle.index_writer.specs.declared.state.State.{State}
 use Rattle.index_writer.specs.Ready.{HasRows, IsReady}
-use Rattle.index_writer.specs.Storing.{Commits, MayCommit, SameBelow, Settles, on_commit}
+use Rattle.index_writer.specs.Storing.{Commits, GoesOn, MayCommit, Settles, on_commit}
 use Rattle.run_log.specs.CommitLaws.{IsDoing, each_doing, last_committed, none_committed, plain_lines}
 use Rattle.run_log.specs.Headline.{Interleaves, commit_numbers, numbered, operations}
 use Rattle.run_log.specs.NumberLaws.{commits_append, rows_at_all}
@@ -37,9 +39,9 @@ use Rattle.index_run.specs.Doing.{IsWriterOn}
 use Rattle.index_run.specs.Driving.{EndsRound, HasDone, IsAt, IsCut, IsDocs, IsRound, Run, base_of}
 use Rattle.index_run.specs.Leaving.{CommitLaws, IsDiskAfter, IsNextCommit}
 use Rattle.index_run.specs.Merged.{EndsMerged}
-use Rattle.index_run.proofs.DiskAfter.{disk_commit, disk_count, disk_round}
+use Rattle.index_run.proofs.DiskAfter.{disk_commit, disk_count, disk_round, standing_commit}
 use Rattle.index_run.proofs.LogNumbers.{numbers_front, numbers_whole}
-use Rattle.index_run.proofs.RunEnds.{files_commit, keeps, keeps_commit, stops, stops_commit, stops_files}
+use Rattle.index_run.proofs.RunEnds.{files_commit, stops, stops_commit, stops_files}
 use Rattle.index_run.proofs.WriterOn.{writer_commit, writer_round}
 
 -- ---- stops
@@ -58,8 +60,9 @@ cut_done r lines shares log w now h =
       log = log ++ rest.0;
       numbering = rest.1;
       crash = λ g on are. stops g r.first w log rest.0 (length log) r.start now on on.of_commits are disk;
-      files = λ g told on are. stops_files g r.first w log rest.0 (length log) r.start now on (omega arith) told disk;
-      kept = λ g told on. keeps g r.first w log (length log) r.start now on told disk;
+      files = λ g told on. stops_files g r.first w log rest.0 (length log) r.start now on (omega arith) told disk;
+      only = disk.only;
+      standing = disk.standing;
     }
 
 -- ---- the end of a round
@@ -167,9 +170,11 @@ module _ (r : Run) (lines : List Line) (olds news : List Share) (log : List Line
   -- a stop while its commit was written
   pub cut_commit : (now : Option Disk) → CommitLaws → (before : List Operation) → NoCommit before
       → seconds e.ts ≡ before ++ Commit ∷ []
-      → Changes (SameBelow v.published.upto v.since) (told_files mid) (told_files now)
-      → LeavesOnly mid now (Reaches (MayCommit v) (MayHold mid)) → IsCut r lines now
-  cut_commit now laws before plain ends elsewhere crash =
+      → Changes (MayCommit v) (told_files mid) (told_files now)
+      → LeavesOnly mid now (Reaches (MayCommit v) (MayHold mid)) → Told OnlyCommits mid now
+      → ((files : Files) → told_files mid ≡ Some files → GoesOn files v → Told KeepsMade mid now)
+      → IsCut r lines now
+  cut_commit now laws before plain ends left crash only standing =
       let news_are = shares_go_on r.workers lines olds news h.before.shares_are h.go_on in
       let rest =
       log_completes r.workers lines news (log ++ more) news_are
@@ -182,12 +187,11 @@ module _ (r : Run) (lines : List Line) (olds news : List Share) (log : List Line
         crash = λ g on are.
             stops_commit g r.first v (log ++ more) rest.0 (length log) r.start mid now laws h.before.at.first
             on on.of_commits writer_on are within (last_in before plain ends) crash disk_on;
-        files = λ g told on are.
+        files = λ g told on.
             files_commit g r.first v (log ++ more) rest.0 (length log) r.start mid now laws h.before.at.first
-            on on.of_commits writer_on are told within (last_in before plain ends) crash elsewhere disk_on;
-        kept = λ g told on.
-            keeps_commit g r.first v (log ++ more) (length log) r.start mid now laws h.before.at.first on writer_on
-            told (last_in before plain ends) elsewhere disk_on;
+            on writer_on told within (last_in before plain ends) left disk_on;
+        only = goes_then (λ step older. MakesCommits step) r.start mid now disk_on.only only;
+        standing = standing_commit r.first v (log ++ more) (length log) r.start mid now standing disk_on;
       }
 
   -- the commit was written
@@ -201,8 +205,10 @@ module _ (r : Run) (lines : List Line) (olds news : List Share) (log : List Line
       → (v.published.next_id ≤ 2 ^ 62 → Follows (Commits v x) (MayHold mid) (MayHold now))
       → (v.published.next_id ≤ 2 ^ 62 → Settles v mid now)
       → (v.published.next_id ≤ 2 ^ 62 → LeavesOnly mid now (Reaches (MayCommit v) (MayHold mid)))
+      → Told OnlyCommits mid now
+      → ((files : Files) → told_files mid ≡ Some files → GoesOn files v → Told KeepsMade mid now)
       → EndsRound r lines news log (Some c) x now
-  ended_with x c now laws before plain ends pending number is ready_x room docs_of keeps_rows made acknowledged settled crash =
+  ended_with x c now laws before plain ends pending number is ready_x room docs_of keeps_rows made acknowledged settled crash only standing =
       let is_number : c.number ≡ v.published.upto = some_same (sym number ∙ pending) in
       let at_end : c.number ≡ base_of r + length (log ++ more) = omega (arith, is_number, writer_on.upto) in
       record {
@@ -215,7 +221,7 @@ module _ (r : Run) (lines : List Line) (olds news : List Share) (log : List Line
               disk =
                   disk_commit r.first v x (log ++ more) (length log) r.start mid now laws h.before.at.first writer_on
                   (omega (arith, length-append log more)) (last_in before plain ends) is room made acknowledged settled
-                  crash disk_on;
+                  crash only standing disk_on;
             });
         commit_is = (
           one_in before plain ends ∙ ap (λ (n : ℕ). n ∷ []) (sym is_number),

@@ -17,18 +17,20 @@ use Rattle.op_script.specs.declared.script.Line.{Line}
 use Rattle.index_writer.specs.declared.state.State.{State}
 use Rattle.index_writer.specs.Ready.{IsStored}
 use Rattle.index_writer.specs.Storing.{GoesOn, MayCommit, SameBelow}
-use Rattle.run_log.specs.CommitLaws.{Rises, commits_rise}
-use Rattle.run_log.specs.Headline.{CanRun, Given, GivesBack, HasAll, HasFirst, HasNoCommit, HasSome, IsIn, IsKept, IsLast, IsNewCommit, IsOn, commit_numbers, rows_at}
+use Rattle.run_log.specs.CommitLaws.{each_at}
+use Rattle.run_log.specs.Headline.{CanRun, CanRunOn, Given, GivesBack, HasAll, HasFirst, HasNoCommit, HasOnly, HasSome, IsIn, IsKept, IsLast, IsNewCommit, IsOn, commit_numbers, rows_at}
 use Rattle.run_report.specs.Searching.{ReadsCommit}
+use Rattle.commit_point.specs.KeptLaws.{kept_through}
+use Rattle.run_log.specs.OnlyLaws.{only_image, only_itself}
+use Rattle.run_log.specs.AgainLaws.{again}
 use Rattle.index_run.specs.Doing.{CanBegin, IsOnGiven, IsWriterOn}
-use Rattle.index_run.specs.Leaving.{AreMade, CommitLaws, HasFront, HasOnly, HasSomeFront, IsDiskAfter, IsNextCommit}
+use Rattle.index_run.specs.Leaving.{AreMade, CommitLaws, HasFront, HasSomeFront, IsDiskAfter, IsNextCommit}
 use Rattle.index_run.specs.Leaving.{IsMade, IsOfCommits, Stands, first_numbers}
-use Rattle.index_run.proofs.LogNumbers.{AllBelow, in_last, in_most, numbers_front, numbers_whole, rises_last}
-use Rattle.index_run.proofs.LogNumbers.{rows_front, split_last}
-use Rattle.index_run.proofs.KeptThere.{goes_on_there, inverted_there, kept_through, lists_back, none_of, only_image}
-use Rattle.index_run.proofs.KeptThere.{only_itself, there_by}
+use Rattle.index_run.proofs.LogNumbers.{numbers_front, numbers_whole}
+use Rattle.index_run.proofs.LogNumbers.{rows_front}
+use Rattle.index_run.proofs.KeptThere.{goes_on_there}
 use Rattle.index_run.proofs.MadeCommits.{kept_next}
-use Rattle.index_run.proofs.DiskAfter.{changed, comes_next, crash_commit, some_onto, the_files}
+use Rattle.index_run.proofs.DiskAfter.{changed, comes_next, crash_commit, some_crash, some_onto, the_files}
 use Rattle.index_run.proofs.SomeRows.{some_rows}
 
 -- ---- the first of a log's commits
@@ -109,90 +111,11 @@ ends_images g first w log start now on stays are disk c image =
 
 -- ---- the store is again such as a run asks for
 
-pub each_at : (P : ℕ → Type 0) (ns : List ℕ) (s : ℕ) → AllByRecursion P ns → IsIn ns s → P s
-each_at P [] s each among = absurd among
-each_at P (n ∷ ns) s each (inl e) = subst P (sym e) each.0
-each_at P (n ∷ ns) s each (inr among) = each_at P ns s each.1 among
-
--- the files have the given commits, and no other
-again_none : (g : Given) (f : Files) → CanRun g → HasOnly g.files f → CanRun (record g { files = f })
-again_none g f can has = (
-  record {
-    there = λ some. let was = can.0.there some in there_still was (has.kept g.base was (Commit g.base) (inl refl));
-    none_above = λ s above. none_of (f (Commit s))
-        (λ there. let some = has.only s there in let gone = can.0.none_above s above in cc);
-  },
-  by can.1,
-)
-  where
-    there_still : IsSome (g.files (Commit g.base)) → f (Commit g.base) ≡ g.files (Commit g.base)
-        → IsSome (f (Commit g.base))
-    there_still was same = subst (λ (o : Option (List ℕ)). IsSome o) (sym same) was
-
-    by : HasNoCommit g ⊎ ((1 ≤ g.base) × IsLawful g.files g.base g.next g.rows)
-        → HasNoCommit g ⊎ ((1 ≤ g.base) × IsLawful f g.base g.next g.rows)
-    by (inl none) = inl none
-    by (inr on) = inr (
-      on.0,
-      record {
-        holds = inverted_there g.files f g.base g.next g.rows has.kept on.1.holds;
-        room = on.1.room;
-        above = λ t e below lists. on.1.above t e below (lists_back g.files f t e has lists);
-      },
-    )
-
--- the last commit is one that was made
-again_some : (g : Given) (first : State) (log : List Line) (limit : ℕ) (front : List ℕ) (s : ℕ) (f : Files)
-    → CanBegin first → IsOnGiven g first → limit ≤ 2 ^ 61 → first_numbers first log (length log) ≡ front ++ s ∷ []
-    → AreMade first log (first_numbers first log (length log)) limit g.files f
-    → (next : ℕ) × (rows : List Row) × CanRun (record { lines = []; files = f; base = s; next = next; rows = rows })
-again_some g first log limit front s f begun on room is made =
-    (this.id, rows_at base g.rows log s, (is_last, inr (some, lawful)))
-  where
-    base : ℕ
-    base = first.published.upto
-
-    made_here : AreMade first log (front ++ s ∷ []) limit g.files f
-    made_here = subst (λ (ns : List ℕ). AreMade first log ns limit g.files f) is made
-
-    this : IsMade first log limit g.files f s
-    this = each_at (IsMade first log limit g.files f) (front ++ s ∷ []) s made_here.each (in_last front s)
-
-    rise : (base < s) × AllBelow s front
-    rise = rises_last base s front (subst (λ (ns : List ℕ). Rises base ns) is (commits_rise base (take (length log) log)))
-
-    some : 1 ≤ s
-    some = omega (arith, rise.0)
-
-    there : IsSome (f (Commit s))
-    there = there_by f s _ this.spelled.head.file
-
-    not_above : (t : ℕ) → s < t → IsSome (f (Commit t)) → ⊥
-    not_above t above here = elim (made_here.only t here) [
-      | inl was ↦
-          let gone = on.goes_on.none_above t (omega (arith, above, rise.0, begun.last)) in
-          cc
-      | inr among ↦ absurd (omega (arith, above, in_most front s t rise.1 among))
-    ]
-
-    none_above : (t : ℕ) → s < t → f (Commit t) ≡ None
-    none_above t above = none_of (f (Commit t)) (λ here. not_above t above here)
-
-    is_last : IsLast f s
-    is_last = record { there = λ some. there; none_above = none_above }
-
-    lawful : IsLawful f s this.id (rows_at base g.rows log s)
-    lawful = record {
-      holds = this.rows g.rows on.rows;
-      room = omega (arith, this.to_limit, room);
-      above = this.above on.goes_on;
-    }
-
-pub ends_again : (g : Given) (first w : State) (log : List Line) (start now : Option Disk) → CanBegin first
-    → IsOnGiven g first → IsOfCommits g.files first → CanRun g → told_files start ≡ Some g.files → IsKept g start
+pub ends_again : (g : Given) (first w : State) (log : List Line) (start now : Option Disk) → IsOnGiven g first
+    → IsOfCommits g.files first → CanRun g → told_files start ≡ Some g.files → IsKept g start
     → g.next + 2 * length log ≤ 2 ^ 61 → IsDiskAfter first log (length log) w start now → GivesBack now
-ends_again g first w log start now begun on stays can told are room disk =
-    by (split_last (first_numbers first log (length log)))
+ends_again g first w log start now on stays can told are room disk =
+    (next.0, found.1 ∙ ap Some (sym next.1), next.2, subst (λ (f : Files). AreKept f (MayHold now)) (sym next.1) kept)
   where
     These : Files → Files → Type 0
     These = Stands first log (first_numbers first log (length log)) w
@@ -201,25 +124,13 @@ ends_again g first w log start now begun on stays can told are room disk =
     found = the_files (told_files now) (These g.files)
         (changed These (told_files start) (told_files now) g.files told disk.files)
 
-    made : AreMade first log (first_numbers first log (length log)) w.since g.files found.0
-    made = found.2.front.made on.goes_on.stored
-
     kept : AreKept found.0 (MayHold now)
     kept = disk.settled g.files found.0 told found.1 on.goes_on (begins_image g first start on stays are) are
 
-    by : (first_numbers first log (length log) ≡ [])
-        ⊎ ((front : List ℕ) × (s : ℕ) × (first_numbers first log (length log) ≡ front ++ s ∷ [])) → GivesBack now
-    by (inl none) =
-        let here = subst (λ (ns : List ℕ). AreMade first log ns w.since g.files found.0) none made in
-        let has : HasOnly g.files found.0 = record {
-          kept = found.2.front.kept on.goes_on;
-          only = λ s there. elim (here.only s there) [ inl was ↦ was | inr among ↦ absurd among ];
-        } in
-        (record g { files = found.0 }, found.1, again_none g found.0 can has, kept)
-    by (inr some) =
-        let again = again_some g first log w.since some.0 some.1 found.0 begun on
-        (omega (arith, disk.high, room, on.next_id)) some.2 made in
-        (record { lines = []; files = found.0; base = some.1; next = again.0; rows = again.1 }, found.1, again.2, kept)
+    next : CanRunOn found.0
+    next =
+        again g log found.0 can room
+        (length log, has_all g first w log g.files found.0 on disk.high (only_itself g.files) on.goes_on found.2)
 
 -- ---- a stop at any time
 
@@ -255,14 +166,6 @@ stops_files g first w log rest count start now on le told disk =
     ))
     (changed stands (told_files start) (told_files now) g.files told disk.files)
 
-pub keeps : (g : Given) (first w : State) (log : List Line) (count : ℕ) (start now : Option Disk) → IsOnGiven g first
-    → told_files start ≡ Some g.files → IsDiskAfter first log count w start now
-    → IsSomeAnd (told_files now) (KeepsCommits g.files)
-keeps g first w log count start now on told disk =
-    let stands = Stands first log (first_numbers first log count) w in
-    some_onto (told_files now) (stands g.files) (KeepsCommits g.files) (λ f h. h.front.kept on.goes_on)
-    (changed stands (told_files start) (told_files now) g.files told disk.files)
-
 -- where a crash leaves the first of some log's commits, it keeps those that were there
 pub keeps_some : (g : Given) (log : List Line) (start now : Option Disk) → LeavesOnly start now (HasSome g log)
     → LeavesOnly start now (KeepsCommits g.files)
@@ -282,39 +185,26 @@ stops_commit g first w log rest count start mid now laws begun on stays on_log a
     crash_some g first log rest start now on stays are
     (crash_commit first w log count start mid now laws begun on_log le numbers crash disk)
 
-pub keeps_commit : (g : Given) (first w : State) (log : List Line) (count : ℕ) (start mid now : Option Disk)
-    → CommitLaws → CanBegin first
-    → IsOnGiven g first → IsWriterOn first log w → told_files start ≡ Some g.files
-    → IsNextCommit first log count w.published.upto
-    → Changes (SameBelow w.published.upto w.since) (told_files mid) (told_files now)
-    → IsDiskAfter first log count w start mid → IsSomeAnd (told_files now) (KeepsCommits g.files)
-keeps_commit g first w log count start mid now laws begun on on_log told numbers same disk =
-    let stands = Stands first log (first_numbers first log count) w in
-    let next = comes_next first w log count laws begun on_log disk.low numbers in
-    let keeps : Files → Files → Type 0 = λ x z. GoesOn x first → KeepsCommits x z in
-    let both =
-    then stands (SameBelow w.published.upto w.since) keeps (told_files start) (told_files mid) (told_files now)
-    (λ x y z h below. kept_next first log (first_numbers first log count) w x y z next below h.front.kept) disk.files
-    same in
-    some_onto (told_files now) (keeps g.files) (KeepsCommits g.files) (λ f h. h on.goes_on)
-    (changed keeps (told_files start) (told_files now) g.files told both)
-
--- what reads give is one of the images
+-- the files have the commit whole, or not at all
 pub files_commit : (g : Given) (first w : State) (log rest : List Line) (count : ℕ) (start mid now : Option Disk)
-    → CommitLaws → CanBegin first → IsOnGiven g first → IsOfCommits g.files first → IsWriterOn first log w
-    → IsKept g start
+    → CommitLaws → CanBegin first → IsOnGiven g first → IsWriterOn first log w
     → told_files start ≡ Some g.files → count ≤ length log
     → IsNextCommit first log count w.published.upto
-    → LeavesOnly mid now (Reaches (MayCommit w) (MayHold mid))
-    → Changes (SameBelow w.published.upto w.since) (told_files mid) (told_files now)
+    → Changes (MayCommit w) (told_files mid) (told_files now)
     → IsDiskAfter first log count w start mid → IsSomeAnd (told_files now) (HasSome g (log ++ rest))
-files_commit g first w log rest count start mid now laws begun on stays on_log are told le numbers crash same disk =
-    let found = the_files (told_files now) (KeepsCommits g.files)
-    (keeps_commit g first w log count start mid now laws begun on on_log told numbers same disk) in
-    let left =
-    stops_commit g first w log rest count start mid now laws begun on stays on_log are le numbers crash disk in
-    subst (λ (o : Option Files). IsSomeAnd o (HasSome g (log ++ rest))) (sym found.1)
-    (leaves_now start now (HasSome g (log ++ rest)) left found.0 (reads_may_hold now found.0 found.1))
+files_commit g first w log rest count start mid now laws begun on on_log told le numbers left disk =
+    let stands = Stands first log (first_numbers first log count) w in
+    let next = comes_next first w log count laws begun on_log disk.low numbers in
+    let both =
+    then stands (MayCommit w) (HasSomeFront first log) (told_files start) (told_files mid) (told_files now)
+    (λ x y z h may. some_crash first w log count x y z le disk.high numbers next h may) disk.files left in
+    some_onto (told_files now) (HasSomeFront first log g.files) (HasSome g (log ++ rest))
+    (λ f h. (
+      h.0,
+      has_first g first log rest h.0 (first.published.next_id + 2 * length log) g.files f on h.1 (omega arith)
+          (only_itself g.files) on.goes_on h.2,
+    ))
+    (changed (HasSomeFront first log) (told_files start) (told_files now) g.files told both)
 
 -- ---- what can be read
 

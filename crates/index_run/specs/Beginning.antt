@@ -10,7 +10,7 @@ use Rattle.commit_point.specs.declared.open.Opened.{Opened}
 use Rattle.searcher.specs.Searching.{IsDamagedIn}
 use Rattle.index_writer.specs.declared.state.State.{State}
 use Rattle.index_writer.specs.Ready.{IsStored}
-use Rattle.run_log.specs.Headline.{Given, IsLast}
+use Rattle.run_log.specs.Headline.{Given, IsLast, IsOn}
 use Rattle.index_run.specs.declared.begin.Unbegun.{Unbegun}
 use Rattle.index_run.specs.declared.stop.Stop.{Stop}
 
@@ -33,6 +33,10 @@ pub record IsDamagedBase (told : Option Files) (base : ℕ) (damaged : Damaged) 
   pub last : IsBase told base
   pub some : 1 ≤ base
   pub broken : IsDamagedIn told base damaged
+
+-- A run begins on these files: they have no commit, or the last one is in the grammar and its number leaves room.
+abbrev pub CanBeginOn : Files → Type 0
+CanBeginOn files = (g : Given) × (g.files ≡ files) × IsLast g.files g.base × IsOn g × (g.base ≤ 2 ^ 61)
 
 -- the last of a list, or 0
 abbrev pub last_or_zero : List ℕ → ℕ

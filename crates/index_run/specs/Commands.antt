@@ -29,6 +29,13 @@ ReadsInput (Ask commit) = ⊤
 ReadsInput command.List = ⊥
 ReadsInput (Make seed count callers) = ⊥
 
+-- `ask` and `list` only read the store
+abbrev pub OnlyReads : Command → Type 0
+OnlyReads (Run threads buffer merge) = ⊥
+OnlyReads (Ask commit) = ⊤
+OnlyReads command.List = ⊤
+OnlyReads (Make seed count callers) = ⊥
+
 -- the input has this first bad line
 abbrev pub IsBad : Command → List ℕ → BadLine → Type 0
 IsBad (Run threads buffer merge) bytes bad = script bytes ≡ Err bad

@@ -1,5 +1,5 @@
 -- Where a command finds a broken file.
-use Rattle.std.specs.Prelude.{◌≡◌, ◌⊎◌, ℕ, ◌+◌, ◌≤◌, List, ◌∷◌, ◌++◌, length, Option, Some, Ok}
+use Rattle.std.specs.Prelude.{◌≡◌, ◌⊎◌, ℕ, ◌+◌, ◌≤◌, List, ◌∷◌, ◌++◌, length, Option, Some, None, Ok}
 use Rattle.command_words.specs.declared.command.Command.{Command}
 use Rattle.command_words.specs.declared.command.Command.TheVariants.{Ask, Make, Run}
 use Rattle.command_words.specs.declared.command.Command.TheVariants as command
@@ -44,15 +44,15 @@ IsRead Report base lines number = IsAsked base lines number
 IsRead Summary base lines number = IsEnd base lines number
 
 -- A commit that a run over these lines reads is first broken at this place: the last one, on which
--- the run begins, while the files are as they were, or one that it reads once the lines are done. The number
--- 0 stands for no commit.
+-- the run begins, while the files are as they were. Of a store that tells none of its files it may also be one that the
+-- run reads once the lines are done. The number 0 stands for no commit.
 pub record ReadsDamaged (form : Form) (lines : List Line) (old new : Option Files) (damaged : Damaged)
     : Type 0 where
   pub base : ℕ
   pub last : IsBase old base
   pub number : ℕ
   pub some : 1 ≤ number
-  pub reads : ((number ≡ base) × (new ≡ old)) ⊎ IsRead form base lines number
+  pub reads : ((number ≡ base) × (new ≡ old)) ⊎ ((old ≡ None) × (new ≡ None) × IsRead form base lines number)
   pub broken : IsDamagedIn new number damaged
 
 -- Of the commit files that are listed one is first broken at this place; where the store tells its files it is the first

@@ -3,8 +3,9 @@ use Rattle.std.specs.Prelude.{◌≡◌, ℕ, ◌+◌, List, [], ◌∷◌, ◌+
 use Rattle.std.specs.List.{AllByRecursion, AllZip}
 use Rattle.ix_base.specs.declared.document.Row.{Row}
 use Rattle.ix_outside.specs.Calls.{LeavesOnly}
-use Rattle.ix_outside.specs.Disk.{Disk, told_files}
-use Rattle.commit_point.specs.Holds.{KeepsCommits}
+use Rattle.ix_outside.specs.Disk.{Disk, Told, told_files}
+use Rattle.ix_outside.specs.Files.{Files}
+use Rattle.commit_point.specs.Steps.{KeepsMade, OnlyCommits}
 use Rattle.op_script.specs.Shape.{LinesRise}
 use Rattle.op_script.specs.declared.script.Line.{Line}
 use Rattle.round_work.specs.declared.share.Share.{Share}
@@ -16,6 +17,7 @@ use Rattle.index_writer.specs.declared.round.RoundParts.{RoundParts}
 use Rattle.index_writer.specs.declared.state.State.{State}
 use Rattle.index_writer.specs.Ready.{HasRows}
 use Rattle.index_writer.specs.Rounds.{ArePartsOf}
+use Rattle.index_writer.specs.Storing.{GoesOn as WriterGoesOn}
 use Rattle.run_log.specs.Headline.{Given, HasSome, Interleaves, IsKept, commit_numbers, rows_at}
 use Rattle.index_run.specs.Doing.{CanBegin, IsOnGiven, IsWriterOn}
 use Rattle.index_run.specs.Leaving.{IsDiskAfter}
@@ -99,12 +101,12 @@ pub record IsOver (r : Run) (lines : List Line) (became : List Outcome) (w : Sta
   pub outcomes : AreOutcomes (IsDocs r.first log) (base_of r) log [] lines became
 
 -- A run that stopped: for one order of its numbered lines a crash leaves the first of their commits, and the files have the
--- first of them. The commits that were there have their files.
+-- first of them. Each step was one by which commits are made, and no commit that stood at some moment lost its files.
 pub record IsCut (r : Run) (lines : List Line) (now : Option Disk) : Type 0 where
   pub log : List Line
   pub numbering : Interleaves lines log
   pub crash : (g : Given) → IsOnGiven g r.first → IsKept g r.start → LeavesOnly r.start now (HasSome g log)
-  pub files : (g : Given) → told_files r.start ≡ Some g.files → IsOnGiven g r.first → IsKept g r.start
+  pub files : (g : Given) → told_files r.start ≡ Some g.files → IsOnGiven g r.first
       → IsSomeAnd (told_files now) (HasSome g log)
-  pub kept : (g : Given) → told_files r.start ≡ Some g.files → IsOnGiven g r.first
-      → IsSomeAnd (told_files now) (KeepsCommits g.files)
+  pub only : Told OnlyCommits r.start now
+  pub standing : (was : Files) → told_files r.start ≡ Some was → WriterGoesOn was r.first → Told KeepsMade r.start now

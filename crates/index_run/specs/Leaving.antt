@@ -5,25 +5,21 @@ use Rattle.ix_base.specs.declared.document.Row.{Row}
 use Rattle.ix_base.specs.declared.file_name.FileName.TheVariants.{Commit}
 use Rattle.ix_outside.specs.Calls.{LeavesOnly}
 use Rattle.ix_outside.specs.Crash.{MayHold}
-use Rattle.ix_outside.specs.Disk.{Disk, told_files}
+use Rattle.ix_outside.specs.Disk.{Disk, Told, told_files}
 use Rattle.ix_outside.specs.Files.{Files, Changes}
 use Rattle.ix_outside.specs.Images.{Follows, Reaches}
 use Rattle.segment_core.specs.LiveRows.{Lived}
 use Rattle.commit_point.specs.declared.heads.HeadSegment.{HeadSegment}
 use Rattle.commit_point.specs.Holds.{AreKept, HasSegments, HoldsInverted, IsAboveIds, KeepsCommits}
+use Rattle.commit_point.specs.Steps.{KeepsMade, OnlyCommits}
 use Rattle.op_script.specs.declared.script.Line.{Line}
 use Rattle.index_writer.specs.declared.state.State.{State}
 use Rattle.index_writer.specs.Laws.{CommitsGoOn, CommitsHold}
 use Rattle.index_writer.specs.Ready.{HasRows, IsStored}
 use Rattle.index_writer.specs.Storing.{GoesOn}
-use Rattle.run_log.specs.Headline.{IsIn, commit_numbers, rows_at}
+use Rattle.run_log.specs.Headline.{HasOnly, IsIn, commit_numbers, rows_at}
 
 -- ---- files that have the same commits
-
--- The files keep the commits of these, and have no other.
-pub record HasOnly (files d : Files) : Type 0 where
-  pub kept : KeepsCommits files d
-  pub only : (s : ℕ) → IsSome (d (Commit s)) → IsSome (files (Commit s))
 
 -- What is on the store of the writer's segments is of commits: it stands in all files that keep these and have no
 -- other.
@@ -89,7 +85,8 @@ HasSomeFront first log old new = (count : ℕ) × (count ≤ length log)
 
 -- What a run has left on the disk that began on the disk `start` with `first`: its writer is `w`, and of its log the
 -- commits of the first `count` lines were written. The files and each image have these, and a crash at any moment
--- left the first ones. Where each commit was kept at the beginning, each is kept now.
+-- left the first ones. Where each commit was kept at the beginning, each is kept now. Each step was one by which commits
+-- are made, and no commit that stood at some moment lost its files or bytes.
 pub record IsDiskAfter (first : State) (log : List Line) (count : ℕ) (w : State) (start now : Option Disk)
     : Type 0 where
   pub low : first.published.next_id ≤ w.since
@@ -97,5 +94,7 @@ pub record IsDiskAfter (first : State) (log : List Line) (count : ℕ) (w : Stat
   pub files : Changes (Stands first log (first_numbers first log count) w) (told_files start) (told_files now)
   pub images : Follows (Stands first log (first_numbers first log count) w) (MayHold start) (MayHold now)
   pub crash : LeavesOnly start now (Reaches (HasSomeFront first log) (MayHold start))
+  pub only : Told OnlyCommits start now
+  pub standing : (was : Files) → told_files start ≡ Some was → GoesOn was first → Told KeepsMade start now
   pub settled : (was is : Files) → told_files start ≡ Some was → told_files now ≡ Some is → GoesOn was first
       → ((d : Files) → MayHold start d → GoesOn d first) → AreKept was (MayHold start) → AreKept is (MayHold now)

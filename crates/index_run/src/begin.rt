@@ -8,7 +8,7 @@ ghost use Rattle.ix_base.specs.declared.damaged.Damaged.{Damaged};
 ghost use Rattle.index_run.specs.Doing.{CanBegin, IsOnGiven};
 ghost use Rattle.run_log.specs.Headline.{CanRun, Given, IsLast, IsOn};
 ghost use Rattle.index_run.specs.Causes.{IsOneOf, stop_status};
-ghost use Rattle.index_run.specs.Beginning.{BeginsOn, IsBase, IsDamagedBase, IsHighBase};
+ghost use Rattle.index_run.specs.Beginning.{BeginsOn, CanBeginOn, IsBase, IsDamagedBase, IsHighBase};
 ghost use Rattle.index_run.specs.Beginning.{IsOpened, OpensOn, StopsWith, last_or_zero};
 
 use crate::stop::Stop;
@@ -106,6 +106,8 @@ pub fn begin<S: Store>(
         IsBase (told_files (S.disk store)) writer.state.published.upto) }
     ensures on { (g : Given) → told_files (S.disk store) ≡ Some g.files
         → IsLast g.files g.base → IsOn g → IfOk result (λ writer. BeginsOn g writer.state) }
+    ensures begins { IfOk result (λ writer. (files : Files) → told_files (S.disk store) ≡ Some files
+        → CanBeginOn files) }
     ensures given { (g : Given) → told_files (S.disk store) ≡ Some g.files → CanRun g
         → IfOk result (λ writer. IsOnGiven g writer.state) }
     ensures base { (base : ℕ) → StopsWith result (Stop.Fault (Fault.Base base))

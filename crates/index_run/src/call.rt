@@ -5,7 +5,8 @@ ghost use Rattle.command_words.specs.declared.command.Command.{Command};
 ghost use Rattle.command_words.specs.declared.command.Command.TheVariants as command;
 ghost use Rattle.commit_point.specs.Holds.{HoldsInverted};
 ghost use Rattle.ix_outside.specs.Causes.{Rose};
-ghost use Rattle.ix_outside.specs.Disk.{told_files};
+ghost use Rattle.commit_point.specs.Steps.{OnlyCommits};
+ghost use Rattle.ix_outside.specs.Disk.{Told, told_files};
 ghost use Rattle.ix_outside.specs.Files.{Files};
 ghost use Rattle.op_script.specs.Language.{most_bytes};
 ghost use Rattle.op_script.specs.declared.questions.Question.{Question};
@@ -14,8 +15,9 @@ ghost use Rattle.report_text.specs.Faults.{fault_text};
 ghost use Rattle.report_text.specs.declared.fault.Fault.{Fault};
 ghost use Rattle.run_log.specs.Headline.{CanRun, Given, IsGiven, Keeps, Runs, Stops};
 ghost use Rattle.store_answers.specs.Asking.{LacksAsked};
-ghost use Rattle.index_run.specs.Causes.{IsOneOf, TakesUpTo, WritesFront, stop_status};
-ghost use Rattle.index_run.specs.Commands.{HasScript, IsBad, ReadsInput, command_of, run_text};
+ghost use Rattle.index_run.specs.Beginning.{CanBeginOn};
+ghost use Rattle.index_run.specs.Causes.{IsOneOf, LeavesStore, TakesUpTo, WritesBy, WritesFront, stop_status};
+ghost use Rattle.index_run.specs.Commands.{HasScript, IsBad, OnlyReads, ReadsInput, command_of, run_text};
 ghost use Rattle.index_run.specs.Endings.{EndsBy};
 ghost use Rattle.index_run.specs.Promises.{Asked, CanComplete, HasQuestions, IsAskedOf, IsListOf, asked_text};
 
@@ -55,21 +57,27 @@ pub struct Ended<S> {
 /// | 3 | exactly where the input has a bad line, which the line that is written names |
 /// | 4 | where memory ran out, at any point; nothing is written |
 /// | 5, 6, 7 | only where the source, the sink or the store failed in this call |
-/// | 8 | only where a file that the command reads is not in the grammar or absent |
+/// | 8 | only where a file that the command reads is not in the grammar or absent; of a run where that is one of the commit on which it begins, unless the store tells none of its files |
 /// | 9 | exactly where `ask` asks for a commit that isn't there |
 /// | 10 | exactly where `run` or `make` meet a last commit whose number is above 2^61 |
 ///
 /// The words come first, then the input, then the store: at 2 the input is as it was, and at 2, 3
 /// and 5 the store. At most 67,108,865 bytes of the input are read, one more than it may have. The
 /// text is made whole before its first byte is written. Statuses 2, 3, 5, 7, 8, 9 and 10 write one
-/// line, which takes no memory. What a run did before it stopped stays: commits that were written,
-/// and input that was read.
+/// line, which takes no memory.
+///
+/// `ask` and `list` change no file, and no call that ends with 2, 3, 5, 8, 9 or 10 does. What a run
+/// did before it stopped stays: input that was read, and commits that were written. No step of a call
+/// deletes a file, and none but the rename of a pending commit file makes a commit file. Where the
+/// last commit is lawful a commit that stands at some moment of the call stands from then on, and the
+/// next run can begin on the files at every status.
 ///
 /// A crash at any moment of the call leaves the commits that were there, with their files and
 /// bytes, and of the run's own commits the first ones in the order of their numbers, each whole:
-/// no other commit. Once the call has ended with 0 or 6 a crash leaves all of them. This is
-/// promised where the store tells its files, its last commit is lawful, and each commit is kept
-/// when the call begins: nothing of it is still on its way to the disk.
+/// no other commit. The next run can begin on what is left. Once the call has ended with 0 or 6 a
+/// crash leaves all of them. This is promised where the store tells its files, its last commit is
+/// lawful, and each commit is kept when the call begins: nothing of it is still on its way to the
+/// disk.
 pub fn top<R: Threads + Wait + Sync, I: Source, O: Sink, S: Store, G: Gate>(
     rt: &R,
     alloc: Global,
@@ -108,8 +116,13 @@ pub fn top<R: Threads + Wait + Sync, I: Source, O: Sink, S: Store, G: Gate>(
         → IsOneOf result.status (4 ∷ 5 ∷ 7 ∷ 9 ∷ []) }
     // The store is left alone until the words and the input were read and found good.
     ensures unopened { IsOneOf result.status (2 ∷ 3 ∷ 5 ∷ []) → result.store ≡ store }
-    ensures untouched { IsOneOf result.status (2 ∷ 3 ∷ 5 ∷ 9 ∷ 10 ∷ [])
-        → told_files (S.disk result.store) ≡ told_files (S.disk store) }
+    // At 2, 3, 5, 8, 9 and 10 no file changes, where only read at every status, and where no run
+    // can begin.
+    ensures untouched { LeavesStore result.status → S.disk result.store ≡ S.disk store }
+    ensures reads { (c : Command) → command_of words.now ≡ Some c → OnlyReads c
+        → S.disk result.store ≡ S.disk store }
+    ensures unbegun { (files : Files) → told_files (S.disk store) ≡ Some files
+        → (CanBeginOn files → ⊥) → S.disk result.store ≡ S.disk store }
     // Where nothing fails, the command comes to its end.
     ensures complete { (c : Command) → command_of words.now ≡ Some c
         → CanComplete c (I.left input.old) (S.disk store)
@@ -134,7 +147,9 @@ pub fn top<R: Threads + Wait + Sync, I: Source, O: Sink, S: Store, G: Gate>(
     ensures stops { (c : Command) (g : Given) → command_of words.now ≡ Some c
         → IsGiven g (HasScript c (I.left input.old)) (S.disk store) → CanRun g
         → Stops g (S.disk store) (S.disk result.store) }
-    // At every status the commits that were there have their files and bytes.
+    // At every status the commits that were there have their files and bytes, and a commit that was
+    // made stays: no step of the call deletes.
+    ensures steps { Told OnlyCommits (S.disk store) (S.disk result.store) }
     ensures kept { (g : Given) → told_files (S.disk store) ≡ Some g.files → CanRun g
         → Keeps g (S.disk store) (S.disk result.store) }
     // Each question is answered from the commit that is asked for.
@@ -142,14 +157,12 @@ pub fn top<R: Threads + Wait + Sync, I: Source, O: Sink, S: Store, G: Gate>(
         → command_of words.now ≡ Some (command.Ask commit)
         → IsAskedOf a commit (I.left input.old) (S.disk store)
         → HoldsInverted a.files a.number a.next a.rows → IsOneOf result.status (0 ∷ 6 ∷ [])
-        → WritesFront (O.written out.old) (O.written out.new)
-        (O.fault_count out.old) (O.fault_count out.new) (asked_text a) }
+        → WritesBy result.status (O.written out.old) (O.written out.new) (asked_text a) }
     // Each commit is listed, with the documents that its commit file tells.
     ensures lists { (files : Files) → command_of words.now ≡ Some command.List
         → told_files (S.disk store) ≡ Some files → IsOneOf result.status (0 ∷ 6 ∷ [])
         → (text : List ℕ) × IsListOf files text
-        × WritesFront (O.written out.old) (O.written out.new) (O.fault_count out.old)
-        (O.fault_count out.new) text }
+        × WritesBy result.status (O.written out.old) (O.written out.new) text }
     ensures end { (c : Command) → command_of words.now ≡ Some c → ReadsInput c → result.status ≡ 0
         → IsAtEnd (I.left input.new) }
     // No more of the input is read than what shows that it is too long, and none at words that are no
@@ -175,9 +188,7 @@ pub fn top<R: Threads + Wait + Sync, I: Source, O: Sink, S: Store, G: Gate>(
 /// Writes the text, and returns the exit status: 0, or 6 where the sink fails.
 fn write_text<O: Sink>(out: &mut O, text: &[u8]) -> u8
     ensures statuses { IsOneOf result (0 ∷ 6 ∷ []) }
-    ensures whole { result ≡ 0 → Appends (O.written out.old) (O.written out.new) text.now }
-    ensures front { WritesFront (O.written out.old) (O.written out.new)
-        (O.fault_count out.old) (O.fault_count out.new) text.now }
+    ensures text { WritesBy result (O.written out.old) (O.written out.new) text.now }
     ensures sink { result ≡ 6 → Rose (O.fault_count out.old) (O.fault_count out.new) }
 {
     match write_all(out, text) {

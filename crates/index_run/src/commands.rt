@@ -2,12 +2,15 @@
 ghost use Rattle.std.specs.Prelude.{◌≡◌, ◌≤◌, ◌<◌, ◌+◌, ◌^◌, ◌∷◌, [], ℕ, List, OnOk, IfOk, IfErr, IsErrAnd, Err, Some, None};
 ghost use Rattle.std.specs.Io.KnownBytes.{IsAtEnd};
 ghost use Rattle.command_words.specs.Accepted.{InRange};
-ghost use Rattle.ix_outside.specs.Disk.{told_files};
+ghost use Rattle.commit_point.specs.Steps.{OnlyCommits};
+ghost use Rattle.ix_outside.specs.Disk.{Told, told_files};
 ghost use Rattle.op_script.specs.Language.{most_bytes};
 ghost use Rattle.op_script.specs.declared.script.BadLine.{BadLine};
 ghost use Rattle.report_text.specs.declared.fault.Fault.{Fault};
 ghost use Rattle.run_log.specs.Headline.{CanRun, Given, Keeps};
-ghost use Rattle.index_run.specs.Causes.{IsOneOf, TakesUpTo, stop_status};
+ghost use Rattle.ix_outside.specs.Files.{Files};
+ghost use Rattle.index_run.specs.Beginning.{CanBeginOn};
+ghost use Rattle.index_run.specs.Causes.{IsOneOf, LeavesStore, TakesUpTo, stop_status};
 ghost use Rattle.index_run.specs.Commands.{IsBad, ReadsInput, command_of};
 ghost use Rattle.index_run.specs.Endings.{Caused, CausedBy};
 ghost use Rattle.index_run.specs.Promises.{Does};
@@ -60,12 +63,15 @@ pub fn do_command<R: Threads + Wait + Sync, I: Source, S: Store, G: Gate>(
     ensures bad { (bytes : List ℕ) (bad : BadLine) → I.left input.old ≡ Some bytes
         → IsBad command bytes bad
         → IsErrAnd result.text (λ stop. IsOneOf (stop_status stop) (3 ∷ 4 ∷ 5 ∷ [])) }
+    ensures steps { Told OnlyCommits (S.disk store) (S.disk result.store) }
     ensures kept { (g : Given) → told_files (S.disk store) ≡ Some g.files → CanRun g
         → Keeps g (S.disk store) (S.disk result.store) }
     ensures unopened { IfErr result.text (λ stop. IsOneOf (stop_status stop) (3 ∷ 5 ∷ [])
         → result.store ≡ store) }
-    ensures untouched { IfErr result.text (λ stop. IsOneOf (stop_status stop) (3 ∷ 5 ∷ 9 ∷ 10 ∷ [])
-        → told_files (S.disk result.store) ≡ told_files (S.disk store)) }
+    ensures untouched { IfErr result.text (λ stop. LeavesStore (stop_status stop)
+        → S.disk result.store ≡ S.disk store) }
+    ensures unbegun { (files : Files) → told_files (S.disk store) ≡ Some files
+        → (CanBeginOn files → ⊥) → S.disk result.store ≡ S.disk store }
     ensures end { ReadsInput command → OnOk result.text (IsAtEnd (I.left input.new)) }
     ensures unread { (ReadsInput command → ⊥) → input.new ≡ input.old }
     ensures bound { TakesUpTo (most_bytes + 1) (I.left input.old) (I.left input.new) }
@@ -144,13 +150,15 @@ pub fn come_to<R: Threads + Wait + Sync, I: Source, S: Store, G: Gate>(
     ensures bad { (c : Command) (bytes : List ℕ) (bad : BadLine) → command_of words.now ≡ Some c
         → I.left input.old ≡ Some bytes → IsBad c bytes bad
         → IsErrAnd result.text (λ stop. IsOneOf (stop_status stop) (3 ∷ 4 ∷ 5 ∷ [])) }
+    ensures steps { Told OnlyCommits (S.disk store) (S.disk result.store) }
     ensures kept { (g : Given) → told_files (S.disk store) ≡ Some g.files → CanRun g
         → Keeps g (S.disk store) (S.disk result.store) }
     ensures unopened { IfErr result.text (λ stop. IsOneOf (stop_status stop) (2 ∷ 3 ∷ 5 ∷ [])
         → result.store ≡ store) }
-    ensures untouched { IfErr result.text (λ stop.
-        IsOneOf (stop_status stop) (2 ∷ 3 ∷ 5 ∷ 9 ∷ 10 ∷ [])
-        → told_files (S.disk result.store) ≡ told_files (S.disk store)) }
+    ensures untouched { IfErr result.text (λ stop. LeavesStore (stop_status stop)
+        → S.disk result.store ≡ S.disk store) }
+    ensures unbegun { (files : Files) → told_files (S.disk store) ≡ Some files
+        → (CanBeginOn files → ⊥) → S.disk result.store ≡ S.disk store }
     ensures end { (c : Command) → command_of words.now ≡ Some c → ReadsInput c
         → OnOk result.text (IsAtEnd (I.left input.new)) }
     ensures unread { IfErr result.text (λ stop. stop_status stop ≡ 2 → input.new ≡ input.old) }

@@ -1,13 +1,14 @@
 //! A script's lines done over a store, and the text that tells of them.
 ghost use Rattle.std.specs.Prelude.{◌≡◌, ◌<◌, ◌≤◌, ◌^◌, ◌∷◌, [], ℕ, List};
 ghost use Rattle.std.specs.Prelude.{IfOk, IfErr, IsErrAnd, Err, Some};
-ghost use Rattle.ix_outside.specs.Disk.{told_files};
+ghost use Rattle.commit_point.specs.Steps.{OnlyCommits};
+ghost use Rattle.ix_outside.specs.Disk.{Told, told_files};
 ghost use Rattle.ix_outside.specs.Causes.{Rose};
 ghost use Rattle.ix_outside.specs.Files.{Files};
 ghost use Rattle.ix_base.specs.declared.damaged.Damaged.{Damaged};
 ghost use Rattle.op_script.specs.Shape.{AreScriptLines};
-ghost use Rattle.index_run.specs.Beginning.{IsHighBase};
-ghost use Rattle.index_run.specs.Causes.{IsOneOf, stop_status};
+ghost use Rattle.index_run.specs.Beginning.{CanBeginOn, IsHighBase};
+ghost use Rattle.index_run.specs.Causes.{IsOneOf, LeavesStore, stop_status};
 ghost use Rattle.index_run.specs.Commands.{IsMade, form_text};
 ghost use Rattle.index_run.specs.Damage.{ReadsDamaged};
 ghost use Rattle.run_log.specs.Headline.{CanEnd, CanRun, Given, IsLast, Keeps, Runs, Stops};
@@ -66,10 +67,13 @@ pub fn do_script<R: Threads + Wait + Sync, S: Store, G: Gate>(
         → CanRun g → Stops g (S.disk store) (S.disk result.store) }
     ensures kept { (g : Given) → told_files (S.disk store) ≡ Some g.files → CanRun g
         → Keeps g (S.disk store) (S.disk result.store) }
+    ensures steps { Told OnlyCommits (S.disk store) (S.disk result.store) }
     ensures base { (base : ℕ) → result.text ≡ Err (Stop.Fault (Fault.Base base))
         → IsHighBase (told_files (S.disk store)) base }
-    ensures same { (base : ℕ) → result.text ≡ Err (Stop.Fault (Fault.Base base))
-        → told_files (S.disk result.store) ≡ told_files (S.disk store) }
+    ensures same { IfErr result.text (λ stop. LeavesStore (stop_status stop)
+        → S.disk result.store ≡ S.disk store) }
+    ensures unbegun { (files : Files) → told_files (S.disk store) ≡ Some files
+        → (CanBeginOn files → ⊥) → S.disk result.store ≡ S.disk store }
     ensures high { (g : Given) → told_files (S.disk store) ≡ Some g.files
         → IsLast g.files g.base → 2 ^ 61 < g.base
         → IsErrAnd result.text (λ stop. IsOneOf (stop_status stop) (4 ∷ 7 ∷ 10 ∷ [])) }

@@ -85,6 +85,20 @@ pub(crate) fn run_words<R: Threads + Wait + Sync, S: Store + Drop>(
     run_top(rt, alloc, words, input, out, store, &EmptyGate)
 }
 
+/// A call with these words and this input over the store, whose sink has room for so many bytes.
+pub(crate) fn run_into<R: Threads + Wait + Sync, S: Store + Drop>(
+    rt: &R,
+    alloc: Global,
+    words: &[&str],
+    script: &[&str],
+    store: S,
+    room: usize,
+) -> Result<Done<S>, NoMemory> {
+    let input = MemorySource::failing(joined(alloc, script)?, Vec::new(alloc));
+    let out = MemorySink::new(alloc, room)?;
+    run_top(rt, alloc, words, input, out, store, &EmptyGate)
+}
+
 /// A run of the script by so many threads over the store, which this gate watches.
 pub(crate) fn run_watched<R: Threads + Wait + Sync, G: Gate>(
     rt: &R,

@@ -1,5 +1,5 @@
 //! The commands that answer from a store, and the one that makes its script.
-use crate::tests::{ADD_A1, ADD_A2, COMMIT, Done, ended, one_document, run_words};
+use crate::tests::{ADD_A1, ADD_A2, COMMIT, Done, ended, one_document, run_into, run_words};
 use commit_point::head;
 use ix_base::FileName;
 use ix_memory::MemoryStore;
@@ -166,6 +166,43 @@ fn lists(rt: HostRuntime) -> Result<(), Fail> {
     let store = call(&rt, alloc, &["run"], &[ADD_A2, COMMIT], store)?.store;
     let two = "{\"commit\":2,\"docs\":1}\n{\"commit\":4,\"docs\":2}\n";
     let _store = expect(&rt, alloc, &["list"], &[], 0, two, store)?;
+    Ok(())
+}
+
+/// Whether the call writes as much of the text as a sink with room for so many bytes takes, and ends
+/// with status 6 where that isn't the whole. Returns the store too.
+fn fills<R: Threads + Wait + Sync>(
+    rt: &R,
+    alloc: Global,
+    words: &[&str],
+    text: &[u8],
+    store: MemoryStore,
+    room: usize,
+) -> Result<(bool, MemoryStore), Fail> {
+    let done = run_into(rt, alloc, words, &[EVERYTHING], store, room);
+    let done = done.ok().ok_or("memory")?;
+    let front = text.get(..room).ok_or("more room than text")?;
+    let status = if room < text.len() { 6 } else { 0 };
+    let fits = done.status == status && done.written.as_slice() == front;
+    Ok((fits, done.store))
+}
+
+/// Answers and a list over sinks that fail after each number of bytes, and over one that takes all.
+#[test]
+fn sinks_with_little_room(rt: HostRuntime) -> Result<(), Fail> {
+    let alloc = rt.alloc();
+    let cases: [(&[&str], &str); 2] = [
+        (&["ask"], ONE_HIT),
+        (&["list"], "{\"commit\":2,\"docs\":1}\n"),
+    ];
+    let mut store = one_document(&rt, alloc)?;
+    for (words, text) in cases {
+        for room in 0..text.len() + 1 {
+            let (fits, left) = fills(&rt, alloc, words, text.as_bytes(), store, room)?;
+            assert!(rt; fits, "{room}");
+            store = left;
+        }
+    }
     Ok(())
 }
 

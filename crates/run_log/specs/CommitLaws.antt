@@ -1,5 +1,5 @@
 -- The commits of a round and of a log.
-use Rattle.std.proofs.Common.{◌≡◌, ◌∙◌, ℕ, suc, ◌+◌, ◌<◌, ◌≤◌, Bool, true, false, cond, List, [], ◌∷◌, ◌++◌, length, refl, sym, ap, subst, arith}
+use Rattle.std.proofs.Common.{◌≡◌, ◌⊎◌, inl, inr, ◌∙◌, ℕ, suc, ◌+◌, ◌<◌, ◌≤◌, Bool, true, false, cond, List, [], ◌∷◌, ◌++◌, length, refl, sym, ap, subst, arith}
 use Rattle.std.specs.List.{AllByRecursion}
 use Rattle.ix_base.specs.declared.document.Operation.{Operation}
 use Rattle.ix_base.specs.declared.document.Operation.TheVariants.{Add, Update, DeleteTerm, DeleteQuery, SetNumber, Commit}
@@ -7,7 +7,7 @@ use Rattle.op_script.specs.declared.script.Line.{Line}
 use Rattle.op_script.specs.declared.script.Act.{Act}
 use Rattle.op_script.specs.declared.script.Act.TheVariants.{Do}
 use Rattle.run_log.specs.Lists.{each_mapped}
-use Rattle.run_log.specs.Headline.{commit_numbers, is_commit as commits, operations}
+use Rattle.run_log.specs.Headline.{IsIn, commit_numbers, is_commit as commits, operations}
 use Rattle.round_order.specs.Order.{Working, is_commit, NoCommit}
 use Rattle.run_log.specs.Telling.{Tell, IsTell, AreTells, IsOrder}
 use Rattle.run_log.specs.TellingLaws.{within_all}
@@ -141,3 +141,52 @@ commits_rise base (l ∷ log) = by_test (commits l.act) (commits_rise (base + 1)
     by_test : (b : Bool) → Rises (base + 1) behind → Rises base (cond b ((base + 1) ∷ behind) behind)
     by_test true h = (omega arith, h)
     by_test false h = from_lower base (base + 1) behind (omega arith) h
+
+-- ---- the last of the numbers
+
+-- each number is below s
+abbrev pub AllBelow : ℕ → List ℕ → Type 0
+AllBelow s [] = Unit {0}
+AllBelow s (n ∷ ns) = (n < s) × AllBelow s ns
+
+-- the last of rising numbers is above the others
+pub rises_last : (low s : ℕ) (ns : List ℕ) → Rises low (ns ++ s ∷ []) → (low < s) × AllBelow s ns
+rises_last low s [] rise = (rise.0, tt)
+rises_last low s (n ∷ ns) rise =
+    let rest = rises_last n s ns rise.1 in (omega (arith, rise.0, rest.0), (rest.0, rest.1))
+
+pub rises_above : (low s : ℕ) (ns : List ℕ) → Rises low ns → IsIn ns s → low < s
+rises_above low s [] rise among = absurd among
+rises_above low s (n ∷ ns) rise (inl e) = omega (arith, rise.0, e)
+rises_above low s (n ∷ ns) rise (inr among) = omega (arith, rise.0, rises_above n s ns rise.1 among)
+
+pub in_push : (ns : List ℕ) (s t : ℕ) → IsIn ns t → IsIn (ns ++ s ∷ []) t
+in_push [] s t among = absurd among
+in_push (n ∷ ns) s t (inl e) = inl e
+in_push (n ∷ ns) s t (inr among) = inr (in_push ns s t among)
+
+pub in_last : (ns : List ℕ) (s : ℕ) → IsIn (ns ++ s ∷ []) s
+in_last [] s = inl refl
+in_last (n ∷ ns) s = inr (in_last ns s)
+
+pub in_most : (ns : List ℕ) (s t : ℕ) → AllBelow s ns → IsIn (ns ++ s ∷ []) t → t ≤ s
+in_most [] s t below (inl e) = omega (arith, e)
+in_most [] s t below (inr among) = absurd among
+in_most (n ∷ ns) s t below (inl e) = omega (arith, e, below.0)
+in_most (n ∷ ns) s t below (inr among) = in_most ns s t below.1 among
+
+-- there is no number, or a last one
+pub split_last : (ns : List ℕ) → (ns ≡ []) ⊎ ((front : List ℕ) × (s : ℕ) × (ns ≡ front ++ s ∷ []))
+split_last [] = inl refl
+split_last (n ∷ ns) = by (split_last ns)
+  where
+    by : (ns ≡ []) ⊎ ((front : List ℕ) × (s : ℕ) × (ns ≡ front ++ s ∷ []))
+        → (n ∷ ns ≡ []) ⊎ ((front : List ℕ) × (s : ℕ) × (n ∷ ns ≡ front ++ s ∷ []))
+    by (inl e) = inr ([], n, ap (λ (xs : List ℕ). n ∷ xs) e)
+    by (inr h) = inr (n ∷ h.0, h.1, ap (λ (xs : List ℕ). n ∷ xs) h.2)
+
+-- what is true of each is true of one that is among them
+pub each_at : (P : ℕ → Type 0) (ns : List ℕ) (s : ℕ) → AllByRecursion P ns → IsIn ns s → P s
+each_at P [] s each among = absurd among
+each_at P (n ∷ ns) s each (inl e) = subst P (sym e) each.0
+each_at P (n ∷ ns) s each (inr among) = each_at P ns s each.1 among

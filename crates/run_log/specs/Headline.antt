@@ -4,8 +4,9 @@ use Rattle.std.specs.Prelude.{List, [], ◌∷◌, ◌++◌, length, take, Optio
 use Rattle.ix_base.specs.declared.document.Row.{Row}
 use Rattle.ix_base.specs.declared.file_name.FileName.TheVariants as file
 use Rattle.ix_outside.specs.Crash.{MayHold}
-use Rattle.ix_outside.specs.Disk.{Disk, told_files}
+use Rattle.ix_outside.specs.Disk.{Disk, Told, told_files}
 use Rattle.ix_outside.specs.Files.{Files}
+use Rattle.commit_point.specs.Steps.{KeepsMade}
 use Rattle.commit_point.specs.Holds.{AreKept, Holds, IsLawful, HoldsInverted, IsAboveIds, KeepsCommits}
 use Rattle.op_script.specs.declared.script.Line.{Line}
 use Rattle.std.specs.List.{filter, filter_map, AllByRecursion}
@@ -60,6 +61,10 @@ IsOn g = HasNoCommit g ⊎ ((1 ≤ g.base) × Holds g.files g.base g.next g.rows
 abbrev pub CanEnd : Given → Type 0
 CanEnd g = IsOn g × (g.base ≤ 2 ^ 61) × (g.next ≤ 2 ^ 61)
 
+-- A run can begin on these files: they have no commit, or their last one is lawful.
+abbrev pub CanRunOn : Files → Type 0
+CanRunOn files = (g : Given) × (g.files ≡ files) × CanRun g
+
 -- each commit is kept when the run begins: nothing of it is still on its way to the disk
 abbrev pub IsKept : Given → Option Disk → Type 0
 IsKept g store = AreKept g.files (MayHold store)
@@ -84,6 +89,10 @@ is_commit a = false
 -- the lines that get a number
 abbrev pub numbered : List Line → List Line
 numbered = filter (λ l. is_numbered l.act)
+
+-- the next id leaves room for the lines, and for a run after them
+abbrev pub HasRoom : Given → Type 0
+HasRoom g = g.next + 2 * length (numbered g.lines) ≤ 2 ^ 61
 
 -- The log has the numbered lines, each once, those of each caller in the order of the script.
 abbrev pub Interleaves : List Line → List Line → Type 0
@@ -150,6 +159,11 @@ report base rows lines log = report_from base rows log [] lines
 
 -- ---- what a run promises
 
+-- The files keep the commits of these, and have no other.
+pub record HasOnly (files d : Files) : Type 0 where
+  pub kept : KeepsCommits files d
+  pub only : (s : ℕ) → IsSome (d (file.Commit s)) → IsSome (files (file.Commit s))
+
 -- the number is one of these
 abbrev pub IsIn : List ℕ → ℕ → Type 0
 IsIn [] s = ⊥
@@ -196,18 +210,23 @@ pub record Runs (g : Given) (text : List Line → List ℕ) (wrote : List ℕ �
   pub files : IsSomeAnd (told_files new) (HasAll g log)
   pub images : IsKept g old → (c : Files) → MayHold new c → HasAll g log c
   pub crash : IsKept g old → LeavesOnly old new (HasSome g log)
-  pub again : IsKept g old → g.next + 2 * length (numbered g.lines) ≤ 2 ^ 61 → GivesBack new
+  pub again : IsKept g old → HasRoom g → GivesBack new
 
 -- A run that stopped, or was done: for one order of its numbered lines, the files have the first
--- ones of its commits, and a crash at any moment of the call leaves the first ones.
+-- ones of its commits, and a crash at any moment of the call leaves the first ones. Where there was
+-- room for the lines, the next run can begin on the files, and on what a crash leaves.
 pub record Stops (g : Given) (old new : Option Disk) : Type 0 where
   pub log : List Line
   pub numbering : Interleaves g.lines log
-  pub files : IsKept g old → IsSomeAnd (told_files new) (HasSome g log)
+  pub files : IsSomeAnd (told_files new) (HasSome g log)
   pub crash : IsKept g old → LeavesOnly old new (HasSome g log)
+  pub again : HasRoom g → IsSomeAnd (told_files new) CanRunOn
+  pub restarts : IsKept g old → HasRoom g → LeavesOnly old new CanRunOn
 
 -- The commits that were there have their files and bytes: in the files that the store tells, and
--- after a crash at any moment of the call.
+-- after a crash at any moment of the call. A commit that stands at some moment of it, an old one or
+-- one of the run's, stands from then on, with its files and bytes.
 pub record Keeps (g : Given) (old new : Option Disk) : Type 0 where
   pub kept : IsSomeAnd (told_files new) (KeepsCommits g.files)
   pub crash : IsKept g old → LeavesOnly old new (KeepsCommits g.files)
+  pub standing : Told KeepsMade old new

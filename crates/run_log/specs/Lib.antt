@@ -8,4 +8,6 @@ pub mod CommitLaws
 pub mod LogLaws
 pub mod ByKeys
 pub mod CountLaws
+pub mod OnlyLaws
+pub mod AgainLaws
 pub mod Laws

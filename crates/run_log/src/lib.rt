@@ -5,4 +5,4 @@
 
 mod laws;
 
-pub use laws::lines_in_order;
+pub use laws::{commits_run_on, lines_in_order};

@@ -2,7 +2,7 @@ use Rattle.std.proofs.Common.{subst}
 use Rattle.std.specs.Prelude.{Some}
 use Rattle.ix_outside.specs.Disk.{told_files}
 use Rattle.index_run.specs.Beginning.{IsOpened, OpensOn}
-use Rattle.index_run.proofs.Beginnings.{begins_on, follows, opened_begins, opened_on_given}
+use Rattle.index_run.proofs.Beginnings.{begins_on, begins_opened, follows, opened_begins, opened_on_given}
 use Rattle.index_run.proofs.begin.begin.Goals as goal
 
 pub open-requires-clause-last : goal.open-requires-clause-last
@@ -16,8 +16,18 @@ returns-in-Ok-open-clause-on g c = λ given told last on.
     let opens = subst (OpensOn given) c.in-Some.is (c.in-Ok.ensures.on given told last on) in
     opened_begins given c.in-Some.opened c.args.buffer c.args.merge c.in-Ok-open.writer.state on opens c.in-Ok-open.ensures.state
 
+pub returns-in-Ok-open-clause-begins : goal.returns-in-Ok-open-clause-begins
+returns-in-Ok-open-clause-begins g c =
+    let told = told_files (g.S.Store.disk c.args.store) in
+    let found : IsOpened told (Some c.in-Some.opened) = subst (IsOpened told) c.in-Some.is c.in-Ok.ensures.found in
+    begins_opened told (Some c.in-Some.opened) found
+
 pub returns-in-Ok-open-clause-given : goal.returns-in-Ok-open-clause-given
 returns-in-Ok-open-clause-given g c = λ given told can.
     let opens = subst (OpensOn given) c.in-Some.is (c.in-Ok.ensures.on given told can.0 (begins_on given can)) in
     opened_on_given c.opened_go_on.ensures given c.in-Some.opened c.args.buffer c.args.merge c.in-Ok-open.writer.state can opens
     c.in-Ok-open.ensures.state
+
+pub returns-in_default-clause-begins : goal.returns-in_default-clause-begins
+returns-in_default-clause-begins g c =
+    begins_opened (told_files (g.S.Store.disk c.args.store)) c.in-Ok.last c.in-Ok.ensures.found

@@ -1,13 +1,13 @@
 use Rattle.std.proofs.Common.{◌≡◌, ◌∙◌, ℕ, List, [], ◌∷◌, take, Err, ap, subst}
 use Rattle.std.specs.Io.KnownBytes.{Appends}
 use Rattle.run_log.specs.Headline.{Runs}
-use Rattle.index_run.specs.Causes.{IsOneOf, WritesFront, stop_status}
+use Rattle.index_run.specs.Causes.{IsOneOf, LeavesStore, WritesBy, WritesFront, stop_status}
 use Rattle.index_run.specs.Commands.{command_of, run_text}
 use Rattle.index_run.specs.Endings.{Met}
 use Rattle.index_run.specs.Promises.{Call, IsListOf, asked_text}
 use Rattle.index_run.proofs.Ended.{at_ok, complete_by, ends_by, of_stop, runs_onto}
 use Rattle.index_run.proofs.Listed.{at_err, at_err_and, no_err}
-use Rattle.index_run.proofs.Promised.{caused_in, does_high, does_run, does_stop, does_whole}
+use Rattle.index_run.proofs.Promised.{caused_in, does_high, does_read, does_run, does_stop, does_whole}
 use Rattle.index_run.proofs.call.top.Goals as goal
 
 -- ---- the text was made
@@ -38,7 +38,7 @@ returns-in-Ok-clause-headline g c = λ command given words is can zero.
     } in
     let Wrote : List ℕ → Type 0 = λ text. Appends (g.O.Sink.written c.args.out.now) (g.O.Sink.written c.write_text-status.new.out) text in
     runs_onto given (run_text command given) (λ told. c.in-Ok.text.items ≡ told) Wrote call.store call.left
-    (λ text e. subst Wrote (c.as_slice.ensures.value ∙ e) (c.write_text-status.ensures.whole zero))
+    (λ text e. subst Wrote (c.as_slice.ensures.value ∙ e) (c.write_text-status.ensures.text.whole zero))
     (at_ok c.come_to-text.result.text c.in-Ok.text (λ made. Runs given (run_text command given) (λ told. made.items ≡ told) call.store call.left) c.in-Ok.is
     (does_run command call (c.come_to-text.ensures.does command words) given is can))
 
@@ -50,10 +50,9 @@ returns-in-Ok-clause-front g c = λ command given words is can six.
       left = g.S.Store.disk c.come_to-text.result.store;
       text = c.come_to-text.result.text;
     } in
-    let front = c.write_text-status.ensures.front in
     let Wrote : List ℕ → Type 0 = λ text. (n : ℕ) × Appends (g.O.Sink.written c.args.out.now) (g.O.Sink.written c.write_text-status.new.out) (take n text) in
     runs_onto given (run_text command given) (λ told. c.in-Ok.text.items ≡ told) Wrote call.store call.left
-    (λ text e. subst Wrote (c.as_slice.ensures.value ∙ e) (front.count, front.front))
+    (λ text e. subst Wrote (c.as_slice.ensures.value ∙ e) (c.write_text-status.ensures.text.front six))
     (at_ok c.come_to-text.result.text c.in-Ok.text (λ made. Runs given (run_text command given) (λ told. made.items ≡ told) call.store call.left) c.in-Ok.is
     (does_run command call (c.come_to-text.ensures.does command words) given is can))
 
@@ -69,22 +68,23 @@ returns-in-Ok-clause-stops g c = λ command given words is can.
 
 pub returns-in-Ok-clause-answers : goal.returns-in-Ok-clause-answers
 returns-in-Ok-clause-answers g c = λ commit asked words is holds listed.
-    let count = g.O.Sink.fault_count in
-    let Wrote : List ℕ → Type 0 = WritesFront (g.O.Sink.written c.args.out.now) (g.O.Sink.written c.write_text-status.new.out) (count c.args.out.now) (count c.write_text-status.new.out) in
+    let Wrote : List ℕ → Type 0 = WritesBy c.write_text-status.result (g.O.Sink.written c.args.out.now) (g.O.Sink.written c.write_text-status.new.out) in
     subst Wrote
     (c.as_slice.ensures.value
     ∙ at_ok c.come_to-text.result.text c.in-Ok.text (λ made. made.items ≡ asked_text asked) c.in-Ok.is
-    ((c.come_to-text.ensures.does _ words).answers asked is holds)) c.write_text-status.ensures.front
+    ((c.come_to-text.ensures.does _ words).answers asked is holds)) c.write_text-status.ensures.text
 
 pub returns-in-Ok-clause-lists : goal.returns-in-Ok-clause-lists
 returns-in-Ok-clause-lists g c = λ files words told listed.
-    let count = g.O.Sink.fault_count in
-    let Wrote : List ℕ → Type 0 = WritesFront (g.O.Sink.written c.args.out.now) (g.O.Sink.written c.write_text-status.new.out) (count c.args.out.now) (count c.write_text-status.new.out) in (
+    let Wrote : List ℕ → Type 0 = WritesBy c.write_text-status.result (g.O.Sink.written c.args.out.now) (g.O.Sink.written c.write_text-status.new.out) in (
       c.in-Ok.text.items,
       at_ok c.come_to-text.result.text c.in-Ok.text (λ made. IsListOf files made.items) c.in-Ok.is
           ((c.come_to-text.ensures.does _ words).lists files told),
-      subst Wrote c.as_slice.ensures.value c.write_text-status.ensures.front,
+      subst Wrote c.as_slice.ensures.value c.write_text-status.ensures.text,
     )
+
+pub returns-in-Ok-clause-reads : goal.returns-in-Ok-clause-reads
+returns-in-Ok-clause-reads g c = λ command words only. does_read command _ (c.come_to-text.ensures.does command words) only
 
 -- ---- the call stopped
 
@@ -154,3 +154,12 @@ returns-in-Err-clause-stops g c = λ command given words is can.
       text = c.come_to-text.result.text;
     } in
     does_stop command call (c.come_to-text.ensures.does command words) given is can
+
+pub returns-in-Err-clause-reads : goal.returns-in-Err-clause-reads
+returns-in-Err-clause-reads g c = λ command words only. does_read command _ (c.come_to-text.ensures.does command words) only
+
+pub returns-in-Err-clause-untouched : goal.returns-in-Err-clause-untouched
+returns-in-Err-clause-untouched g c = λ listed.
+    at_err c.come_to-text.result.text c.in-Err.stop
+    (λ s. LeavesStore (stop_status s) → g.S.Store.disk c.come_to-text.result.store ≡ g.S.Store.disk c.args.store) c.in-Err.is
+    c.come_to-text.ensures.untouched (subst LeavesStore c.tell-status.ensures.status listed)

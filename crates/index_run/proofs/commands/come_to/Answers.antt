@@ -3,6 +3,8 @@ use Rattle.index_run.specs.declared.stop.Stop.{Stop}
 use Rattle.index_run.specs.Promises.{Call, Does}
 use Rattle.index_run.proofs.Commanded.{does_nothing}
 use Rattle.index_run.proofs.Finish.{keeps_none}
+use Rattle.commit_point.specs.StepLaws.{goes_none}
+use Rattle.commit_point.specs.Steps.{MakesCommits}
 use Rattle.index_run.proofs.commands.come_to.Goals as goal
 
 pub returns-in-Err-clause-does : goal.returns-in-Err-clause-does
@@ -17,3 +19,6 @@ returns-in-Err-clause-does g c = λ command is.
 
 pub returns-in-Err-clause-kept : goal.returns-in-Err-clause-kept
 returns-in-Err-clause-kept g c = λ given told can. keeps_none given _ _ refl told
+
+pub returns-in-Err-clause-steps : goal.returns-in-Err-clause-steps
+returns-in-Err-clause-steps g c = goes_none (λ step older. MakesCommits step) _

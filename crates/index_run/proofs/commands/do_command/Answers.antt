@@ -9,7 +9,9 @@ use Rattle.index_run.specs.Endings.{Caused, Met}
 use Rattle.index_run.specs.Promises.{Call, Does}
 use Rattle.index_run.proofs.Commanded.{asked_done, caused_run, is_read, listed_done, script_done, script_undone}
 use Rattle.index_run.proofs.Finish.{keeps_none}
-use Rattle.index_run.proofs.Listed.{at_err}
+use Rattle.index_run.proofs.Listed.{at_err, err_always}
+use Rattle.commit_point.specs.StepLaws.{goes_none, goes_still}
+use Rattle.commit_point.specs.Steps.{MakesCommits}
 use Rattle.index_run.proofs.commands.do_command.Goals as goal
 
 -- ---- run
@@ -138,3 +140,26 @@ returns-in-Err-make_script-clause-does g c =
 
 pub returns-in-Err-make_script-clause-kept : goal.returns-in-Err-make_script-clause-kept
 returns-in-Err-make_script-clause-kept g c = λ given told can. keeps_none given _ _ refl told
+
+-- ---- steps by which commits are made, and none
+
+pub returns-in-Err-clause-steps : goal.returns-in-Err-clause-steps
+returns-in-Err-clause-steps g c = goes_none (λ step older. MakesCommits step) _
+
+pub returns-in-Ok-read_questions-clause-steps : goal.returns-in-Ok-read_questions-clause-steps
+returns-in-Ok-read_questions-clause-steps g c = goes_still (λ step older. MakesCommits step) _ _ c.answer.ensures.same
+
+pub returns-in-Ok-read_questions-clause-untouched : goal.returns-in-Ok-read_questions-clause-untouched
+returns-in-Ok-read_questions-clause-untouched g c = err_always c.answer.result.text _ (λ s listed. c.answer.ensures.same)
+
+pub returns-in-Err-read_questions-clause-steps : goal.returns-in-Err-read_questions-clause-steps
+returns-in-Err-read_questions-clause-steps g c = goes_none (λ step older. MakesCommits step) _
+
+pub returns-in-List-clause-steps : goal.returns-in-List-clause-steps
+returns-in-List-clause-steps g c = goes_still (λ step older. MakesCommits step) _ _ c.show.ensures.same
+
+pub returns-in-List-clause-untouched : goal.returns-in-List-clause-untouched
+returns-in-List-clause-untouched g c = err_always c.show.result.text _ (λ s listed. c.show.ensures.same)
+
+pub returns-in-Err-make_script-clause-steps : goal.returns-in-Err-make_script-clause-steps
+returns-in-Err-make_script-clause-steps g c = goes_none (λ step older. MakesCommits step) _

@@ -1,19 +1,24 @@
-use Rattle.std.proofs.Common.{◌≡◌, ap, sym, subst}
+use Rattle.std.proofs.Common.{◌≡◌, ◌∙◌, Err, None, ap, sym, subst}
 use Rattle.std.specs.Prelude.{IfOk, Option}
-use Rattle.ix_outside.specs.Disk.{told_files}
+use Rattle.commit_point.specs.StepLaws.{goes_still}
+use Rattle.commit_point.specs.Steps.{MakesCommits, OnlyCommits}
+use Rattle.ix_outside.specs.Disk.{Told, told_files}
 use Rattle.ix_outside.specs.Files.{Files}
 use Rattle.run_log.specs.Headline.{Keeps, Runs, Stops}
 use Rattle.index_run.specs.Commands.{form_text}
 use Rattle.index_run.specs.Damage.{ReadsDamaged}
 use Rattle.index_run.specs.Driving.{IsOver}
 use Rattle.index_run.proofs.Finish.{cut_keeps, cut_stops, damaged_in, keeps_none, over_keeps, over_same, over_stops}
-use Rattle.index_run.proofs.Finish.{same_disks, stops_none, told_by, told_still, whole_in}
+use Rattle.index_run.proofs.Finish.{same_disks, same_told, stops_none, told_by, told_still, untold, whole_in}
+use Rattle.index_run.specs.declared.stop.Stop.TheVariants as stop
+use Rattle.ix_base.specs.declared.damaged.Damaged.{Damaged}
+use Rattle.report_text.specs.declared.fault.Fault.TheVariants as fault
 use Rattle.index_run.proofs.doing.do_script.Given as given
 use Rattle.index_run.proofs.doing.do_script.Goals as goal
 
 pub returns-in-Err-clause-stops : goal.returns-in-Err-clause-stops
 returns-in-Err-clause-stops g c = λ given same told can.
-    stops_none given (g.S.Store.disk c.args.store) (g.S.Store.disk c.in-Err.unbegun.store) c.in-Err.ensures.left told
+    stops_none given (g.S.Store.disk c.args.store) (g.S.Store.disk c.in-Err.unbegun.store) c.in-Err.ensures.left told can
 
 pub returns-in-Err-clause-kept : goal.returns-in-Err-clause-kept
 returns-in-Err-clause-kept g c = λ given told can.
@@ -28,7 +33,7 @@ returns-in-Err-done-clause-stops g c = λ given same told can.
     same_disks (Stops given) start began (g.S.Store.disk c.do_lines-done.new.writer.store)
     (g.S.Store.disk c.into_store-store.result) c.in-Ok.ensures.reads
     (ap (λ s. g.S.Store.disk s) c.into_store-store.ensures)
-    (cut_stops given _ c.args.lines _ same still on c.in-Err-done.ensures.cut)
+    (cut_stops given _ c.args.lines _ same can still on c.in-Err-done.ensures.cut)
 
 pub returns-in-Err-done-clause-kept : goal.returns-in-Err-done-clause-kept
 returns-in-Err-done-clause-kept g c = λ given told can.
@@ -72,7 +77,7 @@ returns-in-Ok-done-clause-stops g c = λ given same told can.
     let on = c.in-Ok.ensures.given given told can in
     same_disks (Stops given) start began (g.S.Store.disk c.into_store-store.result)
     (g.S.Store.disk c.text_of.new.store) c.in-Ok.ensures.reads c.text_of.ensures.reads
-    (over_stops given _ c.args.lines c.as_slice.result.now _ _ same still on (over g c))
+    (over_stops given _ c.args.lines c.as_slice.result.now _ _ same can still on (over g c))
 
 pub returns-in-Ok-done-clause-kept : goal.returns-in-Ok-done-clause-kept
 returns-in-Ok-done-clause-kept g c = λ given told can.
@@ -91,9 +96,51 @@ returns-in-Ok-done-clause-whole g c = λ given told last can.
     whole_in c.made_runs.ensures given _ c.args.form c.args.lines c.as_slice.result.now _ _ c.upto-upto.result c.text_of.result c.requires.lines.rise
     c.requires.made can.0 still (c.in-Ok.ensures.on given told last can.0) c.upto-upto.ensures (over g c) c.text_of.ensures.whole
 
+-- where the text met what is damaged the store tells nothing
+none_told : (g : given.Over) (c : goal.After-drop-outcomes g) (damaged : Damaged)
+    → c.text_of.result ≡ Err (stop.Fault (fault.Damaged damaged))
+    → (g.S.Store.disk c.args.store ≡ None) × (g.S.Store.disk c.into_store-store.result ≡ None)
+none_told g c damaged is =
+    let before = c.in-Ok.ensures.reads in
+    let none = untold c.made_runs.ensures _ c.args.form c.args.lines c.as_slice.result.now _ _ c.upto-upto.result c.text_of.result damaged
+    c.requires.lines.rise c.requires.made (λ f told. c.in-Ok.ensures.begins f (sym (ap told_files before) ∙ told))
+    (λ given told last on. c.in-Ok.ensures.on given (sym (ap told_files before) ∙ told) last on)
+    c.upto-upto.ensures (over g c) c.text_of.ensures.whole is in
+    (sym before ∙ none.0, none.1)
+
 pub returns-in-Ok-done-clause-damaged : goal.returns-in-Ok-done-clause-damaged
 returns-in-Ok-done-clause-damaged g c = λ damaged is.
+    let none = none_told g c damaged is in
     subst (λ (told : Option Files). ReadsDamaged c.args.form c.args.lines (told_files (g.S.Store.disk c.args.store)) told damaged)
     (sym (ap told_files c.text_of.ensures.reads))
     (damaged_in c.made_runs.ensures _ c.args.form c.args.lines c.as_slice.result.now _ _ _ c.upto-base.result c.upto-upto.result damaged
-    c.requires.made c.in-Ok.ensures.last c.upto-upto.ensures (over g c) (c.text_of.ensures.damaged damaged is))
+    c.requires.made c.in-Ok.ensures.last c.upto-upto.ensures (over g c) (ap told_files none.0, ap told_files none.1)
+    (c.text_of.ensures.damaged damaged is))
+
+pub returns-in-Ok-done-clause-same : goal.returns-in-Ok-done-clause-same
+returns-in-Ok-done-clause-same g c =
+    same_told c.text_of.result (g.S.Store.disk c.args.store) (g.S.Store.disk c.text_of.new.store) c.text_of.ensures.others
+    (λ damaged is. let none = none_told g c damaged is in (none.0, c.text_of.ensures.reads ∙ none.1))
+
+pub returns-in-Ok-done-clause-unbegun : goal.returns-in-Ok-done-clause-unbegun
+returns-in-Ok-done-clause-unbegun g c = λ f told not. absurd (not (c.in-Ok.ensures.begins f told))
+
+pub returns-in-Err-done-clause-unbegun : goal.returns-in-Err-done-clause-unbegun
+returns-in-Err-done-clause-unbegun g c = λ f told not. absurd (not (c.in-Ok.ensures.begins f told))
+
+-- ---- steps by which commits are made
+
+pub returns-in-Err-clause-steps : goal.returns-in-Err-clause-steps
+returns-in-Err-clause-steps g c = goes_still (λ step older. MakesCommits step) _ _ c.in-Err.ensures.left
+
+pub returns-in-Err-done-clause-steps : goal.returns-in-Err-done-clause-steps
+returns-in-Err-done-clause-steps g c =
+    same_disks (Told OnlyCommits) (g.S.Store.disk c.args.store) (g.S.Store.disk c.in-Ok.writer.store)
+    (g.S.Store.disk c.do_lines-done.new.writer.store) (g.S.Store.disk c.into_store-store.result) c.in-Ok.ensures.reads
+    (ap (λ s. g.S.Store.disk s) c.into_store-store.ensures) c.in-Err-done.ensures.cut.only
+
+pub returns-in-Ok-done-clause-steps : goal.returns-in-Ok-done-clause-steps
+returns-in-Ok-done-clause-steps g c =
+    same_disks (Told OnlyCommits) (g.S.Store.disk c.args.store) (g.S.Store.disk c.in-Ok.writer.store)
+    (g.S.Store.disk c.into_store-store.result) (g.S.Store.disk c.text_of.new.store) c.in-Ok.ensures.reads
+    c.text_of.ensures.reads (over g c).over.disk.only

@@ -58,7 +58,8 @@ returns-in_err-commit-in-Ok-Committed-clause-cut g c = λ r lines olds news log 
     on_err c.from_residual.result _
     (cut_commit r lines olds news log w v c.args.parts _ mid here e
     (c.end_round.ensures.sound (e.closed ∙ h.before.at.writer.is_open)) (g.S.Store.disk c.commit.new.self.store) laws
-    ends.2.0 ends.2.1 ends.2.2 c.in_err-commit-in-Ok-Committed.ensures.elsewhere (c.commit.ensures.crash low))
+    ends.2.0 ends.2.1 ends.2.2 (c.in_err-commit-in-Ok-Committed.ensures.left low) (c.commit.ensures.crash low)
+    c.commit.ensures.only c.commit.ensures.standing)
 
 pub returns-in_ok-commit-in-Ok-Committed-clause-ends : goal.returns-in_ok-commit-in-Ok-Committed-clause-ends
 returns-in_ok-commit-in-Ok-Committed-clause-ends g c = λ r lines olds news log h.
@@ -80,7 +81,8 @@ returns-in_ok-commit-in-Ok-Committed-clause-ends g c = λ r lines olds news log 
     (c.end_round.ensures.sound (e.closed ∙ h.before.at.writer.is_open)) x c.in_ok-commit-in-Ok-Committed.field-0
     (g.S.Store.disk c.commit.new.self.store) laws ends.2.0 ends.2.1 ends.2.2
     (ends.1 ∙ ap Some ends.0) done_well.number done_well.on (done_well.sound closed) low done_well.docs done_well.stands
-    done_well.made done_well.acknowledged done_well.settled c.commit.ensures.crash
+    done_well.made done_well.acknowledged done_well.settled c.commit.ensures.crash c.commit.ensures.only
+    c.commit.ensures.standing
 
 pub returns-in-Ok-Turned-clause-out : goal.returns-in-Ok-Turned-clause-out
 returns-in-Ok-Turned-clause-out g c =
