@@ -45,8 +45,8 @@ loop-alloc-preserved g c =
     let now = c.do_round.new.writer in
     let next = c.in_ok-next.next.items in
     let still_open : AreDone at.shares.items → ⊥ = λ done.
-        let all : c.all_done.result ≡ true = c.all_done.ensures.1 (subst AreDone (sym c.as_slice.ensures.value) done) in
-        let not_all : c.all_done.result ≡ false = c.loop-alloc-test.true in absurd cc in
+    let all : c.all_done.result ≡ true = c.all_done.ensures.1 (subst AreDone (sym c.as_slice.ensures.value) done) in
+    let not_all : c.all_done.result ≡ false = c.loop-alloc-test.true in absurd cc in
     record {
       come = λ r lines size come.
           subst (λ (cs : List (ℕ × ℕ)). HasCome r lines next cs now.state (g.S.Store.disk now.store))
