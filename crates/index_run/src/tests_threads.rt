@@ -1,6 +1,6 @@
 //! Whole runs of several callers in threads. Which numbers the lines get differs from run to run: the
 //! rest of the report is folded from them on a plain list of documents.
-ghost use Rattle.std.specs.Prelude.{◌≤◌};
+ghost use Rattle.std.specs.Prelude.{◌<◌, ◌≤◌};
 
 use crate::doing::{self, do_script};
 use crate::telling::Form;
