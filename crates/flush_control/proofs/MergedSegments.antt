@@ -12,7 +12,8 @@ use Rattle.merge_core.specs.Merging.{AreAt, CanMerge, IsMerged, IsOrdered, Sourc
 use Rattle.merge_core.specs.Merging.{Merged as MergedInto}
 use Rattle.merge_core.specs.Reading.{HasRead}
 use Rattle.merge_core.specs.declared.merge.Merge.{Merge}
-use Rattle.flush_control.specs.Merging.{EndsMerge, MergesStand, Steps, is_among, replaced, without}
+use Rattle.merge_core.specs.Picking.{is_among}
+use Rattle.flush_control.specs.Merging.{EndsMerge, MergesStand, Steps, replaced, without}
 use Rattle.flush_control.specs.declared.merging.MergeTurn.TheVariants.{Idle, Merged, Stepped}
 use Rattle.flush_control.specs.Published.{IdsDiffer, IsPublished}
 use Rattle.flush_control.specs.declared.published.Published.{Published}
@@ -192,9 +193,9 @@ runs_on p ids ss run count published apart found same read = record {
 
 steps_end : (m rows : ℕ) (old new : Published) → IsPublished old → Steps m rows old new → EndsMerge old new
 steps_end m rows old new published s =
-    subst (EndsMerge old) (sym s.is)
+    subst (EndsMerge old) (sym s.step.is)
     (record {
-      published = runs_on old s.ids s.begun.sources s.run (s.begun.count + rows) published s.begun.apart s.begun.found s.same s.read;
+      published = runs_on old s.ids s.begun.sources s.step.run (s.begun.count + rows) published s.begun.apart s.begun.found s.step.same s.step.read;
       upto = refl;
       ids = omega arith;
       few = omega arith;
@@ -205,4 +206,4 @@ pub merges_stand : MergesStand
 merges_stand m rows Idle old new published turn = stays old new published turn.2
 merges_stand m rows Stepped old new published turn = steps_end m rows old new published turn
 merges_stand m rows Merged old new published turn =
-    subst (EndsMerge old) (sym turn.is) (merge_ends old turn.ids turn.begun.sources turn.one published turn.begun.apart turn.begun.found turn.merged)
+    subst (EndsMerge old) (sym turn.end.is) (merge_ends old turn.ids turn.begun.sources turn.end.one published turn.begun.apart turn.begun.found turn.end.merged)

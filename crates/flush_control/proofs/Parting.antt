@@ -9,8 +9,8 @@ use Rattle.ix_base.specs.declared.document.Row.{Row}
 use Rattle.segment_core.specs.LiveRows.{Lived}
 use Rattle.commit_point.specs.Writing.{SegmentIdsRise}
 use Rattle.merge_core.specs.Merging.{IdsRise, Sources}
-use Rattle.merge_core.specs.Picking.{rank}
-use Rattle.flush_control.specs.Merging.{is_among, without}
+use Rattle.merge_core.specs.Picking.{is_among, rank}
+use Rattle.flush_control.specs.Merging.{without}
 use Rattle.flush_control.specs.Published.{IdsDiffer}
 
 -- ---- a segment in a list

@@ -5,7 +5,7 @@ use Rattle.segment_core.specs.LiveRows.{Lived}
 use Rattle.merge_core.specs.Merging.{Sources, row_count}
 use Rattle.merge_core.specs.Reading.{CanFinish, HasRead, HasReadWithin, IsOf}
 use Rattle.merge_core.specs.declared.merge.Merge.{Merge}
-use Rattle.flush_control.specs.Merging.{Advanced, Begun, IsBegun, IsEnd, IsTaken, Runs, SameSegments, StillRuns, Turns, replaced, with_replaced, without}
+use Rattle.flush_control.specs.Merging.{Advanced, Begun, IsBegun, IsEnd, IsTaken, Runs, SameSegments, StillRuns, Turns, replaced, without}
 use Rattle.flush_control.specs.Published.{IdsDiffer, IsPublished, IsRunning}
 use Rattle.flush_control.specs.declared.merging.MergeTurn.{MergeTurn}
 use Rattle.flush_control.specs.declared.merging.MergeTurn.TheVariants.{Idle, Merged, Stepped}
@@ -58,8 +58,17 @@ replaced_without ids (Some s) p = refl
 pub turned : (m rows : ℕ) (p : Published) (run : Merge) (t : TakenRun m p run) (turn : MergeTurn) (new : Published)
     → Advanced rows (without_merge p) run t.begun.sources t.begun.count turn new → Turns m rows p turn new
 turned m rows p run t Idle new a = absurd a
-turned m rows p run t Stepped new a = record { ids = run.ids.items; begun = t.begun; run = a.run; same = a.same; read = a.read; left = a.left; is = a.is }
-turned m rows p run t Merged new a = record { ids = run.ids.items; begun = t.begun; one = a.one; merged = a.merged; is = a.is ∙ replaced_without run.ids.items a.one p }
+turned m rows p run t Stepped new a = record {
+  ids = run.ids.items;
+  begun = t.begun;
+  step = record { run = a.run; same = a.same; read = a.read; left = a.left; is = a.is };
+}
+turned m rows p run t Merged new a = record {
+  ids = run.ids.items;
+  begun = t.begun;
+  all = a.0;
+  end = record { one = a.1.one; merged = a.1.merged; is = a.1.is ∙ replaced_without run.ids.items a.1.one p };
+}
 
 -- ---- a step
 
@@ -84,10 +93,10 @@ kept_running p was run ss count now published runs same read = record {
 }
 
 pub ended : (rows : ℕ) (p : Published) (was run : Merge) (ss : List Lived) (count : ℕ) (turn : MergeTurn) (new : Published) → run.ids.items ≡ was.ids.items
-    → turn ≡ Merged → IsEnd p run ss new → Advanced rows p was ss count turn new
-ended rows p was run ss count turn new same is end =
+    → row_count ss ≤ count + rows → turn ≡ Merged → IsEnd p run.ids.items ss new → Advanced rows p was ss count turn new
+ended rows p was run ss count turn new same all is end =
     subst (λ (t : MergeTurn). Advanced rows p was ss count t new) (sym is)
-    (record { one = end.one; merged = end.merged; is = end.is ∙ ap (λ (ids : List ℕ). replaced ids end.one p) same })
+    (all, subst (λ (ids : List ℕ). IsEnd p ids ss new) same end)
 
 -- ---- the end
 
@@ -102,19 +111,19 @@ can_finish p run ss gs published runs is =
       same = sources_at p run.ids.items ss published runs.found;
     })
 
-pub same_replaced : (ids : List ℕ) (one : Option Lived) (gs : List Lived) (p q : Published) → gs ≡ p.segments → q.next_id ≡ p.next_id → q.upto ≡ p.upto → q.merge ≡ None
-    → with_replaced ids one gs q ≡ replaced ids one p
-same_replaced ids None gs p q is next upto none = λ i. record {
+pub same_replaced : (ids : List ℕ) (one : Option Lived) (gs : List Lived) (p q : Published) → gs ≡ p.segments → q.next_id ≡ p.next_id → q.upto ≡ p.upto
+    → replaced ids one (record q { segments = gs }) ≡ replaced ids one p
+same_replaced ids None gs p q is next upto = λ i. record {
   segments = without ids (is i);
   next_id = next i;
   upto = upto i;
-  merge = none i;
+  merge = None;
 }
-same_replaced ids (Some s) gs p q is next upto none = λ i. record {
+same_replaced ids (Some s) gs p q is next upto = λ i. record {
   segments = without ids (is i) ++ s ∷ [];
   next_id = next i + 1;
   upto = upto i;
-  merge = none i;
+  merge = None;
 }
 
 -- ---- after an error

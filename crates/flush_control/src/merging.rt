@@ -119,7 +119,7 @@ impl Published {
         requires runs { (sources : ListOf Lived) × Runs self.old merge sources (row_count sources) }
         ensures turn { (sources : ListOf Lived) → Runs self.old merge sources (row_count sources)
             → IfOk result (λ turn. (turn ≡ MergeTurn.Merged)
-                × IsEnd self.old merge.ids.items sources self.new) }
+            × IsEnd self.old merge.ids.items sources self.new) }
         ensures err { OnErr result (SameSegments self.old self.new) }
         ensures kept { OnErr result (self.new.merge ≡ Some merge) }
     {
