@@ -8,10 +8,11 @@ use Rattle.commit_point.specs.declared.written.Written.{Written}
 use Rattle.merge_core.specs.declared.merge.Merge.{Merge}
 use Rattle.flush_control.specs.Merging.{Turns}
 use Rattle.flush_control.specs.declared.merging.MergeTurn.{MergeTurn}
+use Rattle.flush_control.specs.declared.merging.MergeTurn.TheVariants.{Idle, Merged, Stepped}
 use Rattle.index_writer.specs.declared.state.State.{State}
 use Rattle.index_writer.specs.Ready.{HasRows, IsStored}
 
--- ---- what is on the store of the segments after a merge
+-- ---- what is on the store of the segments after a turn
 
 -- the ids of the segments, in their order
 abbrev pub ids_of : List Lived → List ℕ
@@ -27,9 +28,12 @@ staying gs [] ws = []
 staying gs (id ∷ ids) [] = []
 staying gs (id ∷ ids) (w ∷ ws) = (if is_there gs id then w ∷ [] else []) ++ staying gs ids ws
 
--- the same, and that nothing is on the store of the merged segment, if one came
-abbrev pub followed : List Lived → List ℕ → List (Option Written) → Bool → List (Option Written)
-followed gs ids ws came = staying gs ids ws ++ (if came then None ∷ [] else [])
+-- What is on the store of the segments after a turn, where this was on the store of segments with these ids before. Where
+-- the turn ended a merge, nothing is on the store of the merged segment, if one came.
+abbrev pub followed : MergeTurn → List Lived → List ℕ → List (Option Written) → Bool → List (Option Written)
+followed Idle gs ids ws came = ws
+followed Stepped gs ids ws came = ws
+followed Merged gs ids ws came = staying gs ids ws ++ (if came then None ∷ [] else [])
 
 -- ---- a step
 

@@ -74,14 +74,10 @@ impl State {
         let written = self.take_written(alloc)?;
         let next_id = self.published.next_id;
         match self.published.merge_turn(alloc, self.merge, rows) {
-            Ok(MergeTurn::Merged) => {
+            Ok(turn) => {
                 let came = self.published.next_id > next_id;
                 let segments = self.published.segments.as_slice();
-                self.written = follow(written, ids.as_slice(), segments, came);
-                Ok(MergeTurn::Merged)
-            }
-            Ok(turn) => {
-                self.written = List::from_vec(written);
+                self.written = follow(turn, written, ids.as_slice(), segments, came);
                 Ok(turn)
             }
             Err(error) => {
@@ -126,10 +122,11 @@ fn is_there(segments: &[LiveSegment], id: u64) -> bool
     segments.iter().any(|segment| segment.segment().id == id)
 }
 
-/// What is on the store of the segments after a merge, where it was so of segments with these ids: the
-/// same of those that are still there, and nothing of the merged one, if one came. There is room for that.
-/// It takes no memory.
+/// What is on the store of the segments after a turn, where this was on the store of segments with these
+/// ids before: where the turn ended a merge, the same of those that are still there, and nothing of the
+/// merged one, if one came. There is room for that. It takes no memory.
 fn follow(
+    turn: MergeTurn,
     written: Vec<Option<Written>>,
     ids: &[u64],
     segments: &[LiveSegment],
@@ -137,12 +134,14 @@ fn follow(
 ) -> List<Option<Written>>
     requires count { length written.items ≡ length ids.now }
     requires room { length written.items < vec_capacity written }
-    ensures { result ≡ followed segments.now ids.now written.items came }
+    ensures { result ≡ followed turn segments.now ids.now written.items came }
 {
     let mut written = written;
-    let_go(&mut written, ids, segments);
-    if came {
-        written.push_reserved(None);
+    if turn == MergeTurn::Merged {
+        let_go(&mut written, ids, segments);
+        if came {
+            written.push_reserved(None);
+        }
     }
     List::from_vec(written)
 }
