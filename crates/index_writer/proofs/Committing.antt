@@ -1,5 +1,5 @@
 -- The commit of a writer.
-use Rattle.std.proofs.Common.{◌≡◌, ◌∙◌, ℕ, ◌+◌, ◌<◌, ◌≤◌, cond, Bool, true, false, List, [], ◌∷◌, ◌++◌, Option, Some, None, length, refl, sym, ap, subst, inl, arith, IsPermutation}
+use Rattle.std.proofs.Common.{◌≡◌, ◌∙◌, ℕ, ◌<◌, ◌≤◌, cond, Bool, true, false, List, [], ◌∷◌, ◌++◌, Option, Some, None, length, refl, sym, ap, subst, inl, arith, IsPermutation}
 use Rattle.std.specs.Prelude.{◌↔◌, IfSome, IsSome, IsTrue, OnErr, Result, Ok, Err}
 use Rattle.std.specs.List.{AllByRecursion, cons_option, filter}
 use Rattle.std.proofs.lemmas.Bool.{ltb-false}
@@ -14,7 +14,7 @@ use Rattle.ix_outside.specs.Files.{Files, Changes, stays}
 use Rattle.live_docs.specs.Marks.{count_live, same_marks}
 use Rattle.live_docs.specs.declared.live_docs.Mark.{Mark}
 use Rattle.row_fates.specs.Fate.{renumbered}
-use Rattle.segment_core.specs.LiveRows.{Lived, all_live, live, live_rows, stored_rows, with_numbers}
+use Rattle.segment_core.specs.LiveRows.{Lived, all_live, live, live_rows, with_numbers}
 use Rattle.segment_core.specs.Segments.{IsInverted}
 use Rattle.commit_point.specs.declared.written.Written.{Written}
 use Rattle.commit_point.specs.Holds.{AreInverted, AreRowsOf, HasSegment, HaveSegments}

@@ -1,5 +1,5 @@
 -- What is on the store of the segments that are still there.
-use Rattle.std.proofs.Common.{◌≡◌, ◌∙◌, ℕ, zero, suc, ◌+◌, ◌<◌, ◌≤◌, Bool, true, false, cond, List, [], ◌∷◌, ◌++◌, Option, None, drop, get_or, length, refl, sym, ap, subst, arith, append-nil, append_assoc, length-append, add-one, drop-cons}
+use Rattle.std.proofs.Common.{◌≡◌, ◌∙◌, ℕ, ◌+◌, ◌<◌, ◌≤◌, Bool, true, false, cond, List, [], ◌∷◌, ◌++◌, Option, None, drop, get_or, length, refl, sym, ap, subst, arith, append_assoc, length-append, add-one, drop-cons}
 use Rattle.std.specs.List.{remove}
 use Rattle.segment_core.specs.LiveRows.{Lived}
 use Rattle.commit_point.specs.declared.written.Written.{Written}

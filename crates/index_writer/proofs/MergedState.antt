@@ -10,12 +10,12 @@ use Rattle.commit_point.specs.declared.written.Written.{Written}
 use Rattle.commit_point.specs.Writing.{AreWritten, SegmentIdsRise, WrittenUpTo}
 use Rattle.merge_core.specs.Merging.{Merged as MergedInto}
 use Rattle.merge_core.specs.declared.merge.Merge.{Merge}
-use Rattle.flush_control.specs.Merging.{EndsMerge, MergesStand, Runs, SameSegments, StillRuns, Turns, is_among, replaced, without}
+use Rattle.flush_control.specs.Merging.{MergesStand, StillRuns, Turns, is_among, replaced, without}
 use Rattle.flush_control.specs.declared.merging.MergeTurn.{MergeTurn}
 use Rattle.flush_control.specs.declared.merging.MergeTurn.TheVariants.{Idle, Merged, Stepped}
 use Rattle.flush_control.specs.declared.published.Published.{Published}
 use Rattle.index_writer.specs.declared.state.State.{State}
-use Rattle.index_writer.specs.Merging.{Merges, followed, ids_of, is_there, staying, with_merge}
+use Rattle.index_writer.specs.Merging.{Merges, followed, ids_of, is_there, staying}
 use Rattle.index_writer.specs.Ready.{CanBePending, IsReady, NewIdsFrom}
 
 -- ---- the merged segment, if there is one
@@ -336,29 +336,19 @@ merges law s rows turn new ready turns =
       closed = refl;
     }
 
--- ---- after an error
+-- the state that the call leaves
+pub is_turn : (s mid : State) (turn : MergeTurn) (new : Published) (gs : List Lived) (ids : List ℕ) (was ws : List (Option Written)) (came : Bool)
+    → mid ≡ record s { written = [] } → gs ≡ new.segments → ids ≡ ids_of s.published.segments → was ≡ s.written
+    → came ≡ nat_lt mid.published.next_id new.next_id → ws ≡ followed turn gs ids was came → record mid { published = new; written = ws } ≡ on_turn turn s new
+is_turn s mid turn new gs ids was ws came mid_is gs_is ids_is was_is came_is is =
+    let less : came ≡ nat_lt s.published.next_id new.next_id = came_is ∙ ap (λ (t : State). nat_lt t.published.next_id new.next_id) mid_is in
+    let follows : ws ≡ followed turn new.segments (ids_of s.published.segments) s.written (nat_lt s.published.next_id new.next_id) =
+    is ∙ (λ i. followed turn (gs_is i) (ids_is i) (was_is i) (less i)) in
+    λ i. record (mid_is i) { published = new; written = follows i }
 
-pub ready_same : (s : State) (new : Published) → IsReady s → SameSegments s.published new → IsReady (record s { published = new })
-ready_same s new ready same =
-    let store = follows_same s new ready same.segments in
-    record {
-      published = same.published;
-      count = store.count;
-      written = subst (λ (n : ℕ). AllByRecursion (WrittenUpTo n) s.written) (sym same.upto) store.written;
-      new_ids = store.new_ids;
-      since = omega (arith, ready.since, same.next_id);
-      last = omega (arith, ready.last, same.upto);
-      pending = still_pending s (record s { published = new }) s.pending same.upto refl ready.pending;
-      some = ready.some;
-      most = ready.most;
-      several = ready.several;
-      within = ready.within;
-    }
-
-pub merge_alone : (s : State) (new : Published) → SameSegments s.published new → record s { published = new } ≡ with_merge new.merge s
-merge_alone s new same = λ i. record s {
-  published = record { segments = same.segments i; next_id = same.next_id i; upto = same.upto i; merge = new.merge };
-}
+pub turns_at : (rows : ℕ) (s mid : State) (turn : MergeTurn) (new : Published) → mid ≡ record s { written = [] }
+    → Turns mid.merge rows mid.published turn new → Turns s.merge rows s.published turn new
+turns_at rows s mid turn new is turns = subst (λ (t : State). Turns t.merge rows t.published turn new) is turns
 
 -- a merge that ran runs on where nothing was done
 pub runs_still : (rows : ℕ) (p : Published) (o : Option Merge) → p.merge ≡ o → IfSome o (λ (run : Merge). StillRuns rows p run p)

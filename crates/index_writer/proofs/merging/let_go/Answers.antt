@@ -1,8 +1,7 @@
-use Rattle.std.proofs.Common.{◌≡◌, ◌∙◌, ◌+◌, ◌≤◌, sym, subst, arith, length, List, Option, drop}
+use Rattle.std.proofs.Common.{◌∙◌, ◌≤◌, sym, subst, arith, length, List, Option, drop}
 use Rattle.std.proofs.lemmas.List.{drop_all}
 use Rattle.commit_point.specs.declared.written.Written.{Written}
-use Rattle.index_writer.specs.Merging.{staying}
-use Rattle.index_writer.proofs.LettingGo.{IsLeft, all_stay, fewer, one_goes, one_stays}
+use Rattle.index_writer.proofs.LettingGo.{all_stay, fewer, one_goes, one_stays}
 use Rattle.index_writer.proofs.merging.let_go.Goals as goal
 use Rattle.index_writer.proofs.merging.let_go.Goals.{then-is_there, else-is_there+in-Some-1, else-is_there+in-None-1}
 
@@ -21,15 +20,15 @@ loop-id-preserved c =
     record {
       left =
           elim c.if-is_there.branch [
-            then-is_there w ↦ one_stays gs ids olds i at then_at now new left lt c.requires (sym c.is_there.ensures ∙ w.if-is_there.true) w.at-is (cc w.written-is)
-          | else-is_there+in-Some-1 w ↦ one_goes gs ids olds i at then_at now new left lt c.requires (sym c.is_there.ensures ∙ w.if-is_there.false) w.at-is (cc (w.written-is, w.remove.ensures.items))
-          | else-is_there+in-None-1 w ↦ one_goes gs ids olds i at then_at now new left lt c.requires (sym c.is_there.ensures ∙ w.if-is_there.false) w.at-is (cc (w.written-is, w.remove.ensures.items))
+            | then-is_there w ↦ one_stays gs ids olds i at then_at now new left lt c.requires (sym c.is_there.ensures ∙ w.if-is_there.true) w.at-is (cc w.written-is)
+            | else-is_there+in-Some-1 w ↦ one_goes gs ids olds i at then_at now new left lt c.requires (sym c.is_there.ensures ∙ w.if-is_there.false) w.at-is (cc (w.written-is, w.remove.ensures.items))
+            | else-is_there+in-None-1 w ↦ one_goes gs ids olds i at then_at now new left lt c.requires (sym c.is_there.ensures ∙ w.if-is_there.false) w.at-is (cc (w.written-is, w.remove.ensures.items))
           ];
       room =
           elim c.if-is_there.branch [
-            then-is_there w ↦ cc (w.written-is, c.loop-id.invariant.room)
-          | else-is_there+in-Some-1 w ↦ cc (w.written-is, w.remove.ensures.capacity, c.loop-id.invariant.room)
-          | else-is_there+in-None-1 w ↦ cc (w.written-is, w.remove.ensures.capacity, c.loop-id.invariant.room)
+            | then-is_there w ↦ cc (w.written-is, c.loop-id.invariant.room)
+            | else-is_there+in-Some-1 w ↦ cc (w.written-is, w.remove.ensures.capacity, c.loop-id.invariant.room)
+            | else-is_there+in-None-1 w ↦ cc (w.written-is, w.remove.ensures.capacity, c.loop-id.invariant.room)
           ];
     }
 
