@@ -1,5 +1,5 @@
 -- The commit of a writer.
-use Rattle.std.proofs.Common.{◌≡◌, ◌∙◌, ℕ, ◌+◌, ◌<◌, ◌≤◌, cond, Bool, true, false, List, [], ◌∷◌, ◌++◌, Option, Some, None, length, refl, sym, ap, subst, inl, arith, IsPermutation}
+use Rattle.std.proofs.Common.{◌≡◌, ◌∙◌, ℕ, ◌<◌, ◌≤◌, cond, Bool, true, false, List, [], ◌∷◌, ◌++◌, Option, Some, None, length, refl, sym, ap, subst, inl, arith, IsPermutation}
 use Rattle.std.specs.Prelude.{◌↔◌, IfSome, IsSome, IsTrue, OnErr, Result, Ok, Err}
 use Rattle.std.specs.List.{AllByRecursion, cons_option, filter}
 use Rattle.std.proofs.lemmas.Bool.{ltb-false}
@@ -14,11 +14,10 @@ use Rattle.ix_outside.specs.Files.{Files, Changes, stays}
 use Rattle.live_docs.specs.Marks.{count_live, same_marks}
 use Rattle.live_docs.specs.declared.live_docs.Mark.{Mark}
 use Rattle.row_fates.specs.Fate.{renumbered}
-use Rattle.segment_core.specs.LiveRows.{Lived, all_live, live, live_rows, stored_rows, with_numbers}
+use Rattle.segment_core.specs.LiveRows.{Lived, all_live, live, live_rows, with_numbers}
 use Rattle.segment_core.specs.Segments.{IsInverted}
-use Rattle.segment_core.specs.Births.{births_at, births_append}
 use Rattle.commit_point.specs.declared.written.Written.{Written}
-use Rattle.commit_point.specs.Holds.{HasSegment, HaveSegments}
+use Rattle.commit_point.specs.Holds.{AreInverted, AreRowsOf, HasSegment, HaveSegments}
 use Rattle.commit_point.specs.Settling as settling
 use Rattle.commit_point.specs.Writing as commit
 use Rattle.commit_point.specs.Writing.{AreWritten, CanCommit, ComesAfter, CanWrite, IsOldId, SegmentIdsRise, WrittenUpTo, entries_of, entry_of, is_alive, listed, version}
@@ -26,7 +25,7 @@ use Rattle.index_writer.specs.declared.fault.WriterFault.{WriterFault}
 use Rattle.index_writer.specs.declared.fault.WriterFault.TheVariants.{Store, NoMemory as OutOfMemory}
 use Rattle.index_writer.specs.declared.state.State.{State}
 use Rattle.index_writer.specs.Ready.{CanBePending, HasRows, IsReady, IsStored, NewIdsFrom}
-use Rattle.index_writer.specs.Storing.{Commits, GoesOn, MayCommit, SameBelow, Settles, on_commit, renewed}
+use Rattle.index_writer.specs.Storing.{Commits, GoesOn, MayCommit, SameBelow, Settles, on_commit, own_written, renewed}
 
 -- ---- segments without a live row
 
@@ -37,27 +36,6 @@ all_filter {X} P test (x ∷ xs) all = by (test x) (all_filter P test xs all.1)
     by : (t : Bool) → AllByRecursion P (filter test xs) → AllByRecursion P (cond t (x ∷ filter test xs) (filter test xs))
     by true more = (all.0, more)
     by false more = more
-
-ids_lower : (low more limit : ℕ) (gs : List Lived) → low ≤ more → SegmentIdsRise more limit gs → SegmentIdsRise low limit gs
-ids_lower low more limit [] le rise = tt
-ids_lower low more limit (g ∷ gs) le rise = (omega (arith, rise.0), rise.1, rise.2)
-
-ids_listed : (low limit : ℕ) (gs : List Lived) → SegmentIdsRise low limit gs → SegmentIdsRise low limit (listed gs)
-ids_listed low limit [] rise = tt
-ids_listed low limit (g ∷ gs) rise = by (is_alive g) (ids_listed (g.segment.id + 1) limit gs rise.2)
-  where
-    by : (t : Bool) → SegmentIdsRise (g.segment.id + 1) limit (listed gs) → SegmentIdsRise low limit (cond t (g ∷ listed gs) (listed gs))
-    by true more = (rise.0, rise.1, more)
-    by false more = ids_lower low (g.segment.id + 1) limit (listed gs) (omega (arith, rise.0)) more
-
-births_listed : (b : ℕ) (gs : List Lived) → births_at b (stored_rows (listed gs)) ≤ births_at b (stored_rows gs)
-births_listed b [] = omega arith
-births_listed b (g ∷ gs) = by (is_alive g) (births_listed b gs)
-  where
-    by : (t : Bool) → births_at b (stored_rows (listed gs)) ≤ births_at b (stored_rows gs)
-        → births_at b (stored_rows (cond t (g ∷ listed gs) (listed gs))) ≤ births_at b (stored_rows (g ∷ gs))
-    by true more = omega (arith, births_append b g.segment.rows (stored_rows (listed gs)), births_append b g.segment.rows (stored_rows gs), more)
-    by false more = omega (arith, births_append b g.segment.rows (stored_rows gs), more)
 
 none_live : (rows : List Row) (marks : List Mark) → count_live marks ≤ 0 → live_rows rows marks ≡ []
 none_live [] marks none = refl
@@ -80,15 +58,10 @@ live_listed (g ∷ gs) = by (is_alive g) refl (live_listed gs)
 
 -- ---- what is on the store
 
-renewed_count : (s : ℕ) (gs : List Lived) (ws : List (Option Written)) → length ws ≡ length gs → length (renewed s gs ws) ≡ length (listed gs)
+renewed_count : (s : ℕ) (gs : List Lived) (ws : List (Option Written)) → length ws ≡ length gs → length (renewed s gs ws) ≡ length gs
 renewed_count s [] ws same = refl
 renewed_count s (g ∷ gs) [] same = absurd (omega (arith, same))
-renewed_count s (g ∷ gs) (w ∷ ws) same = by (is_alive g) (renewed_count s gs ws (omega (arith, same)))
-  where
-    by : (t : Bool) → length (renewed s gs ws) ≡ length (listed gs)
-        → length (cond t (Some (record { v = version s w g; live = g.live }) ∷ []) [] ++ renewed s gs ws) ≡ length (cond t (g ∷ listed gs) (listed gs))
-    by true more = omega (arith, more)
-    by false more = more
+renewed_count s (g ∷ gs) (w ∷ ws) same = omega (arith, renewed_count s gs ws (omega (arith, same)))
 
 version_within : (s : ℕ) (w : Option Written) (g : Lived) → 1 ≤ s → WrittenUpTo s w → (1 ≤ version s w g) × (version s w g ≤ s)
 version_within s None g some upto = (some, omega arith)
@@ -102,47 +75,29 @@ renewed_upto : (s : ℕ) (gs : List Lived) (ws : List (Option Written)) → 1 �
     → AllByRecursion (WrittenUpTo s) (renewed s gs ws)
 renewed_upto s [] ws some all = tt
 renewed_upto s (g ∷ gs) [] some all = tt
-renewed_upto s (g ∷ gs) (w ∷ ws) some all = by (is_alive g) (renewed_upto s gs ws some all.1)
-  where
-    by : (t : Bool) → AllByRecursion (WrittenUpTo s) (renewed s gs ws)
-        → AllByRecursion (WrittenUpTo s) (cond t (Some (record { v = version s w g; live = g.live }) ∷ []) [] ++ renewed s gs ws)
-    by true more = (version_within s w g some all.0, more)
-    by false more = more
+renewed_upto s (g ∷ gs) (w ∷ ws) some all = (version_within s w g some all.0, renewed_upto s gs ws some all.1)
 
-renewed_ids : (since s : ℕ) (gs : List Lived) (ws : List (Option Written)) → NewIdsFrom since (listed gs) (renewed s gs ws)
+renewed_ids : (since s : ℕ) (gs : List Lived) (ws : List (Option Written)) → NewIdsFrom since gs (renewed s gs ws)
 renewed_ids since s [] ws = tt
-renewed_ids since s (g ∷ gs) [] = by (is_alive g)
-  where
-    by : (t : Bool) → NewIdsFrom since (cond t (g ∷ listed gs) (listed gs)) []
-    by true = tt
-    by false = nothing (listed gs)
-      where
-        nothing : (xs : List Lived) → NewIdsFrom since xs []
-        nothing [] = tt
-        nothing (x ∷ xs) = tt
-renewed_ids since s (g ∷ gs) (w ∷ ws) = by (is_alive g) (renewed_ids since s gs ws)
-  where
-    by : (t : Bool) → NewIdsFrom since (listed gs) (renewed s gs ws)
-        → NewIdsFrom since (cond t (g ∷ listed gs) (listed gs)) (cond t (Some (record { v = version s w g; live = g.live }) ∷ []) [] ++ renewed s gs ws)
-    by true more = more
-    by false more = more
+renewed_ids since s (g ∷ gs) [] = tt
+renewed_ids since s (g ∷ gs) (w ∷ ws) = renewed_ids since s gs ws
 
--- the files of a commit have what is on the store of its segments
+-- the files of a commit have what is on the store of the segments that it lists
 renewed_stands : (now : Files) (s : ℕ) (gs : List Lived) (ws : List (Option Written)) → length ws ≡ length gs
-    → HaveSegments now s (entries_of s gs ws) (listed gs) → AreWritten now s (listed gs) (renewed s gs ws)
+    → HaveSegments now s (entries_of s gs ws) (listed gs) → AreWritten now s gs (renewed s gs ws)
 renewed_stands now s [] ws same have = tt
 renewed_stands now s (g ∷ gs) [] same have = absurd (omega (arith, same))
 renewed_stands now s (g ∷ gs) (w ∷ ws) same have =
-    by (is_alive g) (λ more. renewed_stands now s gs ws (omega (arith, same)) more) have
+    by (is_alive g) refl (λ more. renewed_stands now s gs ws (omega (arith, same)) more) have
   where
-    by : (t : Bool) → (HaveSegments now s (entries_of s gs ws) (listed gs) → AreWritten now s (listed gs) (renewed s gs ws))
+    by : (t : Bool) → is_alive g ≡ t → (HaveSegments now s (entries_of s gs ws) (listed gs) → AreWritten now s gs (renewed s gs ws))
         → HaveSegments now s (cond t (entry_of s w g ∷ []) [] ++ entries_of s gs ws) (cond t (g ∷ listed gs) (listed gs))
-        → AreWritten now s (cond t (g ∷ listed gs) (listed gs)) (cond t (Some (record { v = version s w g; live = g.live }) ∷ []) [] ++ renewed s gs ws)
-    by true more have = (
+        → AreWritten now s (g ∷ gs) (own_written s w g ∷ renewed s gs ws)
+    by true is more have = (
       λ alive. (omega (arith, have.0.applied), subst (λ (n : ℕ). HasSegment now n (entry_of s w g) g) (sym have.0.applied) have.0),
       more have.1,
     )
-    by false more have = more have
+    by false is more have = (λ alive. let e : true ≡ false = sym alive ∙ is in absurd cc, more have)
 
 -- ---- the state
 
@@ -157,12 +112,7 @@ can_commit s ready = record {
 
 pub on_ready : (s : State) → IsReady s → 1 ≤ s.published.upto → IsReady (on_commit s)
 on_ready s ready some = record {
-  published = record {
-    can = all_filter (CanWrite s.published.upto) is_alive s.published.segments ready.published.can;
-    ids = ids_listed 1 s.published.next_id s.published.segments ready.published.ids;
-    some_id = ready.published.some_id;
-    differ = λ b. omega (arith, births_listed b s.published.segments, ready.published.differ b);
-  };
+  published = ready.published;
   count = renewed_count s.published.upto s.published.segments s.written ready.count;
   written = renewed_upto s.published.upto s.published.segments s.written some ready.written;
   new_ids = renewed_ids s.published.next_id s.published.upto s.published.segments s.written;
@@ -175,17 +125,18 @@ on_ready s ready some = record {
   within = ready.within;
 }
 
-pub rows_on : (s : State) (rows : List Row) → HasRows s rows → HasRows (on_commit s) rows
-rows_on s rows has = record {
-  rows_are = record {
-    merged = subst (λ (rs : List Row). IsPermutation rs rows) (sym (live_listed s.published.segments)) has.rows_are.merged;
-    births = has.rows_are.births;
-  };
-  inverted = all_filter (λ (g : Lived). IsInverted g.segment) is_alive s.published.segments has.inverted;
+-- the segments that a commit lists have the rows, and the postings of each are the inversion of its own
+pub listed_rows : (s : State) (rows : List Row) → HasRows s rows → AreRowsOf s.published.upto (listed s.published.segments) rows
+listed_rows s rows has = record {
+  merged = subst (λ (rs : List Row). IsPermutation rs rows) (sym (live_listed s.published.segments)) has.rows_are.merged;
+  births = has.rows_are.births;
 }
 
+pub listed_inverted : (s : State) (rows : List Row) → HasRows s rows → AreInverted (listed s.published.segments)
+listed_inverted s rows has = all_filter (λ (g : Lived). IsInverted g.segment) is_alive s.published.segments has.inverted
+
 pub counted : (s : State) (rows : List Row) → HasRows s rows → length (all_live (listed s.published.segments)) ≡ length rows
-counted s rows has = sym (length_permutation (all_live (listed s.published.segments)) rows (rows_on s rows has).rows_are.merged)
+counted s rows has = sym (length_permutation (all_live (listed s.published.segments)) rows (listed_rows s rows has).merged)
 
 -- ---- the call
 

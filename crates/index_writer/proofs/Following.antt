@@ -20,7 +20,7 @@ use Rattle.index_writer.specs.declared.state.State.{State}
 use Rattle.index_writer.specs.Laws.{CommitsGoOn, CommitsHold, CrashesHold, OpenedGoOn}
 use Rattle.index_writer.specs.Ready.{CanFollow, HasRows, IsReady, IsStored, written_of}
 use Rattle.index_writer.specs.Storing.{Commits, GoesOn}
-use Rattle.index_writer.proofs.Committing.{rows_on}
+use Rattle.index_writer.proofs.Committing.{listed_inverted, listed_rows}
 
 -- ---- a commit that was made
 
@@ -32,9 +32,9 @@ holds_of s rows now spelled has = record {
     entries = entries_of s.published.upto s.published.segments s.written;
     segments = listed s.published.segments;
     spelled = spelled;
-    rows_are = (rows_on s rows has).rows_are;
+    rows_are = listed_rows s rows has;
   };
-  inverted = (rows_on s rows has).inverted;
+  inverted = listed_inverted s rows has;
 }
 
 pub commits_hold : CommitsHold

@@ -3,6 +3,7 @@ pub mod Gathering
 mod Opening
 mod Taking
 mod Committing
+mod LettingGo
 mod MergedState
 mod Following
 mod Opened

@@ -29,7 +29,7 @@ pub record CanFollow (last : Opened) : Type 0 where
 
 -- ---- the writer
 
--- a segment that isn't on the store has an id from this one on
+-- a segment that is new since the last commit, of which nothing is on the store, has an id from this one on
 abbrev pub NewIdsFrom : ℕ → List Lived → List (Option Written) → Type 0
 NewIdsFrom since [] ws = Unit {0}
 NewIdsFrom since (g ∷ gs) [] = Unit {0}
@@ -54,10 +54,10 @@ pub record IsReady (s : State) : Type 0 where
   pub several : 2 ≤ s.merge
   pub within : s.merge ≤ 64
 
--- the state of a writer on a commit, with nothing since
+-- the state of a writer on a commit, with nothing since, and no merge that runs
 abbrev pub opened_on : Opened → ℕ → ℕ → State
 opened_on last size merge = record {
-  published = record { segments = last.segments; next_id = last.next_id; upto = last.number };
+  published = record { segments = last.segments; next_id = last.next_id; upto = last.number; merge = None };
   written = written_of last.entries last.segments;
   last = last.number;
   since = last.next_id;

@@ -1,5 +1,5 @@
 -- What a commit does to the files, and to the state.
-use Rattle.std.specs.Prelude.{◌≡◌, ℕ, ◌<◌, List, [], ◌∷◌, ◌++◌, Option, Some, None, if◌then◌else◌}
+use Rattle.std.specs.Prelude.{◌≡◌, ℕ, ◌<◌, List, [], ◌∷◌, Option, Some, None}
 use Rattle.ix_base.specs.declared.file_name.FileName.TheVariants.{Commit}
 use Rattle.ix_outside.specs.Crash.{MayHold}
 use Rattle.ix_outside.specs.Disk.{Disk, told_files}
@@ -9,27 +9,28 @@ use Rattle.commit_point.specs.declared.heads.HeadSegment.{HeadSegment}
 use Rattle.commit_point.specs.declared.written.Written.{Written}
 use Rattle.commit_point.specs.Holds.{AreKept, Lists}
 use Rattle.commit_point.specs.Writing as commit
-use Rattle.commit_point.specs.Writing.{SameElsewhere, is_alive, listed, version}
+use Rattle.commit_point.specs.Writing.{SameElsewhere, version}
 use Rattle.index_writer.specs.declared.state.State.{State}
 use Rattle.index_writer.specs.Ready.{IsStored}
 
 -- ---- the state on its commit
 
--- what is on the store of a segment with a live row once the commit s is there: its live docs, written with s unless
--- they were written before as they are
-abbrev pub own_written : ℕ → Option Written → Lived → List (Option Written)
-own_written s w g = if is_alive g then Some (record { v = version s w g; live = g.live }) ∷ [] else []
+-- What is on the store of a segment once the commit s is there: its live docs, written with s unless they were written
+-- before as they are. Of a segment without a live row this says only that it is no longer a new one: nothing of it is
+-- written, then or later.
+abbrev pub own_written : ℕ → Option Written → Lived → Option Written
+own_written s w g = Some (record { v = version s w g; live = g.live })
 
 -- the same of each segment
 abbrev pub renewed : ℕ → List Lived → List (Option Written) → List (Option Written)
 renewed s [] ws = []
 renewed s (g ∷ gs) [] = []
-renewed s (g ∷ gs) (w ∷ ws) = own_written s w g ++ renewed s gs ws
+renewed s (g ∷ gs) (w ∷ ws) = own_written s w g ∷ renewed s gs ws
 
--- The state on its commit: that has the segments with a live row, and nothing is to be written.
+-- The state on its commit: nothing is to be written. Its segments stay, those without a live row too, though the commit
+-- doesn't list them; a merge that runs still runs.
 abbrev pub on_commit : State → State
 on_commit s = record s {
-  published = record s.published { segments = listed s.published.segments };
   written = renewed s.published.upto s.published.segments s.written;
   last = s.published.upto;
   since = s.published.next_id;

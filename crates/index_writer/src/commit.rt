@@ -1,5 +1,5 @@
 //! The commit of what is in the segments.
-ghost use Rattle.std.specs.Prelude.{◌≡◌, ◌≤◌, ◌<◌, ◌^◌, ◌↔◌, ◌++◌, length, IsSome};
+ghost use Rattle.std.specs.Prelude.{◌≡◌, ◌≤◌, ◌<◌, ◌^◌, ◌↔◌, length, IsSome};
 ghost use Rattle.std.specs.Prelude.{IsTrue, Some, None, IfOk, OnOk, OnErr, Err, true, false};
 ghost use Rattle.ix_base.specs.declared.document.Row.{Row};
 ghost use Rattle.std.specs.Prelude.{List as ListOf};
@@ -11,25 +11,24 @@ ghost use Rattle.ix_outside.specs.Disk.{Told, told_files};
 ghost use Rattle.ix_outside.specs.Files.{Files, Changes};
 ghost use Rattle.ix_outside.specs.Images.{Follows, Reaches};
 ghost use Rattle.commit_point.specs.Steps.{KeepsMade, OnlyCommits};
-ghost use Rattle.commit_point.specs.Writing.{listed};
 ghost use Rattle.index_writer.specs.Ready.{HasRows, IsSound};
-ghost use Rattle.index_writer.specs.Storing.{Commits, GoesOn, MayCommit, SameBelow, Settles, on_commit, own_written, renewed};
+ghost use Rattle.index_writer.specs.Storing.{Commits, GoesOn, MayCommit, SameBelow, Settles, on_commit, renewed};
 
 use crate::fault::WriterFault;
 use crate::round::CommitInfo;
 use crate::state::State;
 use crate::writer::IndexWriter;
-use commit_point::{CommitRefused, Written, is_alive, version, write_commit};
+use commit_point::{CommitRefused, Written, version, write_commit};
 use ix_base::{List, NoMemory};
 use ix_outside::{Store, StoreFault};
 use segment_core::LiveSegment;
 use std::alloc::Global;
-use std::mem;
 
 impl<S: Store> IndexWriter<S> {
     /// Writes the commit with which the last round ended, and returns its number and how many rows it
     /// has. It asks that there is one, unless the writer is closed. Only what is new or changed since
-    /// the last commit is written. Segments without a live row are let go then.
+    /// the last commit is written. The commit lists the segments with a live row. The writer's segments
+    /// stay, those without one too, and a merge that runs goes on after it.
     ///
     /// `Closed` comes exactly where the writer is closed; nothing changes then. After `Store` it is
     /// closed. After `NoMemory` all is as before, and the commit can be tried again; but where the
@@ -96,7 +95,7 @@ impl<S: Store> IndexWriter<S> {
         let next_id = self.state.published.next_id;
         match write_commit(alloc, &mut self.store, number, next_id, segments, written) {
             Ok(head) => {
-                self.state.go_on(alloc, renewed);
+                self.state.go_on(renewed);
                 Ok(CommitInfo {
                     number,
                     docs: head.docs,
@@ -109,17 +108,14 @@ impl<S: Store> IndexWriter<S> {
 
 impl State {
     /// Goes on from the commit that was written, with what is on the store of its segments.
-    fn go_on(&mut self, alloc: Global, renewed: List<Option<Written>>)
+    fn go_on(&mut self, renewed: List<Option<Written>>)
         ensures { self.new ≡ record self.old {
-          published = record self.old.published { segments = listed self.old.published.segments };
           written = renewed;
           last = self.old.published.upto;
           since = self.old.published.next_id;
           pending = None;
         } }
     {
-        let segments = mem::replace(&mut self.published.segments, List::new(alloc));
-        self.published.segments = with_rows(segments);
         self.written = renewed;
         self.last = self.published.upto;
         self.since = self.published.next_id;
@@ -149,16 +145,7 @@ impl State {
     }
 }
 
-/// The segments with a live row. It takes no memory.
-fn with_rows(segments: List<LiveSegment>) -> List<LiveSegment>
-    ensures { result ≡ listed segments }
-{
-    let mut segments = segments.into_vec();
-    segments.retain(|segment| is_alive(segment));
-    List::from_vec(segments)
-}
-
-/// What is on the store of each segment with a live row, once the commit of this number is there.
+/// What is on the store of each segment once the commit of this number is there.
 fn renewed(
     alloc: Global,
     number: u64,
@@ -170,27 +157,11 @@ fn renewed(
 {
     let mut made = List::new(alloc);
     for (at, segment) in segments.iter().enumerate() {
-        put_written(alloc, &mut made, number, &written[at], segment)?;
-    }
-    Ok(made)
-}
-
-/// Appends what is on the store of a segment, where it has a live row, once the commit of this number
-/// is there.
-fn put_written(
-    alloc: Global,
-    made: &mut List<Option<Written>>,
-    number: u64,
-    was: &Option<Written>,
-    segment: &LiveSegment,
-) -> Result<(), NoMemory>
-    ensures { OnOk result (made.new ≡ made.old ++ own_written number was.now segment.now) }
-{
-    if is_alive(segment) {
+        let live = segment.live().clone_in(alloc)?;
         made.push(Some(Written {
-            v: version(number, was, segment),
-            live: segment.live().clone_in(alloc)?,
+            v: version(number, &written[at], segment),
+            live,
         }))?;
     }
-    Ok(())
+    Ok(made)
 }

@@ -129,7 +129,7 @@ fn last_of(log: &QueueLog, base: u64) -> (u64, u64)
 /// The last piece of a writer, which is made of its rest, in a round whose first operation has the
 /// number after `base`. None of the round's operations is in it: the packet has them all, and brings
 /// them to its rows. So a rest of which the round deletes every row takes an id and becomes a segment
-/// without a live row. No commit lists that, and the next commit or a merge lets it go.
+/// without a live row. No commit lists that, and it stays until a merge takes it.
 fn last_piece(
     alloc: Global,
     base: u64,

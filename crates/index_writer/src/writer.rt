@@ -44,6 +44,7 @@ impl<S> IndexWriter<S> {
                     segments: List::new(alloc),
                     next_id: 1,
                     upto: 0,
+                    merge: None,
                 },
                 written: List::new(alloc),
                 last: 0,
@@ -59,9 +60,9 @@ impl<S> IndexWriter<S> {
         }
     }
 
-    /// The writer on a commit that was read back. The buffers of its thread writers hold 1 to 65,536
-    /// documents, and 2 to 64 segments are merged into one. The only error is out of memory, and the
-    /// store is given back then.
+    /// The writer on a commit that was read back. No merge runs: one that another writer had begun is begun
+    /// afresh. The buffers of its thread writers hold 1 to 65,536 documents, and 2 to 64 segments are merged
+    /// into one. The only error is out of memory, and the store is given back then.
     pub fn open(
         alloc: Global,
         store: S,
@@ -88,6 +89,7 @@ impl<S> IndexWriter<S> {
                     segments: last.segments,
                     next_id: last.next_id,
                     upto: last.number,
+                    merge: None,
                 },
                 written,
                 last: last.number,
@@ -122,6 +124,13 @@ impl<S> IndexWriter<S> {
         ensures { result ≡ self.now.state.last }
     {
         self.state.last
+    }
+
+    /// How many documents the buffer of a thread writer holds, 1 to 65,536.
+    pub fn buffer(&self) -> u32
+        ensures { result ≡ self.now.state.buffer }
+    {
+        self.state.buffer
     }
 
     /// Whether the writer is closed.

@@ -1,44 +1,43 @@
-use Rattle.std.proofs.Common.{◌≡◌, Option, None, Some, sym, subst}
-use Rattle.std.specs.Prelude.{MatchOption}
-use Rattle.merge_core.specs.Picking.{HasNoPick}
-use Rattle.flush_control.specs.Merging.{IsMergeOf}
-use Rattle.flush_control.specs.declared.merging.MergeTurn.TheVariants.{Merged}
-use Rattle.flush_control.specs.declared.merging.Replacement.{Replacement}
+use Rattle.std.proofs.Common.{◌≡◌, ◌∙◌, ltb, refl, sym, ap, subst}
+use Rattle.std.specs.Prelude.{IfSome}
+use Rattle.flush_control.specs.Merging.{StillRuns}
+use Rattle.flush_control.specs.declared.published.Published.{Published}
 use Rattle.index_writer.specs.declared.state.State.{State}
-use Rattle.index_writer.specs.Merging.{Merges}
+use Rattle.index_writer.specs.Merging.{Merges, ids_of}
 use Rattle.index_writer.specs.Ready.{IsReady}
-use Rattle.index_writer.proofs.MergedState.{idle, merges, ready_on_merge}
+use Rattle.index_writer.proofs.Committing.{on_err}
+use Rattle.index_writer.proofs.MergedState.{is_turn, merges, ready_turn, runs_still, turns_at}
 use Rattle.index_writer.proofs.state.State.merge_turn.Goals as goal
 
--- what is told of a merge that was worked out, or that there is none
-Told : State → Option Replacement → Type 0
-Told s found = MatchOption found (HasNoPick s.merge s.published.segments) (λ (made : Replacement). IsMergeOf s.merge s.published made.ids.items made.merged)
+pub returns-in_err-ids-clause-kept : goal.returns-in_err-ids-clause-kept
+returns-in_err-ids-clause-kept c =
+    let p : Published = c.args.self.now.published in
+    on_err c.from_residual.result _ (runs_still c.args.rows p p.merge refl)
 
-made_of : (s : State) (found : Option Replacement) (made : Replacement) → found ≡ Some made → Told s found
-    → IsMergeOf s.merge s.published made.ids.items made.merged
-unfolding Told
-made_of s found made is told = subst (Told s) is told
+pub returns-in_err-written-clause-kept : goal.returns-in_err-written-clause-kept
+returns-in_err-written-clause-kept c =
+    let p : Published = c.args.self.now.published in
+    on_err c.from_residual-in_err-written.result _
+    (subst (λ (t : State). IfSome p.merge (λ run. StillRuns c.args.rows p run t.published)) (sym c.in_err-written.ensures.err) (runs_still c.args.rows p p.merge refl))
 
-none_of : (s : State) (found : Option Replacement) → found ≡ None → Told s found → HasNoPick s.merge s.published.segments
-unfolding Told
-none_of s found is told = subst (Told s) is told
+pub returns-in-Ok-clause-merged : goal.returns-in-Ok-clause-merged
+returns-in-Ok-clause-merged c =
+    let s : State = c.args.self.now in
+    let mid : State = c.take_written.new.self in
+    let new : Published = c.merge_turn.new.self in
+    let ids : c.as_slice-in-Ok.result.now ≡ ids_of s.published.segments = c.as_slice-in-Ok.ensures.value ∙ (c.in_ok-ids.ensures ∙ ap ids_of c.as_slice.ensures) in
+    let is = is_turn s mid c.in-Ok.turn new c.as_slice-segments.result.now c.as_slice-in-Ok.result.now c.in_ok-written.written.items c.follow.result
+    (ltb mid.published.next_id new.next_id) c.in_ok-written.ensures.ok c.as_slice-segments.ensures ids c.in_ok-written.ensures.items refl c.follow.ensures in
+    subst (Merges c.args.rows c.in-Ok.turn s) (sym is)
+    (merges c.merges_stand.ensures s c.args.rows c.in-Ok.turn new c.requires.ready (turns_at c.args.rows s mid c.in-Ok.turn new c.in_ok-written.ensures.ok c.in-Ok.ensures.turn))
 
-pub returns-in-None-clause-merged : goal.returns-in-None-clause-merged
-unfolding Told
-returns-in-None-clause-merged c = idle c.args.self.now (none_of c.args.self.now _ c.in-None.is c.in_ok-merge.ensures)
-
-pub returns-in_ok-replace-in-Some-clause-merged : goal.returns-in_ok-replace-in-Some-clause-merged
-unfolding Told
-returns-in_ok-replace-in-Some-clause-merged c =
-    let s = c.args.self.now in
-    let made = c.in-Some.replacement in
-    let worked = made_of s _ made c.in-Some.is c.in_ok-merge.ensures in
-    subst (Merges Merged s) (sym c.in_ok-replace-in-Some.ensures.ok) (merges c.merges_stand.ensures s made.ids.items made.merged c.requires.ready worked)
-
-pub returns-in_ok-replace-in-Some-clause-ready : goal.returns-in_ok-replace-in-Some-clause-ready
-unfolding Told
-returns-in_ok-replace-in-Some-clause-ready c =
-    let s = c.args.self.now in
-    let made = c.in-Some.replacement in
-    let worked = made_of s _ made c.in-Some.is c.in_ok-merge.ensures in
-    subst IsReady (sym c.in_ok-replace-in-Some.ensures.ok) (ready_on_merge c.merges_stand.ensures s.merge s made.ids.items made.merged c.requires.ready worked)
+pub returns-in-Ok-clause-ready : goal.returns-in-Ok-clause-ready
+returns-in-Ok-clause-ready c =
+    let s : State = c.args.self.now in
+    let mid : State = c.take_written.new.self in
+    let new : Published = c.merge_turn.new.self in
+    let ids : c.as_slice-in-Ok.result.now ≡ ids_of s.published.segments = c.as_slice-in-Ok.ensures.value ∙ (c.in_ok-ids.ensures ∙ ap ids_of c.as_slice.ensures) in
+    let is = is_turn s mid c.in-Ok.turn new c.as_slice-segments.result.now c.as_slice-in-Ok.result.now c.in_ok-written.written.items c.follow.result
+    (ltb mid.published.next_id new.next_id) c.in_ok-written.ensures.ok c.as_slice-segments.ensures ids c.in_ok-written.ensures.items refl c.follow.ensures in
+    subst IsReady (sym is)
+    (ready_turn c.merges_stand.ensures s c.args.rows c.in-Ok.turn new c.requires.ready (turns_at c.args.rows s mid c.in-Ok.turn new c.in_ok-written.ensures.ok c.in-Ok.ensures.turn))

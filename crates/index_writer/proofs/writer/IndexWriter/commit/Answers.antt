@@ -16,7 +16,7 @@ use Rattle.commit_point.specs.Writing as commit
 use Rattle.index_writer.specs.declared.state.State.{State}
 use Rattle.index_writer.specs.Ready.{HasRows, IsReady}
 use Rattle.index_writer.specs.Storing.{Commits, MayCommit, SameBelow}
-use Rattle.index_writer.proofs.Committing.{at_state, comes, commits, counted, is_on, less_of, on_err, on_ready, rows_on, same_below, settles, tells_renamed, unmade}
+use Rattle.index_writer.proofs.Committing.{at_state, comes, commits, counted, is_on, less_of, on_err, on_ready, same_below, settles, tells_renamed, unmade}
 use Rattle.index_writer.proofs.writer.IndexWriter.commit.Goals as goal
 
 pub returns-then-self-clause-crash : goal.returns-then-self-clause-crash
@@ -94,7 +94,7 @@ pub returns-in-Ok-clause-stands : goal.returns-in-Ok-clause-stands
 returns-in-Ok-clause-stands g c rows has =
     let s = c.args.self.now.state in
     let on = is_on _ _ c.in_ok-renewed.renewed s c.go_on.new.self c.as_slice-segments.ensures c.as_slice-written.ensures c.in_ok-renewed.ensures c.go_on.ensures in
-    subst (λ (t : State). HasRows t rows) (sym on) (rows_on s rows has)
+    subst (λ (t : State). HasRows t rows) (sym on) has
 
 pub returns-in-Ok-clause-made : goal.returns-in-Ok-clause-made
 returns-in-Ok-clause-made g c room =
