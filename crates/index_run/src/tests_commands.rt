@@ -210,7 +210,9 @@ fn sinks_with_little_room(rt: HostRuntime) -> Result<(), Fail> {
 const MERGED: &str =
     "{\"line\":1,\"seq\":1}\n{\"line\":2,\"seq\":2}\n{\"docs\":2,\"line\":3,\"seq\":3}\n{\"line\":4,\"seq\":4}\n{\"docs\":1,\"line\":5,\"seq\":5}\n{\"commit\":5,\"hits\":[{\"key\":\"a2\",\"num\":{}}],\"line\":6}\n";
 
-/// Two segments of one document each are merged before the commit that they are in is written.
+/// Two segments of one document each are merged in steps of one row: the first commit lists both, since
+/// one row is left to read then, and the second one the merged segment alone, without the row that was
+/// deleted between the steps.
 #[test]
 fn merges_of_two(rt: HostRuntime) -> Result<(), Fail> {
     let alloc = rt.alloc();
@@ -226,7 +228,7 @@ fn merges_of_two(rt: HostRuntime) -> Result<(), Fail> {
         MERGED,
         MemoryStore::new(alloc),
     )?;
-    assert!(rt; ids_in(alloc, &mut store, 3)? == (4, 1, 3));
+    assert!(rt; ids_in(alloc, &mut store, 3)? == (3, 2, 1));
     assert!(rt; ids_in(alloc, &mut store, 5)? == (4, 1, 3));
     Ok(())
 }

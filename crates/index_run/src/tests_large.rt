@@ -42,13 +42,14 @@ fn many_documents(rt: HostRuntime) -> Result<(), Fail> {
     Ok(())
 }
 
-/// The same script with `--merge 2`: the report is the same, and the later commit has one segment, which
-/// was merged of the 999 rows of the earlier one and the 999 of its own round.
+/// The same script with `--merge 2` and steps of up to 2,000 rows: the report is the same, and the later
+/// commit has one segment, which was merged of the 999 rows of the earlier one and the 999 of its own
+/// round.
 #[test]
 fn many_documents_merged(rt: HostRuntime) -> Result<(), Fail> {
     let alloc = rt.alloc();
     let (script, report) = script_and_report(alloc)?;
-    let words = ["run", "--threads", "1", "--merge", "2"];
+    let words = ["run", "--threads", "1", "--buffer", "2000", "--merge", "2"];
     let none = Vec::new(alloc);
     let store = MemoryStore::new(alloc);
     let script = [script.as_str()];
@@ -123,7 +124,8 @@ fn two_runs<R: Threads + Wait + Sync + Abort>(
     Ok(segments)
 }
 
-/// 300 buffers of one document: 64 of them are merged, and the next run begins on the 237 segments.
+/// 300 buffers of one document in one round, after which a merge of 64 of them reads one row: the commit
+/// has 300 segments, and the next run begins on them.
 #[test]
 fn many_segments(rt: HostRuntime) -> Result<(), Fail> {
     let runs = three_hundred(rt.alloc())?;
@@ -136,12 +138,12 @@ fn many_segments(rt: HostRuntime) -> Result<(), Fail> {
         &runs,
         301,
     )?;
-    assert!(rt; segments == 237);
+    assert!(rt; segments == 300);
     Ok(())
 }
 
 /// Three segments, the first of 6,000 rows, which 300 deletes by queries and 41 settings in one round
-/// meet. The next run merges the 7,002 rows that are left with one more.
+/// meet. The next run begins a merge of them with one more, and adds to the 7,002 rows that are left.
 #[test]
 fn many_operations(rt: HostRuntime) -> Result<(), Fail> {
     let runs = ten_thousand(rt.alloc())?;

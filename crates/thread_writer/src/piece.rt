@@ -24,6 +24,7 @@ pub struct HandedBack {
     pub seat: Seat,
     /// The buffer, with the rows that were in no piece.
     pub rest: RamPostings,
-    /// The part of the queue since the buffer was begun. Its updates are in no piece.
-    pub slice: Slice,
+    /// The part of the queue since the buffer was begun: the rows of the buffer were born after it
+    /// began. The end of a round doesn't read it: its packet has all of the queue's operations.
+    pub(crate) slice: Slice,
 }
