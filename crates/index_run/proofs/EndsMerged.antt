@@ -1,5 +1,5 @@
 -- The end of a round, and a merge after it.
-use Rattle.std.proofs.Common.{◌≡◌, ◌∙◌, ◌+◌, ◌<◌, ◌≤◌, List, length, sym, arith}
+use Rattle.std.proofs.Common.{◌≡◌, ◌∙◌, ℕ, ◌+◌, ◌<◌, ◌≤◌, List, length, sym, arith}
 use Rattle.std.proofs.lemmas.List.{length-map}
 use Rattle.ix_base.specs.Steps.{after}
 use Rattle.ix_base.specs.declared.document.Operation.{Operation}
@@ -50,10 +50,10 @@ same_end Turned ops mid new upto pending by = (pending ∙ by.0, by.1)
 same_end Ran ops mid new upto pending by = (pending ∙ by.0, by.1)
 
 -- segments were merged, after a round in which a line got a number
-pub ends_merged : (told : List (List Numbered)) (end : RoundEnd) (turn : MergeTurn) (old mid new : State)
-    → Ends told end old mid → Merges turn mid new → old.published.upto < mid.published.upto
+pub ends_merged : (told : List (List Numbered)) (end : RoundEnd) (count : ℕ) (turn : MergeTurn) (old mid new : State)
+    → Ends told end old mid → Merges count turn mid new → old.published.upto < mid.published.upto
     → EndsMerged told end old new
-ends_merged told end turn old mid new e m some = record {
+ends_merged told end count turn old mid new e m some = record {
   ts = e.ts;
   order = e.order;
   upto = m.upto ∙ e.upto;

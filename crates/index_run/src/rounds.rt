@@ -93,8 +93,9 @@ fn part(
     ))
 }
 
-/// Ends the round that is out, and then merges segments where there are many. This is done only where
-/// a line got a number in the round: a merge may take an id, and so the ids stay few.
+/// Ends the round that is out, and then takes a step of a merge, as far as the round's operations bring
+/// it. This is done only where one of them got a number in the round: a merge may take an id, and so the
+/// ids stay few.
 fn end_round<R: Threads + Sync, S: Store>(
     rt: &R,
     writer: &mut IndexWriter<S>,
@@ -121,13 +122,24 @@ fn end_round<R: Threads + Sync, S: Store>(
         Ok(end) => end,
         Err(refused) => return Err(refused.fault),
     };
-    if writer.upto() > before {
+    let rows = writer.rows_of_step(operations_of(end, writer.upto() - before));
+    if rows > 0 {
         if writer.next_id() > MOST {
             return Err(WriterFault::NoMemory);
         }
-        writer.merge_step()?;
+        writer.merge_step(rows)?;
     }
     Ok(end)
+}
+
+/// How many operations a round had that got so many numbers: its commit is none.
+fn operations_of(end: RoundEnd, numbers: u64) -> u64
+    ensures { result ≤ numbers }
+{
+    match end {
+        RoundEnd::Committed(_) => numbers.saturating_sub(1),
+        RoundEnd::Turned | RoundEnd::Ran => numbers,
+    }
 }
 
 /// Ends the round that is out, and writes its commit where it ended with one.

@@ -5,3 +5,4 @@ pub mod Storing
 pub mod Merging
 pub mod Laws
 pub mod Working
+pub mod Pace

@@ -12,6 +12,7 @@ mod ending;
 mod fault;
 mod laws;
 mod merging;
+mod pace;
 mod round;
 mod state;
 mod writer;
