@@ -1,24 +1,24 @@
 -- Segments merged: that they can be, and what they stand for then.
-use Rattle.std.proofs.Common.{◌≡◌, ◌∙◌, ℕ, ◌+◌, ◌≤◌, Bool, true, false, cond, not, List, [], ◌∷◌, ◌++◌, Option, Some, None, refl, sym, ap, subst, arith, append-nil, IsPermutation}
+use Rattle.std.proofs.Common.{◌≡◌, ◌∙◌, ℕ, ◌+◌, ◌<◌, ◌≤◌, ◌^◌, length, Bool, true, false, cond, not, List, [], ◌∷◌, ◌++◌, Option, Some, None, refl, sym, ap, subst, arith, append-nil, IsPermutation}
 use Rattle.std.specs.List.{AllByRecursion, flat_map}
 use Rattle.std.proofs.lemmas.Grind.{flat_map-append}
-use Rattle.std.proofs.lemmas.List.{length-map}
 use Rattle.std.proofs.lemmas.List.Sorted.{IsPermutation-append_right, IsPermutation-sym, IsPermutation-trans}
 use Rattle.ix_base.specs.declared.document.Row.{Row}
 use Rattle.segment_core.specs.LiveRows.{Lived, all_live, live, stored_rows}
-use Rattle.segment_core.specs.Segments.{documents, IsInverted}
+use Rattle.segment_core.specs.Segments.{IsInverted}
 use Rattle.segment_core.specs.Births.{EachRises, births_append, births_at}
-use Rattle.segment_files.specs.Fits.{RowsBelow}
-use Rattle.segment_files.specs.PostLaws.{inverted_below}
 use Rattle.commit_point.specs.Writing.{CanWrite, SegmentIdsRise}
-use Rattle.merge_core.specs.Merging.{AreAt, CanMerge, IsMerged, Sources}
-use Rattle.merge_core.specs.Picking.{IsPick}
+use Rattle.merge_core.specs.Merging.{AreAt, CanMerge, IsMerged, IsOrdered, Sources}
+use Rattle.merge_core.specs.Merging.{Merged as MergedInto}
+use Rattle.merge_core.specs.Reading.{HasRead}
+use Rattle.merge_core.specs.declared.merge.Merge.{Merge}
 use Rattle.merge_core.specs.Picking.{is_among}
-use Rattle.flush_control.specs.Merging.{CanBeMerged, EndsMerge, IsMergeOf, MergesStand, replaced, without}
-use Rattle.flush_control.specs.Published.{IsPublished}
+use Rattle.flush_control.specs.Merging.{EndsMerge, MergesStand, Steps, replaced, without}
+use Rattle.flush_control.specs.declared.merging.MergeTurn.TheVariants.{Idle, Merged, Stepped}
+use Rattle.flush_control.specs.Published.{IdsDiffer, IsPublished}
 use Rattle.flush_control.specs.declared.published.Published.{Published}
 use Rattle.flush_control.proofs.Births.{births_permuted}
-use Rattle.flush_control.proofs.Parting.{AreApart, each_source, ids_rise, parted, picked_apart}
+use Rattle.flush_control.proofs.Parting.{each_source, parted}
 use Rattle.flush_control.proofs.Segments.{all_joined, ids_joined, some_live}
 
 -- ---- the segments that are picked can be merged
@@ -31,42 +31,33 @@ pub are_at : (n : ℕ) (ss : List Lived) → AllByRecursion (CanWrite n) ss → 
 are_at n [] all = tt
 are_at n (s ∷ ss) all = (all.0.applied, are_at n ss all.1)
 
-pub apart : (m : ℕ) (p : Published) (ids : List ℕ) → IsPublished p → IsPick m p.segments ids → AreApart ids
-apart m p ids published pick =
-    subst AreApart (sym pick.first) (picked_apart 1 p.next_id m p.segments pick.ranks published.ids pick.ranked.moved)
+are_ordered : (n : ℕ) (ss : List Lived) → AllByRecursion (CanWrite n) ss → AllByRecursion IsOrdered ss
+are_ordered n [] all = tt
+are_ordered n (s ∷ ss) all = (all.0.ordered, are_ordered n ss all.1)
 
 -- the rows of the segments are those of the ones that stay and of the sources
-pub rows_parted : (m : ℕ) (p : Published) (ids : List ℕ) (ss : List Lived) (f : Lived → List Row) → IsPublished p → IsPick m p.segments ids
+pub rows_parted : (p : Published) (ids : List ℕ) (ss : List Lived) (f : Lived → List Row) → IsPublished p → IdsDiffer ids
     → Sources p.segments ids ss → IsPermutation (flat_map f p.segments) (flat_map f (without ids p.segments) ++ flat_map f ss)
-rows_parted m p ids ss f published pick found = parted f 1 p.next_id p.segments ids ss published.ids (apart m p ids published pick) found
+rows_parted p ids ss f published apart found = parted f 1 p.next_id p.segments ids ss published.ids apart found
 
-births_parted : (m : ℕ) (p : Published) (ids : List ℕ) (ss : List Lived) (b : ℕ) → IsPublished p → IsPick m p.segments ids → Sources p.segments ids ss
+births_parted : (p : Published) (ids : List ℕ) (ss : List Lived) (b : ℕ) → IsPublished p → IdsDiffer ids → Sources p.segments ids ss
     → births_at b (stored_rows p.segments) ≡ births_at b (stored_rows (without ids p.segments)) + births_at b (stored_rows ss)
-births_parted m p ids ss b published pick found =
+births_parted p ids ss b published apart found =
     births_permuted b (stored_rows p.segments) (stored_rows (without ids p.segments) ++ stored_rows ss)
-    (rows_parted m p ids ss (λ (s : Lived). s.segment.rows) published pick found)
+    (rows_parted p ids ss (λ (s : Lived). s.segment.rows) published apart found)
     ∙ births_append b (stored_rows (without ids p.segments)) (stored_rows ss)
 
-pub can_merge : (m : ℕ) (p : Published) (ids : List ℕ) → IsPublished p → (pick : IsPick m p.segments ids) → CanMerge pick.sources
-can_merge m p ids published pick = record {
+pub can_merge : (p : Published) (ids : List ℕ) (ss : List Lived) → IsPublished p → IdsDiffer ids → Sources p.segments ids ss → length (all_live ss) < 2 ^ 31 → CanMerge ss
+can_merge p ids ss published apart found few = record {
   limit = p.upto;
-  rise = rises p.upto pick.sources (each_source (CanWrite p.upto) p.segments ids pick.sources published.can pick.found);
-  differ = λ b. omega (arith, births_parted m p ids pick.sources b published pick pick.found, published.differ b);
-  few = pick.few;
+  rise = rises p.upto ss (each_source (CanWrite p.upto) p.segments ids ss published.can found);
+  differ = λ b. omega (arith, births_parted p ids ss b published apart found, published.differ b);
+  ordered = are_ordered p.upto ss (each_source (CanWrite p.upto) p.segments ids ss published.can found);
+  few = few;
 }
 
-pub sources_at : (m : ℕ) (p : Published) (ids : List ℕ) → IsPublished p → (pick : IsPick m p.segments ids) → AreAt p.upto pick.sources
-sources_at m p ids published pick = are_at p.upto pick.sources (each_source (CanWrite p.upto) p.segments ids pick.sources published.can pick.found)
-
-pub can_be_merged : (m : ℕ) (p : Published) (ids : List ℕ) → IsPublished p → IsPick m p.segments ids → CanBeMerged p.segments ids
-can_be_merged m p ids published pick = record {
-  rise = ids_rise 1 p.next_id p.segments published.ids;
-  sources = pick.sources;
-  found = pick.found;
-  can = can_merge m p ids published pick;
-  applied = p.upto;
-  same = sources_at m p ids published pick;
-}
+pub sources_at : (p : Published) (ids : List ℕ) (ss : List Lived) → IsPublished p → Sources p.segments ids ss → AreAt p.upto ss
+sources_at p ids ss published found = are_at p.upto ss (each_source (CanWrite p.upto) p.segments ids ss published.can found)
 
 -- ---- the segments that stay
 
@@ -93,13 +84,13 @@ ids_stay low limit ids (g ∷ gs) rise = by (is_among ids g) (ids_stay (g.segmen
 -- ---- after a merge
 
 -- the merged segment can be listed
-can_one : (m : ℕ) (p : Published) (ids : List ℕ) (s : Lived) → IsPublished p → (pick : IsPick m p.segments ids)
-    → IsMerged pick.sources p.next_id p.upto s → CanWrite p.upto s
-can_one m p ids s published pick merged = record {
+can_one : (p : Published) (ids : List ℕ) (ss : List Lived) (s : Lived) → IsPublished p → Sources p.segments ids ss
+    → IsMerged ss p.next_id p.upto s → CanWrite p.upto s
+can_one p ids ss s published found merged = record {
   some = some_live s merged.some;
-  births = merged.births p.upto (rises p.upto pick.sources (each_source (CanWrite p.upto) p.segments ids pick.sources published.can pick.found));
-  ordered = merged.inverted.ordered;
-  below = subst (λ (k : ℕ). RowsBelow k s.segment.postings) (length-map s.segment.rows (λ (r : Row). r.doc)) (inverted_below (documents s.segment.rows) s.segment.postings merged.inverted);
+  births = merged.births p.upto (rises p.upto ss (each_source (CanWrite p.upto) p.segments ids ss published.can found));
+  ordered = merged.ordered;
+  below = merged.below;
   applied = merged.applied_is;
 }
 
@@ -110,14 +101,15 @@ live_more : (gs : List Lived) (s : Lived) → all_live (gs ++ s ∷ []) ≡ all_
 live_more gs s = flat_map-append live gs (s ∷ []) ∙ ap (λ (rows : List Row). all_live gs ++ rows) (append-nil (live s))
 
 -- no row of the sources is live
-none_left : (m : ℕ) (p : Published) (ids : List ℕ) → IsPublished p → (pick : IsPick m p.segments ids) → all_live pick.sources ≡ []
+none_left : (p : Published) (ids : List ℕ) (ss : List Lived) → IsPublished p → IdsDiffer ids → Sources p.segments ids ss → all_live ss ≡ []
     → EndsMerge p (replaced ids None p)
-none_left m p ids published pick none = record {
+none_left p ids ss published apart found none = record {
   published = record {
     can = all_stay (CanWrite p.upto) ids p.segments published.can;
     ids = ids_stay 1 p.next_id ids p.segments published.ids;
     some_id = published.some_id;
-    differ = λ b. omega (arith, births_parted m p ids pick.sources b published pick pick.found, published.differ b);
+    differ = λ b. omega (arith, births_parted p ids ss b published apart found, published.differ b);
+    running = tt;
   };
   upto = refl;
   ids = omega arith;
@@ -128,7 +120,7 @@ none_left m p ids published pick none = record {
           IsPermutation-trans (all_live (without ids p.segments)) (all_live p.segments) rows
           (IsPermutation-sym (all_live p.segments) (all_live (without ids p.segments))
           (subst (IsPermutation (all_live p.segments)) (ap (λ (l : List Row). all_live (without ids p.segments) ++ l) none ∙ append-nil (all_live (without ids p.segments)))
-          (rows_parted m p ids pick.sources live published pick pick.found)))
+          (rows_parted p ids ss live published apart found)))
           stands.rows_are.merged;
       births = stands.rows_are.births;
     };
@@ -136,13 +128,13 @@ none_left m p ids published pick none = record {
   };
 }
 
-some_left : (m : ℕ) (p : Published) (ids : List ℕ) (s : Lived) → IsPublished p → (pick : IsPick m p.segments ids)
-    → IsMerged pick.sources p.next_id p.upto s → EndsMerge p (replaced ids (Some s) p)
-some_left m p ids s published pick merged =
+some_left : (p : Published) (ids : List ℕ) (ss : List Lived) (s : Lived) → IsPublished p → IdsDiffer ids → Sources p.segments ids ss
+    → IsMerged ss p.next_id p.upto s → EndsMerge p (replaced ids (Some s) p)
+some_left p ids ss s published apart found merged =
     let stay = without ids p.segments in
     record {
       published = record {
-        can = all_joined (CanWrite p.upto) stay (s ∷ []) (all_stay (CanWrite p.upto) ids p.segments published.can) (can_one m p ids s published pick merged, tt);
+        can = all_joined (CanWrite p.upto) stay (s ∷ []) (all_stay (CanWrite p.upto) ids p.segments published.can) (can_one p ids ss s published found merged, tt);
         ids = ids_joined 1 p.next_id (p.next_id + 1) stay (s ∷ []) published.some_id (omega arith) (ids_stay 1 p.next_id ids p.segments published.ids) (omega (arith, merged.id_is), omega (arith, merged.id_is), tt);
         some_id = omega arith;
         differ = λ b.
@@ -151,9 +143,10 @@ some_left m p ids s published pick merged =
               ap (births_at b) (stored_more stay s),
               births_append b (stored_rows stay) s.segment.rows,
               merged.stored b,
-              births_parted m p ids pick.sources b published pick pick.found,
+              births_parted p ids ss b published apart found,
               published.differ b,
             );
+        running = tt;
       };
       upto = refl;
       ids = omega arith;
@@ -162,21 +155,55 @@ some_left m p ids s published pick merged =
         rows_are = record {
           merged =
               subst (λ (l : List Row). IsPermutation l rows) (sym (live_more stay s))
-              (IsPermutation-trans (all_live stay ++ live s) (all_live stay ++ all_live pick.sources) rows
-              (IsPermutation-append_right (all_live stay) (live s) (all_live pick.sources) merged.rows)
-              (IsPermutation-trans (all_live stay ++ all_live pick.sources) (all_live p.segments) rows
-              (IsPermutation-sym (all_live p.segments) (all_live stay ++ all_live pick.sources) (rows_parted m p ids pick.sources live published pick pick.found))
+              (IsPermutation-trans (all_live stay ++ live s) (all_live stay ++ all_live ss) rows
+              (IsPermutation-append_right (all_live stay) (live s) (all_live ss) merged.rows)
+              (IsPermutation-trans (all_live stay ++ all_live ss) (all_live p.segments) rows
+              (IsPermutation-sym (all_live p.segments) (all_live stay ++ all_live ss) (rows_parted p ids ss live published apart found))
               stands.rows_are.merged));
           births = stands.rows_are.births;
         };
-        inverted = all_joined (λ (g : Lived). IsInverted g.segment) stay (s ∷ []) (all_stay (λ (g : Lived). IsInverted g.segment) ids p.segments stands.inverted) (merged.inverted, tt);
+        inverted = all_joined (λ (g : Lived). IsInverted g.segment) stay (s ∷ []) (all_stay (λ (g : Lived). IsInverted g.segment) ids p.segments stands.inverted) (merged.inverted (each_source (λ (g : Lived). IsInverted g.segment) p.segments ids ss stands.inverted found), tt);
       };
     }
 
-merge_ends : (m : ℕ) (p : Published) (ids : List ℕ) (one : Option Lived) → IsPublished p → IsMergeOf m p ids one → EndsMerge p (replaced ids one p)
-merge_ends m p ids None published worked = none_left m p ids published worked.picked worked.merged
-merge_ends m p ids (Some s) published worked = some_left m p ids s published worked.picked worked.merged
+merge_ends : (p : Published) (ids : List ℕ) (ss : List Lived) (one : Option Lived) → IsPublished p → IdsDiffer ids → Sources p.segments ids ss → MergedInto ss p.next_id p.upto one
+    → EndsMerge p (replaced ids one p)
+merge_ends p ids ss None published apart found merged = none_left p ids ss published apart found merged
+merge_ends p ids ss (Some s) published apart found merged = some_left p ids ss s published apart found merged
+
+stays : (old new : Published) → IsPublished old → new ≡ old → EndsMerge old new
+stays old new published is = subst (EndsMerge old) (sym is) (record { published = published; upto = refl; ids = omega arith; few = omega arith; rows = λ rows stands. stands })
+
+-- a merge that runs on
+pub runs_on : (p : Published) (ids : List ℕ) (ss : List Lived) (run : Merge) (count : ℕ) → IsPublished p → IdsDiffer ids → Sources p.segments ids ss → run.ids.items ≡ ids → HasRead run ss count
+    → IsPublished (record p { merge = Some run })
+runs_on p ids ss run count published apart found same read = record {
+  can = published.can;
+  ids = published.ids;
+  some_id = published.some_id;
+  differ = published.differ;
+  running = record {
+    apart = subst IdsDiffer (sym same) apart;
+    sources = ss;
+    found = subst (λ (l : List ℕ). Sources p.segments l ss) (sym same) found;
+    count = count;
+    read = read;
+  };
+}
+
+steps_end : (m rows : ℕ) (old new : Published) → IsPublished old → Steps m rows old new → EndsMerge old new
+steps_end m rows old new published s =
+    subst (EndsMerge old) (sym s.step.is)
+    (record {
+      published = runs_on old s.ids s.begun.sources s.step.run (s.begun.count + rows) published s.begun.apart s.begun.found s.step.same s.step.read;
+      upto = refl;
+      ids = omega arith;
+      few = omega arith;
+      rows = λ ds stands. record { rows_are = stands.rows_are; inverted = stands.inverted };
+    })
 
 pub merges_stand : MergesStand
-merges_stand m old new published merges =
-    subst (EndsMerge old) (sym merges.is) (merge_ends m old merges.ids merges.one published merges.worked)
+merges_stand m rows Idle old new published turn = stays old new published turn.2
+merges_stand m rows Stepped old new published turn = steps_end m rows old new published turn
+merges_stand m rows Merged old new published turn =
+    subst (EndsMerge old) (sym turn.end.is) (merge_ends old turn.ids turn.begun.sources turn.end.one published turn.begun.apart turn.begun.found turn.end.merged)

@@ -9,9 +9,9 @@ use Rattle.ix_base.specs.declared.document.Row.{Row}
 use Rattle.segment_core.specs.LiveRows.{Lived}
 use Rattle.commit_point.specs.Writing.{SegmentIdsRise}
 use Rattle.merge_core.specs.Merging.{IdsRise, Sources}
-use Rattle.merge_core.specs.Picking.{rank}
-use Rattle.merge_core.specs.Picking.{is_among}
+use Rattle.merge_core.specs.Picking.{is_among, rank}
 use Rattle.flush_control.specs.Merging.{without}
+use Rattle.flush_control.specs.Published.{IdsDiffer}
 
 -- ---- a segment in a list
 
@@ -75,11 +75,6 @@ by_bool : {A : Type 0} (b : Bool) → (b ≡ true → A) → (b ≡ false → A)
 by_bool true yes_ no_ = yes_ refl
 by_bool false yes_ no_ = no_ refl
 
--- no number stands twice
-abbrev pub AreApart : List ℕ → Type 0
-AreApart [] = Unit {0}
-AreApart (id ∷ ids) = (list_any (λ x. eqb x id) ids ≡ false) × AreApart ids
-
 count_permuted : (x : ℕ) (xs ys : List ℕ) → IsPermutation xs ys → count x ys ≡ count x xs
 unfolding count
 count_permuted x xs ys moved =
@@ -96,7 +91,7 @@ none_counted x (y ∷ ys) few =
     (λ e. absurd (omega (arith, few, ap one_if e)))
     (λ e. ap (λ (b : Bool). b || list_any (λ z. eqb z x) ys) e ∙ none_counted x ys (omega (arith, few)))
 
-are_apart : (xs : List ℕ) → ((x : ℕ) → count x xs ≤ 1) → AreApart xs
+are_apart : (xs : List ℕ) → ((x : ℕ) → count x xs ≤ 1) → IdsDiffer xs
 unfolding count
 are_apart [] few = tt
 are_apart (x ∷ xs) few = (
@@ -131,7 +126,7 @@ ids_once low limit x (g ∷ gs) rise =
 
 -- the ids of the segments of the first ranks
 pub picked_apart : (low limit m : ℕ) (gs : List Lived) (ranks : List (ℕ × ℕ)) → SegmentIdsRise low limit gs → IsPermutation (map rank gs) ranks
-    → AreApart (map (λ r. r.1) (take m ranks))
+    → IdsDiffer (map (λ r. r.1) (take m ranks))
 unfolding ids_of
 picked_apart low limit m gs ranks rise moved =
     are_apart (map (λ r. r.1) (take m ranks))
@@ -196,7 +191,7 @@ one_out f id ids s low limit (g ∷ gs) rise (inr has) same apart =
     (keep f (is_among ids g) g s (without ids gs) (without (id ∷ ids) gs) (one_out f id ids s (g.segment.id + 1) limit gs rise.2 has same apart)))
 
 -- what the segments have is what those that stay and the sources have
-pub parted : (f : Lived → List Row) (low limit : ℕ) (gs : List Lived) (ids : List ℕ) (ss : List Lived) → SegmentIdsRise low limit gs → AreApart ids
+pub parted : (f : Lived → List Row) (low limit : ℕ) (gs : List Lived) (ids : List ℕ) (ss : List Lived) → SegmentIdsRise low limit gs → IdsDiffer ids
     → Sources gs ids ss → IsPermutation (flat_map f gs) (flat_map f (without ids gs) ++ flat_map f ss)
 parted f low limit gs [] [] rise apart found =
     subst (IsPermutation (flat_map f gs)) (sym (append-nil (flat_map f (without [] gs)) ∙ ap (flat_map f) (without_none gs))) (IsPermutation-refl (flat_map f gs))

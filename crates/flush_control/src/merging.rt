@@ -1,12 +1,9 @@
-//! Merges of the segments of an index.
-ghost use Rattle.std.specs.Prelude.{◌≡◌, ◌≤◌, ◌^◌, ◌++◌, ◌∷◌, [], ℕ, List as ListOf};
-ghost use Rattle.std.specs.Prelude.{IfOk, MatchOption, OnOk, OnErr};
+//! Merges of the segments of an index, in steps.
+ghost use Rattle.std.specs.Prelude.{◌≡◌, ◌<◌, ◌≤◌, ◌^◌, ℕ, List as ListOf, None, Some, IfOk, IfSome, MatchOption, OnErr, length, vec_capacity};
 ghost use Rattle.segment_core.specs.LiveRows.{Lived};
-ghost use Rattle.merge_core.specs.Merging.{Sources, AreAt, row_count};
-ghost use Rattle.merge_core.specs.Merging.{Merged as MergedInto};
-ghost use Rattle.merge_core.specs.Picking.{HasNoPick, is_among};
-ghost use Rattle.merge_core.specs.Reading.{HasRead, IsOf};
-ghost use Rattle.flush_control.specs.Merging.{CanBeMerged, IsMergeOf, Turns, replaced, without};
+ghost use Rattle.merge_core.specs.Merging.{row_count};
+ghost use Rattle.merge_core.specs.Picking.{HasNoPick};
+ghost use Rattle.flush_control.specs.Merging.{Advanced, IsBegunBy, IsEnd, IsTaken, Runs, SameSegments, StillRuns, Turns, replaced};
 ghost use Rattle.flush_control.specs.Published.{IsPublished};
 
 use crate::published::Published;
@@ -16,162 +13,155 @@ use segment_core::LiveSegment;
 use std::alloc::Global;
 use std::mem;
 
-/// How many rows of its sources a merge reads in a step.
-const STEP_ROWS: u32 = 65_536;
-
 /// What a merge turn did.
 #[derive(Clone, Copy, Debug, PartialEq, Eq)]
 pub enum MergeTurn {
-    /// Nothing: there are fewer segments than are to be merged, too many rows of them are live, or one
-    /// file has no room for the rows, or for the postings, of all of them.
+    /// Nothing: no merge runs, and there are fewer segments than are to be merged, too many rows of
+    /// them are live, or one file has no room for the rows, or for the postings, of all of them.
     Idle,
-    /// Segments were merged.
+    /// A merge runs on: more rows of its sources were read, and some are left.
+    Stepped,
+    /// Segments were replaced by the one that they are merged into.
     Merged,
 }
 
-/// A merge that was worked out, and is in no index yet.
-#[derive(Drop)]
-pub struct Replacement {
-    /// The ids of the segments that were merged.
-    pub ids: Vec<u64>,
-    /// The segment that they were merged into; `None` where no row of them is live.
-    pub merged: Option<LiveSegment>,
+/// A merge of the m segments with the fewest live rows, of which nothing was read yet: `None` exactly
+/// where there is no such merge.
+fn started(alloc: Global, segments: &[LiveSegment], m: u32) -> Result<Option<Merge>, NoMemory>
+    requires { m ≤ 64 }
+    ensures { IfOk result (λ found. MatchOption found (HasNoPick m segments.now)
+        (λ merge. IsBegunBy m segments.now merge)) }
+{
+    let Some(ids) = pick(alloc, segments, m)? else {
+        return Ok(None);
+    };
+    let merge = Merge::start(alloc, ids)?;
+    Ok(Some(merge))
 }
 
 impl Published {
-    /// Merges the m segments with the fewest live rows, ties by smaller id, m being 2 to 64. The
-    /// segment that they are merged into takes the next id and stands last; where no row of them is
-    /// live there is none, and no id is taken. `Idle` comes exactly where there are fewer than m
-    /// segments, or where those have 2^31 live rows or more together; nothing changes then. After an
-    /// error all is as before.
-    pub fn merge_turn(&mut self, alloc: Global, m: u32) -> Result<MergeTurn, NoMemory>
+    /// Takes a step of the merge that runs: it reads `rows` more rows of its sources, or all that are
+    /// left. Where none runs, one of the m segments with the fewest live rows is begun, ties by smaller
+    /// id, m being 2 to 64. Once all rows were read, the segment that the sources are merged into takes
+    /// the next id and stands last, in their place; where no row of them is live there is none, and no id
+    /// is taken. `Idle` comes exactly where no merge runs and there are fewer than m segments, those have
+    /// 2^31 live rows or more together, or one file has no room for the rows, or for the postings, of all
+    /// of them; nothing changes then. After an error the segments are as before; a merge that ran still
+    /// runs, and has read at most `rows` rows more.
+    pub fn merge_turn(&mut self, alloc: Global, m: u32, rows: u32) -> Result<MergeTurn, NoMemory>
         requires m { (2 ≤ m) × (m ≤ 64) }
+        requires rows { 1 ≤ rows }
         requires published { IsPublished self.old }
         requires room { self.old.next_id ≤ 2 ^ 63 }
-        ensures turn { IfOk result (λ turn. Turns m self.old turn self.new) }
+        ensures turn { IfOk result (λ turn. Turns m rows self.old turn self.new) }
+        ensures err { OnErr result (SameSegments self.old self.new) }
+        ensures kept { OnErr result
+            (IfSome self.old.merge (λ run. StillRuns rows self.old run self.new)) }
+    {
+        match self.begin(alloc, m)? {
+            None => Ok(MergeTurn::Idle),
+            Some(merge) => {
+                let turn = self.advance(alloc, merge, rows)?;
+                Ok(turn)
+            }
+        }
+    }
+
+    /// Takes the merge that runs out, or begins one: `None` exactly where none runs and there is none to
+    /// begin. After an error all is as before.
+    fn begin(&mut self, alloc: Global, m: u32) -> Result<Option<Merge>, NoMemory>
+        requires m { m ≤ 64 }
+        ensures out { self.new ≡ record self.old { merge = None } }
+        ensures taken { IfOk result (λ found. MatchOption found
+            ((self.old.merge ≡ None) × HasNoPick m self.old.segments) (IsTaken m self.old)) }
         ensures err { OnErr result (self.new ≡ self.old) }
     {
-        match self.merge(alloc, m)? {
-            None => Ok(MergeTurn::Idle),
-            Some(replacement) => {
-                self.replace(alloc, replacement)?;
+        match mem::replace(&mut self.merge, None) {
+            Some(merge) => Ok(Some(merge)),
+            None => started(alloc, self.segments.as_slice(), m),
+        }
+    }
+
+    /// Takes a step of a merge, which then runs on, or ends it.
+    fn advance(&mut self, alloc: Global, merge: Merge, rows: u32) -> Result<MergeTurn, NoMemory>
+        requires published { IsPublished self.old }
+        requires none { self.old.merge ≡ None }
+        requires room { self.old.next_id ≤ 2 ^ 63 }
+        requires runs { (sources : ListOf Lived) × (count : ℕ) × Runs self.old merge sources count }
+        ensures turn { (sources : ListOf Lived) (count : ℕ) → Runs self.old merge sources count
+            → IfOk result (λ turn. Advanced rows self.old merge sources count turn self.new) }
+        ensures err { OnErr result (SameSegments self.old self.new) }
+        ensures kept { OnErr result (StillRuns rows self.old merge self.new) }
+    {
+        let mut run = merge;
+        match run.step(self.segments.as_slice(), rows) {
+            Ok(Step::Ready) => {
+                let turn = self.end(alloc, run)?;
+                Ok(turn)
+            }
+            Ok(Step::More) => {
+                self.merge = Some(run);
+                Ok(MergeTurn::Stepped)
+            }
+            Err(error) => {
+                self.merge = Some(run);
+                Err(error)
+            }
+        }
+    }
+
+    /// Ends a merge that has read all rows of its sources: the segment that they are merged into, if there
+    /// is one, takes their place. After an error the merge runs on as it is.
+    fn end(&mut self, alloc: Global, merge: Merge) -> Result<MergeTurn, NoMemory>
+        requires published { IsPublished self.old }
+        requires none { self.old.merge ≡ None }
+        requires room { self.old.next_id ≤ 2 ^ 63 }
+        requires runs { (sources : ListOf Lived) × Runs self.old merge sources (row_count sources) }
+        ensures turn { (sources : ListOf Lived) → Runs self.old merge sources (row_count sources)
+            → IfOk result (λ turn. (turn ≡ MergeTurn.Merged)
+            × IsEnd self.old merge.ids.items sources self.new) }
+        ensures err { OnErr result (SameSegments self.old self.new) }
+        ensures kept { OnErr result (self.new.merge ≡ Some merge) }
+    {
+        let Ok(ids) = Vec::from_slice(alloc, merge.ids()) else {
+            self.merge = Some(merge);
+            return Err(NoMemory);
+        };
+        let mut items = mem::replace(&mut self.segments, List::new(alloc)).into_vec();
+        if items.reserve(1).is_err() {
+            self.segments = List::from_vec(items);
+            self.merge = Some(merge);
+            return Err(NoMemory);
+        }
+        match merge.finish(items.as_slice(), self.next_id) {
+            Ok(merged) => {
+                self.replace(items, ids.as_slice(), merged);
                 Ok(MergeTurn::Merged)
             }
+            Err(refused) => {
+                self.segments = List::from_vec(items);
+                self.merge = Some(refused.merge);
+                Err(NoMemory)
+            }
         }
     }
 
-    /// Works out what a merge of the m segments with the fewest live rows would replace: `None`
-    /// exactly where there is no such merge.
-    pub fn merge(&self, alloc: Global, m: u32) -> Result<Option<Replacement>, NoMemory>
-        requires m { (2 ≤ m) × (m ≤ 64) }
-        requires published { IsPublished self.now }
-        ensures { IfOk result (λ found. MatchOption found (HasNoPick m self.now.segments)
-            (λ made. IsMergeOf m self.now made.ids.items made.merged)) }
+    /// Puts these segments in the place of the published ones, without those with these ids; the merged
+    /// one, if there is one, takes the next id and stands last. It takes no memory.
+    fn replace(&mut self, items: Vec<LiveSegment>, ids: &[u64], merged: Option<LiveSegment>)
+        requires room { length items.items < vec_capacity items }
+        requires next_id { self.old.next_id ≤ 2 ^ 63 }
+        requires none { self.old.merge ≡ None }
+        ensures { self.new ≡ replaced ids.now merged (record self.old { segments = items.items }) }
     {
-        let segments = self.segments.as_slice();
-        let Some(ids) = pick(alloc, segments, m)? else {
-            return Ok(None);
+        let mut left = items;
+        left.retain(|segment| !is_one_of(ids, segment));
+        let Some(merged) = merged else {
+            self.segments = List::from_vec(left);
+            return;
         };
-        let merged = merged_of(alloc, segments, ids.as_slice(), self.next_id)?;
-        Ok(Some(Replacement { ids, merged }))
+        left.push_reserved(merged);
+        self.segments = List::from_vec(left);
+        self.next_id += 1;
     }
-
-    /// Puts what was merged in the place of its sources: it stands last, and takes the next id. After
-    /// an error all is as before.
-    pub fn replace(&mut self, alloc: Global, replacement: Replacement) -> Result<(), NoMemory>
-        requires room { self.old.next_id ≤ 2 ^ 63 }
-        ensures ok { OnOk result
-            (self.new ≡ replaced replacement.ids.items replacement.merged self.old) }
-        ensures err { OnErr result (self.new ≡ self.old) }
-    {
-        let Replacement { ids, merged } = replacement;
-        match merged {
-            None => {
-                remove(alloc, &mut self.segments, ids.as_slice());
-                Ok(())
-            }
-            Some(merged) => {
-                exchange(alloc, &mut self.segments, ids.as_slice(), merged)?;
-                self.next_id += 1;
-                Ok(())
-            }
-        }
-    }
-}
-
-impl Replacement {
-    /// Whether the segment is one of those that were merged.
-    pub fn replaces(&self, segment: &LiveSegment) -> bool
-        ensures { result ≡ is_among self.now.ids.items segment.now }
-    {
-        is_one_of(self.ids.as_slice(), segment)
-    }
-}
-
-/// The segment, under this id, that the segments with these ids are merged into: `None` exactly where
-/// no row of them is live.
-fn merged_of(
-    alloc: Global,
-    segments: &[LiveSegment],
-    ids: &[u64],
-    id: u64,
-) -> Result<Option<LiveSegment>, NoMemory>
-    requires { CanBeMerged segments.now ids.now }
-    ensures { (sources : ListOf Lived) (applied : ℕ) → Sources segments.now ids.now sources →
-        AreAt applied sources → IfOk result (MergedInto sources id applied) }
-{
-    let mut merge = Merge::start(alloc, Vec::from_slice(alloc, ids)?)?;
-    read_all(&mut merge, segments, ids)?;
-    match merge.finish(segments, id) {
-        Ok(merged) => Ok(merged),
-        Err(_) => Err(NoMemory),
-    }
-}
-
-/// Reads all rows of the sources of a merge, which have these ids.
-fn read_all(merge: &mut Merge, segments: &[LiveSegment], ids: &[u64]) -> Result<(), NoMemory>
-    requires sources { IsOf merge.old segments.now }
-    requires ids { merge.old.ids.items ≡ ids.now }
-    ensures ids { merge.new.ids.items ≡ ids.now }
-    ensures read { (sources : ListOf Lived) (count : ℕ) → Sources segments.now ids.now sources
-        → HasRead merge.old sources count
-        → OnOk result (HasRead merge.new sources (row_count sources)) }
-{
-    'reading: loop {
-        match merge.step(segments, STEP_ROWS)? {
-            Step::More => {}
-            Step::Ready => return Ok(()),
-        }
-    }
-}
-
-/// Removes the segments with these ids. It takes no memory.
-fn remove(alloc: Global, segments: &mut List<LiveSegment>, ids: &[u64])
-    ensures { segments.new ≡ without ids.now segments.old }
-{
-    let mut left = mem::replace(segments, List::new(alloc)).into_vec();
-    left.retain(|segment| !is_one_of(ids, segment));
-    *segments = List::from_vec(left);
-}
-
-/// Puts a segment in the place of those with these ids: it stands last. After an error all are as
-/// before.
-fn exchange(
-    alloc: Global,
-    segments: &mut List<LiveSegment>,
-    ids: &[u64],
-    merged: LiveSegment,
-) -> Result<(), NoMemory>
-    ensures ok { OnOk result (segments.new ≡ without ids.now segments.old ++ merged ∷ []) }
-    ensures err { OnErr result (segments.new ≡ segments.old) }
-{
-    let mut items = mem::replace(segments, List::new(alloc)).into_vec();
-    if items.reserve(1).is_err() {
-        *segments = List::from_vec(items);
-        return Err(NoMemory);
-    }
-    items.retain(|segment| !is_one_of(ids, segment));
-    items.push_reserved(merged);
-    *segments = List::from_vec(items);
-    Ok(())
 }

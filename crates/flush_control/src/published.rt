@@ -9,6 +9,7 @@ use crate::building::{Made, made_of};
 use frozen_packet::Packet;
 use ix_base::{List, NoMemory};
 use live_docs::LiveDocs;
+use merge_core::Merge;
 use packet_apply::apply_all;
 use segment_core::LiveSegment;
 use std::alloc::Global;
@@ -16,19 +17,23 @@ use std::mem;
 use std::thread::Threads;
 use thread_writer::Piece;
 
-/// The segments of an index, by rising id, the id that the next one takes, and the number up to
-/// which operations are in them.
+/// The segments of an index, by rising id, the id that the next one takes, the number up to which
+/// operations are in them, and the merge that runs.
 #[derive(Drop)]
 pub struct Published {
     pub segments: List<LiveSegment>,
     pub next_id: u64,
     pub upto: u64,
+    /// The merge that runs, if one does: it has read some rows of its sources, which are among the
+    /// segments.
+    pub merge: Option<Merge>,
 }
 
 impl Published {
     /// Takes the pieces of a round: each becomes a segment, in their order, unless its updates leave
     /// none of its rows, or it has none. Then it is no segment and takes no id. The operations up to
-    /// a piece's cut are in its segment; `upto` stays. After an error all is as before.
+    /// a piece's cut are in its segment; `upto` stays, and a merge runs on. After an error all is as
+    /// before.
     pub fn take_round(&mut self, alloc: Global, pieces: Vec<Piece>) -> Result<(), NoMemory>
         requires room { self.old.next_id + length pieces.items < 2 ^ 64 }
         requires can { AllByRecursion HasInversion pieces.items }
@@ -42,7 +47,8 @@ impl Published {
     }
 
     /// Applies a packet to all segments, on the threads of `rt`. Then the operations up to the
-    /// packet's last number are in each. After an error all is as before.
+    /// packet's last number are in each. A merge runs on: what it has read of its sources is still what
+    /// was read. After an error all is as before.
     pub fn apply_up<R: Threads + Sync>(
         &mut self,
         rt: &R,
