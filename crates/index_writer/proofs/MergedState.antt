@@ -9,8 +9,9 @@ use Rattle.segment_core.specs.LiveRows.{Lived}
 use Rattle.commit_point.specs.declared.written.Written.{Written}
 use Rattle.commit_point.specs.Writing.{AreWritten, SegmentIdsRise, WrittenUpTo}
 use Rattle.merge_core.specs.Merging.{Merged as MergedInto}
+use Rattle.merge_core.specs.Picking.{is_among}
 use Rattle.merge_core.specs.declared.merge.Merge.{Merge}
-use Rattle.flush_control.specs.Merging.{MergesStand, StillRuns, Turns, is_among, replaced, without}
+use Rattle.flush_control.specs.Merging.{MergesStand, StillRuns, Turns, replaced, without}
 use Rattle.flush_control.specs.declared.merging.MergeTurn.{MergeTurn}
 use Rattle.flush_control.specs.declared.merging.MergeTurn.TheVariants.{Idle, Merged, Stepped}
 use Rattle.flush_control.specs.declared.published.Published.{Published}
@@ -288,13 +289,13 @@ follows_same s new ready same = record {
 follows_turn : (s : State) (rows : ℕ) (turn : MergeTurn) (new : Published) → IsReady s → Turns s.merge rows s.published turn new
     → Follows s new (on_turn turn s new).written
 follows_turn s rows Idle new ready turns = follows_same s new ready (ap (λ (p : Published). p.segments) turns.2)
-follows_turn s rows Stepped new ready turns = follows_same s new ready (ap (λ (p : Published). p.segments) turns.is)
+follows_turn s rows Stepped new ready turns = follows_same s new ready (ap (λ (p : Published). p.segments) turns.step.is)
 follows_turn s rows Merged new ready turns =
     let p = s.published in
-    let is = has_id turns.begun.sources p.next_id p.upto turns.one turns.merged in
-    subst (λ (q : Published). Follows s q (on_turn Merged s q).written) (sym turns.is)
-    (subst (Follows s (replaced turns.ids turns.one p)) (sym (follows turns.ids turns.one p s.written ready.published.ids is))
-    (follows_end s turns.ids turns.one ready is))
+    let is = has_id turns.begun.sources p.next_id p.upto turns.end.one turns.end.merged in
+    subst (λ (q : Published). Follows s q (on_turn Merged s q).written) (sym turns.end.is)
+    (subst (Follows s (replaced turns.ids turns.end.one p)) (sym (follows turns.ids turns.end.one p s.written ready.published.ids is))
+    (follows_end s turns.ids turns.end.one ready is))
 
 pub ready_turn : MergesStand → (s : State) (rows : ℕ) (turn : MergeTurn) (new : Published) → IsReady s → Turns s.merge rows s.published turn new
     → IsReady (on_turn turn s new)
