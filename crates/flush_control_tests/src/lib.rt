@@ -2,4 +2,11 @@
 #![tactic(auto)]
 
 #[cfg(test)]
+mod round;
+#[cfg(test)]
 mod tests;
+#[cfg(test)]
+mod tests_merging;
+mod told;
+
+pub use told::Told;

@@ -5,10 +5,10 @@ ghost use Rattle.segment_core.specs.LiveRows.{CanBuild};
 ghost use Rattle.packet_apply.specs.Packets.{Meets};
 ghost use Rattle.flush_control.specs.Published.{HasInversion};
 
+use crate::round::fresh;
 use analysis::invert;
-use flush_control::{MergeTurn, Published};
+use flush_control::Published;
 use frozen_packet::{Packet, Updates};
-use ix_base::List;
 use node_words::Entry;
 use ram_postings::Frozen;
 use segment_core::LiveSegment;
@@ -138,7 +138,7 @@ fn do_round<R: Threads + Sync>(
 
 /// The number up to which operations are in the index and the next id; then each segment's id, how
 /// many rows it has, the number up to which operations are in it, and its live rows.
-fn shown(alloc: Global, index: &Published) -> Result<String, Fail> {
+pub(crate) fn shown(alloc: Global, index: &Published) -> Result<String, Fail> {
     let mut out = String::new(alloc);
     write!(out, "{} {}", index.upto, index.next_id)?;
     for segment in index.segments.as_slice() {
@@ -158,11 +158,7 @@ fn shown(alloc: Global, index: &Published) -> Result<String, Fail> {
 fn two_rounds(rt: HostRuntime) -> Result<(), Fail> {
     use Act::*;
     let alloc = rt.alloc();
-    let mut index = Published {
-        segments: List::new(alloc),
-        next_id: 1,
-        upto: 0,
-    };
+    let mut index = fresh(alloc, 0);
     let first = Given {
         rows: &[(1, "a"), (3, "b")],
         entries: &[(2, Set(7), "a")],
@@ -202,11 +198,7 @@ fn two_rounds(rt: HostRuntime) -> Result<(), Fail> {
 fn last_pieces(rt: HostRuntime) -> Result<(), Fail> {
     use Act::*;
     let alloc = rt.alloc();
-    let mut index = Published {
-        segments: List::new(alloc),
-        next_id: 1,
-        upto: 4,
-    };
+    let mut index = fresh(alloc, 4);
     let first = Given {
         rows: &[(5, "a"), (7, "a"), (9, "b")],
         entries: &[],
@@ -250,11 +242,7 @@ fn many_of(alloc: Global) -> Result<Vec<Piece>, Fail>
 #[test]
 fn many_pieces(rt: HostRuntime) -> Result<(), Fail> {
     let alloc = rt.alloc();
-    let mut index = Published {
-        segments: List::new(alloc),
-        next_id: 1,
-        upto: 0,
-    };
+    let mut index = fresh(alloc, 0);
     let pieces = many_of(alloc)?;
     let entries = [(1001, Act::Delete, "a")];
     do_round(&rt, alloc, &mut index, pieces, &entries, 2000)?;
@@ -264,19 +252,5 @@ fn many_pieces(rt: HostRuntime) -> Result<(), Fail> {
         counts |= segment.live().live_count();
     }
     assert!(rt; (index.segments.len(), counts) == (1000, 1));
-    Ok(())
-}
-
-/// Where there are no segments, none is merged.
-#[test]
-fn nothing_to_merge(rt: HostRuntime) -> Result<(), Fail> {
-    let alloc = rt.alloc();
-    let mut index = Published {
-        segments: List::new(alloc),
-        next_id: 1,
-        upto: 0,
-    };
-    assert!(rt; index.merge_turn(alloc, 2)? == MergeTurn::Idle);
-    assert!(rt; (index.upto, index.next_id) == (0, 1));
     Ok(())
 }

@@ -9,8 +9,8 @@ use Rattle.segment_core.specs.LiveRows.{Lived}
 use Rattle.commit_point.specs.declared.written.Written.{Written}
 use Rattle.commit_point.specs.Writing.{AreWritten, SegmentIdsRise, WrittenUpTo}
 use Rattle.merge_core.specs.Merging.{Merged as MergedInto}
-use Rattle.merge_core.specs.declared.merge.Merge.{Merge}
 use Rattle.merge_core.specs.Picking.{is_among}
+use Rattle.merge_core.specs.declared.merge.Merge.{Merge}
 use Rattle.flush_control.specs.Merging.{MergesStand, StillRuns, Turns, replaced, without}
 use Rattle.flush_control.specs.declared.merging.MergeTurn.{MergeTurn}
 use Rattle.flush_control.specs.declared.merging.MergeTurn.TheVariants.{Idle, Merged, Stepped}

@@ -28,8 +28,8 @@ staying gs [] ws = []
 staying gs (id ∷ ids) [] = []
 staying gs (id ∷ ids) (w ∷ ws) = (if is_there gs id then w ∷ [] else []) ++ staying gs ids ws
 
--- What is on the store of the segments after a turn, where this was on the store of segments with these ids before. Where
--- the turn ended a merge, nothing is on the store of the merged segment, if one came.
+-- What is on the store of the segments after a turn, where this was on the store of segments with these ids before.
+-- Where the turn ended a merge, nothing is on the store of the merged segment, if one came.
 abbrev pub followed : MergeTurn → List Lived → List ℕ → List (Option Written) → Bool → List (Option Written)
 followed Idle gs ids ws came = ws
 followed Stepped gs ids ws came = ws

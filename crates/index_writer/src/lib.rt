@@ -1,8 +1,8 @@
 //! The writer of an index over rounds: in each round several thread writers share one queue. The end
-//! of a round puts what they did into the segments, in memory; a commit puts the segments on the store.
-//! A merge makes one of several segments, in steps that are taken between rounds and commits. Its sources
-//! stay until it has ended: a round still changes them, and a commit lists them. A segment whose rows have
-//! all died stays too until a merge takes it, and no commit lists it.
+//! of a round puts what they did into the segments, in memory; a commit puts those on the store.
+//! A merge makes one of several segments, in steps that are taken between rounds and commits. Its
+//! sources stay until it has ended: a round still changes them, and a commit lists them. A segment whose
+//! rows have all died stays too until a merge takes it, and no commit lists it.
 #![tactic(auto)]
 
 mod begin;

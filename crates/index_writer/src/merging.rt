@@ -15,20 +15,20 @@ use std::alloc::Global;
 use std::mem;
 
 impl<S> IndexWriter<S> {
-    /// Takes a step of the merge that runs: reads `rows` more rows of its sources, or all that are left.
-    /// Where none runs, one is begun of the segments with the fewest live rows, as many as the writer was
-    /// made for. `Stepped`: some rows are left. `Merged`: the sources are gone, and the segment that they
-    /// are merged into has taken the next id; where no row of them is live there is none. `Idle` comes
-    /// exactly where no merge runs and none can be begun: there are fewer segments, or those are too large
-    /// together to be one.
+    /// Takes a step of the merge that runs: it reads `rows` more rows of its sources, or all that are
+    /// left. Where none runs, one is begun of the segments with the fewest live rows, as many as the
+    /// writer was made for. `Stepped`: some rows are left. `Merged`: the sources are gone, and the
+    /// segment that they are merged into has taken the next id; where no row of them is live there is
+    /// none. `Idle` comes exactly where no merge runs and there are fewer segments, those have 2^31 live
+    /// rows or more together, or one file has no room for the rows, or for the postings, of all of them.
     ///
     /// A merge runs on over rounds, which delete rows of its sources and set numbers in them, and over
-    /// commits, which list its sources until it has ended. The rows stay, and a commit that is still to be
-    /// written stays so. The store isn't touched: the next commit writes the merged segment.
+    /// commits, which list its sources until it has ended. The rows stay, and a commit that is still to
+    /// be written stays so. The store isn't touched: the next commit writes the merged segment.
     ///
     /// `Closed` comes exactly where the writer is closed; nothing changes then. The only other error is
-    /// out of memory. All is as before then, but that a merge may have been begun; one that ran runs on,
-    /// and may have read some rows more.
+    /// out of memory. All is as before then, but that a merge may have been begun; one that ran runs
+    /// on, and may have read some rows more.
     pub fn merge_step(&mut self, rows: u32) -> Result<MergeTurn, WriterFault>
         requires sound { IsSound self.old.state }
         requires rows { 1 ≤ rows }
@@ -56,8 +56,8 @@ impl<S> IndexWriter<S> {
 }
 
 impl State {
-    /// Takes a turn of the merge that runs, or begins one. What can fail is done before: then what is on
-    /// the store of the segments follows without memory.
+    /// Takes a turn of the merge that runs, or begins one. What can fail is done before: then what is
+    /// on the store of the segments follows without memory.
     fn merge_turn(&mut self, alloc: Global, rows: u32) -> Result<MergeTurn, NoMemory>
         requires ready { IsReady self.old }
         requires rows { 1 ≤ rows }
@@ -122,9 +122,9 @@ fn is_there(segments: &[LiveSegment], id: u64) -> bool
     segments.iter().any(|segment| segment.segment().id == id)
 }
 
-/// What is on the store of the segments after a turn, where this was on the store of segments with these
-/// ids before: where the turn ended a merge, the same of those that are still there, and nothing of the
-/// merged one, if one came. There is room for that. It takes no memory.
+/// What is on the store of the segments after a turn, where this was on the store of segments with
+/// these ids before. Where the turn ended a merge, it is the same of those that are still there, and
+/// nothing of the merged one, if one came. There is room for that. It takes no memory.
 fn follow(
     turn: MergeTurn,
     written: Vec<Option<Written>>,

@@ -7,17 +7,17 @@ use ix_base::List;
 /// What a writer knows of its index.
 #[derive(Drop)]
 pub struct State {
-    /// The segments, those without a live row too, the id that the next one takes, the number of the last
-    /// operation that is in them, and the merge that runs, if one does. A segment stays until a merge has
-    /// replaced it. A merge goes on over rounds and commits; a writer that is opened anew has none.
+    /// The segments, those without a live row too, the id that the next one takes, the number of the
+    /// last operation that is in them, and the merge that runs, if one does. A segment stays until a
+    /// merge has replaced it. A merge goes on over rounds and commits; it ends with the writer.
     pub published: Published,
-    /// What is on the store of each segment, at the same places; `None` of one that is new since the last
-    /// commit. Of a segment without a live row it isn't used: no commit lists that any more.
+    /// What is on the store of each segment, at the same places; `None` of one that is new since the
+    /// last commit. Of a segment without a live row it isn't used: no commit lists that any more.
     pub written: List<Option<Written>>,
     /// The number of the last commit; 0 without one.
     pub last: u64,
-    /// The id that the next segment took at that commit: a segment that is new since then has an id from
-    /// this one on.
+    /// The id that the next segment took at that commit: a segment that is new since then has an id
+    /// from this one on.
     pub since: u64,
     /// How many documents the buffer of a thread writer holds, 1 to 65,536.
     pub buffer: u32,

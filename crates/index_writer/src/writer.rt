@@ -60,9 +60,9 @@ impl<S> IndexWriter<S> {
         }
     }
 
-    /// The writer on a commit that was read back. No merge runs: one that another writer had begun is begun
-    /// afresh. The buffers of its thread writers hold 1 to 65,536 documents, and 2 to 64 segments are merged
-    /// into one. The only error is out of memory, and the store is given back then.
+    /// The writer on a commit that was read back. No merge runs: one that another writer had begun is
+    /// lost. The buffers of its thread writers hold 1 to 65,536 documents, and 2 to 64 segments are
+    /// merged into one. The only error is out of memory, and the store is given back then.
     pub fn open(
         alloc: Global,
         store: S,

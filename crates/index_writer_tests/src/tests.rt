@@ -6,7 +6,7 @@ ghost use Rattle.index_writer_tests.specs.Trials.{IsUnderWay};
 use crate::script_lines::{Act, Line, Script, operation_of};
 use crate::working::{Answer, do_line, into_parts};
 use commit_point::open_commit;
-use index_writer::{IndexWriter, MergeTurn, RoundEnd, RoundParts, WriterFault, opened_go_on};
+use index_writer::{IndexWriter, MergeTurn, RoundEnd, RoundParts, WriterFault};
 use ix_base::Refusal;
 use ix_memory::MemoryStore;
 use std::alloc::Global;
@@ -126,15 +126,15 @@ fn committed(writer: &mut IndexWriter<MemoryStore>) -> Result<(u64, u64), Fail>
     Ok((info.number, info.docs))
 }
 
-/// What a merge step did.
-fn merged(writer: &mut IndexWriter<MemoryStore>) -> Result<MergeTurn, Fail>
+/// What a merge step of so many rows did.
+fn merged(writer: &mut IndexWriter<MemoryStore>, rows: u32) -> Result<MergeTurn, Fail>
     requires { IsSound writer.old.state }
     ensures { OnOk result (IsSound writer.new.state) }
 {
-    if writer.next_id() > 1000 {
-        Err("many segments")?;
+    if rows == 0 || writer.next_id() > 1000 {
+        Err("no row, or many segments")?;
     }
-    Ok(writer.merge_step()?)
+    Ok(writer.merge_step(rows)?)
 }
 
 /// A step in the history of a writer.
@@ -142,8 +142,8 @@ fn merged(writer: &mut IndexWriter<MemoryStore>) -> Result<MergeTurn, Fail>
 pub(crate) enum Step<'a> {
     /// A round of two writers that do the lines of a script.
     Round(Script<'a>),
-    /// A merge, where one is due.
-    Merge,
+    /// A merge step of so many rows.
+    Merge(u32),
     /// The commit that is still to be written.
     Commit,
 }
@@ -164,6 +164,7 @@ fn show_end(out: &mut String, end: RoundEnd, pending: Option<u64>) -> Result<(),
 fn show_merge(out: &mut String, turn: MergeTurn) -> Result<(), Fail> {
     match turn {
         MergeTurn::Idle => out.push_str("idle; ")?,
+        MergeTurn::Stepped => out.push_str("stepped; ")?,
         MergeTurn::Merged => out.push_str("merged; ")?,
     }
     Ok(())
@@ -185,7 +186,7 @@ fn go_on<R: Threads + Sync>(
             let end = round(rt, alloc, writer, script)?;
             show_end(out, end, writer.pending_commit())
         }
-        Step::Merge => show_merge(out, merged(writer)?),
+        Step::Merge(rows) => show_merge(out, merged(writer, rows)?),
         Step::Commit => {
             let (number, docs) = committed(writer)?;
             Ok(write!(out, "{docs} rows in {number}; ")?)
@@ -218,7 +219,7 @@ pub(crate) fn history<R: Threads + Sync>(
 }
 
 /// Behind what was told, the rows of each of these commits.
-fn with_commits(
+pub(crate) fn with_commits(
     alloc: Global,
     told: String,
     store: MemoryStore,
@@ -429,6 +430,7 @@ fn closed_after_a_fault(rt: HostRuntime) -> Result<(), Fail> {
     let mut writer = with_failing_write(&rt, rt.alloc())?;
     assert!(rt; faults_of(&mut writer)? == [WriterFault::Store, WriterFault::Closed]);
     assert!(rt; begin_fault(&mut writer)? == WriterFault::Closed);
+    assert!(rt; merge_fault(&mut writer)? == WriterFault::Closed);
     assert!(rt; writer.is_closed());
     Ok(())
 }
@@ -460,6 +462,7 @@ fn fault_of(writer: &mut IndexWriter<MemoryStore>) -> Result<WriterFault, Fail>
 /// Why a round isn't begun.
 fn begin_fault(writer: &mut IndexWriter<MemoryStore>) -> Result<WriterFault, Fail>
     requires { IsSound writer.old.state }
+    ensures { OnOk result (IsSound writer.new.state) }
 {
     if writer.in_round() || writer.upto() > 1000 || writer.next_id() > 1000 {
         Err("a round before")?;
@@ -470,59 +473,16 @@ fn begin_fault(writer: &mut IndexWriter<MemoryStore>) -> Result<WriterFault, Fai
     }
 }
 
-/// A store with the commit 3, of two rows.
-fn store_of_two<R: Threads + Sync>(rt: &R, alloc: Global) -> Result<MemoryStore, Fail> {
-    use Act::*;
-    let mut writer = IndexWriter::none(alloc, MemoryStore::new(alloc), 65536, 8);
-    let steps = [
-        Step::Round(&[(0, Add, "a"), (1, Add, "b"), (1, Commit, "")]),
-        Step::Commit,
-    ];
-    history(rt, alloc, &mut writer, &steps)?;
-    Ok(writer.into_store())
-}
-
-/// The history of a writer on that commit, and then the rows of each of these commits.
-fn story_after_it<R: Threads + Sync>(
-    rt: &R,
-    alloc: Global,
-    steps: &[Step<'_>],
-    commits: &[u64],
-) -> Result<String, Fail> {
-    let mut writer = opened_on(alloc, store_of_two(rt, alloc)?, 3)?;
-    let told = history(rt, alloc, &mut writer, steps)?;
-    with_commits(alloc, told, writer.into_store(), commits)
-}
-
-/// A writer on a commit that was read back goes on from it.
-#[test]
-fn reopened(rt: HostRuntime) -> Result<(), Fail> {
-    use Act::*;
-    let steps = [
-        Step::Round(&[(1, Delete, "a"), (0, Add, "c"), (0, Commit, "")]),
-        Step::Commit,
-    ];
-    let told = story_after_it(&rt, rt.alloc(), &steps, &[6, 3])?;
-    assert!(rt;
-        told.as_str()
-            == "committed 6, 6 pending; 2 rows in 6; 6, last commit 6, next id 4 / 4: 2 b2 3 c5 / 3: 1 a1 2 b2"
-    );
-    Ok(())
-}
-
-/// A writer on the commit of this number.
-fn opened_on(
-    alloc: Global,
-    store: MemoryStore,
-    number: u64,
-) -> Result<IndexWriter<MemoryStore>, Fail>
-    ensures { IfOk result (λ writer. IsSound writer.state) }
+/// Why a merge step isn't taken.
+fn merge_fault(writer: &mut IndexWriter<MemoryStore>) -> Result<WriterFault, Fail>
+    requires { IsSound writer.old.state }
+    ensures { OnOk result (IsSound writer.new.state) }
 {
-    opened_go_on();
-    let mut store = store;
-    let opened = open_commit(alloc, &mut store, number)?;
-    match IndexWriter::open(alloc, store, opened, 1, 8) {
-        Ok(writer) => Ok(writer),
-        Err(_) => Err("out of memory")?,
+    if writer.next_id() > 1000 {
+        Err("many segments")?;
+    }
+    match writer.merge_step(1) {
+        Ok(_) => Err("a merge step")?,
+        Err(fault) => Ok(fault),
     }
 }

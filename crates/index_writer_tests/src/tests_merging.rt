@@ -11,10 +11,10 @@ fn deleted_after_a_merge(rt: HostRuntime) -> Result<(), Fail> {
     use Act::*;
     let steps = [
         Step::Round(&[(0, Add, "a"), (0, Add, "b"), (0, Commit, "")]),
-        Step::Merge,
+        Step::Merge(8),
         Step::Commit,
         Step::Round(&[(0, Delete, "a"), (0, Commit, "")]),
-        Step::Merge,
+        Step::Merge(8),
         Step::Commit,
     ];
     let told = story(&rt, rt.alloc(), 1, 2, &steps, &[3, 5])?;
@@ -39,10 +39,10 @@ fn ties_by_smaller_id(rt: HostRuntime) -> Result<(), Fail> {
             (1, Delete, "b"),
             (0, Commit, ""),
         ]),
-        Step::Merge,
+        Step::Merge(8),
         Step::Commit,
         Step::Round(&[(0, Commit, "")]),
-        Step::Merge,
+        Step::Merge(8),
         Step::Commit,
     ];
     let told = story(&rt, rt.alloc(), 2, 2, &steps, &[6, 7])?;
@@ -66,9 +66,9 @@ fn no_row_is_live(rt: HostRuntime) -> Result<(), Fail> {
             (0, Delete, "b"),
             (0, Commit, ""),
         ]),
-        Step::Merge,
+        Step::Merge(8),
         Step::Commit,
-        Step::Merge,
+        Step::Merge(8),
     ];
     let told = story(&rt, rt.alloc(), 1, 2, &steps, &[6])?;
     assert!(rt;
@@ -89,7 +89,7 @@ fn dead_in_its_round(rt: HostRuntime) -> Result<(), Fail> {
             (1, Delete, "a"),
             (0, Commit, ""),
         ]),
-        Step::Merge,
+        Step::Merge(8),
         Step::Commit,
     ];
     let told = story(&rt, rt.alloc(), 8, 2, &steps, &[4])?;
