@@ -4,9 +4,10 @@ pub mod Staging
 pub mod Setting
 pub mod Finding
 pub mod Starting
-pub mod Buffering
+pub mod Numbers
 pub mod Taking
 pub mod Finishing
 pub mod Stepping
 pub mod Picked
 pub mod Summing
+pub mod Renumbered

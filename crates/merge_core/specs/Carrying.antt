@@ -1,12 +1,11 @@
 -- What reading one row does to a merge.
-use Rattle.std.specs.Prelude.{◌≡◌, ℕ, ◌+◌, ◌<◌, ◌≤◌, List, [], ◌∷◌, ◌++◌, Bool, true, false, Some, All, length, set, slice_get, slice_index, slice_index_or, if◌then◌else◌}
+use Rattle.std.specs.Prelude.{◌≡◌, ℕ, ◌+◌, ◌<◌, List, [], ◌∷◌, ◌++◌, Bool, true, false, Some, length, set, slice_get, slice_index, slice_index_or, if◌then◌else◌}
 use Rattle.ix_base.specs.declared.document.Row.{Row}
 use Rattle.live_docs.specs.Marks.{fresh, killed}
 use Rattle.live_docs.specs.declared.live_docs.Mark.{Mark}
-use Rattle.ram_postings.specs.Buffer.{born_rows}
 use Rattle.segment_core.specs.LiveRows.{Lived}
 use Rattle.merge_core.specs.Merging.{row_count}
-use Rattle.merge_core.specs.Reading.{HasRead, born}
+use Rattle.merge_core.specs.Reading.{HasRead}
 use Rattle.merge_core.specs.declared.merge.Merge.{Merge}
 use Rattle.merge_core.specs.declared.origin.Origin.{Origin}
 
@@ -14,28 +13,24 @@ use Rattle.merge_core.specs.declared.origin.Origin.{Origin}
 pub record SameReading (old new : Merge) : Type 0 where
   pub ids : new.ids.items ≡ old.ids.items
   pub next : new.next.items ≡ old.next.items
-  pub buffer : new.buffer ≡ old.buffer
+  pub rows : new.rows ≡ old.rows
   pub origins : new.origins.items ≡ old.origins.items
 
 -- the mark of a row; past the end one that isn't live
 abbrev pub mark_in : Lived → ℕ → Mark
 mark_in s j = slice_index_or s.live.marks j (killed fresh)
 
--- The next row of a source can be read: there is one, its birth is above those of the rows that are staged, and where
--- it is live there is room for it.
+-- The next row of a source can be read: there is one.
 pub record CanTake (m : Merge) (s : Lived) (source : ℕ) : Type 0 where
   pub source_is : source < length m.next.items
   pub row : Row
   pub is : slice_get s.segment.rows (slice_index m.next.items source) ≡ Some row
-  pub positive : 1 ≤ row.birth
-  pub above : All (λ (earlier : Row). earlier.birth < row.birth) (born_rows m.buffer)
-  pub room : (mark_in s (slice_index m.next.items source)).live ≡ true → length m.buffer < 2147483647
 
--- A row was read: it was staged where its mark says that it is live.
+-- A row was read: it was kept where its mark says that it is live.
 pub record Takes (old new : Merge) (row : Row) (m : Mark) (o : Origin) : Type 0 where
   pub ids : new.ids.items ≡ old.ids.items
   pub next : new.next.items ≡ set old.next.items o.source (o.row + 1)
-  pub buffer : new.buffer ≡ (if m.live then old.buffer ++ born row ∷ [] else old.buffer)
+  pub rows : new.rows ≡ (if m.live then old.rows ++ row ∷ [] else old.rows)
   pub origins : new.origins.items ≡ (if m.live then old.origins.items ++ o ∷ [] else old.origins.items)
 
 -- the next row of the source at this place was read

@@ -6,6 +6,7 @@ mod carrying;
 mod laws;
 mod merge;
 mod next_row;
+mod numbering;
 mod origin;
 mod picking;
 mod room;

@@ -1,1 +1,2 @@
-mod OneSource
+mod ReadAll
+mod Thirds

@@ -3,12 +3,13 @@ ghost use Rattle.std.specs.Prelude.{◌≡◌, ◌<◌, ℕ, [], ◌∷◌, leng
 ghost use Rattle.frozen_packet.specs.Updates.{as_operations, NumberedUpTo};
 ghost use Rattle.segment_files.specs.Fits.{BirthsRise};
 ghost use Rattle.merge_core.specs.Merging.{row_count};
-ghost use Rattle.merge_core_tests.specs.Reading.{IsSource, ReadsOne};
+ghost use Rattle.merge_core_tests.specs.Reading.{AreSources, Reads};
 
+use crate::reading::{finished, read, read_all, start};
 use analysis::invert;
 use frozen_packet::Updates;
 use ix_base::Row;
-use merge_core::{Merge, Step, reading_stays};
+use merge_core::{Merge, reading_stays};
 use node_words::Entry;
 use ram_postings::Frozen;
 use segment_core::{LiveSegment, apply_updates, build};
@@ -41,7 +42,7 @@ fn four_rows(alloc: Global) -> Result<Vec<Row>, Fail>
 
 /// The segment of the four rows.
 fn source(alloc: Global) -> Result<LiveSegment, Fail>
-    ensures { IfOk result IsSource }
+    ensures { IfOk result (λ segment. AreSources (segment ∷ [])) }
 {
     let rows = four_rows(alloc)?;
     let postings = invert(alloc, rows.as_slice())?;
@@ -99,57 +100,30 @@ fn many_updates(alloc: Global) -> Result<Updates, Fail> {
     Ok(updates)
 }
 
+/// All four rows are deleted.
+fn all_deletes(alloc: Global) -> Result<Updates, Fail> {
+    let mut updates = Updates::new(alloc);
+    for key in ["a", "b", "c", "d"] {
+        take_more(&mut updates, Entry::DeleteTerm(key_term(alloc, key)?))?;
+    }
+    Ok(updates)
+}
+
 /// The updates reach the segment, of which the merge has read some rows.
-fn change(alloc: Global, merge: &Merge, segment: &mut LiveSegment) -> Result<(), Fail>
-    requires { (count : ℕ) × ReadsOne merge.now segment.old count }
-    ensures { OnOk result ((count : ℕ) × ReadsOne merge.now segment.new count) }
+fn change(
+    alloc: Global,
+    merge: &Merge,
+    updates: &Updates,
+    segment: &mut LiveSegment,
+) -> Result<(), Fail>
+    requires { (count : ℕ) × Reads merge.now (segment.old ∷ []) count }
+    ensures { OnOk result ((count : ℕ) × Reads merge.now (segment.new ∷ []) count) }
 {
     reading_stays();
-    let updates = many_updates(alloc)?;
     let mut live = segment.live().clone_in(alloc)?;
-    apply_updates(alloc, segment.segment(), &updates, 0, &mut live)?;
+    apply_updates(alloc, segment.segment(), updates, 0, &mut live)?;
     segment.set_live(live);
     Ok(())
-}
-
-/// A merge that has read nothing of the segment yet.
-fn start(alloc: Global, segment: &LiveSegment) -> Result<Merge, Fail>
-    requires { IsSource segment.now }
-    ensures { IfOk result (λ merge. ReadsOne merge segment.now 0) }
-{
-    let ids = vec![in alloc; 1]?;
-    let merge = Merge::start(alloc, ids)?;
-    Ok(merge)
-}
-
-/// Reads so many rows of the segment, or all that are left; in the end all of them.
-fn read(merge: &mut Merge, segment: &LiveSegment, rows: u32) -> Result<(), Fail>
-    requires { (count : ℕ) × ReadsOne merge.old segment.now count }
-    ensures { OnOk result ((count : ℕ) × ReadsOne merge.new segment.now count) }
-{
-    merge.step(slice::from_ref(segment), rows)?;
-    Ok(())
-}
-
-/// Reads all rows that are left.
-fn read_all(merge: &mut Merge, segment: &LiveSegment) -> Result<(), Fail>
-    requires { (count : ℕ) × ReadsOne merge.old segment.now count }
-    ensures { OnOk result (ReadsOne merge.new segment.now (row_count (segment.now ∷ []))) }
-{
-    match merge.step(slice::from_ref(segment), 9)? {
-        Step::Ready => Ok(()),
-        Step::More => Err("more rows")?,
-    }
-}
-
-/// The segment that the merge makes of the segment.
-fn finished(merge: Merge, segment: &LiveSegment) -> Result<LiveSegment, Fail>
-    requires { ReadsOne merge segment.now (row_count (segment.now ∷ [])) }
-{
-    match merge.finish(slice::from_ref(segment), 2) {
-        Ok(Some(merged)) => Ok(merged),
-        _ => Err("nothing merged")?,
-    }
 }
 
 /// How many rows there are, how many numbers were set in the second, and the live rows.
@@ -167,36 +141,54 @@ fn shown(alloc: Global, segment: &LiveSegment) -> Result<String, Fail> {
     Ok(out)
 }
 
-/// Two rows are read before the updates reach the segment, and one alone after.
-fn read_around(alloc: Global, merge: &mut Merge, segment: &mut LiveSegment) -> Result<(), Fail>
-    requires { ReadsOne merge.old segment.old 0 }
-    ensures { OnOk result (ReadsOne merge.new segment.new (row_count (segment.new ∷ []))) }
+/// Two rows are read before the updates reach the segment, and the others one by one after.
+fn read_around(
+    alloc: Global,
+    merge: &mut Merge,
+    updates: &Updates,
+    segment: &mut LiveSegment,
+) -> Result<(), Fail>
+    requires { Reads merge.old (segment.old ∷ []) 0 }
+    ensures { OnOk result
+        (Reads merge.new (segment.new ∷ []) (row_count (segment.new ∷ []))) }
 {
-    read(merge, segment, 2)?;
-    change(alloc, merge, segment)?;
-    read(merge, segment, 1)?;
-    read_all(merge, segment)
+    read(merge, slice::from_ref(segment), 2)?;
+    change(alloc, merge, updates, segment)?;
+    read_all(merge, slice::from_ref(segment), 1)
 }
 
-/// The segment that is made of this one.
-fn made_of(alloc: Global, segment: &mut LiveSegment) -> Result<LiveSegment, Fail>
-    requires { IsSource segment.old }
+/// The segment that is made of this one, if one is.
+fn made_of(
+    alloc: Global,
+    updates: &Updates,
+    segment: &mut LiveSegment,
+) -> Result<Option<LiveSegment>, Fail>
+    requires { AreSources (segment.old ∷ []) }
 {
-    let mut merge = start(alloc, segment)?;
-    read_around(alloc, &mut merge, segment)?;
-    finished(merge, segment)
+    let mut merge = start(alloc, slice::from_ref(segment))?;
+    read_around(alloc, &mut merge, updates, segment)?;
+    finished(merge, slice::from_ref(segment))
 }
 
-/// The segment that is made of the four rows.
-fn merged(alloc: Global) -> Result<LiveSegment, Fail> {
+/// The segment that is made of the four rows, if one is.
+fn merged(alloc: Global, updates: &Updates) -> Result<Option<LiveSegment>, Fail> {
     let mut segment = source(alloc)?;
-    made_of(alloc, &mut segment)
+    made_of(alloc, updates, &mut segment)
 }
 
 /// The row `a` dies after it was read, and `d` before it is; numbers are set in `b` after it was read.
 #[test]
 fn rows_die_between_steps(rt: HostRuntime) -> Result<(), Fail> {
-    let made = merged(rt.alloc())?;
+    let updates = many_updates(rt.alloc())?;
+    let made = merged(rt.alloc(), &updates)?.ok_or("nothing merged")?;
     assert!(rt; shown(rt.alloc(), &made)?.as_str() == "3 41 b2=5 c3");
+    Ok(())
+}
+
+/// All rows die between two steps: there is no segment.
+#[test]
+fn all_rows_die(rt: HostRuntime) -> Result<(), Fail> {
+    let updates = all_deletes(rt.alloc())?;
+    assert!(rt; merged(rt.alloc(), &updates)?.is_none());
     Ok(())
 }

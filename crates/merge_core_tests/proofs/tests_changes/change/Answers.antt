@@ -1,6 +1,6 @@
 use Rattle.std.proofs.Common.{ap, rules}
 use Rattle.segment_core.specs.LiveRows.{Lived}
-use Rattle.merge_core_tests.proofs.OneSource.{stays}
+use Rattle.merge_core_tests.proofs.ReadAll.{stays}
 use Rattle.merge_core_tests.proofs.tests_changes.change.Goals as goal
 
 pub returns : goal.returns

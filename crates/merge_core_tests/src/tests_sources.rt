@@ -1,0 +1,73 @@
+//! Segments whose rows were born in turn, merged: worked out by hand, and compared with the inversion of
+//! the merged rows.
+ghost use Rattle.std.specs.Prelude.{◌≡◌, ◌≤◌, ◌<◌, length};
+
+use crate::reading::{finished, read_all, start};
+use crate::sources::three_sources;
+use analysis::invert;
+use segment_core::LiveSegment;
+use std::alloc::Global;
+use std::fmt::Write;
+use std::test::*;
+use test_texts::shown_postings;
+
+/// The segment that is made of three, read in steps of so many rows.
+fn merged(alloc: Global, count: u64, rows: u32) -> Result<LiveSegment, Fail>
+    requires { count ≤ 10000 }
+{
+    let segments = three_sources(alloc, count)?;
+    let mut merge = start(alloc, segments.as_slice())?;
+    read_all(&mut merge, segments.as_slice(), rows)?;
+    Ok(finished(merge, segments.as_slice())?.ok_or("nothing merged")?)
+}
+
+/// The births of the rows.
+fn births(alloc: Global, segment: &LiveSegment) -> Result<String, Fail> {
+    let mut out = String::new(alloc);
+    for row in segment.segment().rows.as_slice() {
+        write!(out, "{} ", row.birth)?;
+    }
+    Ok(out)
+}
+
+/// The inversion of the segment's rows, as a text.
+fn inversion(alloc: Global, segment: &LiveSegment) -> Result<String, Fail> {
+    let rows = segment.segment().rows.as_slice();
+    if rows.len() > 30000 {
+        Err("many rows")?;
+    }
+    let postings = invert(alloc, rows)?;
+    shown_postings(alloc, &postings)
+}
+
+/// Whether the segment's postings are the inversion of its rows.
+fn is_inverted(alloc: Global, segment: &LiveSegment) -> Result<bool, Fail> {
+    let want = inversion(alloc, segment)?;
+    let postings = shown_postings(alloc, &segment.segment().postings)?;
+    Ok(postings.as_str() == want.as_str())
+}
+
+/// Whether the segment that is read in steps of so many rows has the rows that are live.
+fn is_right(alloc: Global, rows: u32) -> Result<bool, Fail> {
+    let made = merged(alloc, 4, rows)?;
+    let births = births(alloc, &made)?;
+    Ok(births.as_str() == "1 2 4 5 6 7 8 11 " && is_inverted(alloc, &made)?)
+}
+
+/// Whatever the steps, the same rows and postings are made. Those of the operations 3 and 10 are dead.
+#[test]
+fn steps_of_all_sizes(rt: HostRuntime) -> Result<(), Fail> {
+    for rows in [1, 2, 3, 4, 9, 10, 100] {
+        assert!(rt; is_right(rt.alloc(), rows)?);
+    }
+    Ok(())
+}
+
+/// Of 3,750 rows those die that a word of every seventh names.
+#[test]
+fn many_rows(rt: HostRuntime) -> Result<(), Fail> {
+    let made = merged(rt.alloc(), 1500, 1000)?;
+    assert!(rt; made.segment().rows.len() == 3214);
+    assert!(rt; is_inverted(rt.alloc(), &made)?);
+    Ok(())
+}
