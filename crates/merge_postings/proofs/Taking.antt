@@ -149,6 +149,6 @@ above_least t u queue all last = subst (IsBelow t) last.3 (all_last (λ (v : Wai
 -- where the least term was taken, fewer entries are left
 pub taken_fewer : (u : Term) (queue left : List Waiting) (rows : List Posting) → IsLast u queue → TakenAll u queue left rows → entry_count left < entry_count queue
 taken_fewer u queue left rows last all = elim all.taken.fewer [
-  inl e ↦ absurd (less_not_itself u (above_least u u queue (subst (StartAbove u) e all.above) last))
+  | inl e ↦ absurd (less_not_itself u (above_least u u queue (subst (StartAbove u) e all.above) last))
   | inr l ↦ l
 ]

@@ -57,10 +57,7 @@ pub(crate) fn put_back<'a>(
 }
 
 /// The sources that have an entry, by their first terms.
-pub(crate) fn queue_of<'a>(
-    alloc: Global,
-    sources: &[Source<'a>],
-) -> Result<Vec<Head<'a>>, NoMemory>
+pub(crate) fn queue_of<'a>(alloc: Global, sources: &[Source<'a>]) -> Result<Vec<Head<'a>>, NoMemory>
     ensures queued { IfOk result (λ queue. AreQueued queue.items) }
     ensures exact { IfOk result (λ queue. (field bytes : List ℕ) (r x : ℕ)
         → any_waiting queue.items field bytes r x ≡ any_moved sources.now field bytes r x) }

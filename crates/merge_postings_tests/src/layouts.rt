@@ -11,11 +11,12 @@ use test_values::{field_of, text_of};
 /// Of a row: which source has it, and whether it gets a number. Numbers rise with rows.
 pub(crate) type Place = (usize, bool);
 
-/// Words of which some come in many rows and some in few.
+/// Words of which some come in many rows and some in few: six, and in some rows six hundred.
 fn body_of(alloc: Global, row: usize) -> Result<String, Fail> {
     let mut body = String::new(alloc);
     let mut drawn = u32::try_from(row).unwrap_or(0);
-    for _ in 0..6 {
+    let words = if row % 500 == 17 { 600 } else { 6 };
+    for _ in 0..words {
         drawn = drawn.wrapping_mul(1_664_525).wrapping_add(1_013_904_223);
         let word = (drawn >> 24) * (drawn >> 24) % 400;
         write!(body, "w{word} ")?;
