@@ -1,9 +1,11 @@
 //! Merges of the segments of an index, in steps.
-ghost use Rattle.std.specs.Prelude.{◌≡◌, ◌<◌, ◌≤◌, ◌^◌, ℕ, List as ListOf, None, Some, IfOk, IfSome, MatchOption, OnErr, length, vec_capacity};
+ghost use Rattle.std.specs.Prelude.{◌≡◌, ◌<◌, ◌≤◌, ◌^◌, ℕ, List as ListOf, None, Some, length};
+ghost use Rattle.std.specs.Prelude.{IfOk, IfSome, MatchOption, OnErr, vec_capacity};
 ghost use Rattle.segment_core.specs.LiveRows.{Lived};
 ghost use Rattle.merge_core.specs.Merging.{row_count};
 ghost use Rattle.merge_core.specs.Picking.{HasNoPick};
-ghost use Rattle.flush_control.specs.Merging.{Advanced, IsBegunBy, IsEnd, IsTaken, Runs, SameSegments, StillRuns, Turns, replaced};
+ghost use Rattle.flush_control.specs.Merging.{Advanced, IsBegunBy, IsEnd, IsTaken, Runs};
+ghost use Rattle.flush_control.specs.Merging.{SameSegments, StillRuns, Turns, replaced};
 ghost use Rattle.flush_control.specs.Published.{IsPublished};
 
 use crate::published::Published;
@@ -25,8 +27,8 @@ pub enum MergeTurn {
     Merged,
 }
 
-/// A merge of the m segments with the fewest live rows, of which nothing was read yet: `None` exactly
-/// where there is no such merge.
+/// A merge of the m segments with the fewest live rows, of which nothing was read yet: `None`
+/// exactly where there is no such merge.
 fn started(alloc: Global, segments: &[LiveSegment], m: u32) -> Result<Option<Merge>, NoMemory>
     requires { m ≤ 64 }
     ensures { IfOk result (λ found. MatchOption found (HasNoPick m segments.now)
@@ -40,14 +42,14 @@ fn started(alloc: Global, segments: &[LiveSegment], m: u32) -> Result<Option<Mer
 }
 
 impl Published {
-    /// Takes a step of the merge that runs: it reads `rows` more rows of its sources, or all that are
-    /// left. Where none runs, one of the m segments with the fewest live rows is begun, ties by smaller
-    /// id, m being 2 to 64. Once all rows were read, the segment that the sources are merged into takes
-    /// the next id and stands last, in their place; where no row of them is live there is none, and no id
-    /// is taken. `Idle` comes exactly where no merge runs and there are fewer than m segments, those have
-    /// 2^31 live rows or more together, or one file has no room for the rows, or for the postings, of all
-    /// of them; nothing changes then. After an error the segments are as before; a merge that ran still
-    /// runs, and has read at most `rows` rows more.
+    /// Takes a step of the merge that runs: it reads `rows` more rows of its sources, or all that
+    /// are left. Where none runs, one of the m segments with the fewest live rows is begun, ties by
+    /// smaller id, m being 2 to 64. Once all rows were read, the segment that the sources are merged
+    /// into takes the next id and stands last, in their place; where no row of them is live there is
+    /// none, and no id is taken. `Idle` comes exactly where no merge runs and there are fewer than m
+    /// segments, those have 2^31 live rows or more together, or one file has no room for the rows,
+    /// or for the postings, of all of them; nothing changes then. After an error the segments are as
+    /// before; a merge that ran still runs, and has read at most `rows` rows more.
     pub fn merge_turn(&mut self, alloc: Global, m: u32, rows: u32) -> Result<MergeTurn, NoMemory>
         requires m { (2 ≤ m) × (m ≤ 64) }
         requires rows { 1 ≤ rows }
@@ -67,8 +69,8 @@ impl Published {
         }
     }
 
-    /// Takes the merge that runs out, or begins one: `None` exactly where none runs and there is none to
-    /// begin. After an error all is as before.
+    /// Takes the merge that runs out, or begins one: `None` exactly where none runs and there is
+    /// none to begin. After an error all is as before.
     fn begin(&mut self, alloc: Global, m: u32) -> Result<Option<Merge>, NoMemory>
         requires m { m ≤ 64 }
         ensures out { self.new ≡ record self.old { merge = None } }
@@ -110,8 +112,8 @@ impl Published {
         }
     }
 
-    /// Ends a merge that has read all rows of its sources: the segment that they are merged into, if there
-    /// is one, takes their place. After an error the merge runs on as it is.
+    /// Ends a merge that has read all rows of its sources: the segment that they are merged into, if
+    /// there is one, takes their place. After an error the merge runs on as it is.
     fn end(&mut self, alloc: Global, merge: Merge) -> Result<MergeTurn, NoMemory>
         requires published { IsPublished self.old }
         requires none { self.old.merge ≡ None }
@@ -146,8 +148,8 @@ impl Published {
         }
     }
 
-    /// Puts these segments in the place of the published ones, without those with these ids; the merged
-    /// one, if there is one, takes the next id and stands last. It takes no memory.
+    /// Puts these segments in the place of the published ones, without those with these ids; the
+    /// merged one, if there is one, takes the next id and stands last. It takes no memory.
     fn replace(&mut self, items: Vec<LiveSegment>, ids: &[u64], merged: Option<LiveSegment>)
         requires room { length items.items < vec_capacity items }
         requires next_id { self.old.next_id ≤ 2 ^ 63 }

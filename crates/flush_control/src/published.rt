@@ -47,8 +47,8 @@ impl Published {
     }
 
     /// Applies a packet to all segments, on the threads of `rt`. Then the operations up to the
-    /// packet's last number are in each. A merge runs on: what it has read of its sources is still what
-    /// was read. After an error all is as before.
+    /// packet's last number are in each. A merge runs on: what it has read of its sources is still
+    /// what was read. After an error all is as before.
     pub fn apply_up<R: Threads + Sync>(
         &mut self,
         rt: &R,

@@ -52,7 +52,7 @@ pub(crate) fn untold(alloc: Global, base: u64) -> Told
 }
 
 /// The rows with the key are deleted.
-fn delete_of(alloc: Global, key: &str) -> Result<Entry, Fail>
+pub(crate) fn delete_of(alloc: Global, key: &str) -> Result<Entry, Fail>
     ensures { IfOk result AddsNone }
 {
     let term = key_term(alloc, key)?;
@@ -60,7 +60,7 @@ fn delete_of(alloc: Global, key: &str) -> Result<Entry, Fail>
 }
 
 /// The number `n` is set in the rows with the key.
-fn setting_of(alloc: Global, key: &str, value: i64) -> Result<Entry, Fail>
+pub(crate) fn setting_of(alloc: Global, key: &str, value: i64) -> Result<Entry, Fail>
     ensures { IfOk result AddsNone }
 {
     let term = key_term(alloc, key)?;

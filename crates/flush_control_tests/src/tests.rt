@@ -5,7 +5,7 @@ ghost use Rattle.segment_core.specs.LiveRows.{CanBuild};
 ghost use Rattle.packet_apply.specs.Packets.{Meets};
 ghost use Rattle.flush_control.specs.Published.{HasInversion};
 
-use crate::round::fresh;
+use crate::round::{Act, delete_of, fresh, setting_of};
 use analysis::invert;
 use flush_control::Published;
 use frozen_packet::{Packet, Updates};
@@ -17,15 +17,8 @@ use std::fmt::Write;
 use std::test::*;
 use std::thread::Threads;
 use test_segments::show_live_row;
-use test_values::{key_term, name_of, row_of};
+use test_values::row_of;
 use thread_writer::Piece;
-
-/// What an entry does to the rows with its key: it deletes them, or sets the number `n` in them.
-#[derive(Clone, Copy)]
-enum Act {
-    Delete,
-    Set(i64),
-}
 
 /// Entries by number, and what each does to the rows with a key.
 type Entries<'a> = &'a [(u64, Act, &'a str)];
@@ -39,11 +32,10 @@ struct Given<'a> {
 }
 
 fn entry_of(alloc: Global, act: Act, key: &str) -> Result<Entry, Fail> {
-    let term = key_term(alloc, key)?;
-    let num = name_of(alloc, "n")?;
     match act {
-        Act::Delete => Ok(Entry::DeleteTerm(term)),
-        Act::Set(value) => Ok(Entry::SetNumber { term, num, value }),
+        Act::Add => Ok(Entry::Add),
+        Act::Delete => delete_of(alloc, key),
+        Act::Set(value) => setting_of(alloc, key, value),
     }
 }
 

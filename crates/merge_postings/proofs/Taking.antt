@@ -1,0 +1,154 @@
+-- A term that is taken out of the sources.
+use Rattle.std.proofs.Common.{◌≡◌, ℕ, ◌+◌, ◌<◌, Option, Some, None, List, [], ◌∷◌, ◌++◌, Bool, true, false, ◌&&◌, ◌||◌, length, ◌⊎◌, inl, inr, refl, sym, ap, ◌∙◌, subst, arith}
+use Rattle.std.proofs.Common.{suc, drop, drop-cons, get_or}
+use Rattle.std.specs.List.{AllByRecursion}
+use Rattle.std.specs.Option.{IfSome}
+use Rattle.ix_base.proofs.Ends.{ends}
+use Rattle.ix_base.proofs.TermOrder.{term_total}
+use Rattle.ix_base.specs.Inversion.{posted_at}
+use Rattle.ix_base.specs.declared.document.Term.{Term}
+use Rattle.ix_base.specs.declared.postings.Posting.{Posting}
+use Rattle.ix_base.specs.declared.postings.TermPostings.{TermPostings}
+use Rattle.merge_postings.specs.Renumbering.{Moving, any_moved, is_named, moved, moved_at}
+use Rattle.merge_postings.specs.Walk.{AreQueued, IsBelow, IsLast, IsPutBack, StartAbove, StartFrom, Taken, TakenAll, Waiting, any_waiting, entry_count, waiting}
+use Rattle.merge_postings.proofs.Queued.{above_not_below, all_front, all_last, all_put, any_last, any_put, below_through, count_last, count_put, from_last, less_not_itself, tri}
+
+and_false : (b c : Bool) → c ≡ ((b && false) || c)
+and_false true c = refl
+and_false false c = refl
+
+-- ---- nothing was taken yet
+
+pub none_taken : (u : Term) (queue : List Waiting) (rows : List Posting) → AreQueued queue → StartFrom u queue → rows ≡ [] → Taken u queue queue rows
+none_taken u queue rows queued from none = record {
+  exact = λ field bytes r x.
+      and_false (is_named field bytes u) (any_waiting queue field bytes r x)
+      ∙ ap (λ (ps : List Posting). (is_named field bytes u && posted_at ps r x) || any_waiting queue field bytes r x) (sym none);
+  queued = queued;
+  from = from;
+  later = λ t all. all;
+  fewer = inl refl;
+}
+
+-- ---- the rest of a source is put back
+
+back_all : (P : Waiting → Type 0) (o : Option Waiting) (old new : List Waiting) → IsPutBack o old new → AllByRecursion P old → IfSome o P → AllByRecursion P new
+back_all P None old new is all p = subst (AllByRecursion P) (sym is) all
+back_all P (Some w) old new is all p = subst (AllByRecursion P) (sym is.2) (all_put P old is.0 w p all)
+
+back_any : (es : List TermPostings) (numbers : List (Option ℕ)) (old new : List Waiting) → IsPutBack (waiting es numbers) old new → (field bytes : List ℕ) (r x : ℕ)
+    → any_waiting new field bytes r x ≡ (moved numbers es field bytes r x || any_waiting old field bytes r x)
+back_any [] numbers old new is field bytes r x = ap (λ (ws : List Waiting). any_waiting ws field bytes r x) is
+back_any (e ∷ es) numbers old new is field bytes r x =
+    ap (λ (ws : List Waiting). any_waiting ws field bytes r x) is.2 ∙ any_put old is.0 (record { first = e; rest = es; numbers = numbers }) field bytes r x
+
+back_count : (es : List TermPostings) (numbers : List (Option ℕ)) (old new : List Waiting) → IsPutBack (waiting es numbers) old new → entry_count new ≡ length es + entry_count old
+back_count [] numbers old new is = omega (arith, ap entry_count is)
+back_count (e ∷ es) numbers old new is = omega (arith, ap entry_count is.2, count_put old is.0 (record { first = e; rest = es; numbers = numbers }))
+
+-- ---- a source is queued
+
+regroup : (m a d : Bool) → ((m || a) || d) ≡ (a || (m || d))
+regroup true true d = refl
+regroup true false d = refl
+regroup false a d = refl
+
+-- where one more source was put among those that wait, they have what the sources before the next place have
+pub more_queued : (sources : List Moving) (i : ℕ) (s : Moving) (old new : List Waiting) → i < length sources → s ≡ get_or sources i s → IsPutBack (waiting s.terms s.numbers) old new
+    → ((field bytes : List ℕ) (r x : ℕ) → (any_waiting old field bytes r x || any_moved (drop i sources) field bytes r x) ≡ any_moved sources field bytes r x)
+    → (field bytes : List ℕ) (r x : ℕ) → (any_waiting new field bytes r x || any_moved (drop (i + 1) sources) field bytes r x) ≡ any_moved sources field bytes r x
+more_queued sources i s old new lt is back exact field bytes r x =
+    let more : i + 1 ≡ suc i = omega arith in
+    let left : drop i sources ≡ s ∷ drop (suc i) sources = drop-cons sources i s lt ∙ ap (λ (t : Moving). t ∷ drop (suc i) sources) (sym is) in
+    (λ j. back_any s.terms s.numbers old new back field bytes r x j || any_moved (drop (more j) sources) field bytes r x)
+    ∙ regroup (moved s.numbers s.terms field bytes r x) (any_waiting old field bytes r x) (any_moved (drop (suc i) sources) field bytes r x)
+    ∙ ap (λ (ss : List Moving). any_waiting old field bytes r x || any_moved ss field bytes r x) (sym left)
+    ∙ exact field bytes r x
+
+some_map : (P Q : Waiting → Type 0) (o : Option Waiting) → ((w : Waiting) → P w → Q w) → IfSome o P → IfSome o Q
+some_map P Q None f h = h
+some_map P Q (Some w) f h = f w h
+
+-- ---- an entry was taken
+
+spread : (n p m q f : Bool) → ((n && p) || (((n && m) || q) || f)) ≡ ((n && (p || m)) || (q || f))
+spread true true m q f = refl
+spread true false true q f = refl
+spread true false false q f = refl
+spread false p m q f = refl
+
+pub more_taken : (u : Term) (old cur front new : List Waiting) (h : Waiting) (rows more : List Posting) → Taken u old cur rows → cur ≡ front ++ h ∷ [] → h.first.term ≡ u
+    → ((r x : ℕ) → posted_at more r x ≡ (posted_at rows r x || moved_at h.numbers h.first.rows r x))
+    → IsPutBack (waiting h.rest h.numbers) front new → AreQueued new
+    → IfSome (waiting h.rest h.numbers) (λ (next : Waiting). IsBelow h.first.term next.first.term)
+    → Taken u old new more
+more_taken u old cur front new h rows more taken is named put back queued rises = record {
+  exact = λ field bytes r x.
+      taken.exact field bytes r x
+      ∙ ap (λ (ws : List Waiting). (is_named field bytes u && posted_at rows r x) || any_waiting ws field bytes r x) is
+      ∙ ap (λ (b : Bool). (is_named field bytes u && posted_at rows r x) || b) (any_last front h field bytes r x)
+      ∙ ap (λ (t : Term). (is_named field bytes u && posted_at rows r x) || (((is_named field bytes t && moved_at h.numbers h.first.rows r x) || moved h.numbers h.rest field bytes r x) || any_waiting front field bytes r x)) named
+      ∙ spread (is_named field bytes u) (posted_at rows r x) (moved_at h.numbers h.first.rows r x) (moved h.numbers h.rest field bytes r x) (any_waiting front field bytes r x)
+      ∙ (λ i. (is_named field bytes u && (sym (put r x)) i) || (sym (back_any h.rest h.numbers front new back field bytes r x)) i);
+  queued = queued;
+  from = back_all (λ (w : Waiting). IsBelow w.first.term u → ⊥) (waiting h.rest h.numbers) front new back
+      (all_front (λ (w : Waiting). IsBelow w.first.term u → ⊥) front h (subst (StartFrom u) is taken.from))
+      (some_map (λ (w : Waiting). IsBelow h.first.term w.first.term) (λ (w : Waiting). IsBelow w.first.term u → ⊥) (waiting h.rest h.numbers)
+      (λ w l. above_not_below u w.first.term (subst (λ (t : Term). IsBelow t w.first.term) named l)) rises);
+  later = λ t all.
+      let there = subst (StartAbove t) is (taken.later t all) in
+      back_all (λ (w : Waiting). IsBelow t w.first.term) (waiting h.rest h.numbers) front new back
+      (all_front (λ (w : Waiting). IsBelow t w.first.term) front h there)
+      (some_map (λ (w : Waiting). IsBelow h.first.term w.first.term) (λ (w : Waiting). IsBelow t w.first.term) (waiting h.rest h.numbers)
+      (λ w l. term_total.trans t h.first.term w.first.term (all_last (λ (v : Waiting). IsBelow t v.first.term) front h there) l) rises);
+  fewer = go taken.fewer;
+}
+  where
+    less : entry_count new < entry_count cur
+    less = omega (arith, back_count h.rest h.numbers front new back, ap entry_count is, count_last front h)
+
+    go : (cur ≡ old) ⊎ (entry_count cur < entry_count old) → (new ≡ old) ⊎ (entry_count new < entry_count old)
+    go (inl e) = inr (omega (arith, less, ap entry_count e))
+    go (inr l) = inr (omega (arith, less, l))
+
+pub less_left : (h : Waiting) (cur front new : List Waiting) → cur ≡ front ++ h ∷ [] → IsPutBack (waiting h.rest h.numbers) front new → entry_count new < entry_count cur
+less_left h cur front new is back = omega (arith, back_count h.rest h.numbers front new back, ap entry_count is, count_last front h)
+
+-- ---- all was taken
+
+pub all_taken : (u : Term) (old cur : List Waiting) (rows : List Posting) → Taken u old cur rows
+    → ((front : List Waiting) (w : Waiting) → cur ≡ front ++ w ∷ [] → w.first.term ≡ u → ⊥) → TakenAll u old cur rows
+all_taken u old cur rows taken other = record { taken = taken; above = go (ends cur) }
+  where
+    above : (w : Waiting) (vs : List Waiting) → IsBelow u w.first.term → StartFrom w.first.term vs → StartAbove u vs
+    above w [] l all = tt
+    above w (v ∷ vs) l all = (below_through u w.first.term v.first.term l all.0, above w vs l all.1)
+
+    least : (w : Waiting) → (IsBelow w.first.term u → ⊥) → (w.first.term ≡ u → ⊥) → IsBelow u w.first.term
+    least w low not = elim (tri u w.first.term) [ inl l ↦ l | inr h ↦ elim h [ inl e ↦ absurd (not (sym e)) | inr l ↦ absurd (low l) ] ]
+
+    go : (cur ≡ []) ⊎ ((front : List Waiting) × (w : Waiting) × (cur ≡ front ++ w ∷ [])) → StartAbove u cur
+    go (inl e) = subst (StartAbove u) (sym e) tt
+    go (inr p) =
+        let front : List Waiting = p.0 in
+        let w : Waiting = p.1 in
+        let low : IsBelow w.first.term u → ⊥ = all_last (λ (v : Waiting). IsBelow v.first.term u → ⊥) front w (subst (StartFrom u) p.2 taken.from) in
+        subst (StartAbove u) (sym p.2)
+        (above w (front ++ w ∷ []) (least w low (other front w p.2)) (from_last front w (subst AreQueued p.2 taken.queued)))
+
+-- ---- the least term
+
+pub least_from : (u : Term) (queue : List Waiting) → AreQueued queue → IsLast u queue → StartFrom u queue
+least_from u queue queued last =
+    subst (StartFrom u) (sym last.2) (subst (λ (t : Term). StartFrom t (last.0 ++ last.1 ∷ [])) last.3 (from_last last.0 last.1 (subst AreQueued last.2 queued)))
+
+-- what is above all that are queued is above the least
+pub above_least : (t u : Term) (queue : List Waiting) → StartAbove t queue → IsLast u queue → IsBelow t u
+above_least t u queue all last = subst (IsBelow t) last.3 (all_last (λ (v : Waiting). IsBelow t v.first.term) last.0 last.1 (subst (StartAbove t) last.2 all))
+
+-- where the least term was taken, fewer entries are left
+pub taken_fewer : (u : Term) (queue left : List Waiting) (rows : List Posting) → IsLast u queue → TakenAll u queue left rows → entry_count left < entry_count queue
+taken_fewer u queue left rows last all = elim all.taken.fewer [
+  | inl e ↦ absurd (less_not_itself u (above_least u u queue (subst (StartAbove u) e all.above) last))
+  | inr l ↦ l
+]

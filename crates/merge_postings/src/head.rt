@@ -1,0 +1,88 @@
+//! Sources that wait to be walked further.
+ghost use Rattle.std.specs.Prelude.{◌≡◌, ◌||◌, ℕ, true, false, OnOk, IfSome};
+ghost use Rattle.ix_base.specs.Inversion.{posted_at, IsPostings};
+ghost use Rattle.merge_postings.specs.Renumbering.{moved_at, NumbersRise};
+ghost use Rattle.merge_postings.specs.Walk.{waiting, IsBelow};
+
+use crate::united::put_moved;
+use analysis::compare_terms;
+use ix_base::{NoMemory, Spots, Term, TermPostings};
+use std::alloc::Global;
+use std::cmp::Ordering;
+use std::marker::Model;
+
+/// A source that wasn't walked to its end: its next entry, and those behind it.
+#[derive(Drop)]
+pub(crate) struct Head<'a> {
+    first: &'a TermPostings,
+    rest: &'a [TermPostings],
+    numbers: &'a [Option<u32>],
+    /// The place of the source among all.
+    place: usize,
+}
+
+impl<'a> Model for Head<'a> {
+    ghost use Rattle.merge_postings.specs.Walk.{CanWait, Waiting};
+
+    ghost Value = { Waiting };
+
+    ghost view = { λ h. record { first = h.first.now; rest = h.rest.now; numbers = h.numbers.now } };
+
+    ghost invariant = { λ h. CanWait (record { first = h.first.now; rest = h.rest.now; numbers = h.numbers.now }) };
+}
+
+impl<'a> Head<'a> {
+    /// What waits of a source with these entries; `None` where there is none.
+    pub(crate) fn new(
+        terms: &'a [TermPostings],
+        numbers: &'a [Option<u32>],
+        place: usize,
+    ) -> Option<Head<'a>>
+        requires ordered { IsPostings terms.now }
+        requires rise { NumbersRise numbers.now }
+        ensures { result ≡ waiting terms.now numbers.now }
+    {
+        let (first, rest) = terms.split_first()?;
+        Some(Head {
+            first,
+            rest,
+            numbers,
+            place,
+        })
+    }
+
+    /// The term of the next entry.
+    pub(crate) fn term(&self) -> &'a Term
+        ensures { result.now ≡ self.now.first.term }
+    {
+        &self.first.term
+    }
+
+    /// The source behind its next entry; `None` where that is the last.
+    pub(crate) fn next(&self) -> Option<Head<'a>>
+        ensures rest { result ≡ waiting self.now.rest self.now.numbers }
+        ensures rises { IfSome result (λ next. IsBelow self.now.first.term next.first.term) }
+    {
+        Head::new(self.rest, self.numbers, self.place)
+    }
+
+    /// Puts the places of the next entry among those that are there, at the rows of their numbers.
+    pub(crate) fn put(&self, alloc: Global, rows: &mut Spots) -> Result<(), NoMemory>
+        ensures { OnOk result ((r x : ℕ) → posted_at rows.new r x
+            ≡ (posted_at rows.old r x || moved_at self.now.numbers self.now.first.rows r x)) }
+    {
+        put_moved(alloc, rows, &self.first.rows, self.numbers)
+    }
+
+    /// Whether it is taken after this one.
+    pub(crate) fn is_after(&self, other: &Head<'_>) -> bool
+        ensures after { result ≡ true → ¬ IsBelow self.now.first.term other.now.first.term }
+        ensures before { result ≡ false → ¬ IsBelow other.now.first.term self.now.first.term }
+    {
+        match compare_terms(self.term(), other.term()) {
+            Ordering::Less => false,
+            Ordering::Equal => self.place > other.place,
+            Ordering::Greater => true,
+        }
+    }
+}

@@ -1,0 +1,94 @@
+//! Sources that wait, by their first terms, which don't rise: the last has the least.
+ghost use Rattle.std.specs.Prelude.{◌≡◌, ◌≢◌, ◌||◌, ◌≤◌, ◌++◌, ◌∷◌, [], ℕ, List, length, take, drop, IfNone, IfOk, IfSome, OnOk};
+ghost use Rattle.merge_postings.specs.Renumbering.{any_moved};
+ghost use Rattle.merge_postings.specs.Walk.{any_waiting, waiting, StartFrom, AreQueued, StartUpto, IsLast, IsPut, IsPutBack, Waiting};
+
+use crate::head::Head;
+use crate::source::Source;
+use analysis::compare_terms;
+use ix_base::{NoMemory, Term};
+use std::alloc::Global;
+use std::cmp::Ordering;
+
+/// The place at which this source comes among these, found by halving.
+fn place_of(queue: &[Head<'_>], head: &Head<'_>) -> usize
+    requires { AreQueued queue.now }
+    ensures within { result ≤ length queue.now }
+    ensures before { StartFrom head.now.first.term (take result queue.now) }
+    ensures behind { StartUpto head.now.first.term (drop result queue.now) }
+{
+    let mut low = 0;
+    let mut high = queue.len();
+    'halves: while low < high {
+        let middle = low + (high - low) / 2;
+        if queue[middle].is_after(head) {
+            low = middle + 1;
+        } else {
+            high = middle;
+        }
+    }
+    low
+}
+
+/// Puts a source among these.
+fn put_head<'a>(queue: &mut Vec<Head<'a>>, head: Head<'a>) -> Result<(), NoMemory>
+    requires { AreQueued queue.old.items }
+    ensures put { OnOk result (IsPut head.entry queue.old.items queue.new.items) }
+    ensures queued { OnOk result (AreQueued queue.new.items) }
+{
+    let place = place_of(queue.as_slice(), &head);
+    queue.insert(place, head)?;
+    Ok(())
+}
+
+/// Puts a source among these, if there is one.
+pub(crate) fn put_back<'a>(
+    queue: &mut Vec<Head<'a>>,
+    head: Option<Head<'a>>,
+) -> Result<(), NoMemory>
+    requires { AreQueued queue.old.items }
+    ensures put { OnOk result (IsPutBack head.entry queue.old.items queue.new.items) }
+    ensures queued { OnOk result (AreQueued queue.new.items) }
+{
+    match head {
+        Some(head) => put_head(queue, head),
+        None => Ok(()),
+    }
+}
+
+/// The sources that have an entry, by their first terms.
+pub(crate) fn queue_of<'a>(alloc: Global, sources: &[Source<'a>]) -> Result<Vec<Head<'a>>, NoMemory>
+    ensures queued { IfOk result (λ queue. AreQueued queue.items) }
+    ensures exact { IfOk result (λ queue. (field bytes : List ℕ) (r x : ℕ)
+        → any_waiting queue.items field bytes r x ≡ any_moved sources.now field bytes r x) }
+{
+    let mut queue = Vec::with_capacity(alloc, sources.len())?;
+    for place in 0..sources.len() {
+        put_back(&mut queue, sources[place].head(place))?;
+    }
+    Ok(queue)
+}
+
+/// The least first term: `None` exactly where no source is left.
+pub(crate) fn least<'a>(queue: &[Head<'a>]) -> Option<&'a Term>
+    ensures some { IfSome result (λ term. IsLast term.now queue.now) }
+    ensures none { IfNone result (queue.now ≡ []) }
+{
+    let head = queue.last()?;
+    Some(head.term())
+}
+
+/// Takes the last source out, if its first term is this one.
+pub(crate) fn take_last<'a>(queue: &mut Vec<Head<'a>>, term: &Term) -> Option<Head<'a>>
+    ensures some { IfSome result (λ head. queue.old.items ≡ queue.new.items ++ head ∷ []) }
+    ensures term { IfSome result (λ head. head.first.term ≡ term.now) }
+    ensures none { IfNone result (queue.new.items ≡ queue.old.items) }
+    ensures other { IfNone result ((front : List Waiting) (w : Waiting)
+        → queue.old.items ≡ front ++ w ∷ [] → w.first.term ≢ term.now) }
+{
+    let head = queue.last()?;
+    match compare_terms(head.term(), term) {
+        Ordering::Equal => queue.pop(),
+        _ => None,
+    }
+}
