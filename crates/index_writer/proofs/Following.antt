@@ -170,6 +170,7 @@ are_stored files s (e ∷ es) (g ∷ gs) have =
 pub opened_go_on : OpenedGoOn
 opened_go_on files last = record {
   follows = can_follow files last;
+  stored = λ size merge have. are_stored files last.number last.entries last.segments have;
   goes_on = λ size merge is. record {
     none_above = is.none_above;
     ids = is.ids;

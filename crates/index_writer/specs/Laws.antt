@@ -5,7 +5,7 @@ use Rattle.ix_base.specs.declared.file_name.FileName.TheVariants.{Commit}
 use Rattle.ix_outside.specs.Files.{Files}
 use Rattle.commit_point.specs.declared.heads.HeadSegment.{HeadSegment}
 use Rattle.commit_point.specs.declared.open.Opened.{Opened}
-use Rattle.commit_point.specs.Holds.{HasSegments, HoldsInverted, Lists}
+use Rattle.commit_point.specs.Holds.{HasSegments, HaveSegments, HoldsInverted, Lists}
 use Rattle.index_writer.specs.declared.state.State.{State}
 use Rattle.index_writer.specs.Ready.{CanFollow, HasRows, IsReady, IsStored, opened_on}
 use Rattle.index_writer.specs.Storing.{Commits, GoesOn, MayCommit, on_commit}
@@ -35,9 +35,12 @@ pub record IsLastOf (files : Files) (last : Opened) : Type 0 where
   pub none_above : (t : ℕ) → last.number < t → files (Commit t) ≡ None
   pub ids : (t : ℕ) (e : HeadSegment) → Lists files t e → e.id < last.next_id
 
--- A writer can begin on a commit that files spell, and where that is the last one, it can go on from the files.
+-- A writer can begin on a commit that files spell, and where that is the last one, it can go on from the files. Where they
+-- spell the commit's segments, what is on the store of the writer's stands in them.
 pub record CanBegin (files : Files) (last : Opened) : Type 0 where
   pub follows : HasSegments files last.number last.next_id last.entries last.segments → CanFollow last
+  pub stored : (size merge : ℕ) → HaveSegments files last.number last.entries last.segments
+      → IsStored files (opened_on last size merge)
   pub goes_on : (size merge : ℕ) → IsLastOf files last → GoesOn files (opened_on last size merge)
 
 abbrev pub OpenedGoOn : Type 0

@@ -48,13 +48,13 @@ again_some : (g : Given) (log : List Line) (count : ℕ) (front : List ℕ) (s :
     → g.next + 2 * length log ≤ 2 ^ 61 → commit_numbers g.base (take count log) ≡ front ++ s ∷ []
     → HasFirst g log count f → CanRunOn f
 again_some g log count front s f can room is has = (
-  record { lines = []; files = f; base = s; next = this.id; rows = rows_at g.base g.rows log s },
+  record { lines = []; files = f; base = s; next = this.own.id; rows = rows_at g.base g.rows log s },
   refl,
   (
     record { there = λ some. there; none_above = λ t above. none_of (f (Commit t)) (not_above t above) },
     inr (
       omega (arith, rise.0),
-      record { holds = this.holds; room = omega (arith, this.to_limit, room); above = this.above },
+      record { holds = this.own.holds; room = omega (arith, this.own.to_limit, room); above = this.above },
     ),
   ),
 )
@@ -70,7 +70,7 @@ again_some g log count front s f can room is has = (
         (subst (λ (ns : List ℕ). Rises g.base ns) is (commits_rise g.base (take count log)))
 
     there : IsSome (f (Commit s))
-    there = there_by f s _ this.holds.holds.spelled.head.file
+    there = there_by f s _ this.own.holds.holds.spelled.head.file
 
     not_above : (t : ℕ) → s < t → IsSome (f (Commit t)) → ⊥
     not_above t above here = elim (has.only t here) [

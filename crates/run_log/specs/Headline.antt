@@ -2,12 +2,15 @@
 use Rattle.std.specs.Prelude.{◌≡◌, ◌≢◌, ◌⊎◌, ◌<◌, ◌≤◌, ◌+◌, ◌-◌, ◌*◌, ◌^◌, ℕ, Bool, true, false, ◌==◌, ◌&&◌, if◌then◌else◌}
 use Rattle.std.specs.Prelude.{List, [], ◌∷◌, ◌++◌, length, take, Option, Some, None, is_none, IsSome, IsSomeAnd}
 use Rattle.ix_base.specs.declared.document.Row.{Row}
+use Rattle.ix_base.specs.declared.file_name.FileName.{FileName}
 use Rattle.ix_base.specs.declared.file_name.FileName.TheVariants as file
 use Rattle.ix_outside.specs.Crash.{MayHold}
 use Rattle.ix_outside.specs.Disk.{Disk, Told, told_files}
 use Rattle.ix_outside.specs.Files.{Files}
 use Rattle.commit_point.specs.Steps.{KeepsMade}
-use Rattle.commit_point.specs.Holds.{AreKept, Holds, IsLawful, HoldsInverted, IsAboveIds, KeepsCommits}
+use Rattle.commit_point.specs.Holds.{AreKept, Holds, IsAmong, IsFileOf, IsLawful, HoldsInverted, IsAboveIds, KeepsCommits}
+use Rattle.commit_point.specs.Holds.{Lists, names_of}
+use Rattle.commit_point.specs.declared.heads.HeadSegment.{HeadSegment}
 use Rattle.op_script.specs.declared.script.Line.{Line}
 use Rattle.std.specs.List.{filter, filter_map, AllByRecursion}
 use Rattle.ix_base.specs.declared.document.Operation.{Operation}
@@ -68,6 +71,27 @@ CanRunOn files = (g : Given) × (g.files ≡ files) × CanRun g
 -- each commit is kept when the run begins: nothing of it is still on its way to the disk
 abbrev pub IsKept : Given → Option Disk → Type 0
 IsKept g store = AreKept g.files (MayHold store)
+
+-- ---- one commit by itself, whatever became of the others
+
+-- the files of the commit t have the bytes that they had
+abbrev pub KeepsCommit : ℕ → Files → Files → Type 0
+KeepsCommit t old new = (name : FileName) → IsFileOf old t name → new name ≡ old name
+
+-- the commit t is settled: every image of the store has its files with the bytes that reads give
+abbrev pub IsSettled : ℕ → Files → Option Disk → Type 0
+IsSettled t files store = (d : Files) → MayHold store d → KeepsCommit t files d
+
+-- the files of the segments that the commit t lists have the bytes that they had
+abbrev pub KeepsSegments : ℕ → Files → Files → Type 0
+KeepsSegments t old new =
+    (name : FileName) (e : HeadSegment) → Lists old t e → IsAmong (names_of e) name → new name ≡ old name
+
+-- The last commit's segments are settled: every image has their files with the bytes that reads give, whether it has the
+-- commit file or not. And no image has a commit above it.
+pub record IsLastSettled (g : Given) (store : Option Disk) : Type 0 where
+  pub segments : (d : Files) → MayHold store d → KeepsSegments g.base g.files d
+  pub none_above : (d : Files) → MayHold store d → (s : ℕ) → g.base < s → d (file.Commit s) ≡ None
 
 -- ---- the numbers: a run has a log, the numbered lines in one order, of which the first has the
 -- number after `base`, and each other the next one
@@ -170,14 +194,17 @@ IsIn [] s = ⊥
 IsIn (n ∷ ns) s = (s ≡ n) ⊎ IsIn ns s
 
 -- A commit of the log: it has the rows by the operations numbered up to it, and the postings of
--- each segment are the inversion of its rows. Its next id is in range, and above each id that a
--- commit below it lists.
-pub record IsNewCommit (g : Given) (log : List Line) (files : Files) (s : ℕ) : Type 0 where
+-- each segment are the inversion of its rows. Its next id is in range.
+pub record IsOwnCommit (g : Given) (log : List Line) (files : Files) (s : ℕ) : Type 0 where
   pub id : ℕ
   pub from_next : g.next ≤ id
   pub to_limit : id ≤ g.next + 2 * length log
   pub holds : HoldsInverted files s id (rows_at g.base g.rows log s)
-  pub above : IsAboveIds files s id
+
+-- The same, and its next id is above each id that a commit below it lists.
+pub record IsNewCommit (g : Given) (log : List Line) (files : Files) (s : ℕ) : Type 0 where
+  pub own : IsOwnCommit g log files s
+  pub above : IsAboveIds files s own.id
 
 -- Of the log's commits those of its first `count` lines are there, each whole, and no other new
 -- one. The commits that were there have their files and bytes.
@@ -195,6 +222,20 @@ HasAll g log = HasFirst g log (length log)
 abbrev pub HasSome : Given → List Line → Files → Type 0
 HasSome g log files = (count : ℕ) × HasFirst g log count files
 
+-- Of the log's commits those of its first `count` lines are there, each whole, and no other commit
+-- above the base. Of the commits that were there nothing is said.
+pub record HasOwnFirst (g : Given) (log : List Line) (count : ℕ) (files : Files) : Type 0 where
+  pub each : AllByRecursion (IsOwnCommit g log files) (commit_numbers g.base (take count log))
+  pub only : (s : ℕ) → g.base < s → IsSome (files (file.Commit s)) → IsIn (commit_numbers g.base (take count log)) s
+
+-- all of the log's commits are there, and no other above the base
+abbrev pub HasOwnAll : Given → List Line → Files → Type 0
+HasOwnAll g log = HasOwnFirst g log (length log)
+
+-- the first of the log's commits are there, up to some line, and no other above the base
+abbrev pub HasOwnSome : Given → List Line → Files → Type 0
+HasOwnSome g log files = (count : ℕ) × HasOwnFirst g log count files
+
 -- The store is again such as a run asks for: it tells its files, their last commit is lawful or
 -- there is none, and each commit is kept.
 abbrev pub GivesBack : Option Disk → Type 0
@@ -202,7 +243,8 @@ GivesBack store = (g : Given) × (told_files store ≡ Some g.files) × CanRun g
 
 -- A run that was done, for one order of its numbered lines, its log. What was written of the text that tells of the log
 -- is said by `wrote`. All of the log's commits are in the files that the store tells, and in every image once the call has
--- ended. A crash at any moment of the call leaves the first ones. And the store is again such as a run asks for.
+-- ended. A crash at any moment of the call leaves the first ones. And the store is again such as a run asks for. Where
+-- only the last commit's segments are settled, the log's commits are there all the same, whatever becomes of older ones.
 pub record Runs (g : Given) (text : List Line → List ℕ) (wrote : List ℕ → Type 0) (old new : Option Disk) : Type 0 where
   pub log : List Line
   pub numbering : Interleaves g.lines log
@@ -211,10 +253,13 @@ pub record Runs (g : Given) (text : List Line → List ℕ) (wrote : List ℕ �
   pub images : IsKept g old → (c : Files) → MayHold new c → HasAll g log c
   pub crash : IsKept g old → LeavesOnly old new (HasSome g log)
   pub again : IsKept g old → HasRoom g → GivesBack new
+  pub own_images : IsLastSettled g old → (c : Files) → MayHold new c → HasOwnAll g log c
+  pub own_crash : IsLastSettled g old → LeavesOnly old new (HasOwnSome g log)
 
 -- A run that stopped, or was done: for one order of its numbered lines, the files have the first
 -- ones of its commits, and a crash at any moment of the call leaves the first ones. Where there was
--- room for the lines, the next run can begin on the files, and on what a crash leaves.
+-- room for the lines, the next run can begin on the files, and on what a crash leaves. Where only
+-- the last commit's segments are settled, a crash leaves the first of the log's commits all the same.
 pub record Stops (g : Given) (old new : Option Disk) : Type 0 where
   pub log : List Line
   pub numbering : Interleaves g.lines log
@@ -222,11 +267,15 @@ pub record Stops (g : Given) (old new : Option Disk) : Type 0 where
   pub crash : IsKept g old → LeavesOnly old new (HasSome g log)
   pub again : HasRoom g → IsSomeAnd (told_files new) CanRunOn
   pub restarts : IsKept g old → HasRoom g → LeavesOnly old new CanRunOn
+  pub own_crash : IsLastSettled g old → LeavesOnly old new (HasOwnSome g log)
 
 -- The commits that were there have their files and bytes: in the files that the store tells, and
 -- after a crash at any moment of the call. A commit that stands at some moment of it, an old one or
--- one of the run's, stands from then on, with its files and bytes.
+-- one of the run's, stands from then on, with its files and bytes. A commit that is settled by itself
+-- has its files and bytes after a crash at any moment, whatever became of the others.
 pub record Keeps (g : Given) (old new : Option Disk) : Type 0 where
   pub kept : IsSomeAnd (told_files new) (KeepsCommits g.files)
   pub crash : IsKept g old → LeavesOnly old new (KeepsCommits g.files)
   pub standing : Told KeepsMade old new
+  pub each : (t : ℕ) → IsSome (g.files (file.Commit t)) → IsSettled t g.files old
+      → LeavesOnly old new (KeepsCommit t g.files)
