@@ -1,5 +1,5 @@
 -- A merge turn.
-use Rattle.std.proofs.Common.{◌≡◌, arith, ◌≤◌, ◌∙◌, inl, inr, ℕ, ◌+◌, Option, Some, None, List, [], ◌∷◌, ◌++◌, refl, sym, ap, subst}
+use Rattle.std.proofs.Common.{◌≡◌, arith, ◌≤◌, ◌∙◌, inl, inr, ℕ, ◌+◌, Option, Some, None, List, [], ◌∷◌, ◌++◌, refl, sym, subst}
 use Rattle.std.specs.Prelude.{Err, IfSome, Ok, OnErr, Result}
 use Rattle.segment_core.specs.LiveRows.{Lived}
 use Rattle.merge_core.specs.Merging.{Sources, row_count}

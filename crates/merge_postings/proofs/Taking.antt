@@ -5,9 +5,7 @@ use Rattle.std.specs.List.{AllByRecursion}
 use Rattle.std.specs.Option.{IfSome}
 use Rattle.ix_base.proofs.Ends.{ends}
 use Rattle.ix_base.proofs.TermOrder.{term_total}
-use Rattle.ix_base.specs.Inversion.{posted_at}
 use Rattle.ix_base.specs.declared.document.Term.{Term}
-use Rattle.ix_base.specs.declared.postings.Posting.{Posting}
 use Rattle.ix_base.specs.declared.postings.TermPostings.{TermPostings}
 use Rattle.merge_postings.specs.Renumbering.{Moving, any_moved, is_named, moved, moved_at}
 use Rattle.merge_postings.specs.Walk.{AreQueued, IsBelow, IsLast, IsPutBack, StartAbove, StartFrom, Taken, TakenAll, Waiting, any_waiting, entry_count, waiting}
@@ -19,15 +17,30 @@ and_false false c = refl
 
 -- ---- nothing was taken yet
 
-pub none_taken : (u : Term) (queue : List Waiting) (rows : List Posting) → AreQueued queue → StartFrom u queue → rows ≡ [] → Taken u queue queue rows
-none_taken u queue rows queued from none = record {
+pub none_taken : (u : Term) (queue : List Waiting) (place : ℕ → ℕ → Bool) → AreQueued queue → StartFrom u queue → ((r x : ℕ) → place r x ≡ false) → Taken u queue queue place
+none_taken u queue place queued from none = record {
   exact = λ field bytes r x.
       and_false (is_named field bytes u) (any_waiting queue field bytes r x)
-      ∙ ap (λ (ps : List Posting). (is_named field bytes u && posted_at ps r x) || any_waiting queue field bytes r x) (sym none);
+      ∙ ap (λ (b : Bool). (is_named field bytes u && b) || any_waiting queue field bytes r x) (sym (none r x));
   queued = queued;
   from = from;
   later = λ t all. all;
   fewer = inl refl;
+}
+
+-- the same places, said otherwise
+pub same_places : (u : Term) (old new : List Waiting) (place other : ℕ → ℕ → Bool) → ((r x : ℕ) → other r x ≡ place r x) → TakenAll u old new place → TakenAll u old new other
+same_places u old new place other same all = record {
+  taken = record {
+    exact = λ field bytes r x.
+        all.taken.exact field bytes r x
+        ∙ ap (λ (b : Bool). (is_named field bytes u && b) || any_waiting new field bytes r x) (sym (same r x));
+    queued = all.taken.queued;
+    from = all.taken.from;
+    later = all.taken.later;
+    fewer = all.taken.fewer;
+  };
+  above = all.above;
 }
 
 -- ---- the rest of a source is put back
@@ -77,18 +90,18 @@ spread true false true q f = refl
 spread true false false q f = refl
 spread false p m q f = refl
 
-pub more_taken : (u : Term) (old cur front new : List Waiting) (h : Waiting) (rows more : List Posting) → Taken u old cur rows → cur ≡ front ++ h ∷ [] → h.first.term ≡ u
-    → ((r x : ℕ) → posted_at more r x ≡ (posted_at rows r x || moved_at h.numbers h.first.rows r x))
+pub more_taken : (u : Term) (old cur front new : List Waiting) (h : Waiting) (place more : ℕ → ℕ → Bool) → Taken u old cur place → cur ≡ front ++ h ∷ [] → h.first.term ≡ u
+    → ((r x : ℕ) → more r x ≡ (place r x || moved_at h.numbers h.first.rows r x))
     → IsPutBack (waiting h.rest h.numbers) front new → AreQueued new
     → IfSome (waiting h.rest h.numbers) (λ (next : Waiting). IsBelow h.first.term next.first.term)
     → Taken u old new more
-more_taken u old cur front new h rows more taken is named put back queued rises = record {
+more_taken u old cur front new h place more taken is named put back queued rises = record {
   exact = λ field bytes r x.
       taken.exact field bytes r x
-      ∙ ap (λ (ws : List Waiting). (is_named field bytes u && posted_at rows r x) || any_waiting ws field bytes r x) is
-      ∙ ap (λ (b : Bool). (is_named field bytes u && posted_at rows r x) || b) (any_last front h field bytes r x)
-      ∙ ap (λ (t : Term). (is_named field bytes u && posted_at rows r x) || (((is_named field bytes t && moved_at h.numbers h.first.rows r x) || moved h.numbers h.rest field bytes r x) || any_waiting front field bytes r x)) named
-      ∙ spread (is_named field bytes u) (posted_at rows r x) (moved_at h.numbers h.first.rows r x) (moved h.numbers h.rest field bytes r x) (any_waiting front field bytes r x)
+      ∙ ap (λ (ws : List Waiting). (is_named field bytes u && place r x) || any_waiting ws field bytes r x) is
+      ∙ ap (λ (b : Bool). (is_named field bytes u && place r x) || b) (any_last front h field bytes r x)
+      ∙ ap (λ (t : Term). (is_named field bytes u && place r x) || (((is_named field bytes t && moved_at h.numbers h.first.rows r x) || moved h.numbers h.rest field bytes r x) || any_waiting front field bytes r x)) named
+      ∙ spread (is_named field bytes u) (place r x) (moved_at h.numbers h.first.rows r x) (moved h.numbers h.rest field bytes r x) (any_waiting front field bytes r x)
       ∙ (λ i. (is_named field bytes u && (sym (put r x)) i) || (sym (back_any h.rest h.numbers front new back field bytes r x)) i);
   queued = queued;
   from = back_all (λ (w : Waiting). IsBelow w.first.term u → ⊥) (waiting h.rest h.numbers) front new back
@@ -116,9 +129,9 @@ less_left h cur front new is back = omega (arith, back_count h.rest h.numbers fr
 
 -- ---- all was taken
 
-pub all_taken : (u : Term) (old cur : List Waiting) (rows : List Posting) → Taken u old cur rows
-    → ((front : List Waiting) (w : Waiting) → cur ≡ front ++ w ∷ [] → w.first.term ≡ u → ⊥) → TakenAll u old cur rows
-all_taken u old cur rows taken other = record { taken = taken; above = go (ends cur) }
+pub all_taken : (u : Term) (old cur : List Waiting) (place : ℕ → ℕ → Bool) → Taken u old cur place
+    → ((front : List Waiting) (w : Waiting) → cur ≡ front ++ w ∷ [] → w.first.term ≡ u → ⊥) → TakenAll u old cur place
+all_taken u old cur place taken other = record { taken = taken; above = go (ends cur) }
   where
     above : (w : Waiting) (vs : List Waiting) → IsBelow u w.first.term → StartFrom w.first.term vs → StartAbove u vs
     above w [] l all = tt
@@ -147,8 +160,8 @@ pub above_least : (t u : Term) (queue : List Waiting) → StartAbove t queue →
 above_least t u queue all last = subst (IsBelow t) last.3 (all_last (λ (v : Waiting). IsBelow t v.first.term) last.0 last.1 (subst (StartAbove t) last.2 all))
 
 -- where the least term was taken, fewer entries are left
-pub taken_fewer : (u : Term) (queue left : List Waiting) (rows : List Posting) → IsLast u queue → TakenAll u queue left rows → entry_count left < entry_count queue
-taken_fewer u queue left rows last all = elim all.taken.fewer [
+pub taken_fewer : (u : Term) (queue left : List Waiting) (place : ℕ → ℕ → Bool) → IsLast u queue → TakenAll u queue left place → entry_count left < entry_count queue
+taken_fewer u queue left place last all = elim all.taken.fewer [
   | inl e ↦ absurd (less_not_itself u (above_least u u queue (subst (StartAbove u) e all.above) last))
   | inr l ↦ l
 ]

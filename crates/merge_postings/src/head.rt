@@ -1,13 +1,13 @@
 //! Sources that wait to be walked further.
 ghost use Rattle.std.specs.Prelude.{◌≡◌, ◌||◌, ℕ, true, false, OnOk, IfSome};
-ghost use Rattle.ix_base.specs.Inversion.{posted_at, IsPostings};
+ghost use Rattle.ix_base.specs.Inversion.{IsPostings};
+ghost use Rattle.merge_postings.specs.Gathering.{is_gathered};
 ghost use Rattle.merge_postings.specs.Renumbering.{moved_at, NumbersRise};
 ghost use Rattle.merge_postings.specs.Walk.{waiting, IsBelow};
 
-use crate::united::put_moved;
+use crate::gathered::Gathered;
 use analysis::compare_terms;
-use ix_base::{NoMemory, Spots, Term, TermPostings};
-use std::alloc::Global;
+use ix_base::{NoMemory, Term, TermPostings};
 use std::cmp::Ordering;
 use std::marker::Model;
 
@@ -66,12 +66,12 @@ impl<'a> Head<'a> {
         Head::new(self.rest, self.numbers, self.place)
     }
 
-    /// Puts the places of the next entry among those that are there, at the rows of their numbers.
-    pub(crate) fn put(&self, alloc: Global, rows: &mut Spots) -> Result<(), NoMemory>
-        ensures { OnOk result ((r x : ℕ) → posted_at rows.new r x
-            ≡ (posted_at rows.old r x || moved_at self.now.numbers self.now.first.rows r x)) }
+    /// Adds the places of the next entry, at the rows of their numbers.
+    pub(crate) fn gather(&self, gathered: &mut Gathered) -> Result<(), NoMemory>
+        ensures { OnOk result ((r x : ℕ) → is_gathered gathered.new r x
+            ≡ (is_gathered gathered.old r x || moved_at self.now.numbers self.now.first.rows r x)) }
     {
-        put_moved(alloc, rows, &self.first.rows, self.numbers)
+        gathered.add(&self.first.rows, self.numbers)
     }
 
     /// Whether it is taken after this one.
