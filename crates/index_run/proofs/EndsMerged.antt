@@ -1,5 +1,5 @@
 -- The end of a round, and a merge after it.
-use Rattle.std.proofs.Common.{◌≡◌, ◌∙◌, ℕ, ◌+◌, ◌<◌, ◌≤◌, List, length, sym, arith}
+use Rattle.std.proofs.Common.{◌≡◌, ◌∙◌, refl, ℕ, zero, suc, ◌+◌, ◌<◌, ◌≤◌, List, length, sym, arith}
 use Rattle.std.proofs.lemmas.List.{length-map}
 use Rattle.ix_base.specs.Steps.{after}
 use Rattle.ix_base.specs.declared.document.Operation.{Operation}
@@ -48,6 +48,12 @@ same_end : (end : RoundEnd) (ops : List Operation) (mid new : State) → new.pub
 same_end (Committed s) ops mid new upto pending by = (by.0 ∙ sym upto, pending ∙ by.1, by.2)
 same_end Turned ops mid new upto pending by = (pending ∙ by.0, by.1)
 same_end Ran ops mid new upto pending by = (pending ∙ by.0, by.1)
+
+-- a step of some rows is taken only where a number was given
+pub some_number : (operations numbers rows : ℕ) → operations ≤ numbers → (operations ≡ 0 → rows ≡ 0) → 0 < rows
+    → 0 < numbers
+some_number zero numbers rows few none more = absurd (omega (arith, more, none refl))
+some_number (suc n) numbers rows few none more = omega (arith, few)
 
 -- segments were merged, after a round in which a line got a number
 pub ends_merged : (told : List (List Numbered)) (end : RoundEnd) (count : ℕ) (turn : MergeTurn) (old mid new : State)
