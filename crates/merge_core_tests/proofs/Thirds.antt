@@ -104,3 +104,11 @@ third_of first given updates s rise born few built = record {
   born = subst (AllByRecursion (IsBornFrom first)) (sym built.rows) born;
   few = subst (λ (rows : List Row). length rows ≤ 10000) (sym built.rows) few;
 }
+
+pub no_sources : (segments : List Lived) → segments ≡ [] → AreSources segments
+no_sources segments none = subst AreSources (sym none) (record {
+  rise = search rules;
+  can = record { limit = 0; rise = tt; differ = λ b. omega arith; ordered = tt; few = omega arith };
+  applied = 0;
+  same = tt;
+})

@@ -71,3 +71,18 @@ fn many_rows(rt: HostRuntime) -> Result<(), Fail> {
     assert!(rt; is_inverted(rt.alloc(), &made)?);
     Ok(())
 }
+
+/// What is made of no segments.
+fn made_of_none(alloc: Global) -> Result<Option<LiveSegment>, Fail> {
+    let segments = Vec::new(alloc);
+    let mut merge = start(alloc, segments.as_slice())?;
+    read_all(&mut merge, segments.as_slice(), 1)?;
+    finished(merge, segments.as_slice())
+}
+
+/// Of no segments none is made.
+#[test]
+fn no_sources(rt: HostRuntime) -> Result<(), Fail> {
+    assert!(rt; made_of_none(rt.alloc())?.is_none());
+    Ok(())
+}
