@@ -6,14 +6,11 @@ use Rattle.std.proofs.lemmas.Bool.{cases_lt, eq-eqb}
 use Rattle.std.proofs.lemmas.Bool.Decides.{eqb_tells}
 use Rattle.ix_base.specs.declared.file_name.FileName.TheVariants.{Commit}
 use Rattle.ix_outside.specs.Files.{Files, Was}
-use Rattle.segment_core.specs.LiveRows.{Lived}
-use Rattle.commit_point.specs.declared.heads.HeadSegment.{HeadSegment}
 use Rattle.commit_point.specs.declared.open.Opened.{Opened}
-use Rattle.commit_point.specs.Holds.{HasSegment, HaveSegments, Holds, IsLawful}
-use Rattle.commit_point.specs.Writing.{AreWritten}
+use Rattle.commit_point.specs.Holds.{Holds, IsLawful}
 use Rattle.index_writer.specs.declared.state.State.{State}
 use Rattle.index_writer.specs.Laws.{OpenedGoOn}
-use Rattle.index_writer.specs.Ready.{CanFollow, IsStored, opened_on, written_of}
+use Rattle.index_writer.specs.Ready.{CanFollow, IsStored, opened_on}
 use Rattle.run_log.specs.Headline.{CanRun, Given, HasNoCommit, IsLast, IsOn}
 use Rattle.run_log.specs.OnlyLaws.{none_of}
 use Rattle.index_run.specs.Beginning.{BeginsOn, CanBeginOn, IsBase, IsGivenCommit, IsOpened, IsSpelled, last_or_zero}
@@ -168,46 +165,24 @@ begins_opened told (Some opened) found files is =
 
 -- ---- a writer on a commit that was read
 
--- a segment that a commit file names, with the number with which its operations are in it
-same_entry : (files : Files) (s : ℕ) (e : HeadSegment) (g : Lived) → HasSegment files s e g
-    → HasSegment files g.live.applied
-    (record { id = g.segment.id; rows = length g.segment.rows; written = e.written }) g
-same_entry files s e g has =
-    let own_id : HasSegment files s (record { id = g.segment.id; rows = e.rows; written = e.written }) g =
-    subst (λ (n : ℕ). HasSegment files s (record { id = n; rows = e.rows; written = e.written }) g) (sym has.id) has in
-    let own : HasSegment files s
-    (record { id = g.segment.id; rows = length g.segment.rows; written = e.written }) g =
-    subst (λ (n : ℕ). HasSegment files s (record { id = g.segment.id; rows = n; written = e.written }) g)
-    (sym has.count) own_id in
-    subst
-    (λ (n : ℕ). HasSegment files n
-    (record { id = g.segment.id; rows = length g.segment.rows; written = e.written }) g)
-    (sym has.applied) own
-
-are_stored : (files : Files) (s : ℕ) (es : List HeadSegment) (gs : List Lived) → HaveSegments files s es gs
-    → AreWritten files s gs (written_of es gs)
-are_stored files s [] [] have = tt
-are_stored files s [] (g ∷ gs) have = absurd have
-are_stored files s (e ∷ es) [] have = absurd have
-are_stored files s (e ∷ es) (g ∷ gs) have =
-    ((λ alive. (omega (arith, have.0.applied), same_entry files s e g have.0)), are_stored files s es gs have.1)
-
 -- a writer can follow what was read
 pub follows : OpenedGoOn → (told : Option Files) (last : Opened)
     → (files : Files) × Was told files × IsSpelled files last → CanFollow last
 follows law told last found = (law found.0 last).follows found.2.spelled
 
-pub opened_begins : (g : Given) (last : Opened) (size merge : ℕ) (w : State) → IsOn g → IsGivenCommit g last
-    → w ≡ opened_on last size merge → BeginsOn g w
-opened_begins g last size merge w on given is =
+pub opened_begins : OpenedGoOn → (g : Given) (last : Opened) (size merge : ℕ) (w : State) → IsOn g
+    → IsGivenCommit g last → w ≡ opened_on last size merge → BeginsOn g w
+opened_begins law g last size merge w on given is =
     let held = held_given g on given.some in
+    let last_is = given.is held.entries held.segments held.spelled in
     let stored : IsStored g.files (opened_on (record {
       number = g.base;
       next_id = g.next;
       entries = held.entries;
       segments = held.segments;
-    }) size merge) = are_stored g.files g.base held.entries held.segments held.spelled.each in
-    let last_is = given.is held.entries held.segments held.spelled in
+    }) size merge) =
+    (law g.files (record { number = g.base; next_id = g.next; entries = held.entries; segments = held.segments })).stored
+    size merge held.spelled.each in
     subst (BeginsOn g) (sym is) (subst (λ (x : Opened). BeginsOn g (opened_on x size merge)) (sym last_is)
     (record { number = refl; next_id = refl; stored = stored }))
 

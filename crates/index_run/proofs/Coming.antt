@@ -29,8 +29,8 @@ use Rattle.index_run.specs.Replied.{CanTell, IsCounted}
 use Rattle.index_run.specs.RepliedLaws.{outcomes_counted}
 use Rattle.index_run.specs.Outcomes.{AreOutcomes}
 use Rattle.index_run.specs.Rounds.{gave_of, given, pieces_of, share_of, writers_of}
-use Rattle.index_run.proofs.DiskAfter.{disk_same, disk_start}
-use Rattle.index_run.proofs.RunEnds.{stops, stops_files}
+use Rattle.index_run.proofs.DiskAfter.{crash_longer, disk_same, disk_start}
+use Rattle.index_run.proofs.RunEnds.{stops_files}
 use Rattle.index_run.proofs.Workers.{all_go_on, parts_back}
 use Rattle.index_run.proofs.WriterOn.{writer_same, writer_start}
 
@@ -54,7 +54,7 @@ cut_start r lines can =
     record {
       log = numbered lines;
       numbering = λ caller. refl;
-      crash = λ g on are. stops g r.first r.first [] (numbered lines) 0 r.start r.start on on.of_commits are disk;
+      crash = crash_longer r.first [] (numbered lines) r.start r.start disk.crash;
       files = λ g told on.
           stops_files g r.first r.first [] (numbered lines) 0 r.start r.start on (omega arith) told disk;
       only = disk.only;

@@ -146,6 +146,14 @@ some_longer first log more old new some =
           (next + 2 * length (log ++ more)) old new (omega (arith, length-append log more)) some.2),
     )
 
+pub crash_longer : (first : State) (log more : List Line) (start now : Option Disk)
+    → LeavesOnly start now (Reaches (HasSomeFront first log) (MayHold start))
+    → LeavesOnly start now (Reaches (HasSomeFront first (log ++ more)) (MayHold start))
+crash_longer first log more start now crash =
+    leaves_less start now (Reaches (HasSomeFront first log) (MayHold start))
+    (Reaches (HasSomeFront first (log ++ more)) (MayHold start)) crash
+    (λ c left. (left.0, left.1, some_longer first log more left.0 c left.2))
+
 pub disk_longer : (first : State) (log more : List Line) (count : ℕ) (w : State) (start now : Option Disk)
     → count ≤ length log → IsDiskAfter first log count w start now → IsDiskAfter first (log ++ more) count w start now
 disk_longer first log more count w start now le disk =
@@ -159,9 +167,7 @@ disk_longer first log more count w start now le disk =
           (told_files now) (λ x y h. stands_longer first log more numbers longer w x y is h) disk.files;
       images = λ c image.
           let d = disk.images c image in (d.0, d.1, stands_longer first log more numbers longer w d.0 c is d.2);
-      crash = leaves_less start now (Reaches (HasSomeFront first log) (MayHold start))
-          (Reaches (HasSomeFront first (log ++ more)) (MayHold start)) disk.crash
-          (λ c left. (left.0, left.1, some_longer first log more left.0 c left.2));
+      crash = crash_longer first log more start now disk.crash;
       only = disk.only;
       standing = disk.standing;
       settled = disk.settled;

@@ -41,6 +41,8 @@ runs_onto g text wrote told old new onto r = record {
   images = r.images;
   crash = r.crash;
   again = r.again;
+  own_images = r.own_images;
+  own_crash = r.own_crash;
 }
 
 -- ---- a call in which nothing failed

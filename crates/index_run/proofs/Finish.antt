@@ -4,7 +4,6 @@ use Rattle.std.proofs.Common.{length, map, Some, None, Ok, Err, Result, refl, sy
 use Rattle.std.specs.Prelude.{Option, IfOk, IfErr, IsSomeAnd, count_by}
 use Rattle.std.specs.List.{AllByRecursion}
 use Rattle.std.specs.declared.alloc.Global.{Global}
-use Rattle.std.proofs.lemmas.List.{append-nil}
 use Rattle.ix_base.specs.Hits.{hit_of}
 use Rattle.ix_base.specs.declared.damaged.Damaged.{Damaged}
 use Rattle.ix_base.specs.declared.document.Row.{Row}
@@ -31,7 +30,7 @@ use Rattle.run_report.specs.Searching.{CanSearch, ReadsCommit}
 use Rattle.run_report.specs.Texts.{texts}
 use Rattle.run_log.specs.AgainLaws.{commits_run_on}
 use Rattle.run_log.specs.CountLaws.{same_count}
-use Rattle.run_log.specs.Headline.{CanRun, CanRunOn, Given, HasAll, HasOnly, HasSome, Interleaves, IsIn, IsKept, IsLast, IsOn, Keeps, Runs, Stops}
+use Rattle.run_log.specs.Headline.{CanRun, CanRunOn, Given, HasAll, HasOnly, HasOwnSome, HasSome, Interleaves, IsIn, IsKept, IsLast, IsLastSettled, IsOn, KeepsCommit, Keeps, Runs, Stops}
 use Rattle.run_log.specs.Headline.{commit_numbers, is_commit, numbered, report, rows_at}
 use Rattle.run_log.specs.OnlyLaws.{only_image, only_itself}
 use Rattle.index_run.specs.declared.stop.Stop.{Stop}
@@ -49,7 +48,7 @@ use Rattle.index_run.specs.Outcomes.{AreOutcomes, IsAskedBy, rows_of}
 use Rattle.index_run.specs.Telling.{CanTell, TellsDamaged, is_committed}
 use Rattle.index_run.proofs.DiskAfter.{some_onto, the_files}
 use Rattle.index_run.proofs.Listed.{at_err}
-use Rattle.index_run.proofs.RunEnds.{ends_again, ends_files, ends_images, keeps_some, reads, stops}
+use Rattle.index_run.proofs.RunEnds.{crash_some, each_some, ends_again, ends_files, ends_images, ends_own, keeps_some, own_some, reads}
 use Rattle.index_run.proofs.Searchable.{can_read, can_search, is_asked, no_rows}
 use Rattle.index_run.proofs.Summarised.{commits_counted, last_above, last_in, summarised}
 
@@ -81,10 +80,24 @@ none_crash g log disk are =
 some_told : (P : Files → Type 0) (o : Option Files) (x : Files) → o ≡ Some x → P x → IsSomeAnd o P
 some_told P o x told h = subst (λ (y : Option Files). IsSomeAnd y P) (sym told) h
 
+-- none of them is there where no commit is above the base
+none_own : (g : Given) (log : List Line) (disk : Option Disk) → IsLastSettled g disk
+    → LeavesOnly disk disk (HasOwnSome g log)
+none_own g log disk last =
+    leaves_none disk (HasOwnSome g log)
+    (λ c image. (
+      0,
+      record {
+        each = tt;
+        only = λ s above there. absurd (let gone = last.none_above c image s above in cc);
+      },
+    ))
+
 -- what follows from the first of a log's commits
 stops_by : (g : Given) (log : List Line) (old now : Option Disk) → CanRun g → Interleaves g.lines log
-    → IsSomeAnd (told_files now) (HasSome g log) → (IsKept g old → LeavesOnly old now (HasSome g log)) → Stops g old now
-stops_by g log old now can numbering has crash = record {
+    → IsSomeAnd (told_files now) (HasSome g log) → (IsKept g old → LeavesOnly old now (HasSome g log))
+    → (IsLastSettled g old → LeavesOnly old now (HasOwnSome g log)) → Stops g old now
+stops_by g log old now can numbering has crash own = record {
   log = log;
   numbering = numbering;
   files = has;
@@ -93,6 +106,7 @@ stops_by g log old now can numbering has crash = record {
       some_onto (told_files now) (HasSome g log) CanRunOn (λ f some. commits_run_on g log f can numbering room some) has;
   restarts = λ are room.
       leaves_less old now (HasSome g log) CanRunOn (crash are) (λ c some. commits_run_on g log c can numbering room some);
+  own_crash = own;
 }
 
 pub stops_none : (g : Given) (disk now : Option Disk) → now ≡ disk → told_files disk ≡ Some g.files → CanRun g
@@ -101,7 +115,8 @@ stops_none g disk now same told can =
     subst (λ (d : Option Disk). Stops g disk d) (sym same)
     (stops_by g (numbered g.lines) disk disk can (λ caller. refl)
     (some_told (HasSome g (numbered g.lines)) (told_files disk) g.files told
-    (none_first g (numbered g.lines) g.files (only_itself g.files))) (none_crash g (numbered g.lines) disk))
+    (none_first g (numbered g.lines) g.files (only_itself g.files))) (none_crash g (numbered g.lines) disk)
+    (none_own g (numbered g.lines) disk))
 
 pub keeps_none : (g : Given) (disk now : Option Disk) → now ≡ disk → told_files disk ≡ Some g.files → Keeps g disk now
 keeps_none g disk now same told =
@@ -109,6 +124,7 @@ keeps_none g disk now same told =
       kept = some_told (KeepsCommits g.files) (told_files disk) g.files told (only_itself g.files).kept;
       crash = λ are. keeps_some g [] disk disk (none_crash g [] disk are);
       standing = goes_none KeepsStanding disk;
+      each = λ t there settled. leaves_none disk (KeepsCommit t g.files) settled;
     })
 
 -- ---- a run that stopped
@@ -121,7 +137,7 @@ pub cut_stops : (g : Given) (r : Run) (lines : List Line) (now : Option Disk) �
     → told_files r.start ≡ Some g.files → IsOnGiven g r.first → IsCut r lines now → Stops g r.start now
 cut_stops g r lines now same can told on cut =
     stops_by g cut.log r.start now can (numbering_of g.lines lines cut.log same cut.numbering) (cut.files g told on)
-    (λ are. cut.crash g on are)
+    (crash_some g r.first cut.log r.start now on cut.crash) (own_some g r.first cut.log r.start now on cut.crash)
 
 -- where the first of the log's commits are there, those that were there are kept
 kept_some : (g : Given) (log : List Line) (now : Option Disk) → IsSomeAnd (told_files now) (HasSome g log)
@@ -132,8 +148,9 @@ pub cut_keeps : (g : Given) (r : Run) (lines : List Line) (now : Option Disk) �
     → IsOnGiven g r.first → IsCut r lines now → Keeps g r.start now
 cut_keeps g r lines now told on cut = record {
   kept = kept_some g cut.log now (cut.files g told on);
-  crash = λ are. keeps_some g cut.log r.start now (cut.crash g on are);
+  crash = λ are. keeps_some g cut.log r.start now (crash_some g r.first cut.log r.start now on cut.crash are);
   standing = cut.standing g.files told on.goes_on;
+  each = each_some g r.first cut.log r.start now on cut.crash;
 }
 
 -- ---- a run that was done
@@ -148,9 +165,7 @@ over_same r lines outcomes seen w did now same still over =
 over_crash : (g : Given) (r : Run) (lines : List Line) (outcomes : List Outcome) (w : State) (now : Option Disk)
     → IsOnGiven g r.first → (o : IsOver r lines outcomes w now) → IsKept g r.start
     → LeavesOnly r.start now (HasSome g o.log)
-over_crash g r lines outcomes w now on o are =
-    subst (λ (ls : List Line). LeavesOnly r.start now (HasSome g ls)) (append-nil o.log)
-    (stops g r.first w o.log [] (length o.log) r.start now on on.of_commits are o.over.disk)
+over_crash g r lines outcomes w now on o are = crash_some g r.first o.log r.start now on o.over.disk.crash are
 
 over_files : (g : Given) (r : Run) (lines : List Line) (outcomes : List Outcome) (w : State) (now : Option Disk)
     → told_files r.start ≡ Some g.files → IsOnGiven g r.first → (o : IsOver r lines outcomes w now)
@@ -165,6 +180,7 @@ pub over_stops : (g : Given) (r : Run) (lines : List Line) (outcomes : List Outc
 over_stops g r lines outcomes w now same can told on o =
     stops_by g o.log r.start now can (numbering_of g.lines lines o.log same o.numbering)
     (over_files g r lines outcomes w now told on o) (over_crash g r lines outcomes w now on o)
+    (own_some g r.first o.log r.start now on o.over.disk.crash)
 
 pub over_keeps : (g : Given) (r : Run) (lines : List Line) (outcomes : List Outcome) (w : State) (now : Option Disk)
     → told_files r.start ≡ Some g.files → IsOnGiven g r.first → IsOver r lines outcomes w now → Keeps g r.start now
@@ -172,6 +188,7 @@ over_keeps g r lines outcomes w now told on o = record {
   kept = kept_some g o.log now (over_files g r lines outcomes w now told on o);
   crash = λ are. keeps_some g o.log r.start now (over_crash g r lines outcomes w now on o are);
   standing = o.over.disk.standing g.files told on.goes_on;
+  each = each_some g r.first o.log r.start now on o.over.disk.crash;
 }
 
 -- what became of the lines, by what was given
@@ -208,13 +225,15 @@ over_runs g r lines outcomes w now text wrote same can told on o written = recor
   numbering = numbering_of g.lines lines o.log same o.numbering;
   written = written;
   files = ends_files g r.first w o.log r.start now on told o.over.disk;
-  images = λ are. ends_images g r.first w o.log r.start now on on.of_commits are o.over.disk;
+  images = λ are. ends_images g r.first w o.log r.start now on are o.over.disk;
   crash = over_crash g r lines outcomes w now on o;
   again = λ are room.
       let count : length o.log ≡ length (numbered g.lines) =
       same_count o.log (numbered lines) o.numbering ∙ sym (ap (λ (ls : List Line). length (numbered ls)) same) in
-      ends_again g r.first w o.log r.start now on on.of_commits can told are
+      ends_again g r.first w o.log r.start now on can told are
       (omega (arith, room, count)) o.over.disk;
+  own_images = λ last. ends_own g r.first w o.log r.start now on last o.over.disk;
+  own_crash = own_some g r.first o.log r.start now on o.over.disk.crash;
 }
 
 -- What is said of the text that was made, by the files that have all of the log's commits.

@@ -23,10 +23,10 @@ use Rattle.op_script.specs.declared.script.Line.{Line}
 use Rattle.index_writer.specs.declared.state.State.{State}
 use Rattle.index_writer.specs.Ready.{IsReady, IsStored, NewIdsFrom}
 use Rattle.index_writer.specs.Storing.{Commits, GoesOn, MayCommit, SameBelow, on_commit}
-use Rattle.run_log.specs.Headline.{IsIn, operations, rows_at}
+use Rattle.run_log.specs.Headline.{IsIn, KeepsCommit, operations, rows_at}
 use Rattle.run_log.specs.CommitLaws.{AllBelow, in_last, in_push}
 use Rattle.index_run.specs.Doing.{CanBegin, IsWriterOn}
-use Rattle.index_run.specs.Leaving.{AreMade, CommitLaws, HasFront, IsMade, Stands}
+use Rattle.index_run.specs.Leaving.{AreMade, CommitLaws, HasFront, IsBefore, IsMade, SameBefore, Stands}
 use Rattle.index_run.proofs.LogNumbers.{nat_or, rows_front, rows_whole}
 
 -- ---- what lists what
@@ -54,45 +54,60 @@ written_by files s e lists =
 
 -- ---- the commits that were there
 
--- they stay when one is written above them, with new ids that none lists
-pub kept_more : (first : State) (s limit : ℕ) (start mid new : Files) → GoesOn start first → first.last < s
-    → first.since ≤ limit → SameBelow s limit mid new → KeepsCommits start mid → KeepsCommits start new
-kept_more first s limit start mid new goes above from_next same kept t there name of_t = by of_t
+-- a run doesn't write their files, where it could go on from the files that had them
+file_before : (first : State) (files : Files) (t : ℕ) (name : FileName) → GoesOn files first → IsSome (files (Commit t))
+    → IsFileOf files t name → IsBefore first.last first.since name
+file_before first files t name goes there of_t = by of_t
   where
-    not_s : t < s
-    not_s = elim (cases_lt t s) [
-      | inl lt ↦ lt
-      | inr ge ↦
-          let gone : start (Commit t) ≡ None = goes.none_above t (omega (arith, ge, above)) in
+    not_above : t ≤ first.last
+    not_above = elim (cases_lt first.last t) [
+      | inl lt ↦
+          let gone : files (Commit t) ≡ None = goes.none_above t lt in
           let none : IsSome {T = List ℕ} None = subst (λ (o : Option (List ℕ)). IsSome o) gone there in
           cc
+      | inr ge ↦ ge
     ]
 
-    by_name : (n : FileName) → IsFileOf start t n → new n ≡ mid n → name ≡ n → new name ≡ start name
-    by_name n of_n now is = subst (λ (f : FileName). new f ≡ start f) (sym is) (now ∙ kept t there n of_n)
+    at_name : (n : FileName) → name ≡ n → IsBefore first.last first.since n → IsBefore first.last first.since name
+    at_name n is before = subst (IsBefore first.last first.since) (sym is) before
 
-    small : (e : HeadSegment) → Lists start t e → e.id < limit
-    small e lists = omega (arith, goes.ids t e lists, from_next)
-
-    not_by : (e : HeadSegment) → Lists start t e → e.written ≢ s
-    not_by e lists v = absurd (omega (arith, v, written_by start t e lists, not_s))
-
-    by_among : (e : HeadSegment) → Lists start t e → IsAmong (names_of e) name → new name ≡ start name
-    by_among e lists (inl is) =
-        by_name (Rows e.id) (inr (e, lists, inl refl)) (same (Rows e.id) (small e lists)) is
-    by_among e lists (inr (inl is)) =
-        by_name (Posts e.id) (inr (e, lists, inr (inl refl))) (same (Posts e.id) (small e lists)) is
+    by_among : (e : HeadSegment) → Lists files t e → IsAmong (names_of e) name → IsBefore first.last first.since name
+    by_among e lists (inl is) = at_name (Rows e.id) is (goes.ids t e lists)
+    by_among e lists (inr (inl is)) = at_name (Posts e.id) is (goes.ids t e lists)
     by_among e lists (inr (inr (inl is))) =
-        by_name (Live e.id e.written) (inr (e, lists, inr (inr (inl refl))))
-        (same (Live e.id e.written) (not_by e lists)) is
+        at_name (Live e.id e.written) is (omega (arith, written_by files t e lists, not_above))
     by_among e lists (inr (inr (inr (inl is)))) =
-        by_name (Values e.id e.written) (inr (e, lists, inr (inr (inr (inl refl)))))
-        (same (Values e.id e.written) (not_by e lists)) is
+        at_name (Values e.id e.written) is (omega (arith, written_by files t e lists, not_above))
     by_among e lists (inr (inr (inr (inr none)))) = absurd none
 
-    by : IsFileOf start t name → new name ≡ start name
-    by (inl e) = by_name (Commit t) (inl refl) (same (Commit t) (λ is. absurd (omega (arith, is, not_s)))) e
+    by : IsFileOf files t name → IsBefore first.last first.since name
+    by (inl is) = at_name (Commit t) is not_above
     by (inr found) = by_among found.0 found.1 found.2
+
+-- one of them is kept by what a run leaves of an image that has its files
+pub one_kept : (first : State) (files d c : Files) (t : ℕ) → GoesOn files first → IsSome (files (Commit t))
+    → KeepsCommit t files d → SameBefore first d c → KeepsCommit t files c
+one_kept first files d c t goes there kept same name of_t =
+    same name (file_before first files t name goes there of_t) ∙ kept name of_t
+
+-- all are kept
+pub all_kept : (first : State) (old new : Files) → GoesOn old first → SameBefore first old new → KeepsCommits old new
+all_kept first old new goes same t there =
+    one_kept first old old new t goes there (λ name of_t. refl) same
+
+-- a commit above the base, with new ids, writes none of those files
+same_before : (first : State) (s since : ℕ) (old mid new : Files) → first.last < s → first.since ≤ since
+    → SameBelow s since mid new → SameBefore first old mid → SameBefore first old new
+same_before first s since old mid new above from_next same before name is =
+    same name (elsewhere name is) ∙ before name is
+  where
+    elsewhere : (n : FileName) → IsBefore first.last first.since n → IsElsewhere s (λ id. id < since) n
+    elsewhere (Commit t) le = λ e. absurd (omega (arith, e, le, above))
+    elsewhere (Pending t) le = λ e. absurd (omega (arith, e, le, above))
+    elsewhere (Rows id) lt = omega (arith, lt, from_next)
+    elsewhere (Posts id) lt = omega (arith, lt, from_next)
+    elsewhere (Live id v) le = λ e. absurd (omega (arith, e, le, above))
+    elsewhere (Values id v) le = λ e. absurd (omega (arith, e, le, above))
 
 -- ---- commits that were made
 
@@ -230,7 +245,7 @@ front_higher first log numbers limit higher old new le front = record {
         only = made.only;
         older = made.older;
       };
-  kept = front.kept;
+  before = front.before;
 }
 
 pub front_longer : (first : State) (log more : List Line) (numbers : List ℕ) (limit higher : ℕ) (old new : Files)
@@ -244,7 +259,7 @@ front_longer first log more numbers limit higher old new le front = record {
         only = made.only;
         older = made.older;
       };
-  kept = front.kept;
+  before = front.before;
 }
 
 pub front_none : (first : State) (log : List Line) (limit : ℕ) (files : Files) → HasFront first log [] limit files files
@@ -254,7 +269,7 @@ front_none first log limit files = record {
     only = λ s there. inl there;
     older = λ s n entries segments early small was. was;
   };
-  kept = λ goes t there name of_t. refl;
+  before = λ name is. refl;
 }
 
 -- ---- what a commit of the writer leaves as it was
@@ -292,13 +307,12 @@ pub record ComesNext (first : State) (log : List Line) (numbers : List ℕ) (w :
   pub below : AllBelow w.published.upto numbers
   pub low : first.published.next_id ≤ w.since
 
-pub kept_next : (first : State) (log : List Line) (numbers : List ℕ) (w : State) (old mid new : Files)
-    → ComesNext first log numbers w → SameBelow w.published.upto w.since mid new
-    → (GoesOn old first → KeepsCommits old mid)
-    → GoesOn old first → KeepsCommits old new
-kept_next first log numbers w old mid new next same kept goes =
-    kept_more first w.published.upto w.since old mid new goes (omega (arith, next.begun.last, next.above))
-    (omega (arith, next.begun.since, next.low)) same (kept goes)
+before_next : (first : State) (log : List Line) (numbers : List ℕ) (w : State) (old mid new : Files)
+    → ComesNext first log numbers w → SameBelow w.published.upto w.since mid new → SameBefore first old mid
+    → SameBefore first old new
+before_next first log numbers w old mid new next same before =
+    same_before first w.published.upto w.since old mid new (omega (arith, next.begun.last, next.above))
+    (omega (arith, next.begun.since, next.low)) same before
 
 -- what the commit made of the files
 abbrev IsWritten : State → Files → Files → Type 0
@@ -340,7 +354,7 @@ front_commit first log numbers w old mid new next stands made = record {
       made_more first log numbers w.published.upto w.since w.published.next_id old mid new next.above next.low
       next.on.ready.since next.below same (stands.front.made stored)
       (this_made first log numbers w old mid new next stands made stored);
-  kept = kept_next first log numbers w old mid new next same stands.front.kept;
+  before = before_next first log numbers w old mid new next same stands.front.before;
 }
   where
     same : SameBelow w.published.upto w.since mid new
@@ -353,7 +367,7 @@ front_still first log numbers w old mid new next stands same commit = record {
   made = λ stored.
       made_still first log numbers w.published.upto w.since old mid new next.above next.low next.below same commit
       (stands.front.made stored);
-  kept = kept_next first log numbers w old mid new next same stands.front.kept;
+  before = before_next first log numbers w old mid new next same stands.front.before;
 }
 
 pub stands_commit : (first : State) (log : List Line) (numbers : List ℕ) (w v : State) (old mid new : Files)

@@ -39,9 +39,9 @@ use Rattle.index_run.specs.Doing.{IsWriterOn}
 use Rattle.index_run.specs.Driving.{EndsRound, HasDone, IsAt, IsCut, IsDocs, IsRound, Run, base_of}
 use Rattle.index_run.specs.Leaving.{CommitLaws, IsDiskAfter, IsNextCommit}
 use Rattle.index_run.specs.Merged.{EndsMerged}
-use Rattle.index_run.proofs.DiskAfter.{disk_commit, disk_count, disk_round, standing_commit}
+use Rattle.index_run.proofs.DiskAfter.{crash_commit, crash_longer, disk_commit, disk_count, disk_round, standing_commit}
 use Rattle.index_run.proofs.LogNumbers.{numbers_front, numbers_whole}
-use Rattle.index_run.proofs.RunEnds.{files_commit, stops, stops_commit, stops_files}
+use Rattle.index_run.proofs.RunEnds.{files_commit, stops_files}
 use Rattle.index_run.proofs.WriterOn.{writer_commit, writer_round}
 
 -- ---- stops
@@ -59,7 +59,7 @@ cut_done r lines shares log w now h =
     record {
       log = log ++ rest.0;
       numbering = rest.1;
-      crash = λ g on are. stops g r.first w log rest.0 (length log) r.start now on on.of_commits are disk;
+      crash = crash_longer r.first log rest.0 r.start now disk.crash;
       files = λ g told on. stops_files g r.first w log rest.0 (length log) r.start now on (omega arith) told disk;
       only = disk.only;
       standing = disk.standing;
@@ -184,9 +184,10 @@ module _ (r : Run) (lines : List Line) (olds news : List Share) (log : List Line
       record {
         log = (log ++ more) ++ rest.0;
         numbering = rest.1;
-        crash = λ g on are.
-            stops_commit g r.first v (log ++ more) rest.0 (length log) r.start mid now laws h.before.at.first
-            on on.of_commits writer_on are within (last_in before plain ends) crash disk_on;
+        crash =
+            crash_longer r.first (log ++ more) rest.0 r.start now
+            (crash_commit r.first v (log ++ more) (length log) r.start mid now laws h.before.at.first writer_on within
+            (last_in before plain ends) crash disk_on);
         files = λ g told on.
             files_commit g r.first v (log ++ more) rest.0 (length log) r.start mid now laws h.before.at.first
             on writer_on told within (last_in before plain ends) left disk_on;

@@ -18,7 +18,7 @@ use Rattle.index_writer.specs.Ready.{HasRows, opened_on}
 use Rattle.run_log.specs.Headline.{CanRun, Given}
 use Rattle.index_run.specs.Doing.{IsOnGiven}
 use Rattle.index_run.proofs.LogNumbers.{nat_or}
-use Rattle.index_run.proofs.KeptThere.{opened_of_commits}
+use Rattle.index_run.proofs.KeptThere.{opened_of_last}
 
 -- ---- the ids of a commit
 
@@ -87,6 +87,7 @@ begins_lawful law g last size merge w can lawful is on = subst (IsOnGiven g) (sy
       next_id = ap (λ (x : Opened). x.next_id) is;
       rows = rows;
       goes_on = (law g.files last).goes_on size merge last_is;
-      of_commits = opened_of_commits law g.files last size merge (opened_on last size merge) refl last_is;
+      of_last =
+          opened_of_last law g last size merge (ap (λ (x : Opened). x.number) is) last_is.spelled;
       room = lawful.room;
     }

@@ -18,27 +18,28 @@ use Rattle.index_writer.specs.declared.state.State.{State}
 use Rattle.index_writer.specs.Ready.{IsStored}
 use Rattle.index_writer.specs.Storing.{GoesOn, MayCommit, SameBelow}
 use Rattle.run_log.specs.CommitLaws.{each_at}
-use Rattle.run_log.specs.Headline.{CanRun, CanRunOn, Given, GivesBack, HasAll, HasFirst, HasNoCommit, HasOnly, HasSome, IsIn, IsKept, IsLast, IsNewCommit, IsOn, commit_numbers, rows_at}
+use Rattle.run_log.specs.Headline.{CanRun, CanRunOn, Given, GivesBack, HasAll, HasFirst, HasNoCommit, HasOnly, HasOwnAll, HasOwnFirst, HasOwnSome, HasSome}
+use Rattle.run_log.specs.Headline.{IsIn, IsKept, IsLast, IsLastSettled, IsNewCommit, IsOn, IsOwnCommit, IsSettled, KeepsCommit, commit_numbers, rows_at}
 use Rattle.run_report.specs.Searching.{ReadsCommit}
 use Rattle.commit_point.specs.KeptLaws.{kept_through}
 use Rattle.run_log.specs.OnlyLaws.{only_image, only_itself}
 use Rattle.run_log.specs.AgainLaws.{again}
 use Rattle.index_run.specs.Doing.{CanBegin, IsOnGiven, IsWriterOn}
 use Rattle.index_run.specs.Leaving.{AreMade, CommitLaws, HasFront, HasSomeFront, IsDiskAfter, IsNextCommit}
-use Rattle.index_run.specs.Leaving.{IsMade, IsOfCommits, Stands, first_numbers}
+use Rattle.index_run.specs.Leaving.{IsMade, Stands, first_numbers}
 use Rattle.index_run.proofs.LogNumbers.{numbers_front, numbers_whole}
 use Rattle.index_run.proofs.LogNumbers.{rows_front}
-use Rattle.index_run.proofs.KeptThere.{goes_on_there}
-use Rattle.index_run.proofs.MadeCommits.{kept_next}
+use Rattle.index_run.proofs.KeptThere.{goes_on_there, segments_kept}
+use Rattle.index_run.proofs.MadeCommits.{all_kept, one_kept}
 use Rattle.index_run.proofs.DiskAfter.{changed, comes_next, crash_commit, some_crash, some_onto, the_files}
 use Rattle.index_run.proofs.SomeRows.{some_rows}
 
 -- ---- the first of a log's commits
 
-new_commit : (g : Given) (first : State) (log rest : List Line) (limit : ℕ) (old new : Files) (s : ℕ)
-    → IsOnGiven g first → limit ≤ first.published.next_id + 2 * length log → GoesOn old first
-    → IsMade first log limit old new s → IsNewCommit g (log ++ rest) new s
-new_commit g first log rest limit old new s on le goes made =
+own_commit : (g : Given) (first : State) (log rest : List Line) (limit : ℕ) (old new : Files) (s : ℕ)
+    → IsOnGiven g first → limit ≤ first.published.next_id + 2 * length log
+    → IsMade first log limit old new s → IsOwnCommit g (log ++ rest) new s
+own_commit g first log rest limit old new s on le made =
     let here : rows_at first.published.upto g.rows log s ≡ rows_at g.base g.rows (log ++ rest) s =
     sym (rows_front first.published.upto g.rows log rest s made.inside)
     ∙ ap (λ (n : ℕ). rows_at n g.rows (log ++ rest) s) on.number in
@@ -47,34 +48,66 @@ new_commit g first log rest limit old new s on le goes made =
       from_next = omega (arith, made.from_next, on.next_id);
       to_limit = omega (arith, made.to_limit, le, on.next_id, length-append log rest);
       holds = subst (λ (rs : List Row). HoldsInverted new s made.id rs) here (made.rows g.rows on.rows);
-      above = made.above goes;
     }
+
+each_own : (g : Given) (first : State) (log rest : List Line) (limit : ℕ) (old new : Files) (ns : List ℕ)
+    → IsOnGiven g first → limit ≤ first.published.next_id + 2 * length log
+    → AllByRecursion (IsMade first log limit old new) ns → AllByRecursion (IsOwnCommit g (log ++ rest) new) ns
+each_own g first log rest limit old new [] on le each = tt
+each_own g first log rest limit old new (n ∷ ns) on le each = (
+  own_commit g first log rest limit old new n on le each.0,
+  each_own g first log rest limit old new ns on le each.1,
+)
 
 each_new : (g : Given) (first : State) (log rest : List Line) (limit : ℕ) (old new : Files) (ns : List ℕ)
     → IsOnGiven g first → limit ≤ first.published.next_id + 2 * length log → GoesOn old first
     → AllByRecursion (IsMade first log limit old new) ns → AllByRecursion (IsNewCommit g (log ++ rest) new) ns
+unfolding own_commit
 each_new g first log rest limit old new [] on le goes each = tt
 each_new g first log rest limit old new (n ∷ ns) on le goes each = (
-  new_commit g first log rest limit old new n on le goes each.0,
+  record { own = own_commit g first log rest limit old new n on le each.0; above = each.0.above goes },
   each_new g first log rest limit old new ns on le goes each.1,
 )
+
+-- the numbers of the first of a log's commits, by what is given
+given_numbers : (g : Given) (first : State) (log rest : List Line) (count : ℕ) → IsOnGiven g first → count ≤ length log
+    → first_numbers first log count ≡ commit_numbers g.base (take count (log ++ rest))
+given_numbers g first log rest count on few =
+    sym (numbers_front first.published.upto count log rest few)
+    ∙ ap (λ (n : ℕ). commit_numbers n (take count (log ++ rest))) on.number
 
 -- commits that were made over files with the given ones are the first of the log's
 has_first : (g : Given) (first : State) (log rest : List Line) (count limit : ℕ) (old new : Files) → IsOnGiven g first
     → count ≤ length log → limit ≤ first.published.next_id + 2 * length log → HasOnly g.files old → GoesOn old first
     → HasFront first log (first_numbers first log count) limit old new → HasFirst g (log ++ rest) count new
 has_first g first log rest count limit old new on few le has goes front =
-    let is : first_numbers first log count ≡ commit_numbers g.base (take count (log ++ rest)) =
-    sym (numbers_front first.published.upto count log rest few)
-    ∙ ap (λ (n : ℕ). commit_numbers n (take count (log ++ rest))) on.number in
     let made : AreMade first log (commit_numbers g.base (take count (log ++ rest))) limit old new =
-    subst (λ (ns : List ℕ). AreMade first log ns limit old new) is (front.made goes.stored) in
+    subst (λ (ns : List ℕ). AreMade first log ns limit old new) (given_numbers g first log rest count on few)
+    (front.made goes.stored) in
     record {
       each = each_new g first log rest limit old new (commit_numbers g.base (take count (log ++ rest))) on le goes
           made.each;
       only = λ s there. elim (made.only s there) [ inl was ↦ inl (has.only s was) | inr among ↦ inr among ];
-      kept = kept_through g.files old new has.kept (front.kept goes);
+      kept = kept_through g.files old new has.kept (all_kept first old new goes front.before);
     }
+
+-- The same of the log's commits alone, over files of which only the last commit is known.
+has_own : (g : Given) (first : State) (log : List Line) (count limit : ℕ) (old new : Files) → IsOnGiven g first
+    → count ≤ length log → limit ≤ first.published.next_id + 2 * length log → IsStored old first
+    → ((s : ℕ) → g.base < s → old (Commit s) ≡ None)
+    → HasFront first log (first_numbers first log count) limit old new → HasOwnFirst g log count new
+has_own g first log count limit old new on few le stored none_above front =
+    subst (λ (ls : List Line). HasOwnFirst g ls count new) (append-nil log) (record {
+      each = each_own g first log [] limit old new (commit_numbers g.base (take count (log ++ []))) on le made.each;
+      only = λ s above there. elim (made.only s there) [
+        | inl was ↦ absurd (let gone = none_above s above in cc)
+        | inr among ↦ among
+      ];
+    })
+  where
+    made : AreMade first log (commit_numbers g.base (take count (log ++ []))) limit old new
+    made = subst (λ (ns : List ℕ). AreMade first log ns limit old new) (given_numbers g first log [] count on few)
+        (front.made stored)
 
 -- all of the log's
 has_all : (g : Given) (first w : State) (log : List Line) (old new : Files) → IsOnGiven g first
@@ -85,10 +118,11 @@ has_all g first w log old new on high has goes stands =
     (has_first g first log [] (length log) w.since old new on (omega arith) high has goes stands.front)
 
 -- an image of the store at the beginning
-begins_image : (g : Given) (first : State) (start : Option Disk) → IsOnGiven g first → IsOfCommits g.files first
-    → IsKept g start → (d : Files) → MayHold start d → GoesOn d first
-begins_image g first start on stays are d image =
-    goes_on_there g.files d first on.goes_on stays (only_image g.files (MayHold start) are d image)
+begins_image : (g : Given) (first : State) (start : Option Disk) → IsOnGiven g first → IsKept g start → (d : Files)
+    → MayHold start d → GoesOn d first
+begins_image g first start on are d image =
+    let has = only_image g.files (MayHold start) are d image in
+    goes_on_there g.files d first on.goes_on (on.of_last d (segments_kept g.files d g.base has.kept)) has
 
 -- ---- the end
 
@@ -102,19 +136,18 @@ ends_files g first w log start now on told disk =
     (changed stands (told_files start) (told_files now) g.files told disk.files)
 
 pub ends_images : (g : Given) (first w : State) (log : List Line) (start now : Option Disk) → IsOnGiven g first
-    → IsOfCommits g.files first → IsKept g start → IsDiskAfter first log (length log) w start now
-    → (c : Files) → MayHold now c → HasAll g log c
-ends_images g first w log start now on stays are disk c image =
+    → IsKept g start → IsDiskAfter first log (length log) w start now → (c : Files) → MayHold now c → HasAll g log c
+ends_images g first w log start now on are disk c image =
     let d = disk.images c image in
     has_all g first w log d.0 c on disk.high (only_image g.files (MayHold start) are d.0 d.1)
-    (begins_image g first start on stays are d.0 d.1) d.2
+    (begins_image g first start on are d.0 d.1) d.2
 
 -- ---- the store is again such as a run asks for
 
 pub ends_again : (g : Given) (first w : State) (log : List Line) (start now : Option Disk) → IsOnGiven g first
-    → IsOfCommits g.files first → CanRun g → told_files start ≡ Some g.files → IsKept g start
+    → CanRun g → told_files start ≡ Some g.files → IsKept g start
     → g.next + 2 * length log ≤ 2 ^ 61 → IsDiskAfter first log (length log) w start now → GivesBack now
-ends_again g first w log start now on stays can told are room disk =
+ends_again g first w log start now on can told are room disk =
     (next.0, found.1 ∙ ap Some (sym next.1), next.2, subst (λ (f : Files). AreKept f (MayHold now)) (sym next.1) kept)
   where
     These : Files → Files → Type 0
@@ -125,34 +158,66 @@ ends_again g first w log start now on stays can told are room disk =
         (changed These (told_files start) (told_files now) g.files told disk.files)
 
     kept : AreKept found.0 (MayHold now)
-    kept = disk.settled g.files found.0 told found.1 on.goes_on (begins_image g first start on stays are) are
+    kept = disk.settled g.files found.0 told found.1 on.goes_on (begins_image g first start on are) are
 
     next : CanRunOn found.0
     next =
         again g log found.0 can room
         (length log, has_all g first w log g.files found.0 on disk.high (only_itself g.files) on.goes_on found.2)
 
--- ---- a stop at any time
+-- ---- where the last commit's segments are settled
 
--- a crash leaves the first of the commits, of a longer log too
-crash_some : (g : Given) (first : State) (log rest : List Line) (start now : Option Disk) → IsOnGiven g first
-    → IsOfCommits g.files first → IsKept g start
-    → LeavesOnly start now (Reaches (HasSomeFront first log) (MayHold start))
-    → LeavesOnly start now (HasSome g (log ++ rest))
-crash_some g first log rest start now on stays are crash =
-    leaves_less start now (Reaches (HasSomeFront first log) (MayHold start)) (HasSome g (log ++ rest)) crash
+-- what is on the store of the first writer's segments stands in each image
+settled_image : (g : Given) (first : State) (start : Option Disk) → IsOnGiven g first → IsLastSettled g start
+    → (d : Files) → MayHold start d → IsStored d first
+settled_image g first start on last d image = on.of_last d (last.segments d image)
+
+-- each image of the end has all of the log's commits
+pub ends_own : (g : Given) (first w : State) (log : List Line) (start now : Option Disk) → IsOnGiven g first
+    → IsLastSettled g start → IsDiskAfter first log (length log) w start now
+    → (c : Files) → MayHold now c → HasOwnAll g log c
+ends_own g first w log start now on last disk c image =
+    let d = disk.images c image in
+    has_own g first log (length log) w.since d.0 c on (omega arith) disk.high
+    (settled_image g first start on last d.0 d.1) (last.none_above d.0 d.1) d.2.front
+
+-- a crash leaves the first of them
+pub own_some : (g : Given) (first : State) (log : List Line) (start now : Option Disk) → IsOnGiven g first
+    → LeavesOnly start now (Reaches (HasSomeFront first log) (MayHold start)) → IsLastSettled g start
+    → LeavesOnly start now (HasOwnSome g log)
+own_some g first log start now on crash last =
+    leaves_less start now (Reaches (HasSomeFront first log) (MayHold start)) (HasOwnSome g log) crash
     (λ c left. (
       left.2.0,
-      has_first g first log rest left.2.0 (first.published.next_id + 2 * length log) left.0 c on left.2.1 (omega arith)
-          (only_image g.files (MayHold start) are left.0 left.1) (begins_image g first start on stays are left.0 left.1)
-          left.2.2,
+      has_own g first log left.2.0 (first.published.next_id + 2 * length log) left.0 c on left.2.1 (omega arith)
+          (settled_image g first start on last left.0 left.1) (last.none_above left.0 left.1) left.2.2,
     ))
 
-pub stops : (g : Given) (first w : State) (log rest : List Line) (count : ℕ) (start now : Option Disk)
-    → IsOnGiven g first → IsOfCommits g.files first → IsKept g start → IsDiskAfter first log count w start now
-    → LeavesOnly start now (HasSome g (log ++ rest))
-stops g first w log rest count start now on stays are disk =
-    crash_some g first log rest start now on stays are disk.crash
+-- ---- one commit that is settled
+
+pub each_some : (g : Given) (first : State) (log : List Line) (start now : Option Disk) → IsOnGiven g first
+    → LeavesOnly start now (Reaches (HasSomeFront first log) (MayHold start)) → (t : ℕ)
+    → IsSome (g.files (Commit t)) → IsSettled t g.files start → LeavesOnly start now (KeepsCommit t g.files)
+each_some g first log start now on crash t there settled =
+    leaves_less start now (Reaches (HasSomeFront first log) (MayHold start)) (KeepsCommit t g.files) crash
+    (λ c left.
+    one_kept first g.files left.0 c t on.goes_on there (settled left.0 left.1) left.2.2.before)
+
+-- ---- a stop at any time
+
+-- a crash leaves the first of the commits
+pub crash_some : (g : Given) (first : State) (log : List Line) (start now : Option Disk) → IsOnGiven g first
+    → LeavesOnly start now (Reaches (HasSomeFront first log) (MayHold start)) → IsKept g start
+    → LeavesOnly start now (HasSome g log)
+crash_some g first log start now on crash are =
+    subst (λ (ls : List Line). LeavesOnly start now (HasSome g ls)) (append-nil log)
+    (leaves_less start now (Reaches (HasSomeFront first log) (MayHold start)) (HasSome g (log ++ [])) crash
+    (λ c left. (
+      left.2.0,
+      has_first g first log [] left.2.0 (first.published.next_id + 2 * length log) left.0 c on left.2.1 (omega arith)
+          (only_image g.files (MayHold start) are left.0 left.1) (begins_image g first start on are left.0 left.1)
+          left.2.2,
+    )))
 
 pub stops_files : (g : Given) (first w : State) (log rest : List Line) (count : ℕ) (start now : Option Disk)
     → IsOnGiven g first → count ≤ length log → told_files start ≡ Some g.files → IsDiskAfter first log count w start now
@@ -173,17 +238,6 @@ keeps_some g log start now crash =
     leaves_less start now (HasSome g log) (KeepsCommits g.files) crash (λ c some. some.1.kept)
 
 -- ---- a commit that failed half-way
-
-pub stops_commit : (g : Given) (first w : State) (log rest : List Line) (count : ℕ) (start mid now : Option Disk)
-    → CommitLaws → CanBegin first → IsOnGiven g first → IsOfCommits g.files first → IsWriterOn first log w
-    → IsKept g start
-    → count ≤ length log
-    → IsNextCommit first log count w.published.upto
-    → LeavesOnly mid now (Reaches (MayCommit w) (MayHold mid)) → IsDiskAfter first log count w start mid
-    → LeavesOnly start now (HasSome g (log ++ rest))
-stops_commit g first w log rest count start mid now laws begun on stays on_log are le numbers crash disk =
-    crash_some g first log rest start now on stays are
-    (crash_commit first w log count start mid now laws begun on_log le numbers crash disk)
 
 -- the files have the commit whole, or not at all
 pub files_commit : (g : Given) (first w : State) (log rest : List Line) (count : ℕ) (start mid now : Option Disk)

@@ -75,7 +75,7 @@ searched_new g log new s can has among =
     let made = each_at (IsNewCommit g log new) (commit_numbers g.base (take (length log) log)) s has.each here in
     let rows_are = rows_of-is g.base g.rows log s (no_rows g can) above.0 in (
       above.1,
-      (made.id, subst (λ (rows : List Row). HoldsInverted new s made.id rows) (sym rows_are) made.holds),
+      (made.own.id, subst (λ (rows : List Row). HoldsInverted new s made.own.id rows) (sym rows_are) made.own.holds),
     )
 
 -- ---- what the outcomes search

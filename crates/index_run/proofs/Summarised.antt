@@ -127,10 +127,10 @@ summarised law g lines log f count upto text same made can numbering all last co
     let new : IsNewCommit g log f (g.base + length log) =
     each_at (IsNewCommit g log f) (commit_numbers g.base log) (g.base + length log) every
     (last_in law lines log g.base made numbering) in
-    let here : HoldsInverted f upto new.id (rows_at g.base g.rows log (g.base + length log)) =
-    subst (λ (n : ℕ). HoldsInverted f n new.id (rows_at g.base g.rows log (g.base + length log))) (sym last) new.holds in
+    let here : HoldsInverted f upto new.own.id (rows_at g.base g.rows log (g.base + length log)) =
+    subst (λ (n : ℕ). HoldsInverted f n new.own.id (rows_at g.base g.rows log (g.base + length log))) (sym last) new.own.holds in
     let lines_many : upto - g.base ≡ length log = omega (arith, last) in
-    told new.id (rows_at g.base g.rows log (g.base + length log)) here
+    told new.own.id (rows_at g.base g.rows log (g.base + length log)) here
     ∙ ap (λ (n : ℕ). text_line (summary_value (summary_of n (upto - g.base) (map hit_of (run_rows g.base g.rows log)))))
     (counted ∙ sym c.commits)
     ∙ ap (λ (n : ℕ). text_line (summary_value (summary_of (length (commit_numbers g.base log)) n (map hit_of (run_rows g.base g.rows log)))))

@@ -6,7 +6,7 @@ use Rattle.op_script.specs.declared.script.Line.{Line}
 use Rattle.index_writer.specs.declared.state.State.{State}
 use Rattle.index_writer.specs.Ready.{HasRows, IsReady}
 use Rattle.index_writer.specs.Storing.{GoesOn}
-use Rattle.index_run.specs.Leaving.{IsOfCommits}
+use Rattle.index_run.specs.Leaving.{IsOfLast}
 use Rattle.run_log.specs.Headline.{Given, operations}
 
 -- A run can begin with this writer: it is on its last commit, with nothing since, and its number leaves room for a
@@ -25,7 +25,7 @@ pub record IsOnGiven (g : Given) (w : State) : Type 0 where
   pub next_id : w.published.next_id ≡ g.next
   pub rows : HasRows w g.rows
   pub goes_on : GoesOn g.files w
-  pub of_commits : IsOfCommits g.files w
+  pub of_last : IsOfLast g w
   pub room : g.next ≤ 2 ^ 61
 
 -- The writer after the rounds of this log, where the run began with `first`.

@@ -3,8 +3,10 @@ use Rattle.std.specs.Prelude.{◌≡◌, ℕ, ◌+◌, List, [], ◌∷◌, ◌+
 use Rattle.std.specs.List.{AllByRecursion, AllZip}
 use Rattle.ix_base.specs.declared.document.Row.{Row}
 use Rattle.ix_outside.specs.Calls.{LeavesOnly}
+use Rattle.ix_outside.specs.Crash.{MayHold}
 use Rattle.ix_outside.specs.Disk.{Disk, Told, told_files}
 use Rattle.ix_outside.specs.Files.{Files}
+use Rattle.ix_outside.specs.Images.{Reaches}
 use Rattle.commit_point.specs.Steps.{KeepsMade, OnlyCommits}
 use Rattle.op_script.specs.Shape.{LinesRise}
 use Rattle.op_script.specs.declared.script.Line.{Line}
@@ -18,9 +20,9 @@ use Rattle.index_writer.specs.declared.state.State.{State}
 use Rattle.index_writer.specs.Ready.{HasRows}
 use Rattle.index_writer.specs.Rounds.{ArePartsOf}
 use Rattle.index_writer.specs.Storing.{GoesOn as WriterGoesOn}
-use Rattle.run_log.specs.Headline.{Given, HasSome, Interleaves, IsKept, commit_numbers, rows_at}
+use Rattle.run_log.specs.Headline.{Given, HasSome, Interleaves, commit_numbers, rows_at}
 use Rattle.index_run.specs.Doing.{CanBegin, IsOnGiven, IsWriterOn}
-use Rattle.index_run.specs.Leaving.{IsDiskAfter}
+use Rattle.index_run.specs.Leaving.{HasSomeFront, IsDiskAfter}
 use Rattle.index_run.specs.Outcomes.{AreOutcomes}
 
 -- What a run began with: so many workers, its writer, and its disk.
@@ -100,12 +102,12 @@ pub record IsOver (r : Run) (lines : List Line) (became : List Outcome) (w : Sta
   pub numbering : Interleaves lines log
   pub outcomes : AreOutcomes (IsDocs r.first log) (base_of r) log [] lines became
 
--- A run that stopped: for one order of its numbered lines a crash leaves the first of their commits, and the files have the
--- first of them. Each step was one by which commits are made, and no commit that stood at some moment lost its files.
+-- A run that stopped: for one order of its numbered lines a crash left the first of their commits, made over an image of
+-- the beginning, and the files have the first of them. Each step was one by which commits are made, and no commit that stood at some moment lost its files.
 pub record IsCut (r : Run) (lines : List Line) (now : Option Disk) : Type 0 where
   pub log : List Line
   pub numbering : Interleaves lines log
-  pub crash : (g : Given) → IsOnGiven g r.first → IsKept g r.start → LeavesOnly r.start now (HasSome g log)
+  pub crash : LeavesOnly r.start now (Reaches (HasSomeFront r.first log) (MayHold r.start))
   pub files : (g : Given) → told_files r.start ≡ Some g.files → IsOnGiven g r.first
       → IsSomeAnd (told_files now) (HasSome g log)
   pub only : Told OnlyCommits r.start now

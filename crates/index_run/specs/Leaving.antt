@@ -1,8 +1,9 @@
 -- What a run leaves on the disk, round after round.
-use Rattle.std.specs.Prelude.{◌≡◌, ◌⊎◌, ℕ, ◌+◌, ◌*◌, ◌≤◌, List, [], ◌∷◌, ◌++◌, length, take, Option, Some, IsSome}
+use Rattle.std.specs.Prelude.{◌≡◌, ◌⊎◌, ℕ, ◌+◌, ◌*◌, ◌<◌, ◌≤◌, List, [], ◌∷◌, ◌++◌, length, take, Option, Some, IsSome}
 use Rattle.std.specs.List.{AllByRecursion}
 use Rattle.ix_base.specs.declared.document.Row.{Row}
-use Rattle.ix_base.specs.declared.file_name.FileName.TheVariants.{Commit}
+use Rattle.ix_base.specs.declared.file_name.FileName.{FileName}
+use Rattle.ix_base.specs.declared.file_name.FileName.TheVariants.{Commit, Pending, Rows, Posts, Live, Values}
 use Rattle.ix_outside.specs.Calls.{LeavesOnly}
 use Rattle.ix_outside.specs.Crash.{MayHold}
 use Rattle.ix_outside.specs.Disk.{Disk, Told, told_files}
@@ -10,21 +11,36 @@ use Rattle.ix_outside.specs.Files.{Files, Changes}
 use Rattle.ix_outside.specs.Images.{Follows, Reaches}
 use Rattle.segment_core.specs.LiveRows.{Lived}
 use Rattle.commit_point.specs.declared.heads.HeadSegment.{HeadSegment}
-use Rattle.commit_point.specs.Holds.{AreKept, HasSegments, HoldsInverted, IsAboveIds, KeepsCommits}
+use Rattle.commit_point.specs.Holds.{AreKept, HasSegments, HoldsInverted, IsAboveIds}
 use Rattle.commit_point.specs.Steps.{KeepsMade, OnlyCommits}
 use Rattle.op_script.specs.declared.script.Line.{Line}
 use Rattle.index_writer.specs.declared.state.State.{State}
 use Rattle.index_writer.specs.Laws.{CommitsGoOn, CommitsHold}
 use Rattle.index_writer.specs.Ready.{HasRows, IsStored}
 use Rattle.index_writer.specs.Storing.{GoesOn}
-use Rattle.run_log.specs.Headline.{HasOnly, IsIn, commit_numbers, rows_at}
+use Rattle.run_log.specs.Headline.{Given, IsIn, KeepsSegments, commit_numbers, rows_at}
 
--- ---- files that have the same commits
+-- ---- files that have the same last commit
 
--- What is on the store of the writer's segments is of commits: it stands in all files that keep these and have no
--- other.
-abbrev pub IsOfCommits : Files → State → Type 0
-IsOfCommits files w = (d : Files) → HasOnly files d → IsStored d w
+-- What is on the store of the writer's segments is of the last commit: it stands in all files that keep its segments.
+abbrev pub IsOfLast : Given → State → Type 0
+IsOfLast g w = (d : Files) → KeepsSegments g.base g.files d → IsStored d w
+
+-- ---- files that a run doesn't write
+
+-- The file isn't one of those that a run may write which began after the commit `last`, with ids from `since` on: commit
+-- files above that commit, rows and postings of new segments, live bits and set numbers written above it.
+abbrev pub IsBefore : ℕ → ℕ → FileName → Type 0
+IsBefore last since (Commit t) = t ≤ last
+IsBefore last since (Pending t) = t ≤ last
+IsBefore last since (Rows id) = id < since
+IsBefore last since (Posts id) = id < since
+IsBefore last since (Live id v) = v ≤ last
+IsBefore last since (Values id v) = v ≤ last
+
+-- every other file is as it was, whatever the files have
+abbrev pub SameBefore : State → Files → Files → Type 0
+SameBefore first old new = (name : FileName) → IsBefore first.last first.since name → new name ≡ old name
 
 -- The laws of the writer's commits: it can go on from the files of one, and they hold the rows that it had.
 pub record CommitLaws : Type 0 where
@@ -55,11 +71,11 @@ pub record AreMade (first : State) (log : List Line) (numbers : List ℕ) (limit
   pub older : (s n : ℕ) (entries : List HeadSegment) (segments : List Lived) → s ≤ first.published.upto
       → n ≤ first.published.next_id → HasSegments old s n entries segments → HasSegments new s n entries segments
 
--- These commits were made where what is on the store of the first writer's segments stood before, and those that were
--- there are kept where it could go on from the files.
+-- These commits were made where what is on the store of the first writer's segments stood before. Files that the run
+-- doesn't write are as they were.
 pub record HasFront (first : State) (log : List Line) (numbers : List ℕ) (limit : ℕ) (old new : Files) : Type 0 where
   pub made : IsStored old first → AreMade first log numbers limit old new
-  pub kept : GoesOn old first → KeepsCommits old new
+  pub before : SameBefore first old new
 
 -- The same, and what is on the store of the writer's segments stands now; the writer can go on.
 pub record Stands (first : State) (log : List Line) (numbers : List ℕ) (w : State) (old new : Files) : Type 0 where

@@ -78,6 +78,10 @@ pub struct Ended<S> {
 /// crash leaves all of them. This is promised where the store tells its files, its last commit is
 /// lawful, and each commit is kept when the call begins: nothing of it is still on its way to the
 /// disk.
+///
+/// A commit that is kept by itself keeps its files and bytes, whatever becomes of the others. The
+/// run's own commits are left so, and no further one, where the files of the last commit's segments
+/// are on the disk when the call begins, and no commit above it is.
 pub fn top<R: Threads + Wait + Sync, I: Source, O: Sink, S: Store, G: Gate>(
     rt: &R,
     alloc: Global,

@@ -14,7 +14,7 @@ open-requires-clause-last g c =
 pub returns-in-Ok-open-clause-on : goal.returns-in-Ok-open-clause-on
 returns-in-Ok-open-clause-on g c = λ given told last on.
     let opens = subst (OpensOn given) c.in-Some.is (c.in-Ok.ensures.on given told last on) in
-    opened_begins given c.in-Some.opened c.args.buffer c.args.merge c.in-Ok-open.writer.state on opens c.in-Ok-open.ensures.state
+    opened_begins c.opened_go_on.ensures given c.in-Some.opened c.args.buffer c.args.merge c.in-Ok-open.writer.state on opens c.in-Ok-open.ensures.state
 
 pub returns-in-Ok-open-clause-begins : goal.returns-in-Ok-open-clause-begins
 returns-in-Ok-open-clause-begins g c =
