@@ -1,15 +1,14 @@
 -- Places that are gathered, and put in order.
-use Rattle.std.proofs.Common.{◌≡◌, ℕ, suc, ◌+◌, ◌<◌, ◌≤◌, Option, List, [], ◌∷◌, Bool, true, false, ◌&&◌, ◌||◌, ◌==◌, length, get_or, ◌⊎◌, inl, inr, refl, sym, ap, ◌∙◌, subst, arith}
+use Rattle.std.proofs.Common.{◌≡◌, ℕ, suc, ◌+◌, ◌<◌, ◌≤◌, Option, List, [], ◌∷◌, Bool, true, false, ◌||◌, length, get_or, ◌⊎◌, inl, inr, refl, sym, ap, ◌∙◌, subst, arith}
 use Rattle.std.specs.List.{list_any}
 use Rattle.std.specs.List.Sorted.{IsPermutation, IsSorted}
 use Rattle.std.specs.Ordering.{MatchOrdering, is_lt, nat_cmp, ordering_then}
 use Rattle.std.specs.declared.cmp.Ordering.{Ordering}
 use Rattle.std.specs.declared.cmp.Ordering.TheVariants.{Less, Equal, Greater}
-use Rattle.std.proofs.lemmas.Bool.{eqb-true, and_parts}
 use Rattle.std.proofs.lemmas.Cmp.{ranked}
 use Rattle.std.proofs.lemmas.List.Sorted.{list_any-IsPermutation}
-use Rattle.ix_base.specs.Grouped.{grouped, IsUpto}
-use Rattle.ix_base.specs.GroupedLaws.{is_spot, or_assoc, or_false, posted_are}
+use Rattle.ix_base.specs.Grouped.{grouped}
+use Rattle.ix_base.specs.GroupedLaws.{is_spot, posted_are}
 use Rattle.ix_base.specs.Posted.{posted_at}
 use Rattle.ix_base.specs.declared.postings.Posting.{Posting}
 use Rattle.ix_base.specs.declared.spots.Spot.{Spot}
@@ -90,50 +89,7 @@ pub record Spread (all left : List Place) (rows : List Posting) : Type 0 where
   pub rises : PlacesRise left
   pub before : (r x : ℕ) → posted_at rows r x ≡ true → IsUptoPlaces r x left
 
-pub none_spread : (places : List Place) (rows : List Posting) → PlacesRise places → rows ≡ [] → Spread places places rows
-none_spread places rows rises none = record {
-  exact = λ r x. ap (λ (ps : List Posting). posted_at ps r x || any_place places r x) none;
-  rises = rises;
-  before = λ r x e. (let f : false ≡ true = ap (λ (ps : List Posting). posted_at ps r x) (sym none) ∙ e in absurd (cc));
-}
-
-pub may_add : (all left rest : List Place) (p : Place) (rows : List Posting) → Spread all left rows → left ≡ p ∷ rest → IsUpto p.row p.position rows
-may_add all left rest p rows s e r x there = (subst (IsUptoPlaces r x) e (s.before r x there)).0
-
-pub more_spread : (all left rest : List Place) (p : Place) (rows new : List Posting) → Spread all left rows → left ≡ p ∷ rest
-    → ((r x : ℕ) → posted_at new r x ≡ (posted_at rows r x || ((p.row == r) && (p.position == x)))) → Spread all rest new
-more_spread all left rest p rows new s e put =
-    let up = subst PlacesRise e s.rises in
-    record {
-      exact = λ r x.
-          ap (λ (b : Bool). b || any_place rest r x) (put r x)
-          ∙ sym (or_assoc (posted_at rows r x) (is_place r x p) (any_place rest r x))
-          ∙ ap (λ (l : List Place). posted_at rows r x || any_place l r x) (sym e)
-          ∙ s.exact r x;
-      rises = up.1;
-      before = λ r x there. stays r x (λ h. (subst (IsUptoPlaces r x) e (s.before r x h)).1) up.0 (sym (put r x) ∙ there);
-    }
-  where
-    stays : (r x : ℕ) → (posted_at rows r x ≡ true → IsUptoPlaces r x rest) → IsUptoPlaces p.row p.position rest
-        → (posted_at rows r x || ((p.row == r) && (p.position == x))) ≡ true → IsUptoPlaces r x rest
-    stays r x old upto h = go (posted_at rows r x) refl h
-      where
-        go : (b : Bool) → posted_at rows r x ≡ b → (b || ((p.row == r) && (p.position == x))) ≡ true → IsUptoPlaces r x rest
-        go true q k = old q
-        go false q k =
-            let is = and_parts (p.row == r) (p.position == x) k in
-            subst (λ (n : ℕ). IsUptoPlaces n x rest) (eqb-true p.row r is.0) (subst (λ (n : ℕ). IsUptoPlaces p.row n rest) (eqb-true p.position x is.1) upto)
-
-pub all_spread : (all left : List Place) (rows : List Posting) → Spread all left rows → left ≡ [] → (r x : ℕ) → posted_at rows r x ≡ any_place all r x
-all_spread all left rows s none r x =
-    or_false (posted_at rows r x)
-    ∙ ap (λ (l : List Place). posted_at rows r x || any_place l r x) (sym none)
-    ∙ s.exact r x
-
 -- ---- all that were gathered
-
-pub none_late : (rows : List Posting) (late : List Place) → late ≡ [] → (r x : ℕ) → posted_at rows r x ≡ (posted_at rows r x || any_place late r x)
-none_late rows late none r x = or_false (posted_at rows r x) ∙ ap (λ (l : List Place). posted_at rows r x || any_place l r x) (sym none)
 
 or_comm : (a b : Bool) → (a || b) ≡ (b || a)
 or_comm true true = refl

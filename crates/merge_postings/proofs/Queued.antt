@@ -77,9 +77,6 @@ behind_middle (w ∷ ws) zero d t q lt low = (low, lower ws q.0)
     lower (v ∷ vs) h = (through t w.first.term v.first.term low h.0, lower vs h.1)
 behind_middle (w ∷ ws) (suc m) d t q lt low = behind_middle ws m d t q.1 (omega arith) low
 
-pub from_none : (ws : List Waiting) (t : Term) → StartFrom t (take 0 ws)
-from_none ws t = tt
-
 -- ---- a source that is put among others
 
 pub all_put : (P : Waiting → Type 0) (ws : List Waiting) (i : ℕ) (w : Waiting) → P w → AllByRecursion P ws → AllByRecursion P (insert ws i w)

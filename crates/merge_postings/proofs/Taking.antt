@@ -5,28 +5,14 @@ use Rattle.std.specs.List.{AllByRecursion}
 use Rattle.std.specs.Option.{IfSome}
 use Rattle.ix_base.proofs.Ends.{ends}
 use Rattle.ix_base.proofs.TermOrder.{term_total}
+use Rattle.ix_base.specs.GroupedLaws.{or_assoc}
 use Rattle.ix_base.specs.declared.document.Term.{Term}
 use Rattle.ix_base.specs.declared.postings.TermPostings.{TermPostings}
 use Rattle.merge_postings.specs.Renumbering.{Moving, any_moved, is_named, moved, moved_at}
-use Rattle.merge_postings.specs.Walk.{AreQueued, IsBelow, IsLast, IsPutBack, StartAbove, StartFrom, Taken, TakenAll, Waiting, any_waiting, entry_count, waiting}
-use Rattle.merge_postings.proofs.Queued.{above_not_below, all_front, all_last, all_put, any_last, any_put, below_through, count_last, count_put, from_last, less_not_itself, tri}
+use Rattle.merge_postings.specs.Walk.{AreQueued, IsBelow, AddsPlaces, IsPassed, IsPutBack, StartAbove, StartFrom, Taken, TakenAll, Waiting, any_waiting, entry_count, waiting}
+use Rattle.merge_postings.proofs.Queued.{above_not_below, all_front, all_last, all_put, any_last, any_put, below_through, count_last, count_put, from_last, tri}
 
-and_false : (b c : Bool) → c ≡ ((b && false) || c)
-and_false true c = refl
-and_false false c = refl
-
--- ---- nothing was taken yet
-
-pub none_taken : (u : Term) (queue : List Waiting) (place : ℕ → ℕ → Bool) → AreQueued queue → StartFrom u queue → ((r x : ℕ) → place r x ≡ false) → Taken u queue queue place
-none_taken u queue place queued from none = record {
-  exact = λ field bytes r x.
-      and_false (is_named field bytes u) (any_waiting queue field bytes r x)
-      ∙ ap (λ (b : Bool). (is_named field bytes u && b) || any_waiting queue field bytes r x) (sym (none r x));
-  queued = queued;
-  from = from;
-  later = λ t all. all;
-  fewer = inl refl;
-}
+-- ---- the places that were taken
 
 -- the same places, said otherwise
 pub same_places : (u : Term) (old new : List Waiting) (place other : ℕ → ℕ → Bool) → ((r x : ℕ) → other r x ≡ place r x) → TakenAll u old new place → TakenAll u old new other
@@ -84,48 +70,75 @@ some_map P Q (Some w) f h = f w h
 
 -- ---- an entry was taken
 
-spread : (n p m q f : Bool) → ((n && p) || (((n && m) || q) || f)) ≡ ((n && (p || m)) || (q || f))
-spread true true m q f = refl
-spread true false true q f = refl
-spread true false false q f = refl
-spread false p m q f = refl
+-- An entry of the last source was taken, which is of the least term: what the sources had is at its places, or is there
+-- still.
+record Passed (u : Term) (cur new : List Waiting) (h : Waiting) : Type 0 where
+  exact : (field bytes : List ℕ) (r x : ℕ) → any_waiting cur field bytes r x
+      ≡ ((is_named field bytes u && moved_at h.numbers h.first.rows r x) || any_waiting new field bytes r x)
+  from : StartFrom u new
+  later : (t : Term) → StartAbove t cur → StartAbove t new
+  less : entry_count new < entry_count cur
 
-pub more_taken : (u : Term) (old cur front new : List Waiting) (h : Waiting) (place more : ℕ → ℕ → Bool) → Taken u old cur place → cur ≡ front ++ h ∷ [] → h.first.term ≡ u
-    → ((r x : ℕ) → more r x ≡ (place r x || moved_at h.numbers h.first.rows r x))
-    → IsPutBack (waiting h.rest h.numbers) front new → AreQueued new
-    → IfSome (waiting h.rest h.numbers) (λ (next : Waiting). IsBelow h.first.term next.first.term)
-    → Taken u old new more
-more_taken u old cur front new h place more taken is named put back queued rises = record {
+passed : (u : Term) (cur front new : List Waiting) (h : Waiting) → StartFrom u cur → cur ≡ front ++ h ∷ [] → h.first.term ≡ u → IsPassed h front new → Passed u cur new h
+passed u cur front new h low is named pass = record {
   exact = λ field bytes r x.
-      taken.exact field bytes r x
-      ∙ ap (λ (ws : List Waiting). (is_named field bytes u && place r x) || any_waiting ws field bytes r x) is
-      ∙ ap (λ (b : Bool). (is_named field bytes u && place r x) || b) (any_last front h field bytes r x)
-      ∙ ap (λ (t : Term). (is_named field bytes u && place r x) || (((is_named field bytes t && moved_at h.numbers h.first.rows r x) || moved h.numbers h.rest field bytes r x) || any_waiting front field bytes r x)) named
-      ∙ spread (is_named field bytes u) (place r x) (moved_at h.numbers h.first.rows r x) (moved h.numbers h.rest field bytes r x) (any_waiting front field bytes r x)
-      ∙ (λ i. (is_named field bytes u && (sym (put r x)) i) || (sym (back_any h.rest h.numbers front new back field bytes r x)) i);
-  queued = queued;
-  from = back_all (λ (w : Waiting). IsBelow w.first.term u → ⊥) (waiting h.rest h.numbers) front new back
-      (all_front (λ (w : Waiting). IsBelow w.first.term u → ⊥) front h (subst (StartFrom u) is taken.from))
+      ap (λ (ws : List Waiting). any_waiting ws field bytes r x) is
+      ∙ any_last front h field bytes r x
+      ∙ ap (λ (t : Term). ((is_named field bytes t && moved_at h.numbers h.first.rows r x) || moved h.numbers h.rest field bytes r x) || any_waiting front field bytes r x) named
+      ∙ sym (or_assoc (is_named field bytes u && moved_at h.numbers h.first.rows r x) (moved h.numbers h.rest field bytes r x) (any_waiting front field bytes r x))
+      ∙ ap (λ (b : Bool). (is_named field bytes u && moved_at h.numbers h.first.rows r x) || b) (sym (back_any h.rest h.numbers front new pass.back field bytes r x));
+  from = back_all (λ (w : Waiting). IsBelow w.first.term u → ⊥) (waiting h.rest h.numbers) front new pass.back
+      (all_front (λ (w : Waiting). IsBelow w.first.term u → ⊥) front h (subst (StartFrom u) is low))
       (some_map (λ (w : Waiting). IsBelow h.first.term w.first.term) (λ (w : Waiting). IsBelow w.first.term u → ⊥) (waiting h.rest h.numbers)
-      (λ w l. above_not_below u w.first.term (subst (λ (t : Term). IsBelow t w.first.term) named l)) rises);
+      (λ w l. above_not_below u w.first.term (subst (λ (t : Term). IsBelow t w.first.term) named l)) pass.rises);
   later = λ t all.
-      let there = subst (StartAbove t) is (taken.later t all) in
-      back_all (λ (w : Waiting). IsBelow t w.first.term) (waiting h.rest h.numbers) front new back
+      let there = subst (StartAbove t) is all in
+      back_all (λ (w : Waiting). IsBelow t w.first.term) (waiting h.rest h.numbers) front new pass.back
       (all_front (λ (w : Waiting). IsBelow t w.first.term) front h there)
       (some_map (λ (w : Waiting). IsBelow h.first.term w.first.term) (λ (w : Waiting). IsBelow t w.first.term) (waiting h.rest h.numbers)
-      (λ w l. term_total.trans t h.first.term w.first.term (all_last (λ (v : Waiting). IsBelow t v.first.term) front h there) l) rises);
-  fewer = go taken.fewer;
+      (λ w l. term_total.trans t h.first.term w.first.term (all_last (λ (v : Waiting). IsBelow t v.first.term) front h there) l) pass.rises);
+  less = omega (arith, back_count h.rest h.numbers front new pass.back, ap entry_count is, count_last front h);
 }
-  where
-    less : entry_count new < entry_count cur
-    less = omega (arith, back_count h.rest h.numbers front new back, ap entry_count is, count_last front h)
 
-    go : (cur ≡ old) ⊎ (entry_count cur < entry_count old) → (new ≡ old) ⊎ (entry_count new < entry_count old)
-    go (inl e) = inr (omega (arith, less, ap entry_count e))
-    go (inr l) = inr (omega (arith, less, l))
+-- the first entry
+pub first_taken : (u : Term) (front new : List Waiting) (h : Waiting) (none place : ℕ → ℕ → Bool) → AreQueued (front ++ h ∷ []) → ((r x : ℕ) → none r x ≡ false) → h.first.term ≡ u
+    → AddsPlaces h none place → IsPassed h front new → Taken u (front ++ h ∷ []) new place
+first_taken u front new h none place queued empty named put pass =
+    let low : StartFrom u (front ++ h ∷ []) = subst (λ (t : Term). StartFrom t (front ++ h ∷ [])) named (from_last front h queued) in
+    let p = passed u (front ++ h ∷ []) front new h low refl named pass in
+    record {
+      exact = λ field bytes r x.
+          p.exact field bytes r x
+          ∙ ap (λ (b : Bool). (is_named field bytes u && b) || any_waiting new field bytes r x) (sym (put r x ∙ ap (λ (b : Bool). b || moved_at h.numbers h.first.rows r x) (empty r x)));
+      queued = pass.queued;
+      from = p.from;
+      later = p.later;
+      fewer = p.less;
+    }
 
-pub less_left : (h : Waiting) (cur front new : List Waiting) → cur ≡ front ++ h ∷ [] → IsPutBack (waiting h.rest h.numbers) front new → entry_count new < entry_count cur
-less_left h cur front new is back = omega (arith, back_count h.rest h.numbers front new back, ap entry_count is, count_last front h)
+spread : (n p m c : Bool) → ((n && p) || ((n && m) || c)) ≡ ((n && (p || m)) || c)
+spread true p m c = or_assoc p m c
+spread false p m c = refl
+
+-- one more
+pub more_taken : (u : Term) (old cur front new : List Waiting) (h : Waiting) (place more : ℕ → ℕ → Bool) → Taken u old cur place → cur ≡ front ++ h ∷ [] → h.first.term ≡ u
+    → AddsPlaces h place more → IsPassed h front new → Taken u old new more
+more_taken u old cur front new h place more taken is named put pass =
+    let p = passed u cur front new h taken.from is named pass in
+    record {
+      exact = λ field bytes r x.
+          taken.exact field bytes r x
+          ∙ ap (λ (b : Bool). (is_named field bytes u && place r x) || b) (p.exact field bytes r x)
+          ∙ spread (is_named field bytes u) (place r x) (moved_at h.numbers h.first.rows r x) (any_waiting new field bytes r x)
+          ∙ ap (λ (b : Bool). (is_named field bytes u && b) || any_waiting new field bytes r x) (sym (put r x));
+      queued = pass.queued;
+      from = p.from;
+      later = λ t all. p.later t (taken.later t all);
+      fewer = omega (arith, p.less, taken.fewer);
+    }
+
+pub less_left : (h : Waiting) (cur front new : List Waiting) → cur ≡ front ++ h ∷ [] → IsPassed h front new → entry_count new < entry_count cur
+less_left h cur front new is pass = omega (arith, back_count h.rest h.numbers front new pass.back, ap entry_count is, count_last front h)
 
 -- ---- all was taken
 
@@ -148,20 +161,3 @@ all_taken u old cur place taken other = record { taken = taken; above = go (ends
         let low : IsBelow w.first.term u → ⊥ = all_last (λ (v : Waiting). IsBelow v.first.term u → ⊥) front w (subst (StartFrom u) p.2 taken.from) in
         subst (StartAbove u) (sym p.2)
         (above w (front ++ w ∷ []) (least w low (other front w p.2)) (from_last front w (subst AreQueued p.2 taken.queued)))
-
--- ---- the least term
-
-pub least_from : (u : Term) (queue : List Waiting) → AreQueued queue → IsLast u queue → StartFrom u queue
-least_from u queue queued last =
-    subst (StartFrom u) (sym last.2) (subst (λ (t : Term). StartFrom t (last.0 ++ last.1 ∷ [])) last.3 (from_last last.0 last.1 (subst AreQueued last.2 queued)))
-
--- what is above all that are queued is above the least
-pub above_least : (t u : Term) (queue : List Waiting) → StartAbove t queue → IsLast u queue → IsBelow t u
-above_least t u queue all last = subst (IsBelow t) last.3 (all_last (λ (v : Waiting). IsBelow t v.first.term) last.0 last.1 (subst (StartAbove t) last.2 all))
-
--- where the least term was taken, fewer entries are left
-pub taken_fewer : (u : Term) (queue left : List Waiting) (place : ℕ → ℕ → Bool) → IsLast u queue → TakenAll u queue left place → entry_count left < entry_count queue
-taken_fewer u queue left place last all = elim all.taken.fewer [
-  | inl e ↦ absurd (less_not_itself u (above_least u u queue (subst (StartAbove u) e all.above) last))
-  | inr l ↦ l
-]

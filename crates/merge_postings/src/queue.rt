@@ -1,7 +1,7 @@
 //! Sources that wait, by their first terms, which don't rise: the last has the least.
 ghost use Rattle.std.specs.Prelude.{◌≡◌, ◌≢◌, ◌||◌, ◌≤◌, ◌++◌, ◌∷◌, [], ℕ, List, length, take, drop, IfNone, IfOk, IfSome, OnOk};
 ghost use Rattle.merge_postings.specs.Renumbering.{any_moved};
-ghost use Rattle.merge_postings.specs.Walk.{any_waiting, waiting, StartFrom, AreQueued, StartUpto, IsLast, IsPut, IsPutBack, Waiting};
+ghost use Rattle.merge_postings.specs.Walk.{any_waiting, waiting, StartFrom, AreQueued, StartUpto, IsPut, IsPutBack, Waiting};
 
 use crate::head::Head;
 use crate::source::Source;
@@ -67,15 +67,6 @@ pub(crate) fn queue_of<'a>(alloc: Global, sources: &[Source<'a>]) -> Result<Vec<
         put_back(&mut queue, sources[place].head(place))?;
     }
     Ok(queue)
-}
-
-/// The least first term: `None` exactly where no source is left.
-pub(crate) fn least<'a>(queue: &[Head<'a>]) -> Option<&'a Term>
-    ensures some { IfSome result (λ term. IsLast term.now queue.now) }
-    ensures none { IfNone result (queue.now ≡ []) }
-{
-    let head = queue.last()?;
-    Some(head.term())
 }
 
 /// Takes the last source out, if its first term is this one.
