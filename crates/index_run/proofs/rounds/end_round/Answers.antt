@@ -14,10 +14,10 @@ returns-in_ok-merge_step-clause-ended g c = λ told parts.
     let e = c.in-Ok.ensures.ended c.requires.on told parts in
     let some : old.published.upto < mid.published.upto =
     (
-      let more = some_number _ _ _ c.operations_of.ensures c.rows_of_step-rows.ensures.none c.if-rows-gt0.true in
-      let was = c.upto-before.ensures in
-      let is = c.upto.ensures in
-      omega (arith, more, was, is)
+    let more = some_number _ _ _ c.operations_of.ensures c.rows_of_step-rows.ensures.none c.if-rows-gt0.true in
+    let was = c.upto-before.ensures in
+    let is = c.upto.ensures in
+    omega (arith, more, was, is)
     ) in
     ends_merged told c.in-Ok.end _ c.in_ok-merge_step.field-0 old mid c.merge_step.new.self.state e
     (c.in_ok-merge_step.ensures.merged (e.closed ∙ c.requires.on)) some
