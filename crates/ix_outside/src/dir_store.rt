@@ -33,8 +33,9 @@ use std::rt::Files;
 ///   disk. Where the process may not open the parent, this is owed by who made the directory, and so
 ///   it is for the directories above the parent.
 /// - After a sync that failed each later one fails: nobody knows what the disk has kept.
-/// - An open, a read, a write, a sync or a lock that is interrupted is made again. About 2^64 tries of
-///   one call are a fault. A rename, a removal or a look at an entry isn't made again.
+/// - An open of a file, a read, a write, a sync or a lock that is interrupted is made again. About 2^64
+///   tries of one call are a fault. A rename, a removal, a look at an entry and the open by which
+///   entries are listed aren't made again.
 ///
 /// Each error of the system is a fault, except where `list` or `read`, which change nothing, are out
 /// of memory. A file of more than 2,147,483,648 bytes that is to be read or written is a fault too,
@@ -153,7 +154,10 @@ where
 
     fn sync(&mut self, name: FileName) -> Result<(), StoreFault> {
         let path = self.directory.path_of(name)?;
-        let answer = self.directory.sync_file(name, path.as_str());
+        let parent = self.directory.parent_path()?;
+        let answer = self
+            .directory
+            .sync_file(name, path.as_str(), parent.as_str());
         changed(&mut self.faults, answer)
     }
 
@@ -173,7 +177,8 @@ where
     }
 
     fn sync_all(&mut self) -> Result<(), StoreFault> {
-        let answer = self.directory.sync_directory();
+        let parent = self.directory.parent_path()?;
+        let answer = self.directory.sync_directory(parent.as_str());
         changed(&mut self.faults, answer)
     }
 

@@ -95,6 +95,16 @@ where
         Ok(path)
     }
 
+    /// The path of the directory's parent.
+    pub fn parent_path(&self) -> Result<String, NoMemory>
+        ensures { IfOk result (λ path. string_bytes path
+            ≡ string_bytes self.now.path ++ codes "/..") }
+    {
+        let mut path = String::from_str(self.runtime.alloc(), self.path.as_str())?;
+        path.push_str("/..")?;
+        Ok(path)
+    }
+
     /// Whether a regular file is there. A missing directory is an error.
     fn is_file(&self, path: &str) -> io::Result<bool> {
         match fs::symlink_metadata(&self.runtime, path) {
@@ -179,8 +189,9 @@ where
         }
     }
 
-    /// Syncs the file, and the directory where it may have a new entry that isn't on the disk.
-    pub fn sync_file(&mut self, name: FileName, path: &str) -> io::Result<()>
+    /// Syncs the file, and the directory where it may have a new entry that isn't on the disk. It comes
+    /// with its path and that of the directory's parent.
+    pub fn sync_file(&mut self, name: FileName, path: &str, parent: &str) -> io::Result<()>
         ensures locked { OnOk result (IsLocked self.new.access) }
         ensures reads { OnlyReads self.old.access → IsErr result }
     {
@@ -193,15 +204,15 @@ where
         };
         self.sync_opened(&file)?;
         if self.has_new_entries {
-            self.sync_directory()
+            self.sync_directory(parent)
         } else {
             Ok(())
         }
     }
 
     /// Syncs the directory, so that its entries are on the disk, and the first time its parent too, so
-    /// that its own entry is.
-    pub fn sync_directory(&mut self) -> io::Result<()>
+    /// that its own entry is. The parent comes with its path.
+    pub fn sync_directory(&mut self, parent: &str) -> io::Result<()>
         ensures locked { OnOk result (IsLocked self.new.access) }
         ensures reads { OnlyReads self.old.access → IsErr result }
     {
@@ -209,7 +220,7 @@ where
         let directory = fs::open(&self.runtime, self.path.as_str())?;
         self.sync_opened(&directory)?;
         if !self.is_entered {
-            self.sync_parent()?;
+            self.sync_parent(parent)?;
         }
         self.has_new_entries = false;
         Ok(())
@@ -217,12 +228,10 @@ where
 
     /// Syncs the directory's parent. One that this process may not open is left to who made the
     /// directory.
-    fn sync_parent(&mut self) -> io::Result<()>
+    fn sync_parent(&mut self, parent: &str) -> io::Result<()>
         ensures access { self.new.access ≡ self.old.access }
     {
-        let mut path = String::from_str(self.runtime.alloc(), self.path.as_str())?;
-        path.push_str("/..")?;
-        match fs::open(&self.runtime, path.as_str()) {
+        match fs::open(&self.runtime, parent) {
             Ok(parent) => self.sync_opened(&parent)?,
             Err(error) if error.kind() == ErrorKind::PermissionDenied => {}
             Err(error) => return Err(error),
