@@ -7,7 +7,7 @@ use Rattle.ix_base.specs.declared.file_name.FileName.TheVariants.{Commit, Pendin
 use Rattle.ix_outside.specs.Files.{Files, SameBut, Changes, stays}
 use Rattle.ix_outside.specs.Images.{MayHaveRenamed}
 use Rattle.ix_outside.specs.Disk.{Disk, IsPartOf, Stops, Told, files, taken, told_files}
-use Rattle.ix_outside.specs.DiskLaws.{told_onto}
+use Rattle.ix_outside.specs.DiskLaws.{taken_then, told_onto}
 use Rattle.ix_outside.specs.CrashLaws.{reads_follow}
 use Rattle.ix_outside.specs.declared.step.Step.{Step}
 use Rattle.ix_outside.specs.declared.step.Step.TheVariants.{Wrote, Synced, Renamed, Settled, Spoilt, HalfRenamed}
@@ -15,7 +15,7 @@ use Rattle.segment_core.specs.LiveRows.{Lived}
 use Rattle.commit_point.specs.declared.heads.HeadSegment.{HeadSegment}
 use Rattle.commit_point.specs.declared.written.Written.{Written}
 use Rattle.commit_point.specs.Holds.{KeepsCommits, Lists}
-use Rattle.commit_point.specs.Publishing.{File, IsNoneOf, puts, puts_all}
+use Rattle.commit_point.specs.Publishing.{File, IsNoneOf, puts_all, syncs_all, writes_all}
 use Rattle.commit_point.specs.PublishLaws.{reads_of_stop}
 use Rattle.commit_point.specs.Spelling.{commit_file}
 use Rattle.commit_point.specs.Steps.{GoesBy, IsNoCommit, KeepsMade, KeepsStanding, MakesCommits, OnlyCommits}
@@ -53,17 +53,18 @@ Makes step older = MakesCommits step
 part_makes : (name : FileName) (part : Step) → IsNoCommit name → (found : Option (List ℕ)) × (part ≡ Spoilt name found) → MakesCommits part
 part_makes name part none found = subst MakesCommits (sym found.1) none
 
+writes_make : (list : List File) (old : Disk) → AllByRecursion (λ (f : File). IsNoCommit f.0) list → AreTaken Makes (writes_all list) old
+writes_make [] old none = tt
+writes_make (f ∷ fs) old none = (none.0, (λ part found. part_makes f.0 part none.0 found), writes_make fs (Wrote f.0 f.1 ∷ old) none.1)
+
+syncs_make : (list : List File) (old : Disk) → AllByRecursion (λ (f : File). IsNoCommit f.0) list → AreTaken Makes (syncs_all list) old
+syncs_make [] old none = tt
+syncs_make (f ∷ fs) old none = (tt, (λ part found. part_makes f.0 part none.0 found), syncs_make fs (Synced f.0 ∷ old) none.1)
+
 puts_make : (list : List File) (old : Disk) → AllByRecursion (λ (f : File). IsNoCommit f.0) list → AreTaken Makes (puts_all list) old
-puts_make [] old none = tt
-puts_make (f ∷ fs) old none = (
-  none.0,
-  (λ part found. part_makes f.0 part none.0 found),
-  (
-    tt,
-    (λ part found. part_makes f.0 part none.0 found),
-    puts_make fs (Synced f.0 ∷ Wrote f.0 f.1 ∷ old) none.1,
-  ),
-)
+puts_make list old none =
+    taken_both Makes (writes_all list) (syncs_all list) old (writes_make list old none)
+    (syncs_make list (taken (writes_all list) old) none)
 
 rename_makes : (s : ℕ) (old : Disk) → AreTaken Makes (Renamed (Pending s) (Commit s) ∷ Settled ∷ []) old
 rename_makes s old = (refl, (λ part found. by part found), (tt, (λ part none. absurd none), tt))
@@ -150,27 +151,34 @@ module _ (s : ℕ) (gs : List Lived) (ws : List (Option Written)) where
       (keeps (files old) (files (Spoilt name found.0 ∷ old))
       (one_else name (files old) (files (Spoilt name found.0 ∷ old)) apart (spoilt_but name found.0 old)) comes)
 
-  puts_keep : (list : List File) (old : Disk) → ((other : FileName) → Elsewhere other → IsNoneOf list other) → IsNoneOf list (Commit s)
-      → Comes old → AreTaken KeepsStanding (puts_all list) old × Comes (taken (puts_all list) old)
-  puts_keep [] old apart last comes = (tt, comes)
-  puts_keep (f ∷ fs) old apart last comes =
+  writes_keep : (list : List File) (old : Disk) → ((other : FileName) → Elsewhere other → IsNoneOf list other) → IsNoneOf list (Commit s)
+      → Comes old → AreTaken KeepsStanding (writes_all list) old × Comes (taken (writes_all list) old)
+  writes_keep [] old apart last comes = (tt, comes)
+  writes_keep (f ∷ fs) old apart last comes =
       let own : (other : FileName) → Elsewhere other → f.0 ≢ other = λ other else. (apart other else).0 in
       let wrote = wrote_but f.0 f.1 old in
       let same : SameElsewhere s (IsOldId gs ws) (files old) (files (Wrote f.0 f.1 ∷ old)) =
       one_else f.0 (files old) (files (Wrote f.0 f.1 ∷ old)) own wrote in
       let after : Comes (Wrote f.0 f.1 ∷ old) =
       comes_still (files old) (files (Wrote f.0 f.1 ∷ old)) same (wrote (Commit s) (λ e. last.0 (sym e))) comes in
-      let rest = puts_keep fs (Synced f.0 ∷ Wrote f.0 f.1 ∷ old) (λ other else. (apart other else).1) last.1 after in (
-        (
-          keeps (files old) (files (Wrote f.0 f.1 ∷ old)) same comes,
-          (λ part found. part_keeps f.0 part old own comes found),
-          (
-            still (Synced f.0) (Wrote f.0 f.1 ∷ old) refl,
-            (λ part found. part_keeps f.0 part (Wrote f.0 f.1 ∷ old) own after found),
-            rest.0,
-          ),
-        ),
-        rest.1,
+      let rest = writes_keep fs (Wrote f.0 f.1 ∷ old) (λ other else. (apart other else).1) last.1 after in
+      ((keeps (files old) (files (Wrote f.0 f.1 ∷ old)) same comes, (λ part found. part_keeps f.0 part old own comes found), rest.0), rest.1)
+
+  syncs_keep : (list : List File) (old : Disk) → ((other : FileName) → Elsewhere other → IsNoneOf list other)
+      → Comes old → AreTaken KeepsStanding (syncs_all list) old × Comes (taken (syncs_all list) old)
+  syncs_keep [] old apart comes = (tt, comes)
+  syncs_keep (f ∷ fs) old apart comes =
+      let own : (other : FileName) → Elsewhere other → f.0 ≢ other = λ other else. (apart other else).0 in
+      let rest = syncs_keep fs (Synced f.0 ∷ old) (λ other else. (apart other else).1) comes in
+      ((still (Synced f.0) old refl, (λ part found. part_keeps f.0 part old own comes found), rest.0), rest.1)
+
+  puts_keep : (list : List File) (old : Disk) → ((other : FileName) → Elsewhere other → IsNoneOf list other) → IsNoneOf list (Commit s)
+      → Comes old → AreTaken KeepsStanding (puts_all list) old × Comes (taken (puts_all list) old)
+  puts_keep list old apart last comes =
+      let wrote = writes_keep list old apart last comes in
+      let synced = syncs_keep list (taken (writes_all list) old) apart wrote.1 in (
+        taken_both KeepsStanding (writes_all list) (syncs_all list) old wrote.0 synced.0,
+        subst Comes (sym (taken_then (writes_all list) (syncs_all list) old)) synced.1,
       )
 
   rename_keeps : (old : Disk) → Comes old → KeepsStanding (Renamed (Pending s) (Commit s)) old

@@ -1,6 +1,7 @@
--- Files that are written and synced one by one, and then named by one rename: there whole, or not at all.
+-- Files that are written and synced, and then named by one rename: there whole, or not at all.
 use Rattle.std.specs.Prelude.{◌≡◌, ◌≢◌, ◌⊎◌, ℕ, List, [], ◌∷◌, ◌++◌, Some, None, true, false, refl}
-use Rattle.std.proofs.Common.{inl, inr, subst, sym, ap, ◌∙◌}
+use Rattle.std.proofs.Common.{inl, inr, subst, sym, ap, ◌∙◌, append_assoc}
+use Rattle.std.specs.List.{AllByRecursion}
 use Rattle.ix_base.specs.declared.file_name.FileName.{FileName}
 use Rattle.ix_outside.specs.Files.{Files, SameBut}
 use Rattle.ix_outside.specs.Images.{MayHaveRenamed}
@@ -10,7 +11,7 @@ use Rattle.ix_outside.specs.Disk.{Disk, files, is_unsynced, taken, Stops}
 use Rattle.ix_outside.specs.Crash.{IsImage, MayLeave}
 use Rattle.ix_outside.specs.DiskLaws.{taken_then}
 use Rattle.ix_outside.specs.CrashLaws.{FollowsSteps, IsRead, images_follow, reads_follow, left_by_stops, with_at-same, moved-to, moved-from}
-use Rattle.commit_point.specs.Publishing.{File, puts, puts_all, publishes, IsNoneOf, AreApart, AreThere, Adds, Touches, SameBesides, Publishes, MayPublish, CanPublish}
+use Rattle.commit_point.specs.Publishing.{File, puts, puts_all, writes_all, syncs_all, publishes, IsNoneOf, AreApart, AreThere, Adds, Touches, SameBesides, Publishes, MayPublish, CanPublish}
 
 -- ---- one file
 
@@ -41,44 +42,122 @@ put_done Sees follows name bytes old c sees =
 apart_sym : (a b : FileName) → a ≢ b → b ≢ a
 apart_sym a b apart e = apart (sym e)
 
--- all were written and synced
-pub puts_done : (Sees : Disk → Files → Type 0) → FollowsSteps Sees → (list : List File) (old : Disk) (c : Files) → AreApart list → Sees (taken (puts_all list) old) c
-    → (d : Files) × Sees old d × Adds list d c
-puts_done Sees follows [] old c apart sees = (c, sees, record { there = tt; others = λ name none. refl })
-puts_done Sees follows (f ∷ fs) old c apart sees =
-    let rest = puts_done Sees follows fs (taken (puts f.0 f.1) old) c apart.1 sees in
-    let one = put_done Sees follows f.0 f.1 old rest.0 rest.1 in (
-      one.0,
-      one.1,
-      record {
-        there = (rest.2.others f.0 apart.0 ∙ one.3, rest.2.there);
-        others = λ name none. rest.2.others name none.1 ∙ one.2 name (apart_sym f.0 name none.0);
-      },
-    )
-
 -- what is seen is as before, but those of the list
 abbrev pub OnlyTouches : (Disk → Files → Type 0) → List File → Disk → Disk → Type 0
 OnlyTouches Sees list old at = (c : Files) → Sees at c → (d : Files) × Sees old d × Touches list d c
 
+-- the files of the list are as reads of this disk give them
+abbrev AreAs : List File → Disk → Files → Type 0
+AreAs list disk c = AllByRecursion (λ (file : File). c file.0 ≡ files disk file.0) list
+
+-- all were written
+writes_done : (Sees : Disk → Files → Type 0) → FollowsSteps Sees → (list : List File) (old : Disk) → OnlyTouches Sees list old (taken (writes_all list) old)
+writes_done Sees follows [] old c sees = (c, sees, λ name none. refl)
+writes_done Sees follows (f ∷ fs) old c sees =
+    let rest = writes_done Sees follows fs (Wrote f.0 f.1 ∷ old) c sees in
+    let one = follows (Wrote f.0 f.1) old rest.0 rest.1 in
+    (one.0, one.1, λ name none. rest.2 name none.1 ∙ one.2 name (apart_sym f.0 name none.0))
+
+-- reads then give their bytes
+written_there : (list : List File) (old : Disk) → AreApart list → AreThere list (files (taken (writes_all list) old))
+written_there [] old apart = tt
+written_there (f ∷ fs) old apart =
+    let rest = writes_done IsRead reads_follow fs (Wrote f.0 f.1 ∷ old) (files (taken (writes_all fs) (Wrote f.0 f.1 ∷ old))) refl in
+    let same : rest.0 f.0 ≡ Some f.1 = ap (λ (x : Files). x f.0) rest.1 ∙ with_at-same f.0 (Some f.1) (files old) in
+    (rest.2 f.0 apart.0 ∙ same, written_there fs (Wrote f.0 f.1 ∷ old) apart.1)
+
+-- all were synced
+syncs_done : (Sees : Disk → Files → Type 0) → FollowsSteps Sees → (list : List File) (mid : Disk) (c : Files) → AreApart list → Sees (taken (syncs_all list) mid) c
+    → (d : Files) × Sees mid d × Touches list d c × AreAs list mid c
+syncs_done Sees follows [] mid c apart sees = (c, sees, (λ name none. refl), tt)
+syncs_done Sees follows (f ∷ fs) mid c apart sees =
+    let rest = syncs_done Sees follows fs (Synced f.0 ∷ mid) c apart.1 sees in
+    let one = follows (Synced f.0) mid rest.0 rest.1 in (
+      one.0,
+      one.1,
+      (λ name none. rest.2 name none.1 ∙ one.2.others name (apart_sym f.0 name none.0)),
+      (rest.2 f.0 apart.0 ∙ one.2.there, rest.3),
+    )
+
+there_as : (list : List File) (mid : Disk) (c : Files) → AreThere list (files mid) → AreAs list mid c → AreThere list c
+there_as [] mid c there same = tt
+there_as (f ∷ fs) mid c there same = (same.0 ∙ there.0, there_as fs mid c there.1 same.1)
+
+-- all were written and synced
+pub puts_done : (Sees : Disk → Files → Type 0) → FollowsSteps Sees → (list : List File) (old : Disk) (c : Files) → AreApart list → Sees (taken (puts_all list) old) c
+    → (d : Files) × Sees old d × Adds list d c
+puts_done Sees follows list old c apart sees =
+    let mid = taken (writes_all list) old in
+    let two = syncs_done Sees follows list mid c apart (subst (λ (x : Disk). Sees x c) (taken_then (writes_all list) (syncs_all list) old) sees) in
+    let one = writes_done Sees follows list old two.0 two.1 in (
+      one.0,
+      one.1,
+      record {
+        there = there_as list mid c (written_there list old apart) two.3;
+        others = λ name none. two.2 name none ∙ one.2 name none;
+      },
+    )
+
+-- a stop among the writes or after them
+writes_stop : (Sees : Disk → Files → Type 0) → FollowsSteps Sees → (list : List File) (rest : List Step) (old at : Disk) → Stops (writes_all list ++ rest) old at
+    → OnlyTouches Sees list old at ⊎ Stops rest (taken (writes_all list) old) at
+writes_stop Sees follows [] rest old at stops = inr stops
+writes_stop Sees follows (f ∷ fs) rest old at (inl (inl same)) = inl (λ c sees. (c, subst (λ (x : Disk). Sees x c) same sees, λ name none. refl))
+writes_stop Sees follows (f ∷ fs) rest old at (inl (inr part)) =
+    inl (λ c sees.
+    let one = follows (Spoilt f.0 part.1.0) old c (subst (λ (x : Disk). Sees x c) (part.2 ∙ ap (λ (p : Step). p ∷ old) part.1.1) sees) in
+    (one.0, one.1, λ name none. one.2 name (apart_sym f.0 name none.0)))
+writes_stop Sees follows (f ∷ fs) rest old at (inr later) = more (writes_stop Sees follows fs rest (Wrote f.0 f.1 ∷ old) at later)
+  where
+    more : OnlyTouches Sees fs (Wrote f.0 f.1 ∷ old) at ⊎ Stops rest (taken (writes_all fs) (Wrote f.0 f.1 ∷ old)) at
+        → OnlyTouches Sees (f ∷ fs) old at ⊎ Stops rest (taken (writes_all fs) (Wrote f.0 f.1 ∷ old)) at
+    more (inl among) = inl (λ c sees.
+        let two = among c sees in
+        let one = follows (Wrote f.0 f.1) old two.0 two.1 in
+        (one.0, one.1, λ name none. two.2 name none.1 ∙ one.2 name (apart_sym f.0 name none.0)))
+    more (inr after) = inr after
+
+-- a stop among the syncs or after them
+syncs_stop : (Sees : Disk → Files → Type 0) → FollowsSteps Sees → (list : List File) (rest : List Step) (old at : Disk) → Stops (syncs_all list ++ rest) old at
+    → OnlyTouches Sees list old at ⊎ Stops rest (taken (syncs_all list) old) at
+syncs_stop Sees follows [] rest old at stops = inr stops
+syncs_stop Sees follows (f ∷ fs) rest old at (inl (inl same)) = inl (λ c sees. (c, subst (λ (x : Disk). Sees x c) same sees, λ name none. refl))
+syncs_stop Sees follows (f ∷ fs) rest old at (inl (inr part)) =
+    inl (λ c sees.
+    let one = follows (Spoilt f.0 part.1.0) old c (subst (λ (x : Disk). Sees x c) (part.2 ∙ ap (λ (p : Step). p ∷ old) part.1.1) sees) in
+    (one.0, one.1, λ name none. one.2 name (apart_sym f.0 name none.0)))
+syncs_stop Sees follows (f ∷ fs) rest old at (inr later) = more (syncs_stop Sees follows fs rest (Synced f.0 ∷ old) at later)
+  where
+    more : OnlyTouches Sees fs (Synced f.0 ∷ old) at ⊎ Stops rest (taken (syncs_all fs) (Synced f.0 ∷ old)) at
+        → OnlyTouches Sees (f ∷ fs) old at ⊎ Stops rest (taken (syncs_all fs) (Synced f.0 ∷ old)) at
+    more (inl among) = inl (λ c sees.
+        let two = among c sees in
+        let one = follows (Synced f.0) old two.0 two.1 in
+        (one.0, one.1, λ name none. two.2 name none.1 ∙ one.2.others name (apart_sym f.0 name none.0)))
+    more (inr after) = inr after
+
 -- a stop among them or after them
 pub puts_stop : (Sees : Disk → Files → Type 0) → FollowsSteps Sees → (list : List File) (rest : List Step) (old at : Disk) → Stops (puts_all list ++ rest) old at
     → OnlyTouches Sees list old at ⊎ Stops rest (taken (puts_all list) old) at
-puts_stop Sees follows [] rest old at stops = inr stops
-puts_stop Sees follows (f ∷ fs) rest old at stops = first (put_stops Sees follows f.0 f.1 (puts_all fs ++ rest) old at stops) (λ later. puts_stop Sees follows fs rest (taken (puts f.0 f.1) old) at later)
+puts_stop Sees follows list rest old at stops =
+    first (writes_stop Sees follows list (syncs_all list ++ rest) old at
+    (subst (λ (steps : List Step). Stops steps old at) (append_assoc (writes_all list) (syncs_all list) rest) stops))
   where
-    second : OnlyTouches Sees fs (taken (puts f.0 f.1) old) at ⊎ Stops rest (taken (puts_all fs) (taken (puts f.0 f.1) old)) at
-        → OnlyTouches Sees (f ∷ fs) old at ⊎ Stops rest (taken (puts_all fs) (taken (puts f.0 f.1) old)) at
+    mid : Disk
+    mid = taken (writes_all list) old
+
+    second : OnlyTouches Sees list mid at ⊎ Stops rest (taken (syncs_all list) mid) at
+        → OnlyTouches Sees list old at ⊎ Stops rest (taken (puts_all list) old) at
     second (inl among) = inl (λ c sees.
         let two = among c sees in
-        let one = put_done Sees follows f.0 f.1 old two.0 two.1 in
-        (one.0, one.1, λ name none. two.2 name none.1 ∙ one.2 name (apart_sym f.0 name none.0)))
-    second (inr after) = inr after
+        let one = writes_done Sees follows list old two.0 two.1 in
+        (one.0, one.1, λ name none. two.2 name none ∙ one.2 name none))
+    second (inr after) = inr (subst (λ (x : Disk). Stops rest x at) (sym (taken_then (writes_all list) (syncs_all list) old)) after)
 
-    first : ((c : Files) → Sees at c → (d : Files) × Sees old d × SameBut f.0 d c) ⊎ Stops (puts_all fs ++ rest) (taken (puts f.0 f.1) old) at
-        → (Stops (puts_all fs ++ rest) (taken (puts f.0 f.1) old) at → OnlyTouches Sees fs (taken (puts f.0 f.1) old) at ⊎ Stops rest (taken (puts_all fs) (taken (puts f.0 f.1) old)) at)
-        → OnlyTouches Sees (f ∷ fs) old at ⊎ Stops rest (taken (puts_all fs) (taken (puts f.0 f.1) old)) at
-    first (inl here) more = inl (λ c sees. let one = here c sees in (one.0, one.1, λ name none. one.2 name (apart_sym f.0 name none.0)))
-    first (inr later) more = second (more later)
+    first : OnlyTouches Sees list old at ⊎ Stops (syncs_all list ++ rest) mid at
+        → OnlyTouches Sees list old at ⊎ Stops rest (taken (puts_all list) old) at
+    first (inl among) = inl among
+    first (inr later) = second (syncs_stop Sees follows list rest mid at later)
 
 -- ---- the rename
 

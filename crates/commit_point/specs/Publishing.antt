@@ -1,6 +1,6 @@
--- Writing files one by one, and publishing them by a rename.
-use Rattle.std.specs.Prelude.{◌≡◌, ◌≢◌, ◌⊎◌, ℕ, ◌≤◌, Result, IfErr, List, [], ◌∷◌, ◌++◌, Some, None, ⊤, Bool, true, false}
-use Rattle.std.specs.List.{flat_map, AllByRecursion}
+-- Writing files and syncing them, and publishing them by a rename.
+use Rattle.std.specs.Prelude.{◌≡◌, ◌≢◌, ◌⊎◌, ℕ, ◌≤◌, Result, IfErr, List, [], ◌∷◌, ◌++◌, map, Some, None, ⊤, Bool, true, false}
+use Rattle.std.specs.List.{AllByRecursion}
 use Rattle.ix_base.specs.declared.file_name.FileName.{FileName}
 use Rattle.ix_outside.specs.Files.{Files}
 use Rattle.ix_outside.specs.Causes.{Rose}
@@ -19,9 +19,17 @@ File = FileName × List ℕ
 abbrev pub puts : FileName → List ℕ → List Step
 puts name bytes = Wrote name bytes ∷ Synced name ∷ []
 
--- each file in turn
+-- each file is written, in turn
+abbrev pub writes_all : List File → List Step
+writes_all list = map (λ (file : File). Wrote file.0 file.1) list
+
+-- each file is put on the disk, in turn
+abbrev pub syncs_all : List File → List Step
+syncs_all list = map (λ (file : File). Synced file.0) list
+
+-- all files are written, and then they are put on the disk
 abbrev pub puts_all : List File → List Step
-puts_all list = flat_map (λ (file : File). puts file.0 file.1) list
+puts_all list = writes_all list ++ syncs_all list
 
 -- The files are put, then a last one under a pending name, which is then renamed; last the directory is synced.
 abbrev pub publishes : List File → FileName → FileName → List ℕ → List Step

@@ -4,7 +4,7 @@ ghost use Rattle.ix_base.specs.FileNames.{IsFileName};
 ghost use Rattle.ix_outside.specs.Causes.{Blames};
 ghost use Rattle.ix_outside.specs.Disk.{Told, Does};
 ghost use Rattle.ix_outside.specs.declared.step.Step.TheVariants.{Renamed as RenamedStep, Settled as SettledStep};
-ghost use Rattle.commit_point.specs.Publishing.{puts, puts_all, publishes, Refuses, BlamesRefusal};
+ghost use Rattle.commit_point.specs.Publishing.{puts, puts_all, writes_all, syncs_all, publishes, Refuses, BlamesRefusal};
 
 use crate::fault::CommitRefused;
 use ix_base::{FileName, List};
@@ -20,19 +20,47 @@ fn put_file<S: Store>(store: &mut S, name: FileName, bytes: &[u8]) -> Result<(),
     store.sync(name)
 }
 
-/// Writes each file, and puts its bytes on the disk.
-fn put_files<S: Store>(store: &mut S, files: &[(FileName, List<u8>)]) -> Result<(), StoreFault>
+/// Writes each file.
+fn write_files<S: Store>(store: &mut S, files: &[(FileName, List<u8>)]) -> Result<(), StoreFault>
     requires { All (λ file. IsFileName file.0) files.now }
-    ensures disk { Does (puts_all files.now) (S.disk store.old) (S.disk store.new) result }
+    ensures disk { Does (writes_all files.now) (S.disk store.old) (S.disk store.new) result }
     ensures cause { Blames (S.fault_count store.old) (S.fault_count store.new) result }
 {
     for file in files {
-        match put_file(store, file.0, file.1.as_slice()) {
+        match store.write(file.0, file.1.as_slice()) {
             Ok(()) => (),
             Err(fault) => return Err(fault),
         }
     }
     Ok(())
+}
+
+/// Puts the bytes of each file on the disk.
+fn sync_files<S: Store>(store: &mut S, files: &[(FileName, List<u8>)]) -> Result<(), StoreFault>
+    requires { All (λ file. IsFileName file.0) files.now }
+    ensures disk { Does (syncs_all files.now) (S.disk store.old) (S.disk store.new) result }
+    ensures cause { Blames (S.fault_count store.old) (S.fault_count store.new) result }
+{
+    for file in files {
+        match store.sync(file.0) {
+            Ok(()) => (),
+            Err(fault) => return Err(fault),
+        }
+    }
+    Ok(())
+}
+
+/// Writes all files, and then puts their bytes on the disk, so that the names of all come there at
+/// once.
+fn put_files<S: Store>(store: &mut S, files: &[(FileName, List<u8>)]) -> Result<(), StoreFault>
+    requires { All (λ file. IsFileName file.0) files.now }
+    ensures disk { Does (puts_all files.now) (S.disk store.old) (S.disk store.new) result }
+    ensures cause { Blames (S.fault_count store.old) (S.fault_count store.new) result }
+{
+    match write_files(store, files) {
+        Ok(()) => sync_files(store, files),
+        Err(fault) => Err(fault),
+    }
 }
 
 /// The refusal for a fault that came before the rename.
@@ -96,8 +124,8 @@ fn put_last<S: Store>(
     }
 }
 
-/// Writes and syncs each file, then the last one under a pending name, which is then renamed; last
-/// the directory is synced.
+/// Writes all files and syncs them, then writes and syncs the last one under a pending name, which is
+/// then renamed; last the directory is synced.
 pub(crate) fn publish<S: Store>(
     store: &mut S,
     list: &[(FileName, List<u8>)],
