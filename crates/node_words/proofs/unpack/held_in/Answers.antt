@@ -28,7 +28,8 @@ returns c =
     let words = c.args.words.now in
     let rest = take (length words - 1) (drop 1 words) in
     let split = parts words c.in-len1-up.len_at_least in
-    let short = c.if-rest-len.false in
-    (found_held words (get_or words 0 0) rest (flat_map be64 rest) split (rest_fits words rest (get_or words 0 0) (λ i. omega (arith, c.type_inv.words i)) split)
-    (all_fit rest (flat_map be64 rest) refl) refl (omega arith) short (c.is_filled.ensures.0 c.if-not-is_filled.false),
-    omega (arith, length-take (head_len (get_or words 0 0)) (flat_map be64 rest), enough rest (flat_map be64 rest) (head_len (get_or words 0 0)) refl short))
+    let short = c.if-rest-len.false in (
+      found_held words (get_or words 0 0) rest (flat_map be64 rest) split (rest_fits words rest (get_or words 0 0) (λ i. omega (arith, c.type_inv.words i)) split)
+          (all_fit rest (flat_map be64 rest) refl) refl (omega arith) short (c.is_filled.ensures.0 c.if-not-is_filled.false),
+      omega (arith, length-take (head_len (get_or words 0 0)) (flat_map be64 rest), enough rest (flat_map be64 rest) (head_len (get_or words 0 0)) refl short),
+    )
