@@ -1,16 +1,17 @@
 -- Reading the entry of one kind.
-use Rattle.std.proofs.Common.{◌≡◌, ℕ, ◌<◌, ◌≤◌, ℤ, List, [], ◌++◌, length, refl, sym, ap, ◌∙◌, arith}
+use Rattle.std.proofs.Common.{◌≡◌, ℕ, ◌<◌, ◌≤◌, ℤ, List, [], ◌++◌, length, refl, sym, ap, ◌∙◌, arith, length-append}
 use Rattle.std.specs.Int.{w64}
 use Rattle.std.specs.Prelude.{FitsSigned}
 use Rattle.std.proofs.lemmas.List.{append-nil, nil_from_length}
+use Rattle.ix_base.specs.EntryLaws.{length-be32}
 use Rattle.ix_base.specs.Entry.{add, update, delete_term, delete_query, set_number, commit, turn, entry_bytes, term_bytes, IsOwnTerm}
 use Rattle.ix_base.specs.QueryBytes.{query_bytes, IsQuery}
-use Rattle.ix_base.specs.Spelling.{signed64, text_bytes, IsName}
+use Rattle.ix_base.specs.Spelling.{be32, signed64, text_bytes, IsName}
 use Rattle.ix_base.specs.Tree.{Tree}
 use Rattle.ix_base.specs.declared.document.Term.{Term}
 use Rattle.node_words.proofs.Both.{both_begin, both_one_form, first_fails, second_fails}
 use Rattle.node_words.proofs.Forms.{OneForm, one_name, one_signed}
-use Rattle.node_words.proofs.QueryForms.{one_pair, one_query}
+use Rattle.node_words.proofs.QueryForms.{one_pair, one_query, query_some}
 use Rattle.node_words.specs.Reads.{StandsAtStart, NoneAtStart, IsSpelling, IsNoSpelling, FailsAll, Pair, IsPair, pair_bytes, Setting, IsSetting, setting_bytes, IsOfKind}
 use Rattle.node_words.specs.declared.fault.ReadError.{ReadError}
 use Rattle.node_words.specs.declared.fault.ReadError.TheVariants.{Memory, Foreign}
@@ -93,9 +94,23 @@ no_entry kind bytes plain term query setting (set_number t n v) is e = setting (
 no_entry kind bytes plain term query setting commit is e = absurd (omega (arith, is.1, plain (omega (arith, is.1)) (omega (arith, is.1)) (ap length e)))
 no_entry kind bytes plain term query setting turn is e = absurd (omega (arith, is.1, plain (omega (arith, is.1)) (omega (arith, is.1)) (ap length e)))
 
--- an entry without fields has no bytes
-pub plain_fails : (kind : ℕ) (bytes : List ℕ) → (2 ≤ kind → kind ≤ 5 → ⊥) → 0 < length bytes → IsNoSpelling (IsOfKind kind) entry_bytes bytes
-plain_fails kind bytes not some =
+term_some : (term : Term) → 0 < length (term_bytes term)
+term_some term =
+    omega (arith, length-append (text_bytes term.field) (text_bytes term.bytes), length-append (be32 (length term.field)) term.field, length-be32 (length term.field))
+
+-- no bytes spell no entry with fields
+pub empty_fails : (kind : ℕ) → (kind ≡ 1 → ⊥) → (kind ≡ 6 → ⊥) → (kind ≡ 7 → ⊥) → IsNoSpelling (IsOfKind kind) entry_bytes []
+empty_fails kind one six seven add is e = one (sym is.1)
+empty_fails kind one six seven (update t) is e = absurd (omega (arith, ap length e, term_some t))
+empty_fails kind one six seven (delete_term t) is e = absurd (omega (arith, ap length e, term_some t))
+empty_fails kind one six seven (delete_query q) is e = absurd (omega (arith, ap length e, query_some q))
+empty_fails kind one six seven (set_number t n v) is e = absurd (omega (arith, ap length e, length-append (term_bytes t) (text_bytes n ++ signed64 v), term_some t))
+empty_fails kind one six seven commit is e = six (sym is.1)
+empty_fails kind one six seven turn is e = seven (sym is.1)
+
+-- bytes of another kind spell no entry
+pub other_fails : (kind : ℕ) (bytes : List ℕ) → 0 < length bytes → (2 ≤ kind → kind ≤ 5 → ⊥) → IsNoSpelling (IsOfKind kind) entry_bytes bytes
+other_fails kind bytes some not =
     no_entry kind bytes (λ a b none. absurd (omega arith)) (λ a b. absurd (not a (omega arith))) (λ k. absurd (not (omega arith) (omega arith))) (λ k. absurd (not (omega arith) (omega arith)))
 
 no_term_entry : (kind : ℕ) (bytes : List ℕ) → 2 ≤ kind → kind ≤ 3 → IsNoSpelling IsOwnTerm term_bytes bytes → IsNoSpelling (IsOfKind kind) entry_bytes bytes
@@ -118,10 +133,6 @@ no_set_number bytes h = no_entry 5 bytes (λ a b none. (omega arith, omega arith
 
 pub set_number_there : (s : Setting) (bytes : List ℕ) → IsSetting s → bytes ≡ setting_bytes s → IsSpelling (IsOfKind 5) entry_bytes bytes
 set_number_there s bytes is e = (set_number s.0 s.1.0 s.1.1, ((is.0, is.1.0, is.1.1), refl), e)
-
-pub no_kind : (bytes : List ℕ) (kind : ℕ) → (1 ≤ kind → kind ≤ 7 → ⊥) → IsNoSpelling (IsOfKind kind) entry_bytes bytes
-no_kind bytes kind not =
-    no_entry kind bytes (λ a b none. absurd (not a b)) (λ a b. absurd (not (omega arith) (omega arith))) (λ k. absurd (not (omega arith) (omega arith))) (λ k. absurd (not (omega arith) (omega arith)))
 
 -- ---- no entry's bytes begin another's of its kind
 

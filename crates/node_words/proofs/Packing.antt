@@ -1,8 +1,9 @@
 -- Bytes in words, and the same bytes again.
 use Rattle.std.proofs.Common.{◌≡◌, ℕ, zero, suc, ◌+◌, ◌-◌, ◌*◌, ◌^◌, ◌<◌, ◌≤◌, List, [], ◌∷◌, ◌++◌, length, get_or, take, drop, replicate, refl, sym, ap, subst, ◌∙◌, append_assoc, arith, length-append, inl, inr}
 use Rattle.std.proofs.lemmas.Bool.{cases_lt}
-use Rattle.std.proofs.Math.Seq.{take-length}
-use Rattle.std.proofs.lemmas.List.{drop_at, take-append-drop, length-take, length-drop, get_or-take, get_or_past, get_or-replicate, get_or_append_left, get_or-append_right, length-replicate, replicate-append-replicate, nil_from_length, ext_get_or}
+use Rattle.std.proofs.Math.Seq.{take-length, drop-append-add}
+use Rattle.std.proofs.lemmas.Grind.{flat_map-append}
+use Rattle.std.proofs.lemmas.List.{append-nil, drop_at, take-append-drop, length-take, length-drop, get_or-take, get_or_past, get_or-replicate, get_or_append_left, get_or-append_right, length-replicate, replicate-append-replicate, nil_from_length, ext_get_or}
 use Rattle.std.proofs.lemmas.List.Concat.{flat_map-cons}
 use Rattle.std.proofs.lemmas.Nat.{be_bytes_8}
 use Rattle.std.specs.Int.{w64, from_be_bytes}
@@ -13,7 +14,7 @@ use Rattle.ix_base.specs.Spelling.{be64, AreBytes}
 use Rattle.ix_base.specs.Words.{first_word, words_in, words_for, packed, head, head_len, head_kind}
 use Rattle.ix_base.specs.CodecLaws.{same_front}
 use Rattle.node_words.proofs.Forms.{one_word}
-use Rattle.node_words.specs.Packed.{HoldsBytes, IsCountedByHead}
+use Rattle.node_words.specs.Packed.{HoldsBytes}
 
 -- ---- one word more
 
@@ -152,13 +153,6 @@ held_once words kind kind' bytes bytes' p q =
     let filled = sym (bytes_of-packed bytes p.bytes_fit) ∙ ap (flat_map be64) s.1 ∙ bytes_of-packed bytes' q.bytes_fit in
     (sym a.0 ∙ ap head_kind s.0 ∙ b.0, (same_front bytes bytes' _ _ len filled).0)
 
--- words that hold something are counted by their head
-pub held_counted : (words : List ℕ) (kind : ℕ) (bytes : List ℕ) → HoldsBytes words kind bytes → IsCountedByHead words
-held_counted words kind bytes p =
-    let len : head_len (get_or words 0 0) ≡ length bytes = ap (λ (ws : List ℕ). head_len (get_or ws 0 0)) p.spelled ∙ (head_again kind (length bytes) (omega (arith, p.short))).1 in
-    let behind : length (packed bytes) ≡ words_for (head_len (get_or words 0 0)) = length-words_in (words_for (length bytes)) bytes ∙ ap words_for (sym len) in
-    record { short = omega (arith, len, p.short); count = omega (arith, ap length p.spelled, behind) }
-
 -- words with another number of words, or of too many bytes, hold nothing
 pub none_held : (words : List ℕ) (h : ℕ) (rest : List ℕ) → words ≡ h ∷ rest → (head_len h ≤ 131072 → length rest ≡ words_for (head_len h) → ⊥) → (kind : ℕ) (bytes : List ℕ) → HoldsBytes words kind bytes → ⊥
 none_held words h rest e not kind bytes p =
@@ -241,3 +235,26 @@ words_bytes_fit (w ∷ ws) = subst AreBytes (sym (flat_map-cons be64 w ws)) (app
 
 pub all_fit : (rest all : List ℕ) → all ≡ flat_map be64 rest → AreBytes all
 all_fit rest all a = subst AreBytes (sym a) (words_bytes_fit rest)
+
+-- ---- what stands behind the bytes stands in the last word
+
+last_alone : (words : List ℕ) → 1 ≤ length words → drop (length words - 1) words ≡ get_or words (length words - 1) 0 ∷ []
+last_alone [] some = absurd (omega arith)
+last_alone (w ∷ []) some = refl
+last_alone (w ∷ v ∷ ws) some =
+    let one : length (w ∷ v ∷ ws) - 1 ≡ suc (length (v ∷ ws) - 1) = omega arith in
+    ap (λ (n : ℕ). drop n (w ∷ v ∷ ws)) one ∙ last_alone (v ∷ ws) (omega arith) ∙ ap (λ (n : ℕ). get_or (w ∷ v ∷ ws) n 0 ∷ []) (sym one)
+
+pub behind_front : (words : List ℕ) (len : ℕ) → length words ≡ words_for len → 1 ≤ length words
+    → drop len (flat_map be64 words) ≡ drop (len - length (take (length words - 1) words) * 8) (be64 (get_or words (length words - 1) 0))
+behind_front words len count some =
+    let at = length words - 1 in
+    let front = take at words in
+    let last = get_or words at 0 in
+    let whole : words ≡ front ++ last ∷ [] = sym (take-append-drop at words) ∙ ap (λ (t : List ℕ). front ++ t) (last_alone words some) in
+    let size : length front ≡ at = omega (arith, length-take at words) in
+    let split : len ≡ length (flat_map be64 front) + (len - length front * 8) = omega (arith, length-words_bytes front, size) in
+    ap (λ (n : ℕ). drop n (flat_map be64 words)) split
+    ∙ ap (λ (t : List ℕ). drop (length (flat_map be64 front) + (len - length front * 8)) t) (ap (flat_map be64) whole ∙ flat_map-append be64 front (last ∷ []))
+    ∙ drop-append-add (flat_map be64 front) (flat_map be64 (last ∷ [])) (len - length front * 8)
+    ∙ ap (drop (len - length front * 8)) (flat_map-cons be64 last [] ∙ append-nil (be64 last))

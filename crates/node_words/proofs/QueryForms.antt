@@ -1,5 +1,5 @@
 -- No query's bytes begin another's.
-use Rattle.std.proofs.Common.{◌≡◌, ℕ, ◌<◌, List, ◌++◌, drop, refl, sym, ap, ◌∙◌, append_assoc, arith}
+use Rattle.std.proofs.Common.{◌≡◌, ℕ, ◌<◌, List, ◌++◌, length, drop, refl, sym, ap, ◌∙◌, append_assoc, arith}
 use Rattle.ix_base.specs.QueryBytes.{count_of, query_bytes, queries_bytes, list_bytes, IsQuery, AreQueries, IsQueryList}
 use Rattle.ix_base.specs.Spelling.{be32, text_bytes, IsText, IsName}
 use Rattle.ix_base.specs.Tree.{Tree, all, term, phrase, bool, Trees, no_trees, tree}
@@ -68,3 +68,11 @@ goes_on (tree b before) no_trees rest after lt p o e = absurd (omega arith)
 goes_on (tree b before) (tree q qs) rest after lt p o e =
     let s = one_query b q (queries_bytes before ++ rest) (queries_bytes qs ++ after) p.0 o.0 (sym (append_assoc (query_bytes b) (queries_bytes before) rest) ∙ e ∙ append_assoc (query_bytes q) (queries_bytes qs) after) in
     goes_on before qs rest after (omega arith) p.1 o.1 s.1
+
+-- ---- a query has bytes
+
+pub query_some : (q : Tree) → 0 < length (query_bytes q)
+query_some all = omega arith
+query_some (term f t) = omega arith
+query_some (phrase f t) = omega arith
+query_some (bool a b c) = omega arith

@@ -1,23 +1,25 @@
 //! Words as an entry.
-ghost use Rattle.std.specs.Prelude.{◌≡◌, ◌≤◌, ◌↔◌, length, Some, IfOk, IfErr, IfSome, IsSome, option_map};
+ghost use Rattle.std.specs.Prelude.{◌≡◌, ◌≤◌, ◌↔◌, [], length, Some, IfOk, IfErr, IfSome, IsSome, option_map};
 ghost use Rattle.ix_base.specs.Entry.{Entry as Value, entry_bytes, term_bytes, most_query_bytes, IsOwnTerm};
 ghost use Rattle.ix_base.specs.Words.{Spells, IsEntryWords};
 ghost use Rattle.node_words.specs.Entry.{value_of};
-ghost use Rattle.node_words.specs.Packed.{ReadsEntry, IsCountedByHead};
+ghost use Rattle.node_words.specs.Packed.{ReadsEntry, HoldsFields};
 ghost use Rattle.node_words.specs.Reads.{FindsAll, ReadsAll, IsOfKind, term_in, setting_in, IsSetting, setting_bytes};
 
 use crate::entry::Entry;
 use crate::fault::{ReadError, WrongForm};
 use crate::parts::{SetParts, TextPair, name_from, term_from};
 use crate::query_read::read_whole_query;
-use crate::reader::{Reader, no_more};
-use crate::unpack::unpack;
+use crate::reader::Reader;
+use crate::unpack::{held_in, unpack};
 use ix_base::{NoMemory, Term};
 use std::alloc::Global;
 
-/// The entry that the words spell: `None` exactly where they spell none. `NoMemory` is returned only
-/// where the head word tells the right number of words. Each level of a query takes a nested call,
-/// and a query has 10,082 levels at most, so a thread that decodes any words needs some MB of stack.
+/// The entry that the words spell: `None` exactly where they spell none. Memory is taken for the
+/// bytes, at most 131,072, and then for the entry. `NoMemory` is returned only where the words hold
+/// bytes of a kind that has fields, rightly counted and filled; so never for an add, a commit or a
+/// turn. Each level of a query takes a nested call, and a query has 10,082 levels at most, so a
+/// thread that decodes any words needs some MB of stack.
 pub fn decode(alloc: Global, words: &[u64]) -> Result<Option<Entry>, NoMemory>
     // What is read is spelled so.
     ensures found { IfOk result (λ found. IfSome found
@@ -26,8 +28,9 @@ pub fn decode(alloc: Global, words: &[u64]) -> Result<Option<Entry>, NoMemory>
     ensures only { (e : Value) → Spells words.now e
         → IfOk result (λ found. option_map value_of found ≡ Some e) }
     ensures some { IfOk result (λ found. IsSome found ↔ IsEntryWords words.now) }
-    // Memory is taken only where the number of words is right.
-    ensures memory { IfErr result (λ _. IsCountedByHead words.now) }
+    // Memory is taken only where a head word, its count and the filling are those of an entry with
+    // fields.
+    ensures memory { IfErr result (λ _. HoldsFields words.now) }
 {
     match read_words(alloc, words) {
         Ok(entry) => Ok(Some(entry)),
@@ -40,34 +43,43 @@ pub fn decode(alloc: Global, words: &[u64]) -> Result<Option<Entry>, NoMemory>
 fn read_words(alloc: Global, words: &[u64]) -> Result<Entry, ReadError>
     ensures { ReadsEntry words.now result }
 {
-    let (kind, bytes) = unpack(alloc, words)?;
-    read_entry(alloc, kind, &bytes)
+    let held = held_in(words)?;
+    if held.len == 0 {
+        return Ok(plain_entry(held.kind)?);
+    }
+    if held.kind < 2 || held.kind > 5 {
+        return Err(ReadError::Foreign);
+    }
+    let bytes = unpack(alloc, held)?;
+    read_fields(alloc, held.kind, &bytes)
 }
 
-/// The entry of this kind whose bytes are these, all of them. Memory runs out only where they
-/// spell one.
-fn read_entry(alloc: Global, kind: u64, bytes: &[u8]) -> Result<Entry, ReadError>
-    requires { length bytes.now ≤ most_query_bytes }
+/// The entry of this kind without fields.
+#[tactic(auto, using(crate::proofs::Entries::empty_fails))]
+fn plain_entry(kind: u64) -> Result<Entry, WrongForm>
+    ensures { FindsAll value_of (IsOfKind kind) entry_bytes [] result }
+{
+    match kind {
+        1 => Ok(Entry::Add),
+        6 => Ok(Entry::Commit),
+        7 => Ok(Entry::Turn),
+        _ => Err(WrongForm),
+    }
+}
+
+/// The entry of this kind whose fields have these bytes, all of them. Memory runs out only where
+/// they spell one.
+fn read_fields(alloc: Global, kind: u64, bytes: &[u8]) -> Result<Entry, ReadError>
+    requires from_update { 2 ≤ kind }
+    requires to_set_number { kind ≤ 5 }
+    requires short { length bytes.now ≤ most_query_bytes }
     ensures { ReadsAll value_of (IsOfKind kind) entry_bytes bytes.now result }
 {
     match kind {
-        1 => {
-            no_more(bytes)?;
-            Ok(Entry::Add)
-        }
         2 => Ok(Entry::Update(read_own_term(alloc, bytes)?)),
         3 => Ok(Entry::DeleteTerm(read_own_term(alloc, bytes)?)),
         4 => Ok(Entry::DeleteQuery(read_whole_query(alloc, bytes)?)),
-        5 => read_set_number(alloc, bytes),
-        6 => {
-            no_more(bytes)?;
-            Ok(Entry::Commit)
-        }
-        7 => {
-            no_more(bytes)?;
-            Ok(Entry::Turn)
-        }
-        _ => Err(ReadError::Foreign),
+        _ => read_set_number(alloc, bytes),
     }
 }
 

@@ -41,7 +41,11 @@ impl<'a> Reader<'a> {
         ensures none { IfOk result (λ _. length self.now ≡ 0) }
         ensures some { IfErr result (λ _. 0 < length self.now) }
     {
-        no_more(self.rest)
+        if self.rest.is_empty() {
+            Ok(())
+        } else {
+            Err(WrongForm)
+        }
     }
 
     pub(crate) fn byte(&mut self) -> Result<u8, WrongForm>
@@ -102,17 +106,5 @@ impl<'a> Reader<'a> {
             return Err(WrongForm);
         }
         Ok(term)
-    }
-}
-
-/// `Ok` where these are no bytes.
-pub(crate) fn no_more(bytes: &[u8]) -> Result<(), WrongForm>
-    ensures none { IfOk result (λ _. length bytes.now ≡ 0) }
-    ensures some { IfErr result (λ _. 0 < length bytes.now) }
-{
-    if bytes.is_empty() {
-        Ok(())
-    } else {
-        Err(WrongForm)
     }
 }

@@ -1,5 +1,6 @@
 //! JSON values and the members of objects.
-ghost use Rattle.std.specs.Prelude.{◌≡◌, true, IfOk, map, option_map};
+ghost use Rattle.std.specs.Prelude.{◌≡◌, ◌<◌, true, length, IfOk, IfErr, map, option_map};
+ghost use Rattle.std.specs.Str.{IsUtf8};
 ghost use Rattle.serde_json.specs.View.{view};
 ghost use Rattle.ix_base.specs.Limits.{is_among, is_name};
 ghost use Rattle.op_script.specs.Values.{value_of, member_names, has_only, has_exactly, text_pair};
@@ -8,11 +9,16 @@ use ix_base::{Name, NoMemory, Text};
 use serde_json::Value;
 use std::alloc::Global;
 
-/// The JSON value that the bytes are, if they are one.
+/// The JSON value that the bytes are, if they are one. Memory is taken only for a text that has bytes.
 pub fn read_value(alloc: Global, bytes: &[u8]) -> Result<Option<Value>, NoMemory>
-    ensures { IfOk result (λ found. option_map view found ≡ value_of bytes.now) }
+    ensures value { IfOk result (λ found. option_map view found ≡ value_of bytes.now) }
+    ensures text { IfErr result (λ _. IsUtf8 bytes.now) }
+    ensures some { IfErr result (λ _. 0 < length bytes.now) }
 {
-    match Value::from_slice(alloc, bytes) {
+    let Ok(text) = str::from_utf8(bytes) else {
+        return Ok(None);
+    };
+    match Value::from_str(alloc, text) {
         Ok(value) => Ok(Some(value)),
         Err(error) => {
             if error.is_memory() {

@@ -1,7 +1,7 @@
 //! Reading a script.
-ghost use Rattle.std.specs.Prelude.{◌≡◌, ◌<◌, ◌≤◌, ℕ, List, length, Result, IfOk, OnOk, Ok, Err};
+ghost use Rattle.std.specs.Prelude.{◌≡◌, ◌<◌, ◌≤◌, false, ℕ, List, length, Result, IfOk, OnOk, Ok, Err};
 ghost use Rattle.op_script.specs.Language.{script, lines_from, line_at, and_then, onto};
-ghost use Rattle.op_script.specs.Lines.{lines_of};
+ghost use Rattle.op_script.specs.Lines.{lines_of, is_blank, HasAsked};
 ghost use Rattle.op_script.specs.Shape.{AreScriptLines};
 ghost use Rattle.op_script.specs.declared.script.BadLine.{BadLine};
 ghost use Rattle.op_script.specs.declared.script.Line.{Line};
@@ -16,12 +16,14 @@ use std::alloc::Global;
 pub const MOST_BYTES: usize = 67_108_864;
 
 /// Reads the lines of a script. `Bad` comes exactly where the input has a bad line, and names the
-/// first one with its first reason; an input of more than 67,108,864 bytes is bad at line 0.
+/// first one with its first reason; an input of more than 67,108,864 bytes is bad at line 0. Memory
+/// is taken only where a line isn't passed over.
 pub fn read_script(alloc: Global, bytes: &[u8]) -> Result<Script, ScriptFault>
     ensures lines { IfOk result (λ s. script bytes.now ≡ Ok s.lines) }
     ensures bad { (bad : BadLine) → result ≡ Err (ScriptFault.Bad bad)
         → script bytes.now ≡ Err bad }
     ensures shape { IfOk result (λ s. AreScriptLines s.lines) }
+    ensures memory { result ≡ Err ScriptFault.NoMemory → HasAsked bytes.now }
     // An input that is too long is bad whatever else it holds.
     ensures long { (input : List ℕ) → MOST_BYTES < length input
         → script input ≡ Err (record { line = 0; why = Why.Long }) }
@@ -43,6 +45,7 @@ fn read_lines(alloc: Global, bytes: &[u8]) -> Result<Vec<Line>, ScriptFault>
     ensures ok { IfOk result (λ lines. lines_from 1 (lines_of bytes.now) ≡ Ok lines.items) }
     ensures bad { (bad : BadLine) → result ≡ Err (ScriptFault.Bad bad)
         → lines_from 1 (lines_of bytes.now) ≡ Err bad }
+    ensures memory { result ≡ Err ScriptFault.NoMemory → HasAsked bytes.now }
 {
     let mut lines = Vec::new(alloc);
     let mut rest = bytes;
@@ -62,6 +65,7 @@ fn add_line(alloc: Global, at: u32, text: &[u8], lines: &mut Vec<Line>) -> Resul
         → onto lines.old.items (and_then (line_at at text.now) rest) ≡ onto lines.new.items rest) }
     ensures bad { (bad : BadLine) → result ≡ Err (ScriptFault.Bad bad)
         → line_at at text.now ≡ Err bad }
+    ensures memory { result ≡ Err ScriptFault.NoMemory → is_blank text.now ≡ false }
 {
     if let Some(line) = read_line(alloc, at, text)? {
         lines.push(line)?;

@@ -1,8 +1,8 @@
 //! Reading questions.
-ghost use Rattle.std.specs.Prelude.{◌≡◌, ◌<◌, ◌≤◌, true, ℕ, List, length, is_some, ok_or};
+ghost use Rattle.std.specs.Prelude.{◌≡◌, ◌<◌, ◌≤◌, true, false, ℕ, List, length, is_some, ok_or};
 ghost use Rattle.std.specs.Prelude.{Result, IfOk, OnOk, Ok, Err};
 ghost use Rattle.serde_json.specs.View.{view};
-ghost use Rattle.op_script.specs.Lines.{lines_of};
+ghost use Rattle.op_script.specs.Lines.{lines_of, is_blank, HasAsked};
 ghost use Rattle.op_script.specs.Queries.{query_of};
 ghost use Rattle.op_script.specs.Questions.{questions, questions_from, question_at, query_in};
 ghost use Rattle.op_script.specs.Questions.{and_then, onto, AreQuestions};
@@ -25,11 +25,13 @@ use std::alloc::Global;
 /// Reads the questions of an input: one query in JSON on each line that isn't passed over. `Bad`
 /// comes exactly where the input has a bad line, and names the first one: with `Json` where it
 /// isn't a JSON value, else with `Query`. An input of more than 67,108,864 bytes is bad at line 0.
+/// Memory is taken only where a line isn't passed over.
 pub fn read_queries(alloc: Global, bytes: &[u8]) -> Result<Questions, ScriptFault>
     ensures lines { IfOk result (λ read. questions bytes.now ≡ Ok read.lines) }
     ensures bad { (bad : BadLine) → result ≡ Err (ScriptFault.Bad bad)
         → questions bytes.now ≡ Err bad }
     ensures shape { IfOk result (λ read. AreQuestions read.lines) }
+    ensures memory { result ≡ Err ScriptFault.NoMemory → HasAsked bytes.now }
     // An input that is too long is bad whatever else it holds.
     ensures long { (input : List ℕ) → MOST_BYTES < length input
         → questions input ≡ Err (record { line = 0; why = Why.Long }) }
@@ -51,6 +53,7 @@ fn read_questions(alloc: Global, bytes: &[u8]) -> Result<Vec<Question>, ScriptFa
     ensures ok { IfOk result (λ read. questions_from 1 (lines_of bytes.now) ≡ Ok read.items) }
     ensures bad { (bad : BadLine) → result ≡ Err (ScriptFault.Bad bad)
         → questions_from 1 (lines_of bytes.now) ≡ Err bad }
+    ensures memory { result ≡ Err ScriptFault.NoMemory → HasAsked bytes.now }
 {
     let mut questions = Vec::new(alloc);
     let mut rest = bytes;
@@ -75,6 +78,7 @@ fn add_question(
         → onto questions.old.items (and_then at text.now rest) ≡ onto questions.new.items rest) }
     ensures bad { (bad : BadLine) → result ≡ Err (ScriptFault.Bad bad)
         → (rest : Result (List Question) BadLine) → and_then at text.now rest ≡ Err bad }
+    ensures memory { result ≡ Err ScriptFault.NoMemory → is_blank text.now ≡ false }
 {
     if is_blank(text) {
         return Ok(());

@@ -1,7 +1,8 @@
 //! Reading a line.
-ghost use Rattle.std.specs.Prelude.{◌≡◌, IfOk, IsOk, Ok, Err, option_map};
+ghost use Rattle.std.specs.Prelude.{◌≡◌, false, IfOk, IsOk, Ok, Err, option_map};
 ghost use Rattle.serde_json.specs.View.{view};
 ghost use Rattle.op_script.specs.Language.{caller_of, verb_of, act_of, line_of, request_of, line_at};
+ghost use Rattle.op_script.specs.Lines.{is_blank};
 ghost use Rattle.op_script.specs.declared.script.BadLine.{BadLine};
 ghost use Rattle.op_script.specs.declared.script.Why.{Why};
 
@@ -20,6 +21,7 @@ pub fn read_line(alloc: Global, at: u32, text: &[u8]) -> Result<Option<Line>, Sc
     ensures ok { IfOk result (λ line. line_at at text.now ≡ Ok line) }
     ensures bad { (bad : BadLine) → result ≡ Err (ScriptFault.Bad bad)
         → line_at at text.now ≡ Err bad }
+    ensures memory { result ≡ Err ScriptFault.NoMemory → is_blank text.now ≡ false }
 {
     if is_blank(text) {
         return Ok(None);
