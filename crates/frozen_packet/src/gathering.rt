@@ -42,7 +42,11 @@ pub(crate) fn replaced(alloc: Global, settings: &[Setting]) -> Result<Vec<bool>,
 }
 
 /// The settings without a mark, moved into a list that has room for all. It takes no memory.
-pub(crate) fn without_marked(mut room: Vec<Setting>, settings: Vec<Setting>, marks: &[bool]) -> Vec<Setting>
+pub(crate) fn without_marked(
+    mut room: Vec<Setting>,
+    settings: Vec<Setting>,
+    marks: &[bool],
+) -> Vec<Setting>
     requires empty { room.items ≡ [] }
     requires room { length settings.items ≤ vec_capacity room }
     requires marks { length marks.now ≡ length settings.items }

@@ -8,6 +8,7 @@ use crate::deleted_terms::DeletedTerms;
 use crate::gathering::{replaced, without_marked};
 use ix_base::{List, Name, NoMemory, Query, Term};
 use node_words::Entry;
+use row_fates::fates_are_told;
 use std::alloc::Global;
 use std::mem;
 
@@ -110,6 +111,7 @@ impl Updates {
         ensures numbers { OnOk result (KeepsNumbers self.old self.new) }
         ensures err { OnErr result (self.new ≡ self.old) }
     {
+        fates_are_told();
         let marks = replaced(alloc, self.settings.as_slice())?;
         let room = Vec::with_capacity(alloc, self.settings.len())?;
         let all = mem::replace(&mut self.settings, List::new(alloc));
