@@ -1,5 +1,6 @@
 pub mod Lists
 pub mod Parts
+pub mod Gathering
 pub mod Words
 pub mod Reading
 pub mod Logs

@@ -16,8 +16,9 @@ use std::alloc::Global;
 
 impl Slice {
     /// Takes the slice's entries into the updates, in order: the updates then make of every row
-    /// what they made of it before, followed by the slice's deletes and settings. The seat then
-    /// knows the words of these entries. No sequence number in the updates may be above the base of
+    /// what they made of it before, followed by the slice's deletes and settings. Of the settings of
+    /// one name in the documents of one term the last alone is kept. The seat then knows the words
+    /// of these entries. No sequence number in the updates may be above the base of
     /// the queue plus the place `from`.
     ///
     /// The only error is out of memory. After it the updates have taken a prefix of these entries,
@@ -43,7 +44,7 @@ impl Slice {
         while place.at < self.to.at {
             place = take_next(alloc, queue, seat, place, &mut words, updates)?;
         }
-        Ok(())
+        updates.gather(alloc)
     }
 
     /// Takes the slice's entries into the updates, as `apply` does, from the log of the finished
@@ -66,7 +67,7 @@ impl Slice {
         for index in self.from.at..self.to.at {
             take_logged(alloc, log, index, updates)?;
         }
-        Ok(())
+        updates.gather(alloc)
     }
 }
 

@@ -4,6 +4,7 @@
 #![tactic(auto)]
 
 mod deleted_terms;
+mod gathering;
 mod laws;
 mod packet;
 #[cfg(test)]

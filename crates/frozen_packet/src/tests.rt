@@ -1,6 +1,6 @@
 //! Updates taken one by one, and what they then are, worked out by hand.
 ghost use Rattle.std.specs.Prelude.{◌<◌, IfOk, OnOk};
-ghost use Rattle.frozen_packet.specs.Updates.{as_operations, NumberedWithin};
+ghost use Rattle.frozen_packet.specs.Updates.{as_operations, NumberedUpTo, NumberedWithin};
 
 use crate::packet::freeze;
 use crate::updates::Updates;
@@ -92,5 +92,45 @@ fn eight_entries(rt: HostRuntime) {
         assert!(rt; (setting.number, setting.value) == (4, -7));
         assert!(rt; setting.term.bytes.as_str() == "a");
         assert!(rt; setting.num.as_str() == "n");
+    }
+}
+
+/// The setting of a name in the documents of one of fifty terms.
+fn set_one(alloc: Global, updates: &mut Updates, at: u32) -> Result<(), NoMemory>
+    requires { NumberedUpTo 8 (as_operations updates.old) }
+    ensures { OnOk result (NumberedUpTo 8 (as_operations updates.new)) }
+{
+    let tens = (b'a' + (at / 10 % 5) as u8) as char;
+    let ones = (b'a' + (at % 10) as u8) as char;
+    let mut key = String::new(alloc);
+    key.push(tens)?;
+    key.push(ones)?;
+    let entry = Entry::SetNumber {
+        term: key_term(alloc, key.as_str())?,
+        num: name(alloc, if at < 2500 { "m" } else { "n" })?,
+        value: i64::from(at),
+    };
+    updates.take(8, entry)
+}
+
+/// 5,000 settings, of fifty terms by turns: of one name, and then of another one.
+fn set_often(alloc: Global) -> Result<Updates, NoMemory> {
+    let mut updates = Updates::new(alloc);
+    for at in 0..5000 {
+        set_one(alloc, &mut updates, at)?;
+    }
+    updates.gather(alloc)?;
+    Ok(updates)
+}
+
+#[test]
+fn settings_gathered(rt: HostRuntime) {
+    let Ok(updates) = set_often(rt.alloc()) else {
+        panic!(rt; "memory");
+    };
+    assert!(rt; updates.settings().len() == 100);
+    for (place, setting) in updates.settings().iter().enumerate() {
+        let first = if place < 50 { 2450 } else { 4900 };
+        assert!(rt; setting.value == first + place as i64);
     }
 }

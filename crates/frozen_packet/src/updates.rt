@@ -1,11 +1,16 @@
 //! Coalesced updates.
 ghost use Rattle.std.specs.Prelude.{◌≡◌, ◌↔◌, [], IsTrue, OnOk, OnErr};
+ghost use Rattle.row_fates.specs.Fate.{SameFates};
 ghost use Rattle.frozen_packet.specs.Updates.{as_operations, KeepsBounds, NumberedUpTo, Takes};
+ghost use Rattle.frozen_packet.specs.Gathered.{KeepsNumbers};
 
 use crate::deleted_terms::DeletedTerms;
+use crate::gathering::{replaced, without_marked};
 use ix_base::{List, Name, NoMemory, Query, Term};
 use node_words::Entry;
+use row_fates::fates_are_told;
 use std::alloc::Global;
+use std::mem;
 
 /// A delete of the documents that match a query, with its operation's number.
 #[derive(Drop)]
@@ -96,5 +101,21 @@ impl Updates {
                 value,
             }),
         }
+    }
+
+    /// Of the settings of one name in the documents of one term keeps the last alone, which sets
+    /// anew whatever the others set. So the updates make of every row what they made of it before.
+    /// What it costs grows with the settings. After an error all is as before.
+    pub fn gather(&mut self, alloc: Global) -> Result<(), NoMemory>
+        ensures same { OnOk result (SameFates (as_operations self.new) (as_operations self.old)) }
+        ensures numbers { OnOk result (KeepsNumbers self.old self.new) }
+        ensures err { OnErr result (self.new ≡ self.old) }
+    {
+        fates_are_told();
+        let marks = replaced(alloc, self.settings.as_slice())?;
+        let room = Vec::with_capacity(alloc, self.settings.len())?;
+        let all = mem::replace(&mut self.settings, List::new(alloc));
+        self.settings = List::from_vec(without_marked(room, all.into_vec(), &marks));
+        Ok(())
     }
 }

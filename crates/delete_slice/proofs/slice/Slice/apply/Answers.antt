@@ -3,8 +3,9 @@ use Rattle.frozen_packet.specs.declared.updates.Updates.{Updates}
 use Rattle.delete_queue.specs.Seats.{Knows, base_of}
 use Rattle.delete_queue.proofs.Laws.{learns_on}
 use Rattle.delete_queue.proofs.Numbers.{seen_inside}
-use Rattle.delete_slice.specs.Taken.{TakesPart, TakesSome}
+use Rattle.delete_slice.specs.Taken.{TakesPart, TakesSlice, TakesSome}
 use Rattle.delete_slice.proofs.Parts.{takes_none, parts_chain, parts_stay}
+use Rattle.delete_slice.proofs.Gathering.{gathered_ok, gathered_err}
 use Rattle.delete_slice.proofs.Words.{on_err}
 use Rattle.delete_slice.proofs.Reading.{learns_same}
 use Rattle.delete_slice.proofs.slice.Slice.apply.Goals as goal
@@ -46,6 +47,13 @@ returns-in_err-place-clause-err c =
 
 pub returns-clause-ok : goal.returns-clause-ok
 returns-clause-ok c =
-    let i = c.loop-place.invariant in let ge = c.loop-place-test.false in let le = i.4 in
-    subst (λ (p : ℕ). TakesPart (Knows c.loop-place.seat) (base_of c.args.queue.now) c.args.self.now.from.at p c.args.updates.now c.loop-place.updates)
-    (let e : c.loop-place.place.at ≡ c.args.self.now.to.at = omega (arith, ge, le) in e) i.5
+    let i = c.loop-place.invariant in let ge = c.loop-place-test.false in let le = i.4 in let s = c.loop-place.seat in
+    let part : TakesSlice c.args.queue.now s c.args.self.now c.args.updates.now c.loop-place.updates =
+    subst (λ (p : ℕ). TakesPart (Knows s) (base_of c.args.queue.now) c.args.self.now.from.at p c.args.updates.now c.loop-place.updates)
+    (let e : c.loop-place.place.at ≡ c.args.self.now.to.at = omega (arith, ge, le) in e) i.5 in
+    gathered_ok c.gather.result (Knows s) (base_of c.args.queue.now) c.args.self.now.from.at c.args.self.now.to.at c.args.updates.now c.loop-place.updates c.gather.new.self part c.gather.ensures.same c.gather.ensures.numbers
+
+pub returns-clause-err : goal.returns-clause-err
+returns-clause-err c =
+    let i = c.loop-place.invariant in let s = c.loop-place.seat in
+    gathered_err c.gather.result (λ (u : Updates). TakesSome c.args.queue.now s c.args.self.now c.args.updates.now u) c.loop-place.updates c.gather.new.self (c.loop-place.place.at, i.4, i.5) c.gather.ensures.err

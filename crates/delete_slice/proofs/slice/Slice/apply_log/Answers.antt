@@ -1,7 +1,8 @@
-use Rattle.std.proofs.Common.{◌≡◌, ◌+◌, ℕ, sym, subst, arith}
+use Rattle.std.proofs.Common.{◌≡◌, ◌≤◌, ◌+◌, ℕ, sym, subst, arith}
 use Rattle.frozen_packet.specs.declared.updates.Updates.{Updates}
 use Rattle.delete_slice.specs.Entries.{Has}
-use Rattle.delete_slice.specs.Taken.{TakesPart, TakesSomeLogged}
+use Rattle.delete_slice.specs.Taken.{TakesPart, TakesLogged, TakesSomeLogged}
+use Rattle.delete_slice.proofs.Gathering.{gathered_ok, gathered_err}
 use Rattle.delete_slice.proofs.Words.{on_err}
 use Rattle.delete_slice.proofs.Parts.{takes_none, parts_chain}
 use Rattle.delete_slice.proofs.slice.Slice.apply_log.Goals as goal
@@ -27,5 +28,13 @@ returns-in_err-take_logged-clause-err c =
 pub returns-clause-ok : goal.returns-clause-ok
 returns-clause-ok c =
     let log = c.args.log.now in let ge = c.loop-index-test.false in let order = c.requires.order in let end = c.loop-index.auto.index-end in
+    let part : TakesLogged log c.args.self.now c.args.updates.now c.loop-index.updates =
     subst (λ (p : ℕ). TakesPart (Has log) log.base c.args.self.now.from.at p c.args.updates.now c.loop-index.updates)
-    (let e : c.loop-index.index ≡ c.args.self.now.to.at = omega (arith, ge, order, end) in e) c.loop-index.invariant
+    (let e : c.loop-index.index ≡ c.args.self.now.to.at = omega (arith, ge, order, end) in e) c.loop-index.invariant in
+    gathered_ok c.gather.result (Has log) log.base c.args.self.now.from.at c.args.self.now.to.at c.args.updates.now c.loop-index.updates c.gather.new.self part c.gather.ensures.same c.gather.ensures.numbers
+
+pub returns-clause-err : goal.returns-clause-err
+returns-clause-err c =
+    let log = c.args.log.now in let order = c.requires.order in let end = c.loop-index.auto.index-end in
+    let most : c.loop-index.index ≤ c.args.self.now.to.at = omega (arith, order, end) in
+    gathered_err c.gather.result (λ (u : Updates). TakesSomeLogged log c.args.self.now c.args.updates.now u) c.loop-index.updates c.gather.new.self (c.loop-index.index, most, c.loop-index.invariant) c.gather.ensures.err
