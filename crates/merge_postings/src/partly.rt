@@ -1,5 +1,5 @@
 //! Postings that are merged in steps.
-ghost use Rattle.std.specs.Prelude.{◌≡◌, List as ListOf, IfOk, OnErr, OnOk};
+ghost use Rattle.std.specs.Prelude.{◌≡◌, List as ListOf, length, IfOk, OnErr, OnOk};
 ghost use Rattle.std.specs.List.{AllByRecursion};
 ghost use Rattle.ix_base.specs.Inversion.{IsPostings};
 ghost use Rattle.merge_postings.specs.Renumbering.{CanMove, HasMoved, Moving};
@@ -33,7 +33,9 @@ impl PartlyMerged {
     }
 
     /// How many terms are merged.
-    pub fn len(&self) -> usize {
+    pub fn len(&self) -> usize
+        ensures { result ≡ length self.now.terms }
+    {
         self.terms.len()
     }
 
