@@ -5,7 +5,7 @@ use Rattle.segment_core.specs.LiveRows.{Lived}
 use Rattle.merge_core.specs.Merging.{Sources, row_count}
 use Rattle.merge_core.specs.Reading.{CanFinish, HasRead, HasReadWithin, IsOf}
 use Rattle.merge_core.specs.declared.merge.Merge.{Merge}
-use Rattle.flush_control.specs.Merging.{Advanced, Begun, IsBegun, IsEnd, IsTaken, Runs, SameSegments, StillRuns, Turns, replaced, without}
+use Rattle.flush_control.specs.Merging.{Advanced, Begun, IsBegun, IsEnd, IsTaken, PicksStart, Runs, SameSegments, StillRuns, Turns, replaced, without}
 use Rattle.flush_control.specs.Published.{IdsDiffer, IsPublished, IsRunning}
 use Rattle.flush_control.specs.declared.merging.MergeTurn.{MergeTurn}
 use Rattle.flush_control.specs.declared.merging.MergeTurn.TheVariants.{Idle, Merged, Stepped}
@@ -16,6 +16,17 @@ use Rattle.flush_control.proofs.Parting.{ids_rise, picked_apart}
 pub record TakenRun (m : ℕ) (p : Published) (run : Merge) : Type 0 where
   pub begun : IsBegun m p run.ids.items
   pub read : HasRead run begun.sources begun.count
+
+-- what is picked of published segments can be merged
+pub picks_start : (m : ℕ) (p : Published) → IsPublished p → PicksStart m p.segments
+picks_start m p published ids pick =
+    let apart = subst IdsDiffer (sym pick.first) (picked_apart 1 p.next_id m p.segments pick.ranks published.ids pick.ranked.moved) in
+    record {
+      rise = ids_rise 1 p.next_id p.segments published.ids;
+      sources = pick.sources;
+      found = pick.found;
+      can = can_merge p ids pick.sources published apart pick.found pick.few;
+    }
 
 pub taken_runs : (m : ℕ) (p : Published) (run : Merge) → IsPublished p → IsTaken m p run → TakenRun m p run
 taken_runs m p run published (inl is) =
@@ -41,7 +52,7 @@ taken_runs m p run published (inr h) =
         count = 0;
         begun = subst (λ (o : Option Merge). Begun m p run.ids.items pick.sources 0 o) (sym h.0) (refl, pick, refl);
       };
-      read = h.1.read pick.sources pick.found (can_merge p run.ids.items pick.sources published apart pick.found pick.few);
+      read = h.1.read pick.sources pick.found;
     }
 
 -- the published segments with no merge

@@ -3,9 +3,9 @@ use Rattle.std.specs.Prelude.{◌≡◌, ◌⊎◌, ℕ, ◌+◌, ◌<◌, ◌�
 use Rattle.std.specs.List.{filter}
 use Rattle.ix_base.specs.declared.document.Row.{Row}
 use Rattle.segment_core.specs.LiveRows.{Lived}
-use Rattle.merge_core.specs.Merging.{Sources, CanMerge, row_count}
+use Rattle.merge_core.specs.Merging.{Sources, row_count}
 use Rattle.merge_core.specs.Merging.{Merged as MergedInto}
-use Rattle.merge_core.specs.Reading.{HasRead, HasReadWithin}
+use Rattle.merge_core.specs.Reading.{CanStart, HasRead, HasReadWithin}
 use Rattle.merge_core.specs.declared.merge.Merge.{Merge}
 use Rattle.merge_core.specs.Picking.{IsPick, HasNoPick, is_among}
 use Rattle.flush_control.specs.Published.{IdsDiffer, IsPublished, StandsFor}
@@ -78,10 +78,14 @@ Turns m rows old Merged new = Merges m rows old new
 
 -- ---- the parts of a turn
 
--- A merge was begun: it has the ids that are picked, and has read no row of segments that can be merged.
+-- a merge of the segments that are picked can be started
+abbrev pub PicksStart : ℕ → List Lived → Type 0
+PicksStart m segments = (ids : List ℕ) → IsPick m segments ids → CanStart segments ids
+
+-- A merge was begun: it has the ids that are picked, and has read no row of the segments.
 pub record IsBegunBy (m : ℕ) (segments : List Lived) (run : Merge) : Type 0 where
   pub picked : IsPick m segments run.ids.items
-  pub read : (sources : List Lived) → Sources segments run.ids.items sources → CanMerge sources → HasRead run sources 0
+  pub read : (sources : List Lived) → Sources segments run.ids.items sources → HasRead run sources 0
 
 -- The merge is the one that ran, or was begun.
 abbrev pub IsTaken : ℕ → Published → Merge → Type 0

@@ -4,7 +4,7 @@ ghost use Rattle.std.specs.Prelude.{IfOk, IfSome, MatchOption, OnErr, vec_capaci
 ghost use Rattle.segment_core.specs.LiveRows.{Lived};
 ghost use Rattle.merge_core.specs.Merging.{row_count};
 ghost use Rattle.merge_core.specs.Picking.{HasNoPick};
-ghost use Rattle.flush_control.specs.Merging.{Advanced, IsBegunBy, IsEnd, IsTaken, Runs};
+ghost use Rattle.flush_control.specs.Merging.{Advanced, IsBegunBy, IsEnd, IsTaken, PicksStart, Runs};
 ghost use Rattle.flush_control.specs.Merging.{SameSegments, StillRuns, Turns, replaced};
 ghost use Rattle.flush_control.specs.Published.{IsPublished};
 
@@ -30,14 +30,15 @@ pub enum MergeTurn {
 /// A merge of the m segments with the fewest live rows, of which nothing was read yet: `None`
 /// exactly where there is no such merge.
 fn started(alloc: Global, segments: &[LiveSegment], m: u32) -> Result<Option<Merge>, NoMemory>
-    requires { m ≤ 64 }
+    requires m { m ≤ 64 }
+    requires can { PicksStart m segments.now }
     ensures { IfOk result (λ found. MatchOption found (HasNoPick m segments.now)
         (λ merge. IsBegunBy m segments.now merge)) }
 {
     let Some(ids) = pick(alloc, segments, m)? else {
         return Ok(None);
     };
-    let merge = Merge::start(alloc, ids)?;
+    let merge = Merge::start(alloc, segments, ids)?;
     Ok(Some(merge))
 }
 
@@ -73,6 +74,7 @@ impl Published {
     /// none to begin. After an error all is as before.
     fn begin(&mut self, alloc: Global, m: u32) -> Result<Option<Merge>, NoMemory>
         requires m { m ≤ 64 }
+        requires published { IsPublished self.old }
         ensures out { self.new ≡ record self.old { merge = None } }
         ensures taken { IfOk result (λ found. MatchOption found
             ((self.old.merge ≡ None) × HasNoPick m self.old.segments) (IsTaken m self.old)) }

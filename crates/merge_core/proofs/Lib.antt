@@ -7,7 +7,8 @@ pub mod Starting
 pub mod Numbers
 pub mod Taking
 pub mod Finishing
-pub mod Stepping
+pub mod Rereading
+pub mod Copied
 pub mod Picked
 pub mod Summing
 pub mod Renumbered

@@ -11,7 +11,7 @@ use Rattle.frozen_packet.specs.declared.updates.Updates.{Updates}
 use Rattle.segment_core.specs.LiveRows.{Lived, IsBuilt, marked, live_rows, live, MarksLater}
 use Rattle.segment_core.specs.declared.segment.Segment.{Segment}
 use Rattle.merge_core.specs.Merging.{CanMerge, Sources, row_count}
-use Rattle.merge_core.specs.Reading.{HasRead, IsOf, IsStep, CanFinish, ReadingStays}
+use Rattle.merge_core.specs.Reading.{CanFinish, CanStart, HasRead, IsOf, IsStep, ReadingStays}
 use Rattle.merge_core.specs.declared.merge.Merge.{Merge}
 use Rattle.merge_core.specs.declared.merge.Step.{Step}
 use Rattle.merge_core.specs.declared.merge.Step.TheVariants.{More, Ready}
@@ -42,12 +42,15 @@ is_of m segments count reads = record {
   read = reads.read;
 }
 
+pub can_start : (segments : List Lived) (ids : List ℕ) → ids ≡ ids_in segments → AreSources segments → CanStart segments ids
+can_start segments ids is own = record { rise = own.rise; sources = segments; found = all_found segments ids is; can = own.can }
+
 pub starts : (m : Merge) (segments : List Lived) (ids : List ℕ) → ids ≡ ids_in segments → AreSources segments → m.ids.items ≡ ids
-    → ((all sources : List Lived) → Sources all ids sources → CanMerge sources → HasRead m sources 0) → Reads m segments 0
+    → ((sources : List Lived) → Sources segments ids sources → HasRead m sources 0) → Reads m segments 0
 starts m segments ids is own same reads = record {
   rise = own.rise;
   ids = same ∙ is;
-  read = reads segments segments (all_found segments ids is) own.can;
+  read = reads segments (all_found segments ids is);
   applied = own.applied;
   same = own.same;
 }

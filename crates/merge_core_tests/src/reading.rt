@@ -25,7 +25,7 @@ pub(crate) fn start(alloc: Global, segments: &[LiveSegment]) -> Result<Merge, Fa
     ensures { IfOk result (λ merge. Reads merge segments.now 0) }
 {
     let ids = ids_of(alloc, segments)?;
-    let merge = Merge::start(alloc, ids)?;
+    let merge = Merge::start(alloc, segments, ids)?;
     Ok(merge)
 }
 
@@ -46,6 +46,25 @@ pub(crate) fn read_all(merge: &mut Merge, segments: &[LiveSegment], rows: u32) -
     for turn in 0..10_000 {
         match read(merge, segments, rows)? {
             Step::Ready => return Ok(()),
+            Step::More => {}
+        }
+    }
+    Err("more rows")?
+}
+
+/// How many terms are merged before the last of the steps that read so many rows each.
+pub(crate) fn terms_before_the_end(
+    merge: &mut Merge,
+    segments: &[LiveSegment],
+    rows: u32,
+) -> Result<usize, Fail>
+    requires { (count : ℕ) × Reads merge.old segments.now count }
+    ensures { OnOk result (Reads merge.new segments.now (row_count segments.now)) }
+{
+    for turn in 0..10_000 {
+        let terms = merge.terms();
+        match read(merge, segments, rows)? {
+            Step::Ready => return Ok(terms),
             Step::More => {}
         }
     }

@@ -130,12 +130,12 @@ fn change(
 fn shown(alloc: Global, segment: &LiveSegment) -> Result<String, Fail> {
     let mut out = String::new(alloc);
     let rows = segment.segment().rows.len();
-    if rows != 3 {
+    if rows != 4 {
         return Ok(out);
     }
     let numbers = segment.live().values(1).len();
     write!(out, "{rows} {numbers}")?;
-    for at in 0..3 {
+    for at in 0..4 {
         show_live_row(alloc, &mut out, segment, at)?;
     }
     Ok(out)
@@ -176,12 +176,13 @@ fn merged(alloc: Global, updates: &Updates) -> Result<Option<LiveSegment>, Fail>
     made_of(alloc, updates, &mut segment)
 }
 
-/// The row `a` dies after it was read, and `d` before it is; numbers are set in `b` after it was read.
+/// The rows `a`, which was read, and `d`, which wasn't, die while they are merged; numbers are set in `b`
+/// after it was read.
 #[test]
 fn rows_die_between_steps(rt: HostRuntime) -> Result<(), Fail> {
     let updates = many_updates(rt.alloc())?;
     let made = merged(rt.alloc(), &updates)?.ok_or("nothing merged")?;
-    assert!(rt; shown(rt.alloc(), &made)?.as_str() == "3 41 b2=5 c3");
+    assert!(rt; shown(rt.alloc(), &made)?.as_str() == "4 41 b2=5 c3");
     Ok(())
 }
 

@@ -2,7 +2,7 @@
 //! the merged rows.
 ghost use Rattle.std.specs.Prelude.{◌≡◌, ◌≤◌, ◌<◌, length};
 
-use crate::reading::{finished, read_all, start};
+use crate::reading::{finished, read, read_all, start, terms_before_the_end};
 use crate::sources::three_sources;
 use analysis::invert;
 use segment_core::LiveSegment;
@@ -69,6 +69,26 @@ fn many_rows(rt: HostRuntime) -> Result<(), Fail> {
     let made = merged(rt.alloc(), 1500, 1000)?;
     assert!(rt; made.segment().rows.len() == 3214);
     assert!(rt; is_inverted(rt.alloc(), &made)?);
+    Ok(())
+}
+
+/// How many terms are merged after the first step of a hundred rows, and before the last one.
+fn terms_of_steps(alloc: Global) -> Result<(usize, usize), Fail> {
+    let segments = three_sources(alloc, 400)?;
+    let mut merge = start(alloc, segments.as_slice())?;
+    let before = terms_before_the_end(&mut merge, segments.as_slice(), 100)?;
+    let mut again = start(alloc, segments.as_slice())?;
+    read(&mut again, segments.as_slice(), 100)?;
+    Ok((again.terms(), before))
+}
+
+/// Of 1,000 rows, which have 866 terms, each step of a hundred merges a part of the terms: the first one
+/// some of them, and those before the last one nine tenths at least.
+#[test]
+fn terms_go_with_the_rows(rt: HostRuntime) -> Result<(), Fail> {
+    let (first, before) = terms_of_steps(rt.alloc())?;
+    assert!(rt; first >= 80 && first < 400);
+    assert!(rt; before >= 780);
     Ok(())
 }
 

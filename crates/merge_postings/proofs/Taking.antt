@@ -1,6 +1,5 @@
 -- A term that is taken out of the sources.
 use Rattle.std.proofs.Common.{◌≡◌, ℕ, ◌+◌, ◌<◌, Option, Some, None, List, [], ◌∷◌, ◌++◌, Bool, true, false, ◌&&◌, ◌||◌, length, ◌⊎◌, inl, inr, refl, sym, ap, ◌∙◌, subst, arith}
-use Rattle.std.proofs.Common.{suc, drop, drop-cons, get_or}
 use Rattle.std.specs.List.{AllByRecursion}
 use Rattle.std.specs.Option.{IfSome}
 use Rattle.ix_base.proofs.Ends.{ends}
@@ -8,9 +7,9 @@ use Rattle.ix_base.proofs.TermOrder.{term_total}
 use Rattle.ix_base.specs.GroupedLaws.{or_assoc}
 use Rattle.ix_base.specs.declared.document.Term.{Term}
 use Rattle.ix_base.specs.declared.postings.TermPostings.{TermPostings}
-use Rattle.merge_postings.specs.Renumbering.{Moving, any_moved, is_named, moved, moved_at}
-use Rattle.merge_postings.specs.Walk.{AreQueued, IsBelow, AddsPlaces, IsPassed, IsPutBack, StartAbove, StartFrom, Taken, TakenAll, Waiting, any_waiting, entry_count, waiting}
-use Rattle.merge_postings.proofs.Queued.{above_not_below, all_front, all_last, all_put, any_last, any_put, below_through, count_last, count_put, from_last, tri}
+use Rattle.merge_postings.specs.Renumbering.{CanMove, is_named, moved, moved_at}
+use Rattle.merge_postings.specs.Walk.{AreQueued, CanWait, IsBelow, AddsPlaces, IsPassed, IsPutBack, StartAbove, StartFrom, Taken, TakenAll, Waiting, any_waiting, entry_count, waiting}
+use Rattle.merge_postings.proofs.Queued.{above_not_below, all_front, all_last, all_put, any_last, any_put, below_through, count_last, count_put, from_last, tail_ordered, tri}
 
 -- ---- the places that were taken
 
@@ -24,6 +23,7 @@ same_places u old new place other same all = record {
     queued = all.taken.queued;
     from = all.taken.from;
     later = all.taken.later;
+    can = all.taken.can;
     fewer = all.taken.fewer;
   };
   above = all.above;
@@ -31,11 +31,11 @@ same_places u old new place other same all = record {
 
 -- ---- the rest of a source is put back
 
-back_all : (P : Waiting → Type 0) (o : Option Waiting) (old new : List Waiting) → IsPutBack o old new → AllByRecursion P old → IfSome o P → AllByRecursion P new
+pub back_all : (P : Waiting → Type 0) (o : Option Waiting) (old new : List Waiting) → IsPutBack o old new → AllByRecursion P old → IfSome o P → AllByRecursion P new
 back_all P None old new is all p = subst (AllByRecursion P) (sym is) all
 back_all P (Some w) old new is all p = subst (AllByRecursion P) (sym is.2) (all_put P old is.0 w p all)
 
-back_any : (es : List TermPostings) (numbers : List (Option ℕ)) (old new : List Waiting) → IsPutBack (waiting es numbers) old new → (field bytes : List ℕ) (r x : ℕ)
+pub back_any : (es : List TermPostings) (numbers : List (Option ℕ)) (old new : List Waiting) → IsPutBack (waiting es numbers) old new → (field bytes : List ℕ) (r x : ℕ)
     → any_waiting new field bytes r x ≡ (moved numbers es field bytes r x || any_waiting old field bytes r x)
 back_any [] numbers old new is field bytes r x = ap (λ (ws : List Waiting). any_waiting ws field bytes r x) is
 back_any (e ∷ es) numbers old new is field bytes r x =
@@ -45,28 +45,14 @@ back_count : (es : List TermPostings) (numbers : List (Option ℕ)) (old new : L
 back_count [] numbers old new is = omega (arith, ap entry_count is)
 back_count (e ∷ es) numbers old new is = omega (arith, ap entry_count is.2, count_put old is.0 (record { first = e; rest = es; numbers = numbers }))
 
--- ---- a source is queued
-
-regroup : (m a d : Bool) → ((m || a) || d) ≡ (a || (m || d))
-regroup true true d = refl
-regroup true false d = refl
-regroup false a d = refl
-
--- where one more source was put among those that wait, they have what the sources before the next place have
-pub more_queued : (sources : List Moving) (i : ℕ) (s : Moving) (old new : List Waiting) → i < length sources → s ≡ get_or sources i s → IsPutBack (waiting s.terms s.numbers) old new
-    → ((field bytes : List ℕ) (r x : ℕ) → (any_waiting old field bytes r x || any_moved (drop i sources) field bytes r x) ≡ any_moved sources field bytes r x)
-    → (field bytes : List ℕ) (r x : ℕ) → (any_waiting new field bytes r x || any_moved (drop (i + 1) sources) field bytes r x) ≡ any_moved sources field bytes r x
-more_queued sources i s old new lt is back exact field bytes r x =
-    let more : i + 1 ≡ suc i = omega arith in
-    let left : drop i sources ≡ s ∷ drop (suc i) sources = drop-cons sources i s lt ∙ ap (λ (t : Moving). t ∷ drop (suc i) sources) (sym is) in
-    (λ j. back_any s.terms s.numbers old new back field bytes r x j || any_moved (drop (more j) sources) field bytes r x)
-    ∙ regroup (moved s.numbers s.terms field bytes r x) (any_waiting old field bytes r x) (any_moved (drop (suc i) sources) field bytes r x)
-    ∙ ap (λ (ss : List Moving). any_waiting old field bytes r x || any_moved ss field bytes r x) (sym left)
-    ∙ exact field bytes r x
-
 some_map : (P Q : Waiting → Type 0) (o : Option Waiting) → ((w : Waiting) → P w → Q w) → IfSome o P → IfSome o Q
 some_map P Q None f h = h
 some_map P Q (Some w) f h = f w h
+
+-- the entries behind the first one can wait too
+pub can_rest : (e : TermPostings) (es : List TermPostings) (numbers : List (Option ℕ)) → CanMove (record { terms = e ∷ es; numbers = numbers }) → IfSome (waiting es numbers) CanWait
+can_rest e [] numbers can = tt
+can_rest e (f ∷ es) numbers can = record { ordered = tail_ordered e (f ∷ es) can.ordered; rise = can.rise }
 
 -- ---- an entry was taken
 
@@ -77,6 +63,7 @@ record Passed (u : Term) (cur new : List Waiting) (h : Waiting) : Type 0 where
       ≡ ((is_named field bytes u && moved_at h.numbers h.first.rows r x) || any_waiting new field bytes r x)
   from : StartFrom u new
   later : (t : Term) → StartAbove t cur → StartAbove t new
+  can : AllByRecursion CanWait cur → AllByRecursion CanWait new
   less : entry_count new < entry_count cur
 
 passed : (u : Term) (cur front new : List Waiting) (h : Waiting) → StartFrom u cur → cur ≡ front ++ h ∷ [] → h.first.term ≡ u → IsPassed h front new → Passed u cur new h
@@ -97,6 +84,9 @@ passed u cur front new h low is named pass = record {
       (all_front (λ (w : Waiting). IsBelow t w.first.term) front h there)
       (some_map (λ (w : Waiting). IsBelow h.first.term w.first.term) (λ (w : Waiting). IsBelow t w.first.term) (waiting h.rest h.numbers)
       (λ w l. term_total.trans t h.first.term w.first.term (all_last (λ (v : Waiting). IsBelow t v.first.term) front h there) l) pass.rises);
+  can = λ all.
+      let there = subst (AllByRecursion CanWait) is all in
+      back_all CanWait (waiting h.rest h.numbers) front new pass.back (all_front CanWait front h there) (can_rest h.first h.rest h.numbers (all_last CanWait front h there));
   less = omega (arith, back_count h.rest h.numbers front new pass.back, ap entry_count is, count_last front h);
 }
 
@@ -113,6 +103,7 @@ first_taken u front new h none place queued empty named put pass =
       queued = pass.queued;
       from = p.from;
       later = p.later;
+      can = p.can;
       fewer = p.less;
     }
 
@@ -134,6 +125,7 @@ more_taken u old cur front new h place more taken is named put pass =
       queued = pass.queued;
       from = p.from;
       later = λ t all. p.later t (taken.later t all);
+      can = λ all. p.can (taken.can all);
       fewer = omega (arith, p.less, taken.fewer);
     }
 

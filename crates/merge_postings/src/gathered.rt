@@ -21,6 +21,8 @@ pub(crate) struct Place {
 pub(crate) struct Gathered {
     rows: Spots,
     late: Vec<Place>,
+    /// How many lists they were gathered from.
+    lists: usize,
 }
 
 /// Adds the places whose rows get a number, at the rows of these numbers.
@@ -69,7 +71,13 @@ impl Gathered {
         Gathered {
             rows: Spots::new(alloc),
             late: Vec::new(alloc),
+            lists: 0,
         }
+    }
+
+    /// How many lists they were gathered from.
+    pub(crate) fn lists(&self) -> usize {
+        self.lists
     }
 
     /// Adds the places of a list whose rows get a number, at the rows of these numbers.
@@ -78,6 +86,7 @@ impl Gathered {
         ensures { OnOk result ((r x : ℕ) → is_gathered self.new r x
             ≡ (is_gathered self.old r x || moved_at numbers.now list.now r x)) }
     {
+        self.lists = self.lists.saturating_add(1);
         let spots = list.as_slice();
         let Some(first) = first_number(spots, numbers) else {
             return Ok(());
@@ -94,7 +103,7 @@ impl Gathered {
     pub(crate) fn into_rows(self, alloc: Global) -> Result<Spots, NoMemory>
         ensures { IfOk result (λ rows. (r x : ℕ) → posted_at rows r x ≡ is_gathered self r x) }
     {
-        let Gathered { rows, late } = self;
+        let Gathered { rows, late, lists: _ } = self;
         if late.is_empty() {
             return Ok(rows);
         }

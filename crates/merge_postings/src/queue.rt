@@ -1,7 +1,9 @@
 //! Sources that wait, by their first terms, which don't rise: the last has the least.
 ghost use Rattle.std.specs.Prelude.{◌≡◌, ◌≢◌, ◌||◌, ◌≤◌, ◌++◌, ◌∷◌, [], ℕ, List, length, take, drop, IfNone, IfOk, IfSome, OnOk};
-ghost use Rattle.merge_postings.specs.Renumbering.{any_moved};
-ghost use Rattle.merge_postings.specs.Walk.{any_waiting, waiting, StartFrom, AreQueued, StartUpto, IsPut, IsPutBack, Waiting};
+ghost use Rattle.std.specs.List.{AllByRecursion};
+ghost use Rattle.merge_postings.specs.Renumbering.{CanMove};
+ghost use Rattle.merge_postings.specs.Steps.{AreResumed};
+ghost use Rattle.merge_postings.specs.Walk.{StartFrom, AreQueued, StartUpto, IsPut, IsPutBack, Waiting};
 
 use crate::head::Head;
 use crate::source::Source;
@@ -56,15 +58,18 @@ pub(crate) fn put_back<'a>(
     }
 }
 
-/// The sources that have an entry, by their first terms.
-pub(crate) fn queue_of<'a>(alloc: Global, sources: &[Source<'a>]) -> Result<Vec<Head<'a>>, NoMemory>
-    ensures queued { IfOk result (λ queue. AreQueued queue.items) }
-    ensures exact { IfOk result (λ queue. (field bytes : List ℕ) (r x : ℕ)
-        → any_waiting queue.items field bytes r x ≡ any_moved sources.now field bytes r x) }
+/// The sources that have an entry beyond the term that was reached, by their first terms beyond it.
+pub(crate) fn queue_beyond<'a>(
+    alloc: Global,
+    sources: &[Source<'a>],
+    upto: &Option<Term>,
+) -> Result<Vec<Head<'a>>, NoMemory>
+    requires { AllByRecursion CanMove sources.now }
+    ensures { IfOk result (λ queue. AreResumed upto.now sources.now queue.items) }
 {
     let mut queue = Vec::with_capacity(alloc, sources.len())?;
     for place in 0..sources.len() {
-        put_back(&mut queue, sources[place].head(place))?;
+        put_back(&mut queue, sources[place].beyond(place, upto))?;
     }
     Ok(queue)
 }

@@ -7,7 +7,7 @@ ghost use Rattle.merge_postings.specs.Renumbering.{CanMove, NumbersRise};
 use crate::rising::Rising;
 use analysis::invert;
 use ix_base::{Postings, Row, TermPostings};
-use merge_postings::{Source, merged_postings};
+use merge_postings::{PartlyMerged, Source};
 use std::alloc::Global;
 use std::marker::Model;
 use std::test::Fail;
@@ -74,5 +74,6 @@ fn sources_of<'a>(alloc: Global, parts: &'a [Part]) -> Result<Vec<Source<'a>>, F
 /// What the parts are merged into.
 pub(crate) fn merged(alloc: Global, parts: &[Part]) -> Result<Postings, Fail> {
     let sources = sources_of(alloc, parts)?;
-    Ok(merged_postings(alloc, sources)?)
+    let mut merged = PartlyMerged::new(alloc);
+    Ok(merged.finish(alloc, sources)?)
 }
