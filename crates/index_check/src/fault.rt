@@ -3,7 +3,7 @@ ghost use Rattle.std.specs.Prelude.{◌≡◌};
 ghost use Rattle.index_check.specs.declared.fault.CheckFault.TheVariants.{NoMemory as OutOfMemory};
 
 use ix_base::{Damaged, FileName, NoMemory};
-use std::alloc::AllocError;
+use std::alloc::AllocFailed;
 
 /// The first place where a commit whose files are in the grammar isn't as it has to be.
 #[derive(Clone, Copy, Debug, PartialEq, Eq)]
@@ -40,10 +40,10 @@ impl From<NoMemory> for CheckFault {
     }
 }
 
-impl From<AllocError> for CheckFault {
+impl<T: Drop> From<AllocFailed<T>> for CheckFault {
     ghost from_gives = { λ _ fault. fault ≡ OutOfMemory };
 
-    fn from(_error: AllocError) -> CheckFault {
+    fn from(_error: AllocFailed<T>) -> CheckFault {
         CheckFault::NoMemory
     }
 }

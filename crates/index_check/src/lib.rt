@@ -4,8 +4,10 @@
 
 mod checking;
 mod comparing;
+mod earlier;
 mod fault;
 mod next_id;
+mod one_commit;
 
 pub use checking::check;
 pub use fault::{CheckFault, Difference};
