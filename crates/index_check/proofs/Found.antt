@@ -1,5 +1,5 @@
 -- What the check of one commit comes to.
-use Rattle.std.proofs.Common.{◌≡◌, ◌⊎◌, inl, inr, ◌∙◌, ℕ, zero, suc, ◌+◌, ◌^◌, ◌<◌, ◌≤◌, Bool, true, false, eqb, List, [], ◌∷◌, ◌++◌, length, get_or, Option, Some, None, refl, sym, ap, subst, arith}
+use Rattle.std.proofs.Common.{◌≡◌, ◌⊎◌, inl, inr, ◌∙◌, ℕ, ◌+◌, ◌≤◌, Bool, true, false, eqb, [], ◌∷◌, ◌++◌, Option, Some, None, refl, sym, ap, subst, arith}
 use Rattle.std.specs.Prelude.{◌||◌, Contains, MatchOption}
 use Rattle.std.specs.BTreeSet.{contains}
 use Rattle.std.specs.List.{AllByRecursion, list_any}
@@ -7,16 +7,15 @@ use Rattle.std.specs.Ordering.{nat_cmp}
 use Rattle.std.proofs.lemmas.Bool.{cases_lt}
 use Rattle.std.proofs.lemmas.List.{append-nil}
 use Rattle.ix_outside.specs.Files.{Files, Was}
-use Rattle.segment_core.specs.LiveRows.{Lived, all_live}
+use Rattle.segment_core.specs.LiveRows.{Lived}
 use Rattle.segment_core.specs.Segments.{IsInverted}
-use Rattle.commit_point.specs.Fits.{HeadFits, IdsRise}
-use Rattle.commit_point.specs.Holds.{AreInverted, HasHead, HasSegments, HaveSegments, IsAboveIds, Lists, head_of}
+use Rattle.commit_point.specs.Holds.{AreInverted, HasSegments, HaveSegments, IsAboveIds, Lists, head_of}
 use Rattle.commit_point.specs.Laws.{one_head}
 use Rattle.commit_point.specs.declared.heads.Head.{Head}
 use Rattle.commit_point.specs.declared.heads.HeadSegment.{HeadSegment}
 use Rattle.commit_point.specs.declared.open.Opened.{Opened}
 use Rattle.index_check.specs.Difference.{DiffersAt, HaveOther, HasOther, IsTaken, LacksRoom, next_id_is}
-use Rattle.index_check.specs.Earlier.{IsBefore, IsBehindListed, IsBelow, IsComparedOr, IsLeastAbove, IsLeastId, IsOther, IsSame, IsSoundId}
+use Rattle.index_check.specs.Earlier.{IsBefore, IsBehindListed, IsBelow, IsComparedOr, IsLeastAbove, IsLeastId, IsOther, IsSame}
 use Rattle.index_check.specs.Sound.{IsLawfulCommit}
 use Rattle.index_check.specs.declared.earlier.Earlier.{Earlier}
 use Rattle.index_check.specs.declared.fault.Difference.{Difference}
@@ -98,8 +97,8 @@ next_before files s opened old new has known same least added = record {
   ids = next_least files s old.least_id new.least_id opened has known.ids least;
   compared = λ id is.
       or_cases (contains nat_cmp old.compared id) (list_any (λ (g : Lived). eqb g.segment.id id) opened.segments) (sym (added id) ∙ is)
-          (λ h. known.compared id h)
-          (λ h. listed_sound files s id opened.entries opened.segments has.head.fits.number (all_inverted files s opened old has known same.each) has.each h);
+      (λ h. known.compared id h)
+      (λ h. listed_sound files s id opened.entries opened.segments has.head.fits.number (all_inverted files s opened old has known same.each) has.each h);
 }
 
 -- ---- a commit that isn't

@@ -1,5 +1,5 @@
 -- The commits of a store, checked one after another.
-use Rattle.std.proofs.Common.{◌≡◌, ◌⊎◌, inl, inr, ◌∙◌, ℕ, false, ◌+◌, ◌<◌, ◌≤◌, List, [], ◌∷◌, ◌++◌, length, get_or, map, take, Option, Some, Result, Ok, Err, refl, sym, ap, subst, arith}
+use Rattle.std.proofs.Common.{◌≡◌, ◌⊎◌, inl, inr, ◌∙◌, ℕ, false, ◌+◌, ◌<◌, ◌≤◌, List, [], ◌∷◌, ◌++◌, length, get_or, map, take, Option, Some, Err, sym, ap, subst, arith}
 use Rattle.std.specs.Prelude.{◌↔◌, AllPairs, Contains, IfSome, IsSome, is_some}
 use Rattle.std.specs.BTreeSet.{contains}
 use Rattle.std.specs.List.{AllByRecursion}
@@ -9,15 +9,12 @@ use Rattle.std.proofs.lemmas.List.{get_or_default, map_push, take_all, take_more
 use Rattle.ix_base.specs.declared.damaged.Damaged.{Damaged}
 use Rattle.ix_base.specs.declared.file_name.FileName.TheVariants.{Commit}
 use Rattle.ix_outside.specs.Files.{Files, Was}
-use Rattle.commit_point.specs.Holds.{HasHead, IsAboveIds, Lists}
+use Rattle.commit_point.specs.Holds.{HasHead, IsAboveIds}
 use Rattle.commit_point.specs.Reading.{reading}
 use Rattle.commit_point.specs.declared.heads.Head.{Head}
-use Rattle.index_check.specs.Difference.{DiffersAt, DiffersIn}
-use Rattle.index_check.specs.Earlier.{IsBefore, IsBehindListed, IsLeastId}
+use Rattle.index_check.specs.Earlier.{IsBefore, IsBehindListed}
 use Rattle.index_check.specs.Sound.{AreHeads, AreLawful, AreLawfulBelow, IsDamagedAt, IsLawfulCommit}
 use Rattle.index_check.specs.declared.earlier.Earlier.{Earlier}
-use Rattle.index_check.specs.declared.fault.Difference.{Difference}
-use Rattle.index_check.proofs.Found.{same_files}
 
 -- the numbers of all commits
 abbrev pub AreAll : Files → List ℕ → Type 0

@@ -15,8 +15,7 @@ ghost use Rattle.index_check.specs.declared.fault.Difference.{Difference};
 
 use crate::comparing::other_postings;
 use crate::earlier::Earlier;
-use crate::fault::CheckFault;
-use crate::fault::Difference;
+use crate::fault::{CheckFault, Difference};
 use crate::next_id::next_id_difference;
 use commit_point::{Head, OpenFault, Opened, read_commit};
 use ix_base::NoMemory;

@@ -1,4 +1,4 @@
-use Rattle.std.proofs.Common.{◌≡◌, ◌∙◌, ◌≤◌, ℕ, Option, Some, get_or, refl, sym, ap, subst, arith}
+use Rattle.std.proofs.Common.{◌≡◌, ◌∙◌, Option, Some, get_or, refl, sym, ap, subst, arith}
 use Rattle.ix_outside.specs.Disk.{told_files}
 use Rattle.ix_outside.specs.Files.{Files}
 use Rattle.index_check.specs.Sound.{IsDamagedAt}
@@ -15,7 +15,7 @@ pub loop-number-init : goal.loop-number-init
 loop-number-init g c = record {
   found = λ files told.
       none_yet files c.args.numbers.now c.new-heads.result.items c.new-earlier.result c.new-heads.ensures.items
-          (first_before files c.new-earlier.result c.new-earlier.ensures.least c.new-earlier.ensures.compared);
+      (first_before files c.new-earlier.result c.new-earlier.ensures.least c.new-earlier.ensures.compared);
   reads = refl;
   later = omega arith;
 }
@@ -27,8 +27,8 @@ loop-number-preserved g c =
       found = λ files told.
           let now : told_files (g.S.Store.disk c.loop-number.store) ≡ Some files = ap told_files inv.reads ∙ told in
           one_more files c.args.numbers.now c.loop-number.number-index c.loop-number.heads.items c.push.new.self.items c.in-Ok.head c.loop-number.earlier c.check_commit.new.earlier
-              (c.requires.all files told) c.requires.rise c.loop-number-test.true (inv.found files told)
-              (c.in-Ok.ensures.head files now) (c.in-Ok.ensures.sound files now) (c.in-Ok.ensures.earlier files now) c.in_ok-push-in-Ok.ensures.items;
+          (c.requires.all files told) c.requires.rise c.loop-number-test.true (inv.found files told)
+          (c.in-Ok.ensures.head files now) (c.in-Ok.ensures.sound files now) (c.in-Ok.ensures.earlier files now) c.in_ok-push-in-Ok.ensures.items;
       reads = c.check_commit.ensures.reads ∙ inv.reads;
       later = omega (arith, inv.later, c.check_commit.ensures.later);
     }

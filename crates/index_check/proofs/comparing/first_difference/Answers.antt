@@ -1,4 +1,4 @@
-use Rattle.std.proofs.Common.{◌≡◌, ℕ, ◌<◌, ◌≤◌, ◌∙◌, length, get_or, refl, sym, arith}
+use Rattle.std.proofs.Common.{◌∙◌, refl, sym, arith}
 use Rattle.index_check.proofs.Bytes.{same_before, same_bytes}
 use Rattle.index_check.proofs.comparing.first_difference.Goals as goal
 

@@ -1,4 +1,4 @@
-use Rattle.std.proofs.Common.{◌+◌, ◌∙◌, length, ap, arith}
+use Rattle.std.proofs.Common.{◌+◌, ◌∙◌, ap, arith}
 use Rattle.live_docs.specs.Marks.{Marks, count_live}
 use Rattle.commit_point.proofs.LiveCounts.{at_most, counted, live_count}
 use Rattle.index_check.proofs.one_commit.live_rows.Goals as goal
