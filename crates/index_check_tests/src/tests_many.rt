@@ -97,7 +97,10 @@ fn store(alloc: Global) -> Result<MemoryStore, Fail> {
     store.write(FileName::Live(1, FIRST), live_file(alloc)?.as_slice())?;
     store.write(FileName::Values(1, FIRST), values_file(alloc)?.as_slice())?;
     for number in FIRST..FIRST + COMMITS {
-        store.write(FileName::Commit(number), commit_file(alloc, number)?.as_slice())?;
+        store.write(
+            FileName::Commit(number),
+            commit_file(alloc, number)?.as_slice(),
+        )?;
     }
     Ok(store)
 }
