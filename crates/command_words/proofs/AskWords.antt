@@ -1,11 +1,11 @@
--- The option of `ask`, and `list` with none.
+-- The option of `ask`, and `list` and `check` with none.
 use Rattle.std.proofs.Common.{◌∙◌, ℕ, Option, Some, codes, refl, ap}
 use Rattle.std.specs.List.{slice_index_or}
 use Rattle.clap.specs.Simple.{Shape}
 use Rattle.clap.proofs.OnLiterals.{clap_on_literals}
 use Rattle.command_words.specs.Program as spec
 use Rattle.command_words.specs.declared.number_option.NumberOption.TheVariants as option
-use Rattle.command_words.specs.WordLaws.{IsAskUse, AskAccepted, ListAccepted, given, words_of}
+use Rattle.command_words.specs.WordLaws.{IsAskUse, AskAccepted, ListAccepted, CheckAccepted, given, words_of}
 use Rattle.command_words.specs.declared.command.Command.TheVariants as command
 use Rattle.command_words.proofs.Rows.{number_found, once_fresh}
 use Rattle.command_words.proofs.Walks.{Takes}
@@ -40,3 +40,7 @@ ask_accepted uses all once =
 pub list_accepted : ListAccepted
 unfolding clap_on_literals
 list_accepted = refl
+
+pub check_accepted : CheckAccepted
+unfolding clap_on_literals
+check_accepted = refl

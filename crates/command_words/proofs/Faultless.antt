@@ -182,7 +182,10 @@ all_commands name stops = (
   (λ is words fine. run_command words fine),
   (
     (λ is words fine. refl),
-    ((λ is words fine. refl), ((λ is words fine. make_command words fine), ((λ is. absurd (no_help name stops is)), tt))),
+    (
+      (λ is words fine. refl),
+      ((λ is words fine. refl), ((λ is words fine. make_command words fine), ((λ is. absurd (no_help name stops is)), tt))),
+    ),
   ),
 )
 

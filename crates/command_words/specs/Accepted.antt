@@ -46,7 +46,8 @@ command_in entered =
     if bytes_eq entered.0 (codes "run") then run_in entered.1
     else (if bytes_eq entered.0 (codes "ask") then Some (command.Ask (number_of option.Commit entered.1))
     else (if bytes_eq entered.0 (codes "list") then Some command.List
-    else (if bytes_eq entered.0 (codes "make") then make_in entered.1 else None)))
+    else (if bytes_eq entered.0 (codes "check") then Some command.Check
+    else (if bytes_eq entered.0 (codes "make") then make_in entered.1 else None))))
 
 abbrev pub unless_fault : Kinds → Option (Text × List Row) → Option Command
 unless_fault faults entered = if is_empty faults then option_and_then command_in entered else None
@@ -61,5 +62,6 @@ InRange (command.Run threads buffer merge) =
     IsNumberOf option.Threads threads × IsNumberOf option.Buffer buffer × IsNumberOf option.Merge merge
 InRange (command.Ask commit) = IfSome commit (IsNumberOf option.Commit)
 InRange command.List = Unit
+InRange command.Check = Unit
 InRange (command.Make seed lines callers) =
     IsNumberOf option.Seed seed × IsNumberOf option.Lines lines × IsNumberOf option.Callers callers

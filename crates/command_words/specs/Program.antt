@@ -34,6 +34,9 @@ ask = with_rule (new_app (codes "ask")) (number_rule option.Commit)
 abbrev pub list : App
 list = new_app (codes "list")
 
+abbrev pub check : App
+check = new_app (codes "check")
+
 abbrev pub make : App
 make = with_rule (with_rule (with_rule (new_app (codes "make"))
     (always (number_rule option.Seed)))
@@ -47,4 +50,4 @@ as_program shape = record shape { no_binary_name = true; subcommand_required = t
 abbrev pub program : App
 program =
     let none = on_top as_program (new_app (codes "index_run")) in
-    with_subcommand (with_subcommand (with_subcommand (with_subcommand none run.top) ask.top) list.top) make.top
+    with_subcommand (with_subcommand (with_subcommand (with_subcommand (with_subcommand none run.top) ask.top) list.top) check.top) make.top

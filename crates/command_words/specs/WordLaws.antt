@@ -59,6 +59,9 @@ AskAccepted = (uses : List Use) → All IsAskUse uses → EachOnce uses
 abbrev pub ListAccepted : Type 0
 ListAccepted = accepted (codes "list" ∷ []) ≡ Some command.List
 
+abbrev pub CheckAccepted : Type 0
+CheckAccepted = accepted (codes "check" ∷ []) ≡ Some command.Check
+
 -- `make` with its three options
 abbrev pub MakeAccepted : Type 0
 MakeAccepted = (uses : List Use) → All IsMakeUse uses → EachOnce uses → (seed lines callers : ℕ)

@@ -19,6 +19,8 @@ pub enum Command {
     },
     /// Lists the commits.
     List,
+    /// Checks all commits.
+    Check,
     /// Writes a generated script.
     Make {
         /// The seed of its random numbers, below 2^31.

@@ -1,5 +1,6 @@
 //! The laws of accepted words, as the contracts of functions that do nothing.
-ghost use Rattle.command_words.specs.WordLaws.{RunAccepted, AskAccepted, ListAccepted, MakeAccepted, FaultlessAccepted};
+ghost use Rattle.command_words.specs.WordLaws.{RunAccepted, AskAccepted, ListAccepted, CheckAccepted, MakeAccepted};
+ghost use Rattle.command_words.specs.WordLaws.{FaultlessAccepted};
 
 /// The law of accepted words: a subcommand's name and then its options, in any order and each at
 /// most once, as `--name` and the decimal digits of a number in its range, are accepted with these
@@ -8,6 +9,7 @@ pub fn options_in_any_order()
     ensures run { RunAccepted }
     ensures ask { AskAccepted }
     ensures list { ListAccepted }
+    ensures check { CheckAccepted }
     ensures make { MakeAccepted }
 {}
 

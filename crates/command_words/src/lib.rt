@@ -5,6 +5,7 @@
 //! | `run` | `--threads` 1..=16 (4), `--buffer` 1..=65536 (1000), `--merge` 2..=64 (8) |
 //! | `ask` | `--commit` 0..=9223372036854775807 (none: the last commit) |
 //! | `list` | none |
+//! | `check` | none |
 //! | `make` | `--seed` 0..=2147483647, `--lines` 1..=1000000, `--callers` 1..=256, all three required |
 //!
 //! Which words are accepted, and with which numbers, is what clap's own definitions give

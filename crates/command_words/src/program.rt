@@ -11,7 +11,7 @@ use clap::builder::ValueParser;
 use clap::{Arg, Command};
 use std::alloc::{AllocError, Global};
 
-/// The whole command: one of its four subcommands has to be named.
+/// The whole command: one of its five subcommands has to be named.
 pub fn program<'a>(alloc: Global) -> Result<Command<'a>, AllocError>
     ensures { IfOk result (λ command. app_of command ≡ spec.program) }
 {
@@ -24,6 +24,7 @@ pub fn program<'a>(alloc: Global) -> Result<Command<'a>, AllocError>
         .subcommand(run)?
         .subcommand(ask)?
         .subcommand(Command::new(alloc, "list"))?
+        .subcommand(Command::new(alloc, "check"))?
         .subcommand(make)
 }
 

@@ -51,6 +51,8 @@ fn command_from(matches: &ArgMatches) -> Option<Command>
         })
     } else if name == "list" {
         Some(Command::List)
+    } else if name == "check" {
+        Some(Command::Check)
     } else if name == "make" {
         make_from(options)
     } else {

@@ -26,6 +26,7 @@ fn answer(alloc: Global, line: &str) -> Result<String, Fail> {
             },
         ) => write!(text, "ask {number}")?,
         Ok(Command::List) => text.push_str("list")?,
+        Ok(Command::Check) => text.push_str("check")?,
         Ok(
             Command::Make {
                 seed,
@@ -60,6 +61,7 @@ fn accepted(rt: HostRuntime) -> Result<(), Fail> {
         ),
         ("list", "list"),
         ("list --", "list"),
+        ("check", "check"),
         ("make --seed 0 --lines 1 --callers 1", "make 0 1 1"),
         (
             "make --callers 256 --seed 2147483647 --lines 1000000",
@@ -119,6 +121,8 @@ fn refused(rt: HostRuntime) -> Result<(), Fail> {
         "ask --threads 2",
         "list --commit 1",
         "list extra",
+        "check --commit 1",
+        "check extra",
         "make",
         "make --lines 1 --callers 1",
         "make --seed 1 --callers 1",

@@ -17,7 +17,7 @@ use Rattle.index_run.specs.Beginning.{BeginsOn, CanBeginOn, IsBase, IsGivenCommi
 use Rattle.index_run.specs.Doing.{IsOnGiven}
 use Rattle.index_run.proofs.LogNumbers.{nat_or}
 use Rattle.index_run.proofs.RunBegins.{begins_lawful}
-use Rattle.index_run.proofs.SomeRows.{some_rows}
+use Rattle.index_check.proofs.SomeRows.{some_rows}
 
 -- ---- the last of the numbers that are listed
 

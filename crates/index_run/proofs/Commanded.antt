@@ -9,6 +9,9 @@ use Rattle.command_words.specs.declared.command.Command.TheVariants.{Ask, Make, 
 use Rattle.command_words.specs.declared.command.Command.TheVariants as command
 use Rattle.ix_base.specs.declared.document.Row.{Row}
 use Rattle.ix_base.specs.declared.damaged.Damaged.{Damaged}
+use Rattle.index_check.specs.Difference.{DiffersIn}
+use Rattle.index_check.specs.Sound.{AreLawful}
+use Rattle.index_check.specs.declared.fault.Difference.{Difference}
 use Rattle.ix_outside.specs.Causes.{Rose}
 use Rattle.ix_outside.specs.Disk.{Disk, told_files}
 use Rattle.ix_outside.specs.Files.{Files}
@@ -33,7 +36,7 @@ use Rattle.index_run.specs.Causes.{IsOneOf, stop_status}
 use Rattle.index_run.specs.Commands.{HasScript, form_text}
 use Rattle.index_run.specs.Damage.{FindsDamage}
 use Rattle.index_run.specs.Endings.{Caused, Met}
-use Rattle.index_run.specs.Promises.{AnswersQuestions, Does, IsListOf, ListsCommits, RunsScript}
+use Rattle.index_run.specs.Promises.{AnswersQuestions, ChecksCommits, Does, IsCheckOf, IsListOf, ListsCommits, RunsScript}
 use Rattle.index_run.proofs.Finish.{stops_none}
 use Rattle.index_run.proofs.Listed.{err_and_listed, err_listed, listed_onto}
 
@@ -141,6 +144,22 @@ listed_done input store left text still lists whole = record {
   same = still;
 }
 
+-- ---- a check
+
+pub checked_done : (input : Option (List ℕ)) (store left : Option Disk) (text : Result Bytes Stop) → left ≡ store
+    → ((files : Files) → told_files store ≡ Some files → IfOk text (λ made. IsCheckOf files made.items))
+    → ((files : Files) (d : Difference) → told_files store ≡ Some files → DiffersIn files d
+    → IsErrAnd text (λ s. IsOneOf (stop_status s) (4 ∷ 7 ∷ 11 ∷ [])))
+    → ((files : Files) → told_files store ≡ Some files → AreLawful files
+    → IfErr text (λ s. IsOneOf (stop_status s) (4 ∷ 7 ∷ [])))
+    → ChecksCommits (record { input = input; store = store; left = left; text = text })
+checked_done input store left text still checks differs whole = record {
+  checks = checks;
+  differs = differs;
+  whole = λ files is lawful. err_listed text (4 ∷ 7 ∷ []) (4 ∷ 5 ∷ 7 ∷ []) (refl, (refl, tt)) (whole files is lawful);
+  same = still;
+}
+
 -- ---- a command for which memory ran out
 
 pub does_nothing : (c : Command) (input : Option (List ℕ)) (store left : Option Disk) → left ≡ store
@@ -152,6 +171,12 @@ does_nothing (Ask commit) input store left still =
 does_nothing command.List input store left still = record {
   lists = λ files is. tt;
   whole = λ files heads is are. refl;
+  same = still;
+}
+does_nothing command.Check input store left still = record {
+  checks = λ files is. tt;
+  differs = λ files d is in'. refl;
+  whole = λ files is lawful. refl;
   same = still;
 }
 does_nothing (Make seed count callers) input store left still =
@@ -171,3 +196,4 @@ caused_run threads buffer merge met fault.Store h store damaged base = store ref
 caused_run threads buffer merge met (fault.Damaged d) h store damaged base = damaged d refl
 caused_run threads buffer merge met (fault.NoSuch number) h store damaged base = absurd cc
 caused_run threads buffer merge met (fault.Base b) h store damaged base = base b refl
+caused_run threads buffer merge met (fault.Differs file at found wanted) h store damaged base = absurd cc

@@ -20,10 +20,10 @@ of_stop P status s is h = subst P (sym is) h
 -- a call that ends by a fault has the fault's status, and tells it
 pub ends_by : (words : Option Command) (met : Met) (s : Stop) (status : ℕ) (wrote : List ℕ → Type 0) → status ≡ stop_status s
     → ((f : Fault) → s ≡ stop.Fault f → CausedBy words met f) → ((f : Fault) → s ≡ stop.Fault f → wrote (fault_text f))
-    → IsOneOf status (2 ∷ 3 ∷ 5 ∷ 7 ∷ 8 ∷ 9 ∷ 10 ∷ []) → EndsBy words met status wrote
+    → IsOneOf status (2 ∷ 3 ∷ 5 ∷ 7 ∷ 8 ∷ 9 ∷ 10 ∷ 11 ∷ []) → EndsBy words met status wrote
 ends_by words met (stop.Fault f) status wrote is cause told h = (f, sym is, cause f refl, told f refl)
 ends_by words met stop.NoMemory status wrote is cause told h =
-    absurd (let four : IsOneOf 4 (2 ∷ 3 ∷ 5 ∷ 7 ∷ 8 ∷ 9 ∷ 10 ∷ []) = subst (λ (n : ℕ). IsOneOf n (2 ∷ 3 ∷ 5 ∷ 7 ∷ 8 ∷ 9 ∷ 10 ∷ [])) is h in cc)
+    absurd (let four : IsOneOf 4 (2 ∷ 3 ∷ 5 ∷ 7 ∷ 8 ∷ 9 ∷ 10 ∷ 11 ∷ []) = subst (λ (n : ℕ). IsOneOf n (2 ∷ 3 ∷ 5 ∷ 7 ∷ 8 ∷ 9 ∷ 10 ∷ 11 ∷ [])) is h in cc)
 
 -- ---- a command that was done
 
@@ -57,6 +57,7 @@ no_fault c met fault.Store h cause a b = b cause
 no_fault c met (fault.Damaged damaged) h cause a b = cc
 no_fault c met (fault.NoSuch number) h cause a b = cc
 no_fault c met (fault.Base base) h cause a b = cc
+no_fault c met (fault.Differs file at found wanted) h cause a b = cc
 
 -- it stopped for want of memory alone
 pub complete_by : (c : Command) (met : Met) (s : Stop) (status : ℕ) → status ≡ stop_status s → IsOneOf (stop_status s) (4 ∷ 5 ∷ 7 ∷ [])

@@ -5,7 +5,6 @@ pub mod WriterOn
 pub mod KeptThere
 pub mod MadeCommits
 pub mod DiskAfter
-pub mod SomeRows
 pub mod RunEnds
 pub mod RunBegins
 pub mod Rounding

@@ -1,12 +1,16 @@
 -- Statuses that are among some, and among more.
-use Rattle.std.proofs.Common.{◌≡◌, ◌∙◌, inl, inr, ℕ, Bool, true, false, ◌||◌, eqb, ne_eqb, List, [], ◌∷◌, Result, Ok, Err, refl, sym, ap, subst}
+use Rattle.std.proofs.Common.{◌≡◌, ◌⊎◌, ◌∙◌, inl, inr, ℕ, Bool, true, false, ◌||◌, eqb, ne_eqb, List, [], ◌∷◌, Result, Ok, Err, refl, sym, ap, subst}
 use Rattle.std.specs.Prelude.{IfErr, IsErrAnd}
 use Rattle.std.specs.List.{AllByRecursion, list_any}
 use Rattle.commit_point.specs.Loading.{IsOutside as AskedOutside}
 use Rattle.commit_point.specs.declared.fault.OpenFault.{OpenFault}
+use Rattle.index_check.specs.Sound.{IsOutside as CheckedOutside}
+use Rattle.index_check.specs.declared.fault.CheckFault.{CheckFault}
+use Rattle.index_check.specs.declared.fault.CheckFault.TheVariants as checking
+use Rattle.index_check.specs.declared.fault.Difference.{Difference}
 use Rattle.store_answers.specs.Listing.{IsOutside as ListedOutside}
 use Rattle.store_answers.specs.declared.listing.ListFault.{ListFault}
-use Rattle.index_run.specs.Causes.{IsOneOf, stop_by_list, stop_status, stop_to_ask}
+use Rattle.index_run.specs.Causes.{IsOneOf, stop_by_check, stop_by_list, stop_status, stop_to_ask}
 use Rattle.index_run.specs.declared.stop.Stop.{Stop}
 use Rattle.index_run.proofs.LogNumbers.{nat_or}
 
@@ -65,3 +69,14 @@ pub outside_listed : (fault : ListFault) (s : Stop) → s ≡ stop_by_list fault
     → IsOneOf (stop_status s) (4 ∷ 7 ∷ [])
 outside_listed fault s is (inl e) = subst (λ (x : Stop). IsOneOf (stop_status x) (4 ∷ 7 ∷ [])) (sym (is ∙ ap stop_by_list e)) refl
 outside_listed fault s is (inr e) = subst (λ (x : Stop). IsOneOf (stop_status x) (4 ∷ 7 ∷ [])) (sym (is ∙ ap stop_by_list e)) refl
+
+pub outside_checked : (fault : CheckFault) (s : Stop) → s ≡ stop_by_check fault → CheckedOutside fault
+    → IsOneOf (stop_status s) (4 ∷ 7 ∷ [])
+outside_checked fault s is (inl e) = subst (λ (x : Stop). IsOneOf (stop_status x) (4 ∷ 7 ∷ [])) (sym (is ∙ ap stop_by_check e)) refl
+outside_checked fault s is (inr e) = subst (λ (x : Stop). IsOneOf (stop_status x) (4 ∷ 7 ∷ [])) (sym (is ∙ ap stop_by_check e)) refl
+
+-- and only a difference beside them
+pub differs_or_outside : (fault : CheckFault) (s : Stop) (d : Difference) → s ≡ stop_by_check fault
+    → (fault ≡ checking.Differs d) ⊎ CheckedOutside fault → IsOneOf (stop_status s) (4 ∷ 7 ∷ 11 ∷ [])
+differs_or_outside fault s d is (inl e) = subst (λ (x : Stop). IsOneOf (stop_status x) (4 ∷ 7 ∷ 11 ∷ [])) (sym (is ∙ ap stop_by_check e)) refl
+differs_or_outside fault s d is (inr e) = listed_onto (stop_status s) (4 ∷ 7 ∷ []) (4 ∷ 7 ∷ 11 ∷ []) (refl, (refl, tt)) (outside_checked fault s is e)

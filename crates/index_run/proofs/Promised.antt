@@ -17,6 +17,7 @@ pub does_run : (c : Command) (call : Call) → Does c call → (g : Given) → I
 does_run (Run threads buffer merge) call does g is can = does.runs g is can
 does_run (Ask commit) call does g is can = absurd is.script
 does_run command.List call does g is can = absurd is.script
+does_run command.Check call does g is can = absurd is.script
 does_run (Make seed count callers) call does g is can = does.runs g is can
 
 pub does_stop : (c : Command) (call : Call) → Does c call → (g : Given) → IsGiven g (HasScript c call.input) call.store → CanRun g
@@ -24,6 +25,7 @@ pub does_stop : (c : Command) (call : Call) → Does c call → (g : Given) → 
 does_stop (Run threads buffer merge) call does g is can = does.stops g is can
 does_stop (Ask commit) call does g is can = absurd is.script
 does_stop command.List call does g is can = absurd is.script
+does_stop command.Check call does g is can = absurd is.script
 does_stop (Make seed count callers) call does g is can = does.stops g is can
 
 -- a command that only reads leaves the store as it was
@@ -31,6 +33,7 @@ pub does_read : (c : Command) (call : Call) → Does c call → OnlyReads c → 
 does_read (Run threads buffer merge) call does only = absurd only
 does_read (Ask commit) call does only = does.same
 does_read command.List call does only = does.same
+does_read command.Check call does only = does.same
 does_read (Make seed count callers) call does only = absurd only
 
 -- it stops at a last commit that is too high
@@ -39,6 +42,7 @@ pub does_high : (c : Command) (call : Call) → Does c call → (g : Given) → 
 does_high (Run threads buffer merge) call does g is above = does.high g is above
 does_high (Ask commit) call does g is above = absurd is.script
 does_high command.List call does g is above = absurd is.script
+does_high command.Check call does g is above = absurd is.script
 does_high (Make seed count callers) call does g is above = does.high g is above
 
 -- where it can come to its end, the outside or memory alone stops it
@@ -47,6 +51,7 @@ pub does_whole : (c : Command) (call : Call) → Does c call → CanComplete c c
 does_whole (Run threads buffer merge) call does can = does.whole can.0 can.1 can.2
 does_whole (Ask commit) call does can = does.whole can.0 can.1 can.2
 does_whole command.List call does can = does.whole can.0 can.1 can.2 can.3
+does_whole command.Check call does can = does.whole can.0 can.1 can.2
 does_whole (Make seed count callers) call does can = does.whole can.0 can.1 can.2
 
 -- the cause of a fault in words that are a command

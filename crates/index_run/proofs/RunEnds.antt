@@ -32,7 +32,7 @@ use Rattle.index_run.proofs.LogNumbers.{rows_front}
 use Rattle.index_run.proofs.KeptThere.{goes_on_there, segments_kept}
 use Rattle.index_run.proofs.MadeCommits.{all_kept, one_kept}
 use Rattle.index_run.proofs.DiskAfter.{changed, comes_next, crash_commit, some_crash, some_onto, the_files}
-use Rattle.index_run.proofs.SomeRows.{some_rows}
+use Rattle.index_check.proofs.SomeRows.{some_rows}
 
 -- ---- the first of a log's commits
 

@@ -27,13 +27,15 @@ abbrev pub ReadsInput : Command → Type 0
 ReadsInput (Run threads buffer merge) = ⊤
 ReadsInput (Ask commit) = ⊤
 ReadsInput command.List = ⊥
+ReadsInput command.Check = ⊥
 ReadsInput (Make seed count callers) = ⊥
 
--- `ask` and `list` only read the store
+-- `ask`, `list` and `check` only read the store
 abbrev pub OnlyReads : Command → Type 0
 OnlyReads (Run threads buffer merge) = ⊥
 OnlyReads (Ask commit) = ⊤
 OnlyReads command.List = ⊤
+OnlyReads command.Check = ⊤
 OnlyReads (Make seed count callers) = ⊥
 
 -- the input has this first bad line
@@ -41,6 +43,7 @@ abbrev pub IsBad : Command → List ℕ → BadLine → Type 0
 IsBad (Run threads buffer merge) bytes bad = script bytes ≡ Err bad
 IsBad (Ask commit) bytes bad = questions bytes ≡ Err bad
 IsBad command.List bytes bad = ⊥
+IsBad command.Check bytes bad = ⊥
 IsBad (Make seed count callers) bytes bad = ⊥
 
 -- ---- the commands that run a script
@@ -50,6 +53,7 @@ abbrev pub HasScript : Command → Option (List ℕ) → List Line → Type 0
 HasScript (Run threads buffer merge) input lines = (bytes : List ℕ) × (input ≡ Some bytes) × (script bytes ≡ Ok lines)
 HasScript (Ask commit) input lines = ⊥
 HasScript command.List input lines = ⊥
+HasScript command.Check input lines = ⊥
 HasScript (Make seed count callers) input lines = lines ≡ made_script seed count callers
 
 -- a script that is made
@@ -68,4 +72,5 @@ abbrev pub run_text : Command → Given → List Line → List ℕ
 run_text (Run threads buffer merge) = form_text Report
 run_text (Ask commit) = form_text Report
 run_text command.List = form_text Report
+run_text command.Check = form_text Report
 run_text (Make seed count callers) = form_text Summary

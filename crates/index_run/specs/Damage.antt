@@ -4,7 +4,10 @@ use Rattle.command_words.specs.declared.command.Command.{Command}
 use Rattle.command_words.specs.declared.command.Command.TheVariants.{Ask, Make, Run}
 use Rattle.command_words.specs.declared.command.Command.TheVariants as command
 use Rattle.ix_base.specs.declared.damaged.Damaged.{Damaged}
+use Rattle.ix_base.specs.declared.file_name.FileName.{FileName}
 use Rattle.ix_base.specs.declared.query.Query.{Query}
+use Rattle.index_check.specs.Difference.{DiffersIn}
+use Rattle.index_check.specs.Sound.{IsDamagedAt}
 use Rattle.ix_outside.specs.Files.{Files, Was}
 use Rattle.op_script.specs.Language.{script}
 use Rattle.op_script.specs.declared.script.Act.TheVariants.{Search}
@@ -61,8 +64,22 @@ pub record ListsDamaged (told : Option Files) (damaged : Damaged) : Type 0 where
   pub broken : (s : ℕ) × IsBrokenCommit told s damaged
   pub first : (files : Files) → told ≡ Some files → (s : ℕ) × IsFirstBroken files s damaged
 
+-- Of the commits that are checked, the first that isn't lawful is in the grammar and first differs at this place, where the
+-- store tells its files.
+abbrev pub ChecksDifferent : Option Files → FileName → ℕ → ℕ → ℕ → Type 0
+ChecksDifferent told file at found wanted = (files : Files) → told ≡ Some files
+    → DiffersIn files (record { file = file; at = at; found = found; wanted = wanted })
+
+-- A command finds a file that is in the grammar and not as it has to be.
+abbrev pub FindsDifference : Command → Option Files → FileName → ℕ → ℕ → ℕ → Type 0
+FindsDifference (Run threads buffer merge) told file at found wanted = ⊥
+FindsDifference (Ask commit) told file at found wanted = ⊥
+FindsDifference command.List told file at found wanted = ⊥
+FindsDifference command.Check told file at found wanted = ChecksDifferent told file at found wanted
+FindsDifference (Make seed count callers) told file at found wanted = ⊥
+
 -- A command finds a file first broken at this place: of a commit that its run reads, of the commit that is asked for, or
--- of those that are listed.
+-- of those that are listed or checked.
 abbrev pub FindsDamage : Command → Option (List ℕ) → Option Files → Option Files → Damaged → Type 0
 FindsDamage (Run threads buffer merge) input old new damaged = (lines : List Line) × ((bytes : List ℕ) × Was input bytes
     × (script bytes ≡ Ok lines)) × ReadsDamaged Report lines old new damaged
@@ -70,3 +87,4 @@ FindsDamage (Make seed count callers) input old new damaged =
     ReadsDamaged Summary (made_script seed count callers) old new damaged
 FindsDamage (Ask commit) input old new damaged = IsDamagedAsked old commit damaged
 FindsDamage command.List input old new damaged = ListsDamaged old damaged
+FindsDamage command.Check input old new damaged = IsDamagedAt old damaged

@@ -12,7 +12,7 @@ use Rattle.report_text.specs.declared.fault.Fault.TheVariants as fault
 use Rattle.store_answers.specs.Asking.{LacksAsked}
 use Rattle.index_run.specs.Beginning.{IsHighBase}
 use Rattle.index_run.specs.Commands.{IsBad}
-use Rattle.index_run.specs.Damage.{FindsDamage}
+use Rattle.index_run.specs.Damage.{FindsDamage, FindsDifference}
 
 -- What a call met: its input and its store, the store that it left, and the counts of faults of its source and its store,
 -- before and after.
@@ -30,6 +30,7 @@ abbrev pub MissesCommit : Command → Option Files → ℕ → Type 0
 MissesCommit (Run threads buffer merge) told number = ⊥
 MissesCommit (Ask commit) told number = (number ≡ unwrap_or commit 0) × ((files : Files) → told ≡ Some files → LacksAsked files commit)
 MissesCommit command.List told number = ⊥
+MissesCommit command.Check told number = ⊥
 MissesCommit (Make seed count callers) told number = ⊥
 
 -- the last commit's number is this one and too high for a run
@@ -37,6 +38,7 @@ abbrev pub MeetsHighBase : Command → Option Files → ℕ → Type 0
 MeetsHighBase (Run threads buffer merge) told base = IsHighBase told base
 MeetsHighBase (Ask commit) told base = ⊥
 MeetsHighBase command.List told base = ⊥
+MeetsHighBase command.Check told base = ⊥
 MeetsHighBase (Make seed count callers) told base = IsHighBase told base
 
 -- the cause of each fault in a command
@@ -48,6 +50,7 @@ Caused c met fault.Store = Rose met.store_before met.store_after
 Caused c met (fault.Damaged damaged) = FindsDamage c met.input (told_files met.store) (told_files met.left) damaged
 Caused c met (fault.NoSuch number) = MissesCommit c (told_files met.store) number
 Caused c met (fault.Base base) = MeetsHighBase c (told_files met.store) base
+Caused c met (fault.Differs file at found wanted) = FindsDifference c (told_files met.store) file at found wanted
 
 -- the same of words that are a command or none
 abbrev pub CausedBy : Option Command → Met → Fault → Type 0

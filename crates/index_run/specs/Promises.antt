@@ -8,6 +8,9 @@ use Rattle.command_words.specs.declared.command.Command.TheVariants as command
 use Rattle.commit_point.specs.Holds.{Holds, HoldsInverted}
 use Rattle.commit_point.specs.declared.heads.Head.{Head}
 use Rattle.ix_base.specs.declared.document.Row.{Row}
+use Rattle.index_check.specs.Difference.{DiffersIn}
+use Rattle.index_check.specs.Sound.{AreHeads, AreLawful}
+use Rattle.index_check.specs.declared.fault.Difference.{Difference}
 use Rattle.ix_outside.specs.Disk.{Disk, told_files}
 use Rattle.ix_outside.specs.Files.{Files}
 use Rattle.op_script.specs.Questions.{questions}
@@ -53,10 +56,15 @@ asked_text a = answers_text a.number a.rows a.questions
 abbrev pub IsListOf : Files → List ℕ → Type 0
 IsListOf files text = (heads : List Head) × AreListed files heads × (text ≡ flat_map line_text heads)
 
+-- Each commit is lawful, and the text is the list of the commits.
+abbrev pub IsCheckOf : Files → List ℕ → Type 0
+IsCheckOf files text = AreLawful files × (heads : List Head) × AreHeads files heads × (text ≡ flat_map line_text heads)
+
 -- ---- an end
 
 -- The command can come to its end where nothing fails: a run on a last commit that is in the grammar and leaves room,
--- `ask` of a commit that is there and in the grammar, `list` where every commit file is in the grammar.
+-- `ask` of a commit that is there and in the grammar, `list` where every commit file is in the grammar, and `check` where
+-- every commit is lawful.
 abbrev pub CanComplete : Command → Option (List ℕ) → Option Disk → Type 0
 CanComplete (Run threads buffer merge) input store =
     (g : Given) × IsGiven g (HasScript (Run threads buffer merge) input) store × CanEnd g
@@ -64,6 +72,7 @@ CanComplete (Ask commit) input store =
     (a : Asked) × IsAskedOf a commit input store × Holds a.files a.number a.next a.rows
 CanComplete command.List input store =
     (files : Files) × (heads : List Head) × (told_files store ≡ Some files) × AreListed files heads
+CanComplete command.Check input store = (files : Files) × (told_files store ≡ Some files) × AreLawful files
 CanComplete (Make seed count callers) input store =
     (g : Given) × IsGiven g (HasScript (Make seed count callers) input) store × CanEnd g
 
@@ -103,10 +112,20 @@ pub record ListsCommits (call : Call) : Type 0 where
       → IfErr call.text (λ stop. IsOneOf (stop_status stop) (4 ∷ 5 ∷ 7 ∷ []))
   pub same : call.left ≡ call.store
 
+-- A command that checked the store's commits.
+pub record ChecksCommits (call : Call) : Type 0 where
+  pub checks : (files : Files) → told_files call.store ≡ Some files → IfOk call.text (λ made. IsCheckOf files made.items)
+  pub differs : (files : Files) (d : Difference) → told_files call.store ≡ Some files → DiffersIn files d
+      → IsErrAnd call.text (λ stop. IsOneOf (stop_status stop) (4 ∷ 7 ∷ 11 ∷ []))
+  pub whole : (files : Files) → told_files call.store ≡ Some files → AreLawful files
+      → IfErr call.text (λ stop. IsOneOf (stop_status stop) (4 ∷ 5 ∷ 7 ∷ []))
+  pub same : call.left ≡ call.store
+
 abbrev pub Does : Command → Call → Type 0
 Does (Run threads buffer merge) call =
     RunsScript (HasScript (Run threads buffer merge) call.input) (run_text (Run threads buffer merge)) call
 Does (Ask commit) call = AnswersQuestions commit call
 Does command.List call = ListsCommits call
+Does command.Check call = ChecksCommits call
 Does (Make seed count callers) call =
     RunsScript (HasScript (Make seed count callers) call.input) (run_text (Make seed count callers)) call

@@ -4,6 +4,8 @@ ghost use Rattle.std.specs.Io.KnownBytes.{Appends, IsAtEnd};
 ghost use Rattle.command_words.specs.declared.command.Command.{Command};
 ghost use Rattle.command_words.specs.declared.command.Command.TheVariants as command;
 ghost use Rattle.commit_point.specs.Holds.{HoldsInverted};
+ghost use Rattle.index_check.specs.Difference.{DiffersIn};
+ghost use Rattle.index_check.specs.declared.fault.Difference.{Difference};
 ghost use Rattle.ix_outside.specs.Causes.{Rose};
 ghost use Rattle.commit_point.specs.Steps.{OnlyCommits};
 ghost use Rattle.ix_outside.specs.Disk.{Told, told_files};
@@ -19,7 +21,8 @@ ghost use Rattle.index_run.specs.Beginning.{CanBeginOn};
 ghost use Rattle.index_run.specs.Causes.{IsOneOf, LeavesStore, TakesUpTo, WritesBy, WritesFront, stop_status};
 ghost use Rattle.index_run.specs.Commands.{HasScript, IsBad, OnlyReads, ReadsInput, command_of, run_text};
 ghost use Rattle.index_run.specs.Endings.{EndsBy};
-ghost use Rattle.index_run.specs.Promises.{Asked, CanComplete, HasQuestions, IsAskedOf, IsListOf, asked_text};
+ghost use Rattle.index_run.specs.Promises.{Asked, CanComplete, HasQuestions, IsAskedOf, IsCheckOf};
+ghost use Rattle.index_run.specs.Promises.{IsListOf, asked_text};
 
 use crate::commands::come_to;
 use crate::doing::Done;
@@ -48,6 +51,7 @@ pub struct Ended<S> {
 /// | `run [--threads T] [--buffer B] [--merge M]` | reads a script from the input, does it over the store's last commit by T writers (1 to 16, 4 without the option), each with a buffer of B documents (1 to 65,536, 1,000), merges M segments into one (2 to 64, 8), and writes the report |
 /// | `ask [--commit S]` | reads questions from the input, a query a line, and answers each from the commit S or, without the option, from the last one |
 /// | `list` | writes a line for each commit, by rising number; it reads no input, and of the store the commit files alone |
+/// | `check` | reads each commit whole, by rising number, compares its postings with those of its documents, and writes the lines of `list` where all are sound; it reads no input |
 /// | `make --seed X --lines N --callers K` | makes a script (X below 2^31, N 1 to 1,000,000, K 1 to 256), does it as `run --threads 4 --buffer 64 --merge 4` would, and writes one line of what it came to; it reads no input |
 ///
 /// | Status | Comes |
@@ -60,13 +64,14 @@ pub struct Ended<S> {
 /// | 8 | only where a file that the command reads is not in the grammar or absent; of a run where that is one of the commit on which it begins, unless the store tells none of its files |
 /// | 9 | exactly where `ask` asks for a commit that isn't there |
 /// | 10 | exactly where `run` or `make` meet a last commit whose number is above 2^61 |
+/// | 11 | exactly where `check` meets a commit that is in the grammar and not as it has to be, before any that is not in the grammar; the line that is written names the first place |
 ///
 /// The words come first, then the input, then the store: at 2 the input is as it was, and at 2, 3
 /// and 5 the store. At most 67,108,865 bytes of the input are read, one more than it may have. The
-/// text is made whole before its first byte is written. Statuses 2, 3, 5, 7, 8, 9 and 10 write one
+/// text is made whole before its first byte is written. Statuses 2, 3, 5 and 7 to 11 write one
 /// line, which takes no memory.
 ///
-/// `ask` and `list` change no file, and no call that ends with 2, 3, 5, 8, 9 or 10 does. What a run
+/// `ask`, `list` and `check` change no file, and no call that ends with 2, 3, 5 or 8 to 11 does. What a run
 /// did before it stopped stays: input that was read, and commits that were written. No step of a call
 /// deletes a file, and none but the rename of a pending commit file makes a commit file. Where the
 /// last commit is lawful a commit that stands at some moment of the call stands from then on, and the
@@ -92,9 +97,9 @@ pub fn top<R: Threads + Wait + Sync, I: Source, O: Sink, S: Store, G: Gate>(
     gate: &G,
 ) -> Ended<S>
     // Every status, and when it comes. Out of memory, 4, is free, and writes nothing.
-    ensures statuses { IsOneOf result.status (0 ∷ 2 ∷ 3 ∷ 4 ∷ 5 ∷ 6 ∷ 7 ∷ 8 ∷ 9 ∷ 10 ∷ []) }
+    ensures statuses { IsOneOf result.status (0 ∷ 2 ∷ 3 ∷ 4 ∷ 5 ∷ 6 ∷ 7 ∷ 8 ∷ 9 ∷ 10 ∷ 11 ∷ []) }
     // A fault has its status and its cause, and the line that tells it is written.
-    ensures fault { IsOneOf result.status (2 ∷ 3 ∷ 5 ∷ 7 ∷ 8 ∷ 9 ∷ 10 ∷ [])
+    ensures fault { IsOneOf result.status (2 ∷ 3 ∷ 5 ∷ 7 ∷ 8 ∷ 9 ∷ 10 ∷ 11 ∷ [])
         → EndsBy (command_of words.now) (record {
           input = I.left input.old;
           store = S.disk store;
@@ -118,10 +123,13 @@ pub fn top<R: Threads + Wait + Sync, I: Source, O: Sink, S: Store, G: Gate>(
         → command_of words.now ≡ Some (command.Ask commit) → HasQuestions (I.left input.old) asked
         → told_files (S.disk store) ≡ Some files → LacksAsked files commit
         → IsOneOf result.status (4 ∷ 5 ∷ 7 ∷ 9 ∷ []) }
+    ensures differing { (files : Files) (d : Difference) → command_of words.now ≡ Some command.Check
+        → told_files (S.disk store) ≡ Some files → DiffersIn files d
+        → IsOneOf result.status (4 ∷ 7 ∷ 11 ∷ []) }
     // The store is left alone until the words and the input were read and found good.
     ensures unopened { IsOneOf result.status (2 ∷ 3 ∷ 5 ∷ []) → result.store ≡ store }
-    // At 2, 3, 5, 8, 9 and 10 no file changes, where only read at every status, and where no run
-    // can begin.
+    // At 2, 3, 5 and 8 to 11 no file changes, where only read at every status, and where no run can
+    // begin.
     ensures untouched { LeavesStore result.status → S.disk result.store ≡ S.disk store }
     ensures reads { (c : Command) → command_of words.now ≡ Some c → OnlyReads c
         → S.disk result.store ≡ S.disk store }
@@ -166,6 +174,11 @@ pub fn top<R: Threads + Wait + Sync, I: Source, O: Sink, S: Store, G: Gate>(
     ensures lists { (files : Files) → command_of words.now ≡ Some command.List
         → told_files (S.disk store) ≡ Some files → IsOneOf result.status (0 ∷ 6 ∷ [])
         → (text : List ℕ) × IsListOf files text
+        × WritesBy result.status (O.written out.old) (O.written out.new) text }
+    // A check that comes to its end has found each commit lawful, and lists them all.
+    ensures checks { (files : Files) → command_of words.now ≡ Some command.Check
+        → told_files (S.disk store) ≡ Some files → IsOneOf result.status (0 ∷ 6 ∷ [])
+        → (text : List ℕ) × IsCheckOf files text
         × WritesBy result.status (O.written out.old) (O.written out.new) text }
     ensures end { (c : Command) → command_of words.now ≡ Some c → ReadsInput c → result.status ≡ 0
         → IsAtEnd (I.left input.new) }

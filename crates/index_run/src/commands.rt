@@ -16,6 +16,7 @@ ghost use Rattle.index_run.specs.Endings.{Caused, CausedBy};
 ghost use Rattle.index_run.specs.Promises.{Does};
 
 use crate::answering::{answer, show};
+use crate::checking::check_commits;
 use crate::doing::{Done, Options, do_script};
 use crate::reading::{read_lines, read_questions};
 use crate::stop::Stop;
@@ -76,7 +77,7 @@ pub fn do_command<R: Threads + Wait + Sync, I: Source, S: Store, G: Gate>(
     ensures unread { (ReadsInput command → ⊥) → input.new ≡ input.old }
     ensures bound { TakesUpTo (most_bytes + 1) (I.left input.old) (I.left input.new) }
     ensures others { IfErr result.text (λ stop.
-        IsOneOf (stop_status stop) (3 ∷ 4 ∷ 5 ∷ 7 ∷ 8 ∷ 9 ∷ 10 ∷ [])) }
+        IsOneOf (stop_status stop) (3 ∷ 4 ∷ 5 ∷ 7 ∷ 8 ∷ 9 ∷ 10 ∷ 11 ∷ [])) }
 {
     match command {
         Command::Run {
@@ -105,6 +106,7 @@ pub fn do_command<R: Threads + Wait + Sync, I: Source, S: Store, G: Gate>(
             },
         },
         Command::List => show(alloc, store),
+        Command::Check => check_commits(alloc, store),
         Command::Make {
             seed,
             lines,
@@ -166,7 +168,7 @@ pub fn come_to<R: Threads + Wait + Sync, I: Source, S: Store, G: Gate>(
         → input.new ≡ input.old }
     ensures bound { TakesUpTo (most_bytes + 1) (I.left input.old) (I.left input.new) }
     ensures others { IfErr result.text (λ stop.
-        IsOneOf (stop_status stop) (2 ∷ 3 ∷ 4 ∷ 5 ∷ 7 ∷ 8 ∷ 9 ∷ 10 ∷ [])) }
+        IsOneOf (stop_status stop) (2 ∷ 3 ∷ 4 ∷ 5 ∷ 7 ∷ 8 ∷ 9 ∷ 10 ∷ 11 ∷ [])) }
 {
     match read_command(alloc, words) {
         Ok(command) => do_command(rt, alloc, command, input, store, gate),

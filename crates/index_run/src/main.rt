@@ -1,6 +1,6 @@
 //! `index_run DIR COMMAND`: `run` does the script that standard input is over the index in the directory,
-//! and writes its report; `ask` answers questions about one of its commits, `list` lists these, and
-//! `make` runs a script that is made from a seed.
+//! and writes its report; `ask` answers questions about one of its commits, `list` lists these,
+//! `check` checks them, and `make` runs a script that is made from a seed.
 #![tactic(auto)]
 
 use crate::program::{ProgramEnd, run_program};
@@ -11,6 +11,7 @@ use std::{env, io};
 mod answering;
 mod begin;
 mod call;
+mod checking;
 mod commands;
 mod doing;
 mod input;

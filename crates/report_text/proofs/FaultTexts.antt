@@ -4,6 +4,7 @@ use Rattle.std.specs.Fmt.{decimal, digits}
 use Rattle.serde_json.proofs.OnLiterals.{serde_json_on_literals}
 use Rattle.ix_base.specs.FileNames.{name_text}
 use Rattle.ix_base.specs.declared.damaged.Damaged.{Damaged}
+use Rattle.ix_base.specs.declared.file_name.FileName.{FileName}
 use Rattle.json.specs.Print.{escape}
 use Rattle.report_text.proofs.Escapes.{name_plain}
 use Rattle.op_script.specs.declared.script.Why.{Why}
@@ -40,6 +41,10 @@ nine = refl
 ten : decimal 10 ≡ codes "10"
 unfolding digits
 ten = refl
+
+eleven : decimal 11 ≡ codes "11"
+unfolding digits
+eleven = refl
 
 pub words_text : codes "{\"status\":2,\"why\":\"words\"}\n" ≡ fault_text fault.Words
 unfolding serde_json_on_literals
@@ -88,3 +93,20 @@ damaged_value damaged = simp append_assoc
 
 pub damaged_text : (damaged : Damaged) → codes "{\"at\":" ++ decimal damaged.at ++ codes ",\"file\":\"" ++ name_text damaged.file ++ codes "\",\"status\":8}\n" ≡ fault_text (fault.Damaged damaged)
 damaged_text damaged = damaged_by damaged.at (name_text damaged.file) (escape (name_text damaged.file)) (name_plain damaged.file) ∙ damaged_value damaged
+
+-- the same where two numbers follow
+differing_by : (at found wanted : ℕ) (shown written : List ℕ) → written ≡ shown
+    → codes "{\"at\":" ++ decimal at ++ codes ",\"file\":\"" ++ shown ++ codes "\",\"found\":" ++ decimal found ++ codes ",\"status\":11,\"wanted\":" ++ decimal wanted ++ codes "}\n"
+    ≡ codes "{\"at\":" ++ (decimal at ++ (codes ",\"file\":\"" ++ (written ++ (codes "\",\"found\":" ++ (decimal found ++ (codes ",\"status\":" ++ (decimal 11 ++ (codes ",\"wanted\":" ++ (decimal wanted ++ codes "}\n")))))))))
+differing_by at found wanted shown written is = rw is (simp (append_assoc, eleven))
+
+differing_value : (file : FileName) (at found wanted : ℕ)
+    → codes "{\"at\":" ++ (decimal at ++ (codes ",\"file\":\"" ++ (escape (name_text file) ++ (codes "\",\"found\":" ++ (decimal found ++ (codes ",\"status\":" ++ (decimal 11 ++ (codes ",\"wanted\":" ++ (decimal wanted ++ codes "}\n")))))))))
+    ≡ fault_text (fault.Differs file at found wanted)
+unfolding serde_json_on_literals
+differing_value file at found wanted = simp append_assoc
+
+pub differing_text : (file : FileName) (at found wanted : ℕ)
+    → codes "{\"at\":" ++ decimal at ++ codes ",\"file\":\"" ++ name_text file ++ codes "\",\"found\":" ++ decimal found ++ codes ",\"status\":11,\"wanted\":" ++ decimal wanted ++ codes "}\n"
+    ≡ fault_text (fault.Differs file at found wanted)
+differing_text file at found wanted = differing_by at found wanted (name_text file) (escape (name_text file)) (name_plain file) ∙ differing_value file at found wanted

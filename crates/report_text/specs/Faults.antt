@@ -33,6 +33,8 @@ fault_value fault.Store = plain_value 7 (codes "store")
 fault_value (fault.Damaged damaged) = object (member (codes "at") (natural damaged.at) (member (codes "file") (string (name_text damaged.file)) (member (codes "status") (natural 8) no_members)))
 fault_value (fault.NoSuch commit) = object (member (codes "commit") (natural commit) (member (codes "status") (natural 9) no_members))
 fault_value (fault.Base base) = object (member (codes "base") (natural base) (member (codes "status") (natural 10) no_members))
+fault_value (fault.Differs file at found wanted) = object (member (codes "at") (natural at) (member (codes "file") (string (name_text file)) (member (codes "found") (natural found)
+    (member (codes "status") (natural 11) (member (codes "wanted") (natural wanted) no_members)))))
 
 abbrev pub fault_text : Fault → List ℕ
 fault_text fault = text_line (fault_value fault)
@@ -45,3 +47,4 @@ status_of fault.Store = 7
 status_of (fault.Damaged damaged) = 8
 status_of (fault.NoSuch commit) = 9
 status_of (fault.Base base) = 10
+status_of (fault.Differs file at found wanted) = 11

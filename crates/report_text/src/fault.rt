@@ -4,7 +4,7 @@ ghost use Rattle.ix_base.specs.FileNames.{name_text};
 ghost use Rattle.report_text.specs.Faults.{fault_text, status_of, why_text};
 
 use arrayvec::ArrayString;
-use ix_base::Damaged;
+use ix_base::{Damaged, FileName};
 use op_script::{BadLine, Why};
 
 /// A fault that ends the program. Each has a status and a line of its own.
@@ -25,10 +25,18 @@ pub enum Fault {
     NoSuch(u64),
     /// The last commit's number is above 2^61.
     Base(u64),
+    /// The files of a commit are in the grammar, but not as they have to be: at this offset of one there
+    /// is another byte, 256 standing for its end, or another next id than is wanted.
+    Differs {
+        file: FileName,
+        at: u64,
+        found: u64,
+        wanted: u64,
+    },
 }
 
 impl Fault {
-    /// The exit status of a program that ends for it: 2, 3, 5, 7, 8, 9 or 10.
+    /// The exit status of a program that ends for it: 2, 3, 5, 7, 8, 9, 10 or 11.
     pub fn status(self) -> u8
         ensures { result ≡ status_of self }
     {
@@ -40,12 +48,13 @@ impl Fault {
             Fault::Damaged(_) => 8,
             Fault::NoSuch(_) => 9,
             Fault::Base(_) => 10,
+            Fault::Differs { .. } => 11,
         }
     }
 
     /// The line that tells the fault, as `{"line":3,"status":3,"why":"caller"}`, and a line feed: what
     /// serde_json writes of the same value. It takes no memory.
-    pub fn text(self) -> ArrayString<128>
+    pub fn text(self) -> ArrayString<192>
         ensures { result.bytes ≡ fault_text self }
     {
         match self {
@@ -56,26 +65,32 @@ impl Fault {
             Fault::Damaged(damaged) => damaged_file(damaged),
             Fault::NoSuch(number) => missing_commit(number),
             Fault::Base(base) => high_base(base),
+            Fault::Differs {
+                file,
+                at,
+                found,
+                wanted,
+            } => differing_file(file, at, found, wanted),
         }
     }
 }
 
 /// A line that is the same at each such fault.
-fn plain(line: &str) -> ArrayString<128>
-    requires { length line.now ≤ 128 }
+fn plain(line: &str) -> ArrayString<192>
+    requires { length line.now ≤ 192 }
     ensures { result.bytes ≡ line.now }
 {
-    let mut text = ArrayString::<128>::new();
+    let mut text = ArrayString::<192>::new();
     text.push_str(line);
     text
 }
 
 /// The line of a bad line.
-fn bad_line(bad: BadLine) -> ArrayString<128>
+fn bad_line(bad: BadLine) -> ArrayString<192>
     ensures { result.bytes ≡ fault_text (Fault.BadLine bad) }
 {
     let mut digits = itoa::Buffer::new();
-    let mut text = ArrayString::<128>::new();
+    let mut text = ArrayString::<192>::new();
     text.push_str("{\"line\":");
     text.push_str(digits.format(bad.line));
     text.push_str(",\"status\":3,\"why\":\"");
@@ -104,12 +119,12 @@ fn reason(why: Why) -> &'static str
 }
 
 /// The line of a damaged file.
-fn damaged_file(damaged: Damaged) -> ArrayString<128>
+fn damaged_file(damaged: Damaged) -> ArrayString<192>
     ensures { result.bytes ≡ fault_text (Fault.Damaged damaged) }
 {
     let name = damaged.file.text();
     let mut digits = itoa::Buffer::new();
-    let mut text = ArrayString::<128>::new();
+    let mut text = ArrayString::<192>::new();
     text.push_str("{\"at\":");
     text.push_str(digits.format(damaged.at));
     text.push_str(",\"file\":\"");
@@ -119,11 +134,11 @@ fn damaged_file(damaged: Damaged) -> ArrayString<128>
 }
 
 /// The line of a commit that isn't there.
-fn missing_commit(number: u64) -> ArrayString<128>
+fn missing_commit(number: u64) -> ArrayString<192>
     ensures { result.bytes ≡ fault_text (Fault.NoSuch number) }
 {
     let mut digits = itoa::Buffer::new();
-    let mut text = ArrayString::<128>::new();
+    let mut text = ArrayString::<192>::new();
     text.push_str("{\"commit\":");
     text.push_str(digits.format(number));
     text.push_str(",\"status\":9}\n");
@@ -131,13 +146,32 @@ fn missing_commit(number: u64) -> ArrayString<128>
 }
 
 /// The line of a last commit that is too high.
-fn high_base(base: u64) -> ArrayString<128>
+fn high_base(base: u64) -> ArrayString<192>
     ensures { result.bytes ≡ fault_text (Fault.Base base) }
 {
     let mut digits = itoa::Buffer::new();
-    let mut text = ArrayString::<128>::new();
+    let mut text = ArrayString::<192>::new();
     text.push_str("{\"base\":");
     text.push_str(digits.format(base));
     text.push_str(",\"status\":10}\n");
+    text
+}
+
+/// The line of a file that isn't as it has to be.
+fn differing_file(file: FileName, at: u64, found: u64, wanted: u64) -> ArrayString<192>
+    ensures { result.bytes ≡ fault_text (Fault.Differs file at found wanted) }
+{
+    let name = file.text();
+    let mut digits = itoa::Buffer::new();
+    let mut text = ArrayString::<192>::new();
+    text.push_str("{\"at\":");
+    text.push_str(digits.format(at));
+    text.push_str(",\"file\":\"");
+    text.push_str(name.as_str());
+    text.push_str("\",\"found\":");
+    text.push_str(digits.format(found));
+    text.push_str(",\"status\":11,\"wanted\":");
+    text.push_str(digits.format(wanted));
+    text.push_str("}\n");
     text
 }

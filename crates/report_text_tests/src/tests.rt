@@ -50,6 +50,26 @@ fn faults(rt: HostRuntime) {
             8,
             "{\"at\":18446744073709551615,\"file\":\"seg_18446744073709551615_18446744073709551615.val\",\"status\":8}\n",
         ),
+        (
+            Fault::Differs {
+                file: FileName::Posts(1),
+                at: 56,
+                found: 1,
+                wanted: 0,
+            },
+            11,
+            "{\"at\":56,\"file\":\"seg_1.pst\",\"found\":1,\"status\":11,\"wanted\":0}\n",
+        ),
+        (
+            Fault::Differs {
+                file: FileName::Values(most, most),
+                at: most,
+                found: most,
+                wanted: most,
+            },
+            11,
+            "{\"at\":18446744073709551615,\"file\":\"seg_18446744073709551615_18446744073709551615.val\",\"found\":18446744073709551615,\"status\":11,\"wanted\":18446744073709551615}\n",
+        ),
         (Fault::NoSuch(99), 9, "{\"commit\":99,\"status\":9}\n"),
         (Fault::NoSuch(0), 9, "{\"commit\":0,\"status\":9}\n"),
         (

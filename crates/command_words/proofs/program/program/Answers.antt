@@ -11,6 +11,7 @@ returns c =
     let with_run = c.in_ok-subcommand.ensures.shape c.in_ok-run.ensures.local ∙ ap₂ with_subcommand (bare ∙ ap (on_top spec.as_program) c.new.ensures.app) (ap (λ (a : App). a.top) c.in_ok-run.ensures.app) in
     let with_ask = c.in_ok-subcommand-2.ensures.shape c.in_ok-ask.ensures.local ∙ ap₂ with_subcommand with_run (ap (λ (a : App). a.top) c.in_ok-ask.ensures.app) in
     let with_list = c.in_ok-subcommand-3.ensures.shape c.new-2.ensures.local ∙ ap₂ with_subcommand with_ask (ap (λ (a : App). a.top) c.new-2.ensures.app) in
-    IfOk-weaker c.subcommand-4.result _ _
-    (λ command added. added.shape c.in_ok-make.ensures.local ∙ ap₂ with_subcommand with_list (ap (λ (a : App). a.top) c.in_ok-make.ensures.app))
-    c.subcommand-4.ensures
+    let with_check = c.in_ok-subcommand-4.ensures.shape c.new-3.ensures.local ∙ ap₂ with_subcommand with_list (ap (λ (a : App). a.top) c.new-3.ensures.app) in
+    IfOk-weaker c.subcommand-5.result _ _
+    (λ command added. added.shape c.in_ok-make.ensures.local ∙ ap₂ with_subcommand with_check (ap (λ (a : App). a.top) c.in_ok-make.ensures.app))
+    c.subcommand-5.ensures

@@ -4,7 +4,7 @@ use Rattle.run_log.specs.Headline.{Runs}
 use Rattle.index_run.specs.Causes.{IsOneOf, LeavesStore, WritesBy, WritesFront, stop_status}
 use Rattle.index_run.specs.Commands.{command_of, run_text}
 use Rattle.index_run.specs.Endings.{Met}
-use Rattle.index_run.specs.Promises.{Call, IsListOf, asked_text}
+use Rattle.index_run.specs.Promises.{Call, IsCheckOf, IsListOf, asked_text}
 use Rattle.index_run.proofs.Ended.{at_ok, complete_by, ends_by, of_stop, runs_onto}
 use Rattle.index_run.proofs.Listed.{at_err, at_err_and, no_err}
 use Rattle.index_run.proofs.Promised.{caused_in, does_high, does_read, does_run, does_stop, does_whole}
@@ -83,6 +83,20 @@ returns-in-Ok-clause-lists g c = λ files words told listed.
       subst Wrote c.as_slice.ensures.value c.write_text-status.ensures.text,
     )
 
+pub returns-in-Ok-clause-differing : goal.returns-in-Ok-clause-differing
+returns-in-Ok-clause-differing g c = λ files d words told in'.
+    absurd (no_err c.come_to-text.result.text c.in-Ok.text (λ s. IsOneOf (stop_status s) (4 ∷ 7 ∷ 11 ∷ [])) c.in-Ok.is
+    ((c.come_to-text.ensures.does _ words).differs files d told in'))
+
+pub returns-in-Ok-clause-checks : goal.returns-in-Ok-clause-checks
+returns-in-Ok-clause-checks g c = λ files words told listed.
+    let Wrote : List ℕ → Type 0 = WritesBy c.write_text-status.result (g.O.Sink.written c.args.out.now) (g.O.Sink.written c.write_text-status.new.out) in (
+      c.in-Ok.text.items,
+      at_ok c.come_to-text.result.text c.in-Ok.text (λ made. IsCheckOf files made.items) c.in-Ok.is
+          ((c.come_to-text.ensures.does _ words).checks files told),
+      subst Wrote c.as_slice.ensures.value c.write_text-status.ensures.text,
+    )
+
 pub returns-in-Ok-clause-reads : goal.returns-in-Ok-clause-reads
 returns-in-Ok-clause-reads g c = λ command words only. does_read command _ (c.come_to-text.ensures.does command words) only
 
@@ -121,6 +135,12 @@ returns-in-Err-clause-missing g c = λ commit files asked words has told lacks.
     of_stop (λ (n : ℕ). IsOneOf n (4 ∷ 5 ∷ 7 ∷ 9 ∷ [])) c.tell-status.result c.in-Err.stop c.tell-status.ensures.status
     (at_err_and c.come_to-text.result.text c.in-Err.stop (λ s. IsOneOf (stop_status s) (4 ∷ 5 ∷ 7 ∷ 9 ∷ [])) c.in-Err.is
     ((c.come_to-text.ensures.does _ words).missing files asked has told lacks))
+
+pub returns-in-Err-clause-differing : goal.returns-in-Err-clause-differing
+returns-in-Err-clause-differing g c = λ files d words told in'.
+    of_stop (λ (n : ℕ). IsOneOf n (4 ∷ 7 ∷ 11 ∷ [])) c.tell-status.result c.in-Err.stop c.tell-status.ensures.status
+    (at_err_and c.come_to-text.result.text c.in-Err.stop (λ s. IsOneOf (stop_status s) (4 ∷ 7 ∷ 11 ∷ [])) c.in-Err.is
+    ((c.come_to-text.ensures.does _ words).differs files d told in'))
 
 pub returns-in-Err-clause-complete : goal.returns-in-Err-clause-complete
 returns-in-Err-clause-complete g c = λ command words can source sink failed.

@@ -7,7 +7,7 @@ use Rattle.index_run.specs.Causes.{IsOneOf, stop_status}
 use Rattle.index_run.specs.Commands.{HasScript}
 use Rattle.index_run.specs.Endings.{Caused, Met}
 use Rattle.index_run.specs.Promises.{Call, Does}
-use Rattle.index_run.proofs.Commanded.{asked_done, caused_run, is_read, listed_done, script_done, script_undone}
+use Rattle.index_run.proofs.Commanded.{asked_done, caused_run, checked_done, is_read, listed_done, script_done, script_undone}
 use Rattle.index_run.proofs.Finish.{keeps_none}
 use Rattle.index_run.proofs.Listed.{at_err, err_always}
 use Rattle.commit_point.specs.StepLaws.{goes_none, goes_still}
@@ -106,6 +106,23 @@ returns-in-List-clause-does g c =
 pub returns-in-List-clause-kept : goal.returns-in-List-clause-kept
 returns-in-List-clause-kept g c = λ given told can. keeps_none given _ _ c.show.ensures.same told
 
+-- ---- check
+
+pub returns-in-Check-clause-does : goal.returns-in-Check-clause-does
+returns-in-Check-clause-does g c =
+    let call : Call = record {
+      input = g.I.Source.left c.args.input.now;
+      store = g.S.Store.disk c.args.store;
+      left = g.S.Store.disk c.check_commits.result.store;
+      text = c.check_commits.result.text;
+    } in
+    subst (λ (k : Command). Does k call) (sym c.in-Check.is)
+    (checked_done (g.I.Source.left c.args.input.now) (g.S.Store.disk c.args.store) (g.S.Store.disk c.check_commits.result.store) c.check_commits.result.text
+    c.check_commits.ensures.same c.check_commits.ensures.text c.check_commits.ensures.other c.check_commits.ensures.whole)
+
+pub returns-in-Check-clause-kept : goal.returns-in-Check-clause-kept
+returns-in-Check-clause-kept g c = λ given told can. keeps_none given _ _ c.check_commits.ensures.same told
+
 -- ---- make
 
 pub returns-in-Ok-make_script-clause-does : goal.returns-in-Ok-make_script-clause-does
@@ -160,6 +177,12 @@ returns-in-List-clause-steps g c = goes_still (λ step older. MakesCommits step)
 
 pub returns-in-List-clause-untouched : goal.returns-in-List-clause-untouched
 returns-in-List-clause-untouched g c = err_always c.show.result.text _ (λ s listed. c.show.ensures.same)
+
+pub returns-in-Check-clause-steps : goal.returns-in-Check-clause-steps
+returns-in-Check-clause-steps g c = goes_still (λ step older. MakesCommits step) _ _ c.check_commits.ensures.same
+
+pub returns-in-Check-clause-untouched : goal.returns-in-Check-clause-untouched
+returns-in-Check-clause-untouched g c = err_always c.check_commits.result.text _ (λ s listed. c.check_commits.ensures.same)
 
 pub returns-in-Err-make_script-clause-steps : goal.returns-in-Err-make_script-clause-steps
 returns-in-Err-make_script-clause-steps g c = goes_none (λ step older. MakesCommits step) _

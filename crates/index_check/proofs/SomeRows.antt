@@ -14,7 +14,7 @@ use Rattle.row_fates.specs.Fate.{renumbered}
 use Rattle.segment_core.specs.LiveRows.{Lived, all_live, live, live_rows, stored_rows, with_numbers}
 use Rattle.segment_files.specs.Fits.{BirthsRise}
 use Rattle.commit_point.specs.declared.heads.HeadSegment.{HeadSegment}
-use Rattle.segment_core.specs.Births.{births_at}
+use Rattle.segment_core.specs.Births.{births_append, births_at}
 use Rattle.commit_point.specs.Holds.{AreRowsOf, HasSegments, HaveSegments}
 
 -- ---- one row more, at its place by birth
@@ -106,10 +106,6 @@ births_live b (r ∷ rs) (m ∷ ms) = by_live m.live (births_live b rs ms)
         → births_at b (cons_option (cond t (Some (renumbered (with_numbers m.values r.doc.num) r)) None) (live_rows rs ms)) ≤ births_at b (r ∷ rs)
     by_live true rest = omega (arith, rest)
     by_live false rest = omega (arith, rest)
-
-births_append : (b : ℕ) (xs ys : List Row) → births_at b (xs ++ ys) ≡ births_at b xs + births_at b ys
-births_append b [] ys = omega arith
-births_append b (x ∷ xs) ys = omega (arith, births_append b xs ys)
 
 births_all : (b : ℕ) (segments : List Lived) → births_at b (all_live segments) ≤ births_at b (stored_rows segments)
 births_all b [] = omega arith

@@ -1,0 +1,8 @@
+pub mod SomeRows
+mod Shared
+mod Found
+mod Walk
+mod Exact
+mod Bytes
+mod LastId
+mod Compared

@@ -1,0 +1,35 @@
+use Rattle.std.proofs.Common.{◌≡◌, subst}
+use Rattle.ix_outside.specs.Disk.{told_files}
+use Rattle.index_check.specs.Difference.{DiffersAt}
+use Rattle.index_check.proofs.Found.{differs_at, is_other, is_same, lawful_commit, next_before, read_there}
+use Rattle.index_check.proofs.Shared.{can_spell}
+use Rattle.index_check.proofs.one_commit.check_commit.Goals as goal
+
+pub difference_in-requires : goal.difference_in-requires
+difference_in-requires g c =
+    let found = c.in_ok-opened.ensures.found in
+    can_spell found.0 c.args.number c.in_ok-opened.opened.entries c.in_ok-opened.opened.segments found.2.each
+
+pub returns-in-Some-clause-differs : goal.returns-in-Some-clause-differs
+returns-in-Some-clause-differs g c = λ files d told is.
+    let opened = c.in_ok-opened.opened in
+    let earlier = c.args.earlier.now in
+    let has = read_there (told_files (g.S.Store.disk c.args.store.now)) files c.args.number opened told c.in_ok-opened.ensures.found in
+    let other = is_other opened earlier c.in_ok-difference.field-0 c.in-Some.difference c.in-Some.is c.in_ok-difference.ensures in
+    let same : c.in-Some.difference ≡ d = cc in
+    subst (DiffersAt files c.args.number) same (differs_at files c.args.number opened earlier c.in-Some.difference c.in_ok-opened.ensures.number has (c.requires files told) other)
+
+pub returns-clause-sound : goal.returns-clause-sound
+returns-clause-sound g c = λ files told.
+    let opened = c.in_ok-opened.opened in
+    let earlier = c.args.earlier.now in
+    let has = read_there (told_files (g.S.Store.disk c.args.store.now)) files c.args.number opened told c.in_ok-opened.ensures.found in
+    lawful_commit files c.args.number opened earlier has (c.requires files told) (is_same opened earlier c.in_ok-difference.field-0 c.in_default.not-Some c.in_ok-difference.ensures)
+
+pub returns-clause-earlier : goal.returns-clause-earlier
+returns-clause-earlier g c = λ files told.
+    let opened = c.in_ok-opened.opened in
+    let earlier = c.args.earlier.now in
+    let has = read_there (told_files (g.S.Store.disk c.args.store.now)) files c.args.number opened told c.in_ok-opened.ensures.found in
+    next_before files c.args.number opened earlier c.add.new.self has (c.requires files told) (is_same opened earlier c.in_ok-difference.field-0 c.in_default.not-Some c.in_ok-difference.ensures)
+    c.in_ok-add.ensures.least c.in_ok-add.ensures.compared
