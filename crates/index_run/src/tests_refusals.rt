@@ -65,7 +65,12 @@ fn is_written<R: Threads + Wait + Sync + Abort>(
 ) -> Result<(), Fail> {
     let front = FIRST_REPORT.get(..len).ok_or("more than the report")?;
     let store = ended(rt, done, 6, front);
-    let _store = ended(rt, run_bytes(rt, alloc, &["ask"], QUESTION.as_bytes(), store)?, 0, ONE_HIT);
+    let _store = ended(
+        rt,
+        run_bytes(rt, alloc, &["ask"], QUESTION.as_bytes(), store)?,
+        0,
+        ONE_HIT,
+    );
     Ok(())
 }
 
@@ -93,7 +98,11 @@ fn second_is_whole<R: Threads + Wait + Sync>(
 ) -> Result<bool, Fail> {
     let words = ["ask", "--commit", "4"];
     let done = run_bytes(rt, alloc, &words, QUESTION.as_bytes(), store)?;
-    let wanted = if done.status == 9 { NO_COMMIT } else { TWO_HITS };
+    let wanted = if done.status == 9 {
+        NO_COMMIT
+    } else {
+        TWO_HITS
+    };
     Ok(done.written.as_slice() == wanted.as_bytes())
 }
 
@@ -111,7 +120,10 @@ fn store_fails<R: Threads + Wait + Sync + Abort>(
         return Ok(0);
     }
     let mut store = ended(rt, done, 7, NO_STORE);
-    assert!(*rt; is_first(alloc, &mut store, &whole)?.is_some(), "call {number}");
+    assert!(*rt;
+        is_first(alloc, &mut store, &whole)?.is_some(),
+        "call {number}"
+    );
     assert!(*rt; second_is_whole(rt, alloc, store)?, "call {number}");
     Ok(7)
 }
@@ -130,7 +142,10 @@ fn question_fails<R: Threads + Wait + Sync + Abort>(
         return Ok(0);
     }
     let mut store = ended(rt, done, 7, NO_STORE);
-    assert!(*rt; is_first(alloc, &mut store, &whole)? == Some(5), "call {number}");
+    assert!(*rt;
+        is_first(alloc, &mut store, &whole)? == Some(5),
+        "call {number}"
+    );
     Ok(7)
 }
 
@@ -184,7 +199,12 @@ fn short_of_room<R: Threads + Wait + Sync + Abort>(
 ) -> Result<(), Fail> {
     let empty = MemoryStore::new(alloc);
     let words = ["run", "--threads", "1"];
-    is_written(rt, alloc, run_into(rt, alloc, &words, &SCRIPT, empty, room)?, room)
+    is_written(
+        rt,
+        alloc,
+        run_into(rt, alloc, &words, &SCRIPT, empty, room)?,
+        room,
+    )
 }
 
 /// A sink that fails after each number of bytes of the report.

@@ -1,6 +1,7 @@
 //! Runs that stop at a call of the store, and what calls make of each image that a crash then leaves:
 //! which commits it has, what each of them holds, and how a further run goes on from the last.
 use crate::tests::{ADD_A2, COMMIT, Done, ended, one_document, run_bytes, run_words};
+use ix_base::FileName;
 use ix_memory::{FuseStore, MemoryStore};
 use ix_outside::Store;
 use std::alloc::Global;
@@ -139,7 +140,13 @@ fn stopped<R: Threads + Wait + Sync + Abort>(
     passes: u64,
 ) -> Result<(u8, (usize, usize)), Fail> {
     let fuse = FuseStore::new(one_document(rt, alloc)?, passes);
-    let done = second(rt, alloc, &["run", "--threads", "1"], &[ADD_A2, COMMIT], fuse)?;
+    let done = second(
+        rt,
+        alloc,
+        &["run", "--threads", "1"],
+        &[ADD_A2, COMMIT],
+        fuse,
+    )?;
     let store = done.store.into_inner();
     Ok((done.status, left(rt, alloc, &TWO, &store)?))
 }
@@ -169,51 +176,60 @@ fn stops_at_each_call_of_a_commit(rt: HostRuntime) -> Result<(), Fail> {
         } else {
             (7, (1, 1))
         };
-        assert!(rt; stopped(&rt, rt.alloc(), passes)? == wanted, "passes {passes}");
+        assert!(rt;
+            stopped(&rt, rt.alloc(), passes)? == wanted,
+            "passes {passes}"
+        );
     }
     Ok(())
 }
 
-/// A second run of three commits whose call of the store of this number fails: its status, and how many
-/// commits the images have.
+/// A second run of three commits, whose call of the store of this number fails.
 fn refused<R: Threads + Wait + Sync + Abort>(
     rt: &R,
     alloc: Global,
     merge: &str,
     number: u64,
-) -> Result<(u8, (usize, usize)), Fail> {
+) -> Result<Done<MemoryStore>, Fail> {
     let store = one_document(rt, alloc)?.failing(vec![in alloc; number]?);
     let words = ["run", "--threads", "1", "--buffer", "1", "--merge", merge];
-    let done = second(rt, alloc, &words, &SCRIPT, store)?;
-    Ok((done.status, left(rt, alloc, &FOUR, &done.store)?))
+    second(rt, alloc, &words, &SCRIPT, store)
 }
 
 /// Whichever call fails, the images have the first of the commits: at most one of them may be there or
-/// not, and what each image has is in each that a failure at a later call leaves.
+/// not, and what each image has is in each that a failure at a later call leaves. Returns what the run
+/// leaves that makes fewer calls.
 fn rises<R: Threads + Wait + Sync + Abort>(
     rt: &R,
     alloc: Global,
     merge: &str,
-) -> Result<bool, Fail> {
+) -> Result<MemoryStore, Fail> {
     let mut least = 1;
     for number in 1..200u64 {
-        let (status, (fewest, most)) = refused(rt, alloc, merge, number)?;
-        if status == 0 {
-            return Ok(least >= 3 && fewest == 4);
+        let done = refused(rt, alloc, merge, number)?;
+        let (fewest, most) = left(rt, alloc, &FOUR, &done.store)?;
+        assert!(*rt; least <= fewest && most <= fewest + 1, "call {number}");
+        if done.status == 0 {
+            assert!(*rt; least >= 3 && fewest == 4, "call {number}");
+            return Ok(done.store);
         }
-        if status != 7 || fewest < least || most > fewest + 1 {
-            return Ok(false);
-        }
+        assert!(*rt; done.status == 7, "call {number}");
         least = fewest;
     }
-    Ok(false)
+    Err("a run of many calls")?
 }
 
-/// A run of three commits whose segments are merged two by two, and one that keeps all of them.
+/// A run of three commits whose segments are merged two by two, and one that keeps all of them. After the
+/// first run's segment come those of two of its rounds; a merged one is the fourth.
 #[test]
 fn stops_at_each_call_of_three_commits(rt: HostRuntime) -> Result<(), Fail> {
-    for merge in ["2", "8"] {
-        assert!(rt; rises(&rt, rt.alloc(), merge)?, "merge {merge}");
+    let alloc = rt.alloc();
+    for (merge, merges) in [("2", true), ("8", false)] {
+        let mut store = rises(&rt, alloc, merge)?;
+        assert!(rt;
+            store.read(alloc, FileName::Rows(4))?.is_some() == merges,
+            "merge {merge}"
+        );
     }
     Ok(())
 }

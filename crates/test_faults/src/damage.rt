@@ -79,12 +79,7 @@ pub fn cuts(alloc: Global, whole: &MemoryStore) -> Result<Vec<Damage>, Fail> {
 }
 
 /// These bytes with others from this place on, which may go past the end.
-fn overwritten(
-    alloc: Global,
-    bytes: &[u8],
-    from: usize,
-    others: &[u8],
-) -> Result<Vec<u8>, Fail> {
+fn overwritten(alloc: Global, bytes: &[u8], from: usize, others: &[u8]) -> Result<Vec<u8>, Fail> {
     let mut changed = Vec::new(alloc);
     for (at, byte) in bytes.iter().enumerate() {
         if at < from || at - from >= others.len() {
