@@ -28,7 +28,7 @@ mod tests;
 #[cfg(test)]
 mod tests_commands;
 #[cfg(test)]
-mod tests_crash;
+mod tests_damage;
 #[cfg(test)]
 mod tests_examples;
 #[cfg(test)]
@@ -42,7 +42,11 @@ mod tests_operations;
 #[cfg(test)]
 mod tests_program;
 #[cfg(test)]
+mod tests_refusals;
+#[cfg(test)]
 mod tests_rounds;
+#[cfg(test)]
+mod tests_stops;
 #[cfg(test)]
 mod tests_stores;
 #[cfg(test)]

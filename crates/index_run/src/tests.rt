@@ -17,7 +17,7 @@ pub(crate) const COMMIT: &str = "{\"c\":0,\"op\":\"commit\"}\n";
 
 pub(crate) const ALL: &str = "{\"c\":0,\"op\":\"search\",\"query\":\"all\"}\n";
 
-const FIRST_REPORT: &str =
+pub(crate) const FIRST_REPORT: &str =
     "{\"line\":1,\"seq\":1}\n{\"docs\":1,\"line\":2,\"seq\":2}\n{\"commit\":2,\"hits\":[{\"key\":\"a1\",\"num\":{}}],\"line\":3}\n";
 
 pub(crate) const ONE_HIT: &str =
@@ -96,6 +96,19 @@ pub(crate) fn run_into<R: Threads + Wait + Sync, S: Store + Drop>(
 ) -> Result<Done<S>, NoMemory> {
     let input = MemorySource::failing(joined(alloc, script)?, Vec::new(alloc));
     let out = MemorySink::new(alloc, room)?;
+    run_top(rt, alloc, words, input, out, store, &EmptyGate)
+}
+
+/// A call with these words and this input over the store.
+pub(crate) fn run_bytes<R: Threads + Wait + Sync, S: Store + Drop>(
+    rt: &R,
+    alloc: Global,
+    words: &[&str],
+    input: &[u8],
+    store: S,
+) -> Result<Done<S>, NoMemory> {
+    let input = MemorySource::new(alloc, input.to_vec(alloc)?);
+    let out = MemorySink::new(alloc, 1_048_576)?;
     run_top(rt, alloc, words, input, out, store, &EmptyGate)
 }
 
@@ -324,38 +337,5 @@ fn postings_are_gone(rt: HostRuntime) -> Result<(), Fail> {
     assert!(rt; store.delete(FileName::Posts(1)) == Ok(()));
     let report = "{\"at\":0,\"file\":\"seg_1.pst\",\"status\":8}\n";
     expect_report(&rt, rt.alloc(), &[ADD_A2], store, 8, report)?;
-    Ok(())
-}
-
-/// A run over an empty store that adds a document and commits, in which these reads and writes fail.
-fn failing_run<R: Threads + Wait + Sync>(
-    rt: &R,
-    alloc: Global,
-    failing_reads: Vec<u64>,
-    failing_writes: Vec<u64>,
-) -> Result<Done<MemoryStore>, Fail> {
-    let store = MemoryStore::new(alloc);
-    let script = [ADD_A1, COMMIT];
-    Ok(run_over(rt, alloc, &script, store, failing_reads, failing_writes)?)
-}
-
-/// A run whose first read fails ends with status 5, and leaves nothing.
-#[test]
-fn a_failing_source(rt: HostRuntime) -> Result<(), Fail> {
-    let reads = vec![in rt.alloc(); 1u64]?;
-    let done = failing_run(&rt, rt.alloc(), reads, Vec::new(rt.alloc()))?;
-    let mut store = ended(&rt, done, 5, "{\"status\":5,\"why\":\"source\"}\n");
-    let names = store.list(rt.alloc()).ok().ok_or("a list that fails")?;
-    assert!(rt; names.is_empty(), "a file");
-    Ok(())
-}
-
-/// A run whose first write fails ends with status 6. What it committed is there.
-#[test]
-fn a_failing_sink(rt: HostRuntime) -> Result<(), Fail> {
-    let writes = vec![in rt.alloc(); 1u64]?;
-    let done = failing_run(&rt, rt.alloc(), Vec::new(rt.alloc()), writes)?;
-    let store = ended(&rt, done, 6, "");
-    expect_report(&rt, rt.alloc(), &[ALL], store, 0, ONE_HIT)?;
     Ok(())
 }

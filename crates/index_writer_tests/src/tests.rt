@@ -6,9 +6,10 @@ ghost use Rattle.index_writer_tests.specs.Trials.{IsUnderWay};
 use crate::script_lines::{Act, Line, Script, operation_of};
 use crate::working::{Answer, do_line, into_parts};
 use commit_point::open_commit;
-use index_writer::{IndexWriter, MergeTurn, RoundEnd, RoundParts, WriterFault};
+use index_writer::{EndRefused, IndexWriter, MergeTurn, RoundEnd, RoundParts, WriterFault};
 use ix_base::Refusal;
 use ix_memory::MemoryStore;
+use ix_outside::Store;
 use std::alloc::Global;
 use std::fmt::Write;
 use std::test::*;
@@ -424,7 +425,7 @@ fn with_failing_write<R: Threads + Sync>(
     Ok(writer)
 }
 
-/// A writer whose first write fails is closed then, with the number that it had.
+/// A writer whose first write fails is closed then, with the number that it had. Its store has no file.
 #[test]
 fn closed_after_a_fault(rt: HostRuntime) -> Result<(), Fail> {
     let mut writer = with_failing_write(&rt, rt.alloc())?;
@@ -432,7 +433,72 @@ fn closed_after_a_fault(rt: HostRuntime) -> Result<(), Fail> {
     assert!(rt; begin_fault(&mut writer)? == WriterFault::Closed);
     assert!(rt; merge_fault(&mut writer)? == WriterFault::Closed);
     assert!(rt; writer.is_closed());
+    assert!(rt; (writer.upto(), writer.pending_commit()) == (2, Some(2)));
+    let mut store = writer.into_store();
+    assert!(rt; store.list(rt.alloc())?.is_empty());
     Ok(())
+}
+
+/// A commit that fails while a round is out: the round can't be ended, and is given back as it was.
+#[test]
+fn closed_while_a_round_is_out(rt: HostRuntime) -> Result<(), Fail> {
+    let mut writer = with_failing_write(&rt, rt.alloc())?;
+    assert!(rt; lost_round(&rt, rt.alloc(), &mut writer)?.as_str() == "; [0: b3 c4];");
+    assert!(rt; writer.is_closed() && writer.in_round());
+    assert!(rt; (writer.upto(), writer.pending_commit()) == (2, Some(2)));
+    Ok(())
+}
+
+/// Begins a round in which three documents are added, and commits, which fails. Returns what is given back
+/// where the round is ended then: what its writers gave off.
+fn lost_round<R: Threads + Sync>(
+    rt: &R,
+    alloc: Global,
+    writer: &mut IndexWriter<MemoryStore>,
+) -> Result<String, Fail>
+    requires { IsSound writer.old.state }
+{
+    if writer.in_round() || writer.upto() > 1000 || writer.next_id() > 1000 {
+        Err("a round before")?;
+    }
+    let mut parts = begun(alloc, writer, 2)?;
+    work(
+        alloc,
+        &mut parts,
+        &[(0, Act::Add, "b"), (0, Act::Add, "c"), (0, Act::Add, "d")],
+    )?;
+    if fault_of(writer)? != WriterFault::Store {
+        Err("another fault")?;
+    }
+    given_back(rt, alloc, writer, parts)
+}
+
+/// What the writers of a round gave off, which a closed writer gives back.
+fn given_back<R: Threads + Sync>(
+    rt: &R,
+    alloc: Global,
+    writer: &mut IndexWriter<MemoryStore>,
+    parts: RoundParts,
+) -> Result<String, Fail>
+    requires sound { IsSound writer.old.state }
+    requires out { writer.old.state.out ≡ true }
+{
+    if !writer.is_closed() {
+        Err("an open writer")?;
+    }
+    let mut out = String::new(alloc);
+    if let Err(
+        EndRefused {
+            parts: Some(parts),
+            fault: WriterFault::Closed,
+        },
+    ) = writer.end_round(rt, parts)
+    {
+        for pieces in parts.pieces.as_slice() {
+            show_pieces(&mut out, pieces.as_slice())?;
+        }
+    }
+    Ok(out)
 }
 
 /// Why a commit isn't written, and why it isn't when it is tried again.
@@ -448,7 +514,8 @@ fn faults_of(writer: &mut IndexWriter<MemoryStore>) -> Result<[WriterFault; 2], 
 /// Why a commit isn't written.
 fn fault_of(writer: &mut IndexWriter<MemoryStore>) -> Result<WriterFault, Fail>
     requires { IsSound writer.old.state }
-    ensures { OnOk result (IsSound writer.new.state) }
+    ensures sound { OnOk result (IsSound writer.new.state) }
+    ensures out { OnOk result (writer.new.state.out ≡ writer.old.state.out) }
 {
     if writer.pending_commit().is_none() {
         Err("no commit to be written")?;
