@@ -9,8 +9,10 @@
 //! made. The keeper takes the senders back of workers that have ended, and so learns what they sent. An
 //! empty queue then tells it that all of that was taken (`Receiver::empty`: `came`).
 //!
-//! A queue takes memory in blocks of 31 pieces, the first with the first push; none is kept for reuse, and
-//! an empty queue holds at most one. A push that is refused for memory gives its piece back.
+//! A queue takes its memory in blocks, each with 32 words and with room for 31 pieces. A new queue has three
+//! of them, since its first block and one for each of its ends are made at once. A push takes a further one
+//! where the last is full, and a block is freed once its pieces were taken. A push that is refused for
+//! memory gives its piece back.
 #![tactic(auto)]
 
 mod queue;

@@ -95,6 +95,7 @@ impl Receiver {
         requires taken { self.taken.items ≡ taken_by self }
         ensures parcels { IfOk result (λ all.
             map (λ p. p.items) all.items ≡ parcels_of 0 count (taken_by self)) }
+        ensures count { IfOk result (λ all. length all.items ≡ count) }
     {
         let mut all = no_parcels(alloc, count)?;
         for piece in self.taken {

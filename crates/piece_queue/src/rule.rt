@@ -1,4 +1,5 @@
 //! The rule of the queue, and its steps.
+ghost use Rattle.std.specs.Prelude.{◌≡◌, []};
 
 use crate::view::Hand;
 use crossbeam_queue::protocol::{Join, Lesson, Outcome, Protocol, Split};

@@ -1,7 +1,7 @@
 //! Where a worker's pieces go.
 ghost use Rattle.std.specs.Prelude.{◌≡◌, ◌++◌, ◌∷◌, [], None, OnOk};
-ghost use Rattle.round_work.specs.Outboxes.{IsOutbox, gave_by};
-ghost use Rattle.piece_queue.specs.Passes.{number_of};
+ghost use Rattle.round_work.specs.Outboxes.{gave_by};
+ghost use Rattle.piece_queue.specs.Passes.{IsSender, number_of};
 
 use ix_base::NoMemory;
 use piece_queue::{PieceQueue, Sender};
@@ -23,10 +23,11 @@ impl Outbox {
         pieces: &PieceQueue,
         piece: Piece,
     ) -> Result<(), NoMemory>
-        requires outbox { IsOutbox pieces.now (number_of self.old.sender) self.old }
+        requires sender { IsSender pieces.now self.old.sender }
         requires worker { piece.worker ≡ number_of self.old.sender }
         requires empty { self.old.held ≡ None }
-        ensures outbox { IsOutbox pieces.now (number_of self.old.sender) self.new }
+        ensures sender { IsSender pieces.now self.new.sender }
+        ensures number { number_of self.new.sender ≡ number_of self.old.sender }
         ensures gave { gave_by self.new ≡ gave_by self.old ++ piece ∷ [] }
         ensures sent { OnOk result (self.new.held ≡ None) }
     {

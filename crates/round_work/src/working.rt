@@ -165,6 +165,7 @@ fn is_commit(operation: &Operation) -> bool
 /// Why a worker stops whose task was told nothing.
 fn stop_for(why: Halt) -> Stop
     ensures closed { result ≡ stop.Closed → why ≡ halt.Closed }
+    ensures memory { why ≡ halt.NoMemory → result ≡ stop.NoMemory }
     ensures left { result ≡ stop.Done → ⊥ }
 {
     match why {
