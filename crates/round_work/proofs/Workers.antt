@@ -1,5 +1,5 @@
 -- The workers of a round.
-use Rattle.std.proofs.Common.{◌≡◌, ◌∙◌, ℕ, suc, ◌+◌, ◌<◌, List, [], ◌∷◌, ◌++◌, length, map, refl, sym, ap, subst, arith, length-append}
+use Rattle.std.proofs.Common.{◌≡◌, ◌∙◌, ℕ, zero, suc, ◌+◌, List, [], ◌∷◌, ◌++◌, length, map, refl, sym, ap, subst, arith, length-append}
 use Rattle.std.specs.List.{AllByRecursion, AllZip}
 use Rattle.delete_queue.specs.declared.queue.DeleteQueue.{DeleteQueue}
 use Rattle.piece_queue.specs.declared.queue.PieceQueue.{PieceQueue}
@@ -106,9 +106,9 @@ pub can_begin : (q : DeleteQueue) (pieces : PieceQueue) (ws before : List Thread
     → ws ≡ before ++ w ∷ [] → ss ≡ left ++ s ∷ [] → xs ≡ others ++ x ∷ [] → CanBegin q pieces before left others w s x
 can_begin q pieces ws before ss left xs others w s x all fresh many writers_are shares_are senders_are =
     begins q pieces before left others w s x
-    (subst (λ (as : List ThreadWriter). AreAtWork q 0 as (left ++ s ∷ [])) writers_are
-    (subst (λ (bs : List Share). AreAtWork q 0 ws bs) shares_are all)) (subst (AreFresh pieces 0) senders_are fresh)
-    (sym (ap (λ (as : List Sender). length as) senders_are) ∙ many ∙ ap (λ (as : List ThreadWriter). length as) writers_are)
+    (subst (λ (vs : List ThreadWriter). AreAtWork q 0 vs (left ++ s ∷ [])) writers_are
+    (subst (λ (us : List Share). AreAtWork q 0 ws us) shares_are all)) (subst (AreFresh pieces 0) senders_are fresh)
+    (sym (ap (λ (ys : List Sender). length ys) senders_are) ∙ many ∙ ap (λ (vs : List ThreadWriter). length vs) writers_are)
 
 started_more : (q : DeleteQueue) (pieces : PieceQueue) (i n : ℕ) (ws : List ThreadWriter) (ss : List Share) (ts : List Started) (w : ThreadWriter)
     (s : Share) (t : Started) → AreStarted q pieces i ws ss ts → n ≡ i + length ws → Starts q pieces n w s t
