@@ -95,18 +95,19 @@ fn link_three(queue: &DeleteQueue, seat: &mut Seat) -> bool
     added == Linked::At(4) && deleted == Linked::At(5) && set == Linked::At(6)
 }
 
-/// Links two deletes, numbered 7 and 8.
-fn link_two(queue: &DeleteQueue, seat: &mut Seat) -> bool
+/// Links the same set once more and two deletes, numbered 7 to 9.
+fn link_more(queue: &DeleteQueue, seat: &mut Seat) -> bool
     requires { IsSeatOf queue.now seat.old }
     ensures seat { IsSeatOf queue.now seat.new }
     ensures extends { Extends seat.old seat.new }
 {
+    let set = queue.link(seat, &set_to_seven());
     let first = queue.link(seat, &delete_of_six());
     let second = queue.link(seat, &delete_of_five());
-    first == Linked::At(7) && second == Linked::At(8)
+    set == Linked::At(7) && first == Linked::At(8) && second == Linked::At(9)
 }
 
-/// A queue's entries in two slices, and in one.
+/// A queue's entries in two slices, and in one. Of two sets of the same number the last is kept.
 #[test]
 fn slices_of_a_queue(rt: HostRuntime) -> Result<(), Fail> {
     let alloc = rt.alloc();
@@ -116,9 +117,9 @@ fn slices_of_a_queue(rt: HostRuntime) -> Result<(), Fail> {
     assert!(rt; link_three(&queue, &mut seat));
     first.advance(&queue, &mut seat);
     let mut rest = Slice::start(&seat);
-    assert!(rt; link_two(&queue, &mut seat));
+    assert!(rt; link_more(&queue, &mut seat));
     rest.advance(&queue, &mut seat);
-    assert!(rt; (first.from.at, first.to.at, rest.from.at, rest.to.at) == (0, 3, 3, 5));
+    assert!(rt; (first.from.at, first.to.at, rest.from.at, rest.to.at) == (0, 3, 3, 6));
     let whole = Slice {
         from: first.from,
         to: rest.to,
@@ -127,13 +128,13 @@ fn slices_of_a_queue(rt: HostRuntime) -> Result<(), Fail> {
     let of_rest = by_seat(alloc, &queue, &mut seat, rest)?;
     let of_whole = by_seat(alloc, &queue, &mut seat, whole)?;
     assert!(rt; of_first.as_str() == "abcde5n6");
-    assert!(rt; of_rest.as_str() == "abcde8abcdef7");
-    assert!(rt; of_whole.as_str() == "abcde8abcdef7n6");
+    assert!(rt; of_rest.as_str() == "abcde9abcdef8n7");
+    assert!(rt; of_whole.as_str() == "abcde9abcdef8n7");
     let log = log_of(alloc, queue, seat)?;
-    assert!(rt; log.len() == 5);
+    assert!(rt; log.len() == 6);
     assert!(rt; by_log(alloc, &log, first)?.as_str() == "abcde5n6");
-    assert!(rt; by_log(alloc, &log, rest)?.as_str() == "abcde8abcdef7");
-    assert!(rt; by_log(alloc, &log, whole)?.as_str() == "abcde8abcdef7n6");
+    assert!(rt; by_log(alloc, &log, rest)?.as_str() == "abcde9abcdef8n7");
+    assert!(rt; by_log(alloc, &log, whole)?.as_str() == "abcde9abcdef8n7");
     Ok(())
 }
 

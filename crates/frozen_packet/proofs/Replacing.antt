@@ -1,14 +1,14 @@
 -- Settings without those that later ones replace make the same of every row.
-use Rattle.std.proofs.Common.{◌≡◌, ◌∙◌, ℕ, zero, suc, ◌<◌, ◌≤◌, ◌⊎◌, List, [], ◌∷◌, ◌++◌, length, get_or, Bool, true, false, cond, ◌&&◌, ◌||◌, map, None, Some, nat_lt, refl, sym, ap, subst, arith, inl, inr, if◌then◌else◌}
+use Rattle.std.proofs.Common.{◌≡◌, ◌∙◌, ℕ, zero, suc, ◌<◌, ◌⊎◌, List, [], ◌∷◌, ◌++◌, length, get_or, Bool, true, false, ◌&&◌, ◌||◌, map, None, Some, nat_lt, refl, sym, ap, arith, inl, inr, if◌then◌else◌}
 use Rattle.ix_base.specs.Matches.{holds_term}
 use Rattle.ix_base.specs.Steps.{Named, with_number}
 use Rattle.ix_base.specs.declared.document.Term.{Term}
 use Rattle.ix_base.specs.declared.document.Row.{Row}
-use Rattle.row_fates.specs.Fate.{Numbered, fate, renumbered, SameFates}
+use Rattle.row_fates.specs.Fate.{fate, renumbered, SameFates}
 use Rattle.row_fates.specs.Told.{is_removed, numbers_given, FatesAreTold}
-use Rattle.row_fates.proofs.Same.{same-append, same-trans, same-sym}
-use Rattle.frozen_packet.specs.Gathered.{Replaces, IsReplaced, AreReplaced, unmarked, KeepsNumbers}
-use Rattle.frozen_packet.specs.Updates.{term_delete, query_delete, setting, NumberedUpTo, NumberedWithin}
+use Rattle.row_fates.proofs.Same.{same-append, same-trans}
+use Rattle.frozen_packet.specs.Gathered.{Replaces, IsReplaced, AreReplaced, unmarked}
+use Rattle.frozen_packet.specs.Updates.{term_delete, query_delete, setting}
 use Rattle.frozen_packet.specs.declared.updates.QueryDelete.{QueryDelete}
 use Rattle.frozen_packet.specs.declared.updates.Setting.{Setting}
 use Rattle.frozen_packet.proofs.Naming.{set_over, swap_or_over}

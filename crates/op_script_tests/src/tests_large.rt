@@ -1,4 +1,4 @@
-//! A document with a long key, a long text, and many members of each kind.
+//! A document with a long key, a long text, and many members of each kind; and a script of many lines.
 use ix_base::{Document, Operation};
 use op_script::{Act, Line, read_script};
 use std::alloc::Global;
@@ -65,5 +65,22 @@ fn read_sizes(alloc: Global) -> Result<[usize; 5], Fail> {
 #[test]
 fn a_large_document(rt: HostRuntime) -> Result<(), Fail> {
     assert!(rt; read_sizes(rt.alloc())? == [300_000, 300_000, 1_201, 1_200, 1_200]);
+    Ok(())
+}
+
+/// How many lines are read of a script of 5,000 lines, by all callers in turn.
+fn read_count(alloc: Global) -> Result<usize, Fail> {
+    let mut text = String::new(alloc);
+    for number in 0..5_000u32 {
+        let caller = number % 256;
+        writeln!(text, "{{\"c\":{caller},\"op\":\"commit\"}}")?;
+    }
+    let script = read_script(alloc, text.as_bytes()).ok().ok_or("refused")?;
+    Ok(script.lines.len())
+}
+
+#[test]
+fn many_lines(rt: HostRuntime) -> Result<(), Fail> {
+    assert!(rt; read_count(rt.alloc())? == 5_000);
     Ok(())
 }
