@@ -215,8 +215,9 @@ pub fn do_round<R: Threads + Wait + Sync, S: Store, G: Gate>(
         → Rose (S.fault_count writer.old.store) (S.fault_count writer.new.store) }
 {
     let Round { queue, writers } = begin_round(writer, threads, rounds)?;
-    let ((), worked) = run_round(rt, alloc, &queue, writers, shares, gate, || ());
-    let (parts, shares) = part(alloc, queue, worked?)?;
+    let ((), back) = run_round(rt, alloc, &queue, writers, shares, gate, || ());
+    let worked = back?;
+    let (parts, shares) = part(alloc, queue, worked)?;
     let commit = finish_round(rt, writer, parts)?;
     Ok((shares, commit))
 }

@@ -1,9 +1,10 @@
 //! Workers of small queues, against what was worked out by hand.
-ghost use Rattle.std.specs.Prelude.{◌≡◌, ◌<◌, ◌≤◌, [], None, length, IfOk};
+ghost use Rattle.std.specs.Prelude.{◌≡◌, ◌<◌, ◌≤◌, [], length, IfOk};
 ghost use Rattle.std.specs.List.{AllByRecursion};
 ghost use Rattle.delete_queue.specs.Making.{AreNewFrom};
 ghost use Rattle.delete_queue.specs.Seats.{IsSeatOf, number_of, own_of};
 ghost use Rattle.round_work.specs.Working.{AreAtWork, IsAtWork};
+ghost use Rattle.round_work_tests.specs.Shares.{CanGoOn};
 
 use delete_queue::{DeleteQueue, Reserve, Seat};
 use ix_base::{Document, Operation, Refusal, Text};
@@ -29,8 +30,7 @@ fn adding(alloc: Global, line: u32, key: &str) -> Result<Task, Fail> {
 /// A writer of a new seat, whose buffer holds one document.
 fn writer_for(alloc: Global, queue: &DeleteQueue, seat: Seat, share: &Share) -> ThreadWriter
     requires seat { IsSeatOf queue.now seat × (own_of seat ≡ []) }
-    requires few { length share.now.replies ≤ length share.now.tasks }
-    requires empty { share.now.held ≡ None }
+    requires share { CanGoOn share.now }
     ensures { IsAtWork queue.now (number_of seat) result share.now }
 {
     ThreadWriter::make(alloc, seat, 1)
@@ -80,10 +80,8 @@ fn one_round<R: Threads + Wait + Sync, G: Gate>(
     out: &mut String,
 ) -> Result<Share, Fail>
     requires base { base ≤ 1000 }
-    requires few { length share.replies ≤ length share.tasks }
-    requires empty { share.held ≡ None }
-    ensures few { IfOk result (λ share. length share.replies ≤ length share.tasks) }
-    ensures empty { IfOk result (λ share. share.held ≡ None) }
+    requires share { CanGoOn share }
+    ensures { IfOk result CanGoOn }
 {
     let (queue, seats) = DeleteQueue::make(alloc, base, 1, &mut Reserve::new(alloc))?;
     let mut shares = Vec::new(alloc);
@@ -154,7 +152,7 @@ fn adds_of(alloc: Global, worker: u32, workers: u32, each: u32) -> Result<Vec<Ta
     Ok(tasks)
 }
 
-/// The writers of a new queue, each with its share.
+/// The writers of a new queue with their shares, as far as there are seats and shares.
 fn begin_all(
     alloc: Global,
     queue: &DeleteQueue,
@@ -162,15 +160,16 @@ fn begin_all(
     shares: Vec<Share>,
 ) -> Result<(Vec<ThreadWriter>, Vec<Share>), Fail>
     requires seats { AreNewFrom queue.now 0 seats.items }
-    requires few { AllByRecursion (λ s. length s.replies ≤ length s.tasks) shares.items }
-    requires empty { AllByRecursion (λ s. s.held ≡ None) shares.items }
+    requires shares { AllByRecursion CanGoOn shares.items }
     ensures { IfOk result (λ r. AreAtWork queue.now 0 r.0.items r.1.items) }
 {
     let mut writers = Vec::new(alloc);
     let mut begun = Vec::new(alloc);
     let mut seats = seats.into_iter();
     for share in shares {
-        let seat = seats.next().ok_or("a seat")?;
+        let Some(seat) = seats.next() else {
+            return Ok((writers, begun));
+        };
         writers.push(writer_for(alloc, queue, seat, &share))?;
         begun.push(share)?;
     }
@@ -180,8 +179,7 @@ fn begin_all(
 /// The shares of so many workers, each with so many adds.
 fn shares_of(alloc: Global, workers: u32, each: u32) -> Result<Vec<Share>, Fail>
     requires { (workers ≤ 16) × (each ≤ 1000) }
-    ensures few { IfOk result (λ ss. AllByRecursion (λ s. length s.replies ≤ length s.tasks) ss.items) }
-    ensures empty { IfOk result (λ ss. AllByRecursion (λ s. s.held ≡ None) ss.items) }
+    ensures { IfOk result (λ shares. AllByRecursion CanGoOn shares.items) }
 {
     let mut shares = Vec::new(alloc);
     for worker in 0..workers {
@@ -191,7 +189,7 @@ fn shares_of(alloc: Global, workers: u32, each: u32) -> Result<Vec<Share>, Fail>
 }
 
 /// Does a round of so many workers, each with so many adds, and calls `beside`.
-fn round<R: Threads + Wait + Sync, G: Gate, T, F: FnOnce() -> T>(
+fn round<R: Threads + Wait + Sync, G: Gate, T: Drop, F: FnOnce() -> T>(
     rt: &R,
     alloc: Global,
     workers: u32,
