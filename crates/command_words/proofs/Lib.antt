@@ -11,3 +11,4 @@ mod GoodRows
 mod GoodWalks
 mod Stops
 mod Faultless
+mod Found

@@ -26,6 +26,8 @@ mod telling;
 #[cfg(test)]
 mod tests;
 #[cfg(test)]
+mod tests_check;
+#[cfg(test)]
 mod tests_commands;
 #[cfg(test)]
 mod tests_damage;

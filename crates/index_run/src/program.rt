@@ -109,7 +109,7 @@ where
 /// Whether these are the words of a command that only reads the directory.
 fn only_reads(words: &[String]) -> bool {
     match words.first() {
-        Some(word) => matches!(word.as_str(), "ask" | "list"),
+        Some(word) => matches!(word.as_str(), "ask" | "list" | "check"),
         None => false,
     }
 }
