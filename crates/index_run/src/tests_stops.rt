@@ -208,7 +208,10 @@ fn rises<R: Threads + Wait + Sync + Abort>(
     for number in 1..200u64 {
         let done = refused(rt, alloc, merge, number)?;
         let (fewest, most) = left(rt, alloc, &FOUR, &done.store)?;
-        assert!(*rt; least <= fewest && most <= fewest + 1, "call {number}");
+        assert!(*rt;
+            least <= fewest && most <= fewest.saturating_add(1),
+            "call {number}"
+        );
         if done.status == 0 {
             assert!(*rt; least >= 3 && fewest == 4, "call {number}");
             return Ok(done.store);
