@@ -73,8 +73,7 @@ within m ss count more read = (count, omega arith, omega arith, read)
 pub step_counted : (m new : Merge) (ss : List Lived) (count more before : ℕ) (step : Step) → HasRead m ss count → length m.origins.items ≤ before + m.left
     → (length m.origins.items ≤ length m.rows) ⊎ (before + more ≤ length m.rows) → Counts m more new step → IsStep new ss (count + more) step
 step_counted m new ss count more before More read enough copied counts =
-    let less : more < m.left = counts.0 in
-    (
+    let less : more < m.left = counts.0 in (
       subst (λ (n : Merge). HasRead n ss (count + more)) (sym counts.1) (record {
         can = read.can;
         rows = read.rows;
@@ -93,8 +92,7 @@ step_counted m new ss count more before More read enough copied counts =
     still (inl le) = omega (arith, le, lengths m.origins.items ss read.rows read.numbered)
     still (inr le) = omega (arith, le, enough, counts.0, lengths m.origins.items ss read.rows read.numbered)
 step_counted m new ss count more before Ready read enough copied counts =
-    let less : m.left ≤ more = counts.0 in
-    (
+    let less : m.left ≤ more = counts.0 in (
       subst (λ (n : Merge). HasRead n ss (row_count ss)) (sym counts.1) (record {
         can = read.can;
         rows = read.rows;

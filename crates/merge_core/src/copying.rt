@@ -84,7 +84,10 @@ pub(crate) fn rows_in(segments: &[LiveSegment], places: &[usize]) -> Result<u64,
 {
     let mut rows = 0;
     for source in 0..places.len() {
-        rows = sum(rows, source_at(segments, places, source).segment().rows.len())?;
+        rows = sum(
+            rows,
+            source_at(segments, places, source).segment().rows.len(),
+        )?;
     }
     Ok(rows)
 }

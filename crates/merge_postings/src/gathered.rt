@@ -103,7 +103,11 @@ impl Gathered {
     pub(crate) fn into_rows(self, alloc: Global) -> Result<Spots, NoMemory>
         ensures { IfOk result (λ rows. (r x : ℕ) → posted_at rows r x ≡ is_gathered self r x) }
     {
-        let Gathered { rows, late, lists: _ } = self;
+        let Gathered {
+            rows,
+            late,
+            lists: _,
+        } = self;
         if late.is_empty() {
             return Ok(rows);
         }

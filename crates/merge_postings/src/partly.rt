@@ -76,11 +76,7 @@ impl PartlyMerged {
     /// that it gets: a term stands in a row at a position exactly where it stands there in a source, in a
     /// row that gets this number. A place that several sources have stands there once; a term whose rows
     /// all get no number isn't there. With no source there is no term. After an error all is as before.
-    pub fn finish(
-        &mut self,
-        alloc: Global,
-        sources: Vec<Source<'_>>,
-    ) -> Result<Postings, NoMemory>
+    pub fn finish(&mut self, alloc: Global, sources: Vec<Source<'_>>) -> Result<Postings, NoMemory>
         requires can { AllByRecursion CanMove sources.items }
         requires upto { IsMergedUpto sources.items self.old }
         ensures ordered { IfOk result (λ made. IsPostings made.terms) }
