@@ -1,5 +1,4 @@
-use Rattle.std.proofs.Common.{◌≡◌, ℕ, List, IfOk, ap, subst, sym}
-use Rattle.round_work.specs.Working.{AreWorked}
+use Rattle.std.proofs.Common.{◌≡◌, ℕ, List, ap, subst, sym}
 use Rattle.line_shares.specs.Shares.{AreShares}
 use Rattle.index_run.specs.Driving.{IsCut}
 use Rattle.index_run.proofs.Coming.{come_on, round_done}
@@ -13,8 +12,8 @@ returns-in_err-queue-clause-cut g c = λ r lines commits size come.
     (subst (IsCut r lines) (sym (ap (λ s. g.S.Store.disk s) c.begin_round.ensures.store))
     (cut_done r lines c.args.shares.items come.log c.args.writer.now.state _ come.done))
 
-pub run_round-back-requires-clause-workers : goal.run_round-back-requires-clause-workers
-run_round-back-requires-clause-workers g c = λ lifetimes lives.
+pub run_round-requires-clause-workers : goal.run_round-requires-clause-workers
+run_round-requires-clause-workers g c = λ lifetimes lives.
     let q = c.requires.come in
     let shares = c.args.shares.items in
     at_work c.args.threads c.args.writer.now.state c.in_ok-queue.field-0 q.1 shares c.in_ok-queue.ensures.begun
@@ -44,8 +43,7 @@ finish_round-requires-clause-round g c = λ lifetimes lives.
       round_done q.0 q.1 q.2 c.args.threads c.args.writer.now.state c.begin_round.new.writer.state c.in_ok-queue.field-0
           c.args.shares.items c.in_ok-parts.shares.items c.in_ok-worked.worked.items c.in_ok-parts.parts _ _ q.3 q.4
           c.in_ok-queue.ensures.begun c.in_ok-queue.ensures.on c.begin_round.ensures.sound
-          (ap (λ s. g.S.Store.disk s) c.begin_round.ensures.store) (subst (λ r. IfOk r (λ all. AreWorked c.in_ok-queue.field-0.queue c.in_ok-queue.field-0.writers.items c.args.shares.items all.items))
-    c.in_ok-worked.is c.run_round-back.ensures.works) back.came back.queue back.writers
+          (ap (λ s. g.S.Store.disk s) c.begin_round.ensures.store) c.in_ok-worked.ensures.works back.queue back.writers
           back.pieces back.shares,
     )
 
@@ -56,8 +54,7 @@ returns-in_err-commit-clause-cut g c = λ r lines commits size come.
     round_done r lines commits c.args.threads c.args.writer.now.state c.begin_round.new.writer.state c.in_ok-queue.field-0
     c.args.shares.items c.in_ok-parts.shares.items c.in_ok-worked.worked.items c.in_ok-parts.parts _ _ size come
     c.in_ok-queue.ensures.begun c.in_ok-queue.ensures.on c.begin_round.ensures.sound
-    (ap (λ s. g.S.Store.disk s) c.begin_round.ensures.store) (subst (λ r. IfOk r (λ all. AreWorked c.in_ok-queue.field-0.queue c.in_ok-queue.field-0.writers.items c.args.shares.items all.items))
-    c.in_ok-worked.is c.run_round-back.ensures.works) back.came back.queue back.writers
+    (ap (λ s. g.S.Store.disk s) c.begin_round.ensures.store) c.in_ok-worked.ensures.works back.queue back.writers
     back.pieces back.shares in
     on_err c.from_residual-in_err-commit.result _
     (c.in_err-commit.ensures.cut r lines c.args.shares.items c.in_ok-parts.shares.items come.log round)
@@ -70,8 +67,7 @@ returns-clause-come g c = λ r lines commits size come.
     round_done r lines commits c.args.threads c.args.writer.now.state c.begin_round.new.writer.state c.in_ok-queue.field-0
     c.args.shares.items news c.in_ok-worked.worked.items c.in_ok-parts.parts _ _ size come
     c.in_ok-queue.ensures.begun c.in_ok-queue.ensures.on c.begin_round.ensures.sound
-    (ap (λ s. g.S.Store.disk s) c.begin_round.ensures.store) (subst (λ r. IfOk r (λ all. AreWorked c.in_ok-queue.field-0.queue c.in_ok-queue.field-0.writers.items c.args.shares.items all.items))
-    c.in_ok-worked.is c.run_round-back.ensures.works) back.came back.queue back.writers
+    (ap (λ s. g.S.Store.disk s) c.begin_round.ensures.store) c.in_ok-worked.ensures.works back.queue back.writers
     back.pieces back.shares in
     come_on r lines news commits come.log c.finish_round.new.writer.state _ come.numbers come.docs
     c.in_ok-commit.ensures.out c.in_ok-commit.commit
@@ -82,5 +78,4 @@ returns-clause-goes_on g c =
     let back = c.in_ok-parts.ensures in
     fewer_open c.args.threads c.args.writer.now.state c.in_ok-queue.field-0 c.args.shares.items
     c.in_ok-parts.shares.items c.in_ok-worked.worked.items c.in_ok-parts.parts c.in_ok-queue.ensures.begun
-    (subst (λ r. IfOk r (λ all. AreWorked c.in_ok-queue.field-0.queue c.in_ok-queue.field-0.writers.items c.args.shares.items all.items))
-    c.in_ok-worked.is c.run_round-back.ensures.works) back.came back.writers back.shares c.in_ok-commit.ensures.open
+    c.in_ok-worked.ensures.works back.came back.writers back.shares c.in_ok-commit.ensures.open
