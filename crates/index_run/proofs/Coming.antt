@@ -28,7 +28,7 @@ use Rattle.index_run.specs.Driving.{EndsRound, HasCome, HasDone, IsAt, IsCut, Is
 use Rattle.index_run.specs.Replied.{CanTell, IsCounted}
 use Rattle.index_run.specs.RepliedLaws.{outcomes_counted}
 use Rattle.index_run.specs.Outcomes.{AreOutcomes}
-use Rattle.index_run.specs.Rounds.{AllCame, gave_of, given, pieces_of, share_of, writers_of}
+use Rattle.index_run.specs.Rounds.{gave_of, given, pieces_of, share_of, writers_of}
 use Rattle.index_run.proofs.DiskAfter.{crash_longer, disk_same, disk_start}
 use Rattle.index_run.proofs.RunEnds.{stops_files}
 use Rattle.index_run.proofs.Workers.{all_go_on, parts_back}
@@ -110,10 +110,10 @@ done_begun r lines shares log w v now is sound h =
 pub round_done : (r : Run) (lines : List Line) (commits : List Pair) (threads : ℕ) (w v : State) (round : Round)
     (shares news : List Share) (worked : List Worked) (parts : RoundParts) (old now : Option Disk) → r.workers ≡ threads
     → (come : HasCome r lines shares commits w old) → IsBegun threads w round → v ≡ record w { out = true } → IsSound v
-    → now ≡ old → AreWorked round.queue round.writers.items shares worked → AllCame worked → parts.queue ≡ round.queue
+    → now ≡ old → AreWorked round.queue round.writers.items shares worked → parts.queue ≡ round.queue
     → parts.writers.items ≡ writers_of worked → pieces_of parts.pieces.items ≡ gave_of worked
     → news ≡ map share_of worked → IsRound r lines shares news come.log v parts now
-round_done r lines commits threads w v round shares news worked parts old now size come begun is sound same all came queue writers pieces news_are =
+round_done r lines commits threads w v round shares news worked parts old now size come begun is sound same all queue writers pieces news_are =
     let are : AreShares threads lines shares =
     subst (λ (n : ℕ). AreShares n lines shares) size come.done.shares_are in
     let upto : w.published.upto ≡ v.published.upto = sym (ap (λ (s : State). s.published.upto) is) in
@@ -122,12 +122,12 @@ round_done r lines commits threads w v round shares news worked parts old now si
           subst (HasDone r lines shares come.log v) (sym same)
           (done_begun r lines shares come.log w v old is sound come.done);
       go_on =
-          subst (AllZip GoesOn shares) (sym news_are) (all_go_on round.queue round.writers.items shares worked all came);
+          subst (AllZip GoesOn shares) (sym news_are) (all_go_on round.queue round.writers.items shares worked all);
       out = ap (λ (s : State). s.out) is;
       parts_are =
           subst (λ (n : ℕ). ArePartsOf n (pairs_since shares news) parts) upto
           (subst (λ (ss : List Share). ArePartsOf w.published.upto (pairs_since shares ss) parts) (sym news_are)
-          (parts_back threads w round lines shares worked parts begun are all came queue writers pieces));
+          (parts_back threads w round lines shares worked parts begun are all queue writers pieces));
     }
 
 -- ---- a round was ended

@@ -73,13 +73,13 @@ fn part(
         let Worked {
             writer,
             share,
-            pieces: given,
             stop,
         } = one;
         if stop == Stop::NoMemory {
             return Err(NoMemory);
         }
-        pieces.push(given.into_vec())?;
+        let mut share = share;
+        pieces.push(share.take_gave(alloc))?;
         writers.push(writer)?;
         shares.push(share)?;
     }
@@ -215,8 +215,7 @@ pub fn do_round<R: Threads + Wait + Sync, S: Store, G: Gate>(
         → Rose (S.fault_count writer.old.store) (S.fault_count writer.new.store) }
 {
     let Round { queue, writers } = begin_round(writer, threads, rounds)?;
-    let ((), back) = run_round(rt, alloc, &queue, writers, shares, gate, || ());
-    let worked = back?;
+    let worked = run_round(rt, alloc, &queue, writers, shares, gate)?;
     let (parts, shares) = part(alloc, queue, worked)?;
     let commit = finish_round(rt, writer, parts)?;
     Ok((shares, commit))

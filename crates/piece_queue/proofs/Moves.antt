@@ -110,10 +110,9 @@ pops pass v takes x items views k at =
 pub learns : (pass : ℕ) (v : Hand) → v.takes ≡ true → Learns Kept pass v (Came v)
 learns pass v takes items views k at =
     let f = k.fits pass v at in
-    let mine = f.taken takes in
-    (
+    let mine = f.taken takes in (
       each_more (λ (d : Sent). (k.holder d.worker ≡ pass) × (d.worker < k.made) × (d.put ≡ k.sent d.worker)) (λ (d : Sent). pieces_of d.worker (v.taken ++ items) ≡ d.put) v.ended
-        (λ d h. ap (λ l. pieces_of d.worker (l ++ items)) mine.1 ∙ (k.whole d.worker ∙ sym h.2)) f.ended,
+          (λ d h. ap (λ l. pieces_of d.worker (l ++ items)) mine.1 ∙ (k.whole d.worker ∙ sym h.2)) f.ended,
       subst (λ (y : ℕ × List Piece). AreBelow y.0 y.1) (λ i. (sym mine.2 i, sym mine.1 i)) (below_left k.made k.got items k.below),
     )
 
@@ -223,12 +222,12 @@ merges pass v other u takes quiet puts rests bare items views k at two there =
       fits = λ j y got. ⊎_elim
           (λ (t : (j ≡ other) × (idle ≡ y)). subst (λ (z : Hand). Fits k.made k.reader holder k.sent k.got j z) t.1 record { put = λ p. absurd (true≢false (sym p)); taken = λ p. absurd (true≢false (sym p)); ended = tt })
           (λ (t : (j ≢ other) × (get_elem? vs j ≡ some y)). ⊎_elim
-              (λ (q : (j ≡ pass) × (both ≡ y)). subst (λ (y : ℕ × Hand). Fits k.made k.reader holder k.sent k.got y.0 y.1) (λ i. (sym q.0 i, q.1 i)) record {
-                put = λ p. absurd (true≢false (sym p ∙ quiet));
-                taken = kept.taken;
-                ended = each_end (λ (d : Sent). (holder d.worker ≡ pass) × (d.worker < k.made) × (d.put ≡ k.sent d.worker)) v.ended new kept.ended (point_same k.holder u.worker pass, hers.1, hers.2);
-              })
-              (λ (q : (j ≢ pass) × (get_elem? views j ≡ some y)). keeps j y t.0 (k.fits j y q.1)) (at_set views pass j both y t.1)) (at_set vs other j idle y got);
+          (λ (q : (j ≡ pass) × (both ≡ y)). subst (λ (y : ℕ × Hand). Fits k.made k.reader holder k.sent k.got y.0 y.1) (λ i. (sym q.0 i, q.1 i)) record {
+            put = λ p. absurd (true≢false (sym p ∙ quiet));
+            taken = kept.taken;
+            ended = each_end (λ (d : Sent). (holder d.worker ≡ pass) × (d.worker < k.made) × (d.put ≡ k.sent d.worker)) v.ended new kept.ended (point_same k.holder u.worker pass, hers.1, hers.2);
+          })
+          (λ (q : (j ≢ pass) × (get_elem? views j ≡ some y)). keeps j y t.0 (k.fits j y q.1)) (at_set views pass j both y t.1)) (at_set vs other j idle y got);
     }
 
 -- at the beginning

@@ -52,4 +52,3 @@ queue_shared = search (sendable, declared_sync, declared_send, variants_send, pi
 
 pub queue_send : IsSend queue.the_row
 queue_send = search (sendable, declared_send, variants_send, piece_send, chained.the_send, ends.the_send, global.the_send, global.the_sync, frees) depth 14
-

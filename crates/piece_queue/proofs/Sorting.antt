@@ -64,8 +64,8 @@ pub puts : (all : List (Vec Piece)) (x : Piece) (now new : Vec Piece) (taken : L
     → map (λ (v : Vec Piece). v.items) (set all x.worker new) ≡ parcels_of 0 (length all) (taken ++ x ∷ [])
 puts all x now new taken lt is more h =
     let mine : now.items ≡ pieces_of x.worker taken =
-        ap items (sym is) ∙ sym (get_or-map items all x.worker now [] lt) ∙ ap (λ l. get_or l x.worker []) h
-        ∙ parcel_at x.worker 0 (length all) taken [] lt ∙ ap (λ (w : ℕ). pieces_of w taken) (let e : 0 + x.worker ≡ x.worker = omega arith in e) in
+    ap items (sym is) ∙ sym (get_or-map items all x.worker now [] lt) ∙ ap (λ l. get_or l x.worker []) h
+    ∙ parcel_at x.worker 0 (length all) taken [] lt ∙ ap (λ (w : ℕ). pieces_of w taken) (let e : 0 + x.worker ≡ x.worker = omega arith in e) in
     map-set items all x.worker new
     ∙ ap (λ l. set l x.worker new.items) h
     ∙ ap (set (parcels_of 0 (length all) taken) x.worker) (more ∙ ap (λ l. l ++ x ∷ []) mine)

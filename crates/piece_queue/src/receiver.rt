@@ -84,9 +84,7 @@ impl Receiver {
         ensures ended { ended_with self.new
             ≡ ended_with self.old ++ one_sent (number_of sender) (sent_by sender) ∷ [] }
     {
-        pieces
-            .pieces
-            .absorb::<Workers>(&mut self.pass, sender.pass);
+        pieces.pieces.absorb::<Workers>(&mut self.pass, sender.pass);
     }
 
     /// What was taken: of each of so many workers its pieces, in order. The only error is out of memory.

@@ -18,12 +18,7 @@ pub struct Sender {
 impl Sender {
     /// Sends a piece of the worker. Where there is no memory for it the piece is given back, and nothing
     /// was sent.
-    pub fn send<R: Wait>(
-        &mut self,
-        rt: &R,
-        pieces: &PieceQueue,
-        piece: Piece,
-    ) -> Result<(), Piece>
+    pub fn send<R: Wait>(&mut self, rt: &R, pieces: &PieceQueue, piece: Piece) -> Result<(), Piece>
         requires sender { IsSender pieces.now self.old }
         requires worker { piece.worker ≡ number_of self.old }
         ensures sender { IsSender pieces.now self.new }
@@ -32,8 +27,6 @@ impl Sender {
             (λ _. sent_by self.new ≡ sent_by self.old ++ piece ∷ [])
             (λ back. (back ≡ piece) × (sent_by self.new ≡ sent_by self.old)) }
     {
-        pieces
-            .pieces
-            .push_as::<Puts, R>(rt, &mut self.pass, piece)
+        pieces.pieces.push_as::<Puts, R>(rt, &mut self.pass, piece)
     }
 }

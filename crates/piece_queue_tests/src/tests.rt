@@ -41,7 +41,10 @@ fn send_some<R: Wait>(
 {
     let mut sender = sender;
     for place in places.0..places.1 {
-        if sender.send(rt, pieces, piece_of(alloc, worker, place)?).is_err() {
+        if sender
+            .send(rt, pieces, piece_of(alloc, worker, place)?)
+            .is_err()
+        {
             return Err(NoMemory);
         }
     }

@@ -65,6 +65,13 @@ pub worker_send : (name : Sym) (δ : Ty) (k : Kept) (r : Lifetime) (ρ : Lft) (R
 worker_send name δ k r ρ R q κ p π g ν G rs gs =
     let Ts : List RattleType = ShrRef r ρ R ∷ ShrRef q κ queue.the_row ∷ ShrRef p π pieces.the_row
     ∷ thread_writer.the_row ∷ share.the_row ∷ sender.the_row ∷ ShrRef g ν G ∷ [] in
-    param_send 2 (arg δ k (TupleAt name Ts)) (arg_send δ k (TupleAt name Ts) (tuple_send name Ts
-    (shr_send r ρ R rs, (shr_send q κ queue.the_row queue_sync.the_sync, (shr_send p π pieces.the_row queue_shared,
-    (written.the_send, (share_send, (sender_send, (shr_send g ν G gs, tt)))))))))
+    param_send 2 (arg δ k (TupleAt name Ts)) (arg_send δ k (TupleAt name Ts) (tuple_send name Ts (
+      shr_send r ρ R rs,
+      (
+        shr_send q κ queue.the_row queue_sync.the_sync,
+        (
+          shr_send p π pieces.the_row queue_shared,
+          (written.the_send, (share_send, (sender_send, (shr_send g ν G gs, tt)))),
+        ),
+      ),
+    )))

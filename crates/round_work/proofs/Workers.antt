@@ -197,5 +197,5 @@ all_worked q pieces i zero (w ∷ ws) (s ∷ ss) (x ∷ xs) taken are many came 
 all_worked q pieces i (suc n) (w ∷ ws) (s ∷ ss) (x ∷ xs) taken are many came = (
   one_worked q pieces i w s x taken are.0 came.0,
   subst (λ (k : ℕ). AreWorked q ws ss (with_pieces (map without xs) (parcels_of k n taken))) (let e : i + 1 ≡ suc i = omega arith in e)
-  (all_worked q pieces (i + 1) n ws ss xs taken are.1 (omega (arith, many)) came.1),
+      (all_worked q pieces (i + 1) n ws ss xs taken are.1 (omega (arith, many)) came.1),
 )

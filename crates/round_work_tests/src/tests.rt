@@ -1,13 +1,14 @@
 //! Workers of small queues, against what was worked out by hand.
-ghost use Rattle.std.specs.Prelude.{◌≡◌, ◌<◌, ◌≤◌, [], length, IfOk};
+ghost use Rattle.std.specs.Prelude.{◌≡◌, ◌<◌, ◌≤◌, [], None, length, IfOk};
 ghost use Rattle.std.specs.List.{AllByRecursion};
 ghost use Rattle.delete_queue.specs.Making.{AreNewFrom};
 ghost use Rattle.delete_queue.specs.Seats.{IsSeatOf, number_of, own_of};
 ghost use Rattle.round_work.specs.Working.{AreAtWork, IsAtWork};
+ghost use Rattle.round_work.specs.declared.worked.Stop.TheVariants as stop;
 ghost use Rattle.round_work_tests.specs.Shares.{CanGoOn};
 
 use delete_queue::{DeleteQueue, Reserve, Seat};
-use ix_base::{Document, Operation, Refusal, Text};
+use ix_base::{Document, NoMemory, Operation, Refusal, Text};
 use ix_memory::{GroupsGate, MeetingGate, RecordingGate};
 use ix_outside::Gate;
 use round_work::{Reply, Share, Stop, Task, Worked, run_round};
@@ -70,6 +71,19 @@ fn four_tasks(alloc: Global) -> Result<Vec<Task>, Fail> {
     Ok(tasks)
 }
 
+/// The share of a worker. The only error is that it ran out of memory.
+fn share_of(worked: Worked) -> Result<Share, NoMemory>
+    requires few { length worked.share.replies ≤ length worked.share.tasks }
+    requires sent { (worked.stop ≡ stop.NoMemory → ⊥) → worked.share.held ≡ None }
+    ensures { IfOk result CanGoOn }
+{
+    let Worked { share, stop, .. } = worked;
+    if stop == Stop::NoMemory {
+        return Err(NoMemory);
+    }
+    Ok(share)
+}
+
 /// Works by the only writer of a new queue.
 fn one_round<R: Threads + Wait + Sync, G: Gate>(
     rt: &R,
@@ -88,17 +102,12 @@ fn one_round<R: Threads + Wait + Sync, G: Gate>(
     shares.push(share)?;
     let (writers, shares) = begin_all(alloc, &queue, seats, shares)?;
     let ((), back) = run_round(rt, alloc, &queue, writers, shares, gate, || ());
-    let Worked {
-        share,
-        pieces,
-        stop,
-        ..
-    } = back?.pop().ok_or("a worker")?;
-    show(out, stop, &share, pieces.len())?;
-    if stop == Stop::NoMemory {
-        Err("memory")?;
-    }
-    Ok(share)
+    let mut all = back?;
+    let Some(worked) = all.pop() else {
+        return Err(Fail::new("a worker"));
+    };
+    show(out, worked.stop, &worked.share, worked.pieces.len())?;
+    Ok(share_of(worked)?)
 }
 
 /// What becomes of a share in two rounds, the first of them behind the number 250.

@@ -43,7 +43,7 @@ finish_round-requires-clause-round g c = λ lifetimes lives.
       round_done q.0 q.1 q.2 c.args.threads c.args.writer.now.state c.begin_round.new.writer.state c.in_ok-queue.field-0
           c.args.shares.items c.in_ok-parts.shares.items c.in_ok-worked.worked.items c.in_ok-parts.parts _ _ q.3 q.4
           c.in_ok-queue.ensures.begun c.in_ok-queue.ensures.on c.begin_round.ensures.sound
-          (ap (λ s. g.S.Store.disk s) c.begin_round.ensures.store) c.run_round-worked.ensures.works.XX back.came back.queue back.writers
+          (ap (λ s. g.S.Store.disk s) c.begin_round.ensures.store) c.in_ok-worked.ensures.works back.queue back.writers
           back.pieces back.shares,
     )
 
@@ -54,7 +54,7 @@ returns-in_err-commit-clause-cut g c = λ r lines commits size come.
     round_done r lines commits c.args.threads c.args.writer.now.state c.begin_round.new.writer.state c.in_ok-queue.field-0
     c.args.shares.items c.in_ok-parts.shares.items c.in_ok-worked.worked.items c.in_ok-parts.parts _ _ size come
     c.in_ok-queue.ensures.begun c.in_ok-queue.ensures.on c.begin_round.ensures.sound
-    (ap (λ s. g.S.Store.disk s) c.begin_round.ensures.store) c.run_round-worked.ensures.works.XX back.came back.queue back.writers
+    (ap (λ s. g.S.Store.disk s) c.begin_round.ensures.store) c.in_ok-worked.ensures.works back.queue back.writers
     back.pieces back.shares in
     on_err c.from_residual-in_err-commit.result _
     (c.in_err-commit.ensures.cut r lines c.args.shares.items c.in_ok-parts.shares.items come.log round)
@@ -67,7 +67,7 @@ returns-clause-come g c = λ r lines commits size come.
     round_done r lines commits c.args.threads c.args.writer.now.state c.begin_round.new.writer.state c.in_ok-queue.field-0
     c.args.shares.items news c.in_ok-worked.worked.items c.in_ok-parts.parts _ _ size come
     c.in_ok-queue.ensures.begun c.in_ok-queue.ensures.on c.begin_round.ensures.sound
-    (ap (λ s. g.S.Store.disk s) c.begin_round.ensures.store) c.run_round-worked.ensures.works.XX back.came back.queue back.writers
+    (ap (λ s. g.S.Store.disk s) c.begin_round.ensures.store) c.in_ok-worked.ensures.works back.queue back.writers
     back.pieces back.shares in
     come_on r lines news commits come.log c.finish_round.new.writer.state _ come.numbers come.docs
     c.in_ok-commit.ensures.out c.in_ok-commit.commit
