@@ -30,8 +30,8 @@ use thread_writer::ThreadWriter;
 /// The only error is out of memory: no worker was begun, or what the workers did is let go with their
 /// writers, shares and pieces. `beside` was called in any case, once.
 ///
-/// A round that gives no piece off takes memory for the head of its queue, a few words, and for its lists
-/// of workers; the first piece takes a block of the queue, and each 31 pieces a further one.
+/// A round takes memory for its lists of workers and for a queue of pieces: three blocks of it, each with
+/// 32 words and with room for 31 pieces, and a further one where these are full.
 pub fn run_round<R: Threads + Wait + Sync, G: Gate, T, F: FnOnce() -> T>(
     rt: &R,
     alloc: Global,
