@@ -46,7 +46,15 @@ fn sound_commits(rt: HostRuntime) -> Result<(), Fail> {
     let alloc = rt.alloc();
     expect(&rt, alloc, &["check"], &[], 0, "", MemoryStore::new(alloc))?;
     let store = one_document(&rt, alloc)?;
-    let mut store = expect(&rt, alloc, &["check"], &["no input is read\n"], 0, ONE, store)?;
+    let mut store = expect(
+        &rt,
+        alloc,
+        &["check"],
+        &["no input is read\n"],
+        0,
+        ONE,
+        store,
+    )?;
     let report = "{\"line\":1,\"seq\":3}\n{\"docs\":2,\"line\":2,\"seq\":4}\n";
     store = expect(&rt, alloc, &["run"], &[ADD_A2, COMMIT], 0, report, store)?;
     let two = "{\"commit\":2,\"docs\":1}\n{\"commit\":4,\"docs\":2}\n";
@@ -91,7 +99,8 @@ fn other_commits(rt: HostRuntime) -> Result<(), Fail> {
     store.write(FileName::Commit(2), commit.as_slice())?;
     let commit = changed(alloc, &mut store, FileName::Commit(2), 31, 1)?;
     store.write(FileName::Commit(2), commit.as_slice())?;
-    let high = "{\"at\":24,\"file\":\"segments_2\",\"found\":2305843009213693953,\"status\":11,\"wanted\":2305843009213693952}\n";
+    let high =
+        "{\"at\":24,\"file\":\"segments_2\",\"found\":2305843009213693953,\"status\":11,\"wanted\":2305843009213693952}\n";
     store = expect(&rt, alloc, &["check"], &[], 11, high, store)?;
     store.write(FileName::Rows(1), b"IXROW")?;
     let damaged = "{\"at\":0,\"file\":\"seg_1.row\",\"status\":8}\n";
