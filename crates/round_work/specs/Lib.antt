@@ -1,5 +1,4 @@
 pub mod Shares
-pub mod Outboxes
 pub mod Working
 pub mod Lines
 pub mod Rounds
