@@ -29,6 +29,25 @@ use std::thread::Threads;
 /// leads there.
 const MOST: u64 = 4_611_686_018_427_387_904;
 
+/// What was done with a writer, or why it stopped, and the writer.
+#[derive(Drop)]
+pub struct Ran<S, T> {
+    pub writer: IndexWriter<S>,
+    pub came: Result<T, WriterFault>,
+}
+
+impl<S, T> Ran<S, T> {
+    /// It stopped by this fault.
+    pub fn stopped(writer: IndexWriter<S>, fault: WriterFault) -> Self
+        ensures { result ≡ record { writer = writer; came = Err fault } }
+    {
+        Ran {
+            writer,
+            came: Err(fault),
+        }
+    }
+}
+
 /// Begins the next round, of so many writers, and counts it.
 fn begin_round<S: Store>(
     writer: &mut IndexWriter<S>,
@@ -182,41 +201,56 @@ fn finish_round<R: Threads + Sync, S: Store>(
 
 /// Does a round: its workers go on with their shares at the same time, each by a writer of its own,
 /// until the lines are done or one of them closes the queue. Then the round is ended, with its commit.
-/// It returns the shares as the workers left them, and the commit, if there was one. It asks that a
-/// worker has a line that was told nothing, and counts the round.
+/// It returns the shares as the workers left them, and the commit, if there was one, beside the index
+/// writer. It asks that a worker has a line that was told nothing, and counts the round.
 pub fn do_round<R: Threads + Wait + Sync, S: Store, G: Gate>(
     rt: &R,
     alloc: Global,
     gate: &G,
-    writer: &mut IndexWriter<S>,
+    writer: IndexWriter<S>,
     threads: u32,
     shares: Vec<Share>,
     rounds: &mut u64,
-) -> Result<(Vec<Share>, Option<CommitInfo>), WriterFault>
+) -> Ran<S, (Vec<Share>, Option<CommitInfo>)>
     requires threads { (1 ≤ threads) × (threads ≤ 16) }
     requires open { AreDone shares.items → ⊥ }
     requires come { (r : Run) × (lines : List Line) × (commits : List (ℕ × ℕ))
         × (r.workers ≡ threads)
-        × HasCome r lines shares.items commits writer.old.state (S.disk writer.old.store) }
+        × HasCome r lines shares.items commits writer.state (S.disk writer.store) }
     ensures come { (r : Run) (lines : List Line) (commits : List (ℕ × ℕ)) → r.workers ≡ threads
-        → HasCome r lines shares.items commits writer.old.state (S.disk writer.old.store)
-        → IfOk result (λ x. HasCome r lines x.0.items (given commits x.1) writer.new.state
-        (S.disk writer.new.store)) }
+        → HasCome r lines shares.items commits writer.state (S.disk writer.store)
+        → IfOk result.came (λ x. HasCome r lines x.0.items (given commits x.1) result.writer.state
+        (S.disk result.writer.store)) }
     ensures cut { (r : Run) (lines : List Line) (commits : List (ℕ × ℕ)) → r.workers ≡ threads
-        → HasCome r lines shares.items commits writer.old.state (S.disk writer.old.store)
-        → OnErr result (IsCut r lines (S.disk writer.new.store)) }
+        → HasCome r lines shares.items commits writer.state (S.disk writer.store)
+        → OnErr result.came (IsCut r lines (S.disk result.writer.store)) }
     // Where a task was left, one was told something.
     ensures goes_on { (AreDone shares.items → ⊥)
-        → IfOk result (λ x. open_count x.0.items < open_count shares.items) }
-    ensures counted { OnOk result (rounds.new ≡ rounds.old + 1) }
-    ensures closed { result ≡ Err WriterFault.Closed → ⊥ }
-    ensures later { S.fault_count writer.old.store ≤ S.fault_count writer.new.store }
-    ensures failed { result ≡ Err WriterFault.Store
-        → Rose (S.fault_count writer.old.store) (S.fault_count writer.new.store) }
+        → IfOk result.came (λ x. open_count x.0.items < open_count shares.items) }
+    ensures counted { OnOk result.came (rounds.new ≡ rounds.old + 1) }
+    ensures closed { result.came ≡ Err WriterFault.Closed → ⊥ }
+    ensures later { S.fault_count writer.store ≤ S.fault_count result.writer.store }
+    ensures failed { result.came ≡ Err WriterFault.Store
+        → Rose (S.fault_count writer.store) (S.fault_count result.writer.store) }
 {
-    let Round { queue, writers } = begin_round(writer, threads, rounds)?;
-    let worked = run_round(rt, alloc, &queue, writers, shares, gate)?;
-    let (parts, shares) = part(alloc, queue, worked)?;
-    let commit = finish_round(rt, writer, parts)?;
-    Ok((shares, commit))
+    let mut writer = writer;
+    let Round { queue, writers } = match begin_round(&mut writer, threads, rounds) {
+        Ok(round) => round,
+        Err(fault) => return Ran::stopped(writer, fault),
+    };
+    let worked = match run_round(rt, alloc, &queue, writers, shares, gate) {
+        Ok(worked) => worked,
+        Err(error) => return Ran::stopped(writer, WriterFault::from(error)),
+    };
+    let (parts, shares) = match part(alloc, queue, worked) {
+        Ok(parted) => parted,
+        Err(error) => return Ran::stopped(writer, WriterFault::from(error)),
+    };
+    match finish_round(rt, &mut writer, parts) {
+        Ok(commit) => Ran {
+            writer,
+            came: Ok((shares, commit)),
+        },
+        Err(fault) => Ran::stopped(writer, fault),
+    }
 }
