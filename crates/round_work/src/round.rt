@@ -41,38 +41,63 @@ pub(crate) enum Started {
     Here(Worked),
 }
 
-/// Does the shares of a round, each by its writer in a thread of its own, and waits for all. A
-/// worker whose share is done needs no thread. A worker whose thread can't be started is done by the
-/// caller, after the others were started. What comes back is in the order of the workers. It asks for
-/// as many shares as writers, each with the pieces that its writer gave off.
+/// Does the shares of a round, each by its writer in a thread of its own, and calls `beside` in the
+/// caller's thread once they were started. Then it waits for all. A worker whose share is done needs no
+/// thread. A worker whose thread can't be started is done by the caller, after the others were started
+/// and before `beside` is called. What comes back is what `beside` returned and, in the order of the
+/// workers, what they did. It asks for as many shares as writers, each with the pieces that its writer
+/// gave off.
 ///
-/// The only error is out of memory: nothing was begun.
-pub fn run_round<R: Threads + Wait, G: Gate>(
+/// The only error is out of memory: no worker was begun. `beside` was called in any case, once.
+pub fn run_round<R: Threads + Wait, G: Gate, T, F: FnOnce() -> T>(
     rt: &R,
     alloc: Global,
     queue: &DeleteQueue,
     writers: Vec<ThreadWriter>,
     shares: Vec<Share>,
     gate: &G,
-) -> Result<Vec<Worked>, NoMemory>
+    beside: F,
+) -> (T, Result<Vec<Worked>, NoMemory>)
     requires workers { AllZip (IsAtWork queue.now) writers.items shares.items }
-    ensures works { IfOk result (λ all. AreWorked queue.now writers.items shares.items all.items) }
+    requires beside { F.IsAlwaysCallable beside }
+    ensures beside { F.post beside result.0 }
+    ensures works { IfOk result.1 (λ all.
+        AreWorked queue.now writers.items shares.items all.items) }
 {
-    let started = Vec::with_capacity(alloc, writers.len())?;
-    let all = Vec::with_capacity(alloc, writers.len())?;
-    Ok(thread::scope(
+    let (started, all) = match make_room(alloc, writers.len()) {
+        Ok(room) => room,
+        Err(error) => return (beside(), Err(error)),
+    };
+    let (done, all) = thread::scope(
         thread::scope_env(),
         rt,
-        move |scope| -> Vec<Worked>
+        move |scope| -> (T, Vec<Worked>)
             requires workers { AllZip (IsAtWork queue.now) writers.items shares.items }
+            requires beside { F.IsAlwaysCallable beside }
             requires empty { (started.items ≡ []) × (all.items ≡ []) }
             requires started { length writers.items ≤ vec_capacity started }
             requires all { length writers.items ≤ vec_capacity all }
-            ensures { AreWorked queue.entry.now writers.items shares.items result.items }
+            ensures beside { F.post beside result.0 }
+            ensures works { AreWorked queue.entry.now writers.items shares.items result.1.items }
         {
             let started = start_all(scope, queue, writers, shares, gate, started);
-            come_all(rt, started, all)
+            let done = beside();
+            let all = come_all(rt, started, all);
+            (done, all)
         },
+    );
+    (done, Ok(all))
+}
+
+/// Room for so many workers that were started and that came back.
+fn make_room(alloc: Global, count: usize) -> Result<(Vec<Started>, Vec<Worked>), NoMemory>
+    ensures empty { IfOk result (λ r. (r.0.items ≡ []) × (r.1.items ≡ [])) }
+    ensures started { IfOk result (λ r. count ≤ vec_capacity r.0) }
+    ensures all { IfOk result (λ r. count ≤ vec_capacity r.1) }
+{
+    Ok((
+        Vec::with_capacity(alloc, count)?,
+        Vec::with_capacity(alloc, count)?,
     ))
 }
 

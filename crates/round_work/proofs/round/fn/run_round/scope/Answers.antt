@@ -2,8 +2,8 @@ use Rattle.std.proofs.Common.{arith}
 use Rattle.round_work.proofs.Workers.{started_many, worked_all}
 use Rattle.round_work.proofs.round.fn.run_round.scope.Goals as goal
 
-pub come_all-requires : goal.come_all-requires
-come_all-requires g c =
+pub come_all-all-requires : goal.come_all-all-requires
+come_all-all-requires g c =
     let q = c.captures.queue.now in
     record {
       room = (
@@ -16,5 +16,7 @@ come_all-requires g c =
 
 pub returns : goal.returns
 returns g c =
-    worked_all c.captures.queue.now c.captures.writers.items c.captures.shares.items c.start_all-started.result.items c.come_all.result.items
-    c.start_all-started.ensures.started c.come_all.ensures
+    let works =
+    worked_all c.captures.queue.now c.captures.writers.items c.captures.shares.items c.start_all-started.result.items
+    c.come_all-all.result.items c.start_all-started.ensures.started c.come_all-all.ensures in
+    record { beside = c.beside-done.ensures; works = works }
