@@ -1,5 +1,5 @@
 //! The lines of a script, done in rounds by workers that run at the same time.
-ghost use Rattle.std.specs.Prelude.{◌≡◌, ◌≤◌, ℕ, List as ListOf, [], length, IfOk, OnOk, OnErr, Err, false};
+ghost use Rattle.std.specs.Prelude.{◌≡◌, ◌≤◌, ℕ, List as ListOf, [], length, IfOk, OnOk, OnErr, Err, None, false};
 ghost use Rattle.ix_outside.specs.Causes.{Rose};
 ghost use Rattle.op_script.specs.Shape.{AreScriptLines};
 ghost use Rattle.index_run.specs.Doing.{CanBegin};
@@ -9,7 +9,7 @@ ghost use Rattle.index_run.specs.Driving.{HasCome, IsCut, IsOver, Run};
 ghost use Rattle.index_run.specs.Rounds.{doing_lines, given};
 
 use crate::outcomes::outcomes_of;
-use crate::rounds::{Ran, do_round};
+use crate::rounds::{Ran, do_round, write_pending};
 use index_writer::{CommitInfo, IndexWriter, WriterFault};
 use ix_base::{List, NoMemory};
 use ix_outside::{Gate, Store};
@@ -35,6 +35,7 @@ struct Rounds {
 /// Does the lines, and returns what became of each, beside the writer. The lines of caller c are done
 /// by worker c mod `threads`, in their order; the workers run at the same time. A commit ends the round
 /// of all, and so does a worker whose part of the queue is full: what is left is done in later rounds.
+/// A round's commit is written while the workers of the next one run, and that of the last round at once.
 pub fn do_lines<R: Threads + Wait + Sync, S: Store, G: Gate>(
     rt: &R,
     alloc: Global,
@@ -81,8 +82,9 @@ pub fn do_lines<R: Threads + Wait + Sync, S: Store, G: Gate>(
     }
 }
 
-/// Does rounds until each task was told something. There is none without a task that is open, and each
-/// tells one something: so there are no more of them than lines that write or commit.
+/// Does rounds until each task was told something, and writes their commits. There is no round without
+/// a task that is open, and each tells one something: so there are no more of them than lines that
+/// write or commit.
 fn do_rounds<R: Threads + Wait + Sync, S: Store, G: Gate>(
     rt: &R,
     alloc: Global,
@@ -92,6 +94,7 @@ fn do_rounds<R: Threads + Wait + Sync, S: Store, G: Gate>(
     shares: Vec<Share>,
 ) -> Ran<S, Rounds>
     requires threads { (1 ≤ threads) × (threads ≤ 16) }
+    requires out { writer.state.out ≡ false }
     requires come { (r : Run) × (lines : ListOf Line) × (r.workers ≡ threads)
         × HasCome r lines shares.items [] writer.state (S.disk writer.store) }
     ensures come { (r : Run) (lines : ListOf Line) → r.workers ≡ threads
@@ -101,6 +104,7 @@ fn do_rounds<R: Threads + Wait + Sync, S: Store, G: Gate>(
     ensures cut { (r : Run) (lines : ListOf Line) → r.workers ≡ threads
         → HasCome r lines shares.items [] writer.state (S.disk writer.store)
         → OnErr result.came (IsCut r lines (S.disk result.writer.store)) }
+    ensures written { OnOk result.came (result.writer.state.pending ≡ None) }
     ensures done { IfOk result.came (λ x. AreDone x.shares.items) }
     ensures few { (lines : ListOf Line) → AreShares threads lines shares.items
         → IfOk result.came (λ x. x.count ≤ length (doing_lines lines)) }
@@ -126,13 +130,48 @@ fn do_rounds<R: Threads + Wait + Sync, S: Store, G: Gate>(
             Err(error) => return Ran::stopped(writer, WriterFault::from(error)),
         }
     }
-    Ran {
+    write_last(
         writer,
-        came: Ok(Rounds {
+        Rounds {
             shares,
             commits,
             count,
-        }),
+        },
+    )
+}
+
+/// Writes the commit with which the last round ended, if it ended with one, and notes it.
+fn write_last<S: Store>(writer: IndexWriter<S>, rounds: Rounds) -> Ran<S, Rounds>
+    requires come { (r : Run) × (lines : ListOf Line)
+        × HasCome r lines rounds.shares.items rounds.commits.items writer.state
+        (S.disk writer.store) }
+    ensures come { (r : Run) (lines : ListOf Line)
+        → HasCome r lines rounds.shares.items rounds.commits.items writer.state
+        (S.disk writer.store) → IfOk result.came (λ x. HasCome r lines rounds.shares.items
+        x.commits.items result.writer.state (S.disk result.writer.store)) }
+    ensures cut { (r : Run) (lines : ListOf Line)
+        → HasCome r lines rounds.shares.items rounds.commits.items writer.state
+        (S.disk writer.store) → OnErr result.came (IsCut r lines (S.disk result.writer.store)) }
+    ensures written { OnOk result.came (result.writer.state.pending ≡ None) }
+    ensures same { IfOk result.came (λ x.
+        (x.shares ≡ rounds.shares) × (x.count ≡ rounds.count)) }
+    ensures closed { result.came ≡ Err WriterFault.Closed → ⊥ }
+    ensures later { S.fault_count writer.store ≤ S.fault_count result.writer.store }
+    ensures failed { result.came ≡ Err WriterFault.Store
+        → Rose (S.fault_count writer.store) (S.fault_count result.writer.store) }
+{
+    let mut rounds = rounds;
+    let Ran { writer, came } = write_pending(writer);
+    let commit = match came {
+        Ok(commit) => commit,
+        Err(fault) => return Ran::stopped(writer, fault),
+    };
+    match note(&mut rounds.commits, commit) {
+        Ok(()) => Ran {
+            writer,
+            came: Ok(rounds),
+        },
+        Err(error) => Ran::stopped(writer, WriterFault::from(error)),
     }
 }
 

@@ -25,6 +25,8 @@ mod telling;
 #[cfg(test)]
 mod tests;
 #[cfg(test)]
+mod tests_beside;
+#[cfg(test)]
 mod tests_commands;
 #[cfg(test)]
 mod tests_crash;

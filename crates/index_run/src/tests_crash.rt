@@ -3,6 +3,7 @@
 use crate::tests::{ADD_A1, ADD_A2, ALL, COMMIT, ONE_HIT, run_script};
 use ix_memory::{FuseStore, MemoryStore};
 use std::alloc::Global;
+use std::process::Abort;
 use std::sync::Wait;
 use std::test::*;
 use std::thread::Threads;
@@ -34,15 +35,16 @@ const TWO: Found = Found {
 };
 
 /// The store after a first session, and a second one that ends with the status after so many of its
-/// calls that change the store.
+/// calls that change the store. It has a line behind its commit, or none.
 fn stopped<R: Threads + Wait + Sync>(
     rt: &R,
     alloc: Global,
     changes: u64,
+    behind: &str,
 ) -> Result<(u8, MemoryStore), Fail> {
     let first = run_script(rt, alloc, &[ADD_A1, COMMIT], MemoryStore::new(alloc))?;
     let fuse = FuseStore::new(first.store, READING_CALLS.saturating_add(changes));
-    let second = run_script(rt, alloc, &[ADD_A2, COMMIT], fuse)?;
+    let second = run_script(rt, alloc, &[ADD_A2, COMMIT, behind], fuse)?;
     Ok((second.status, second.store.into_inner()))
 }
 
@@ -74,23 +76,35 @@ fn finds<R: Threads + Wait + Sync>(
 }
 
 /// Up to the rename the first commit is there alone, once the directory is synced both are, and
-/// between them one or both.
-#[test]
-fn stops_after_each_change(rt: HostRuntime) -> Result<(), Fail> {
-    let alloc = rt.alloc();
+/// between them one or both. A line behind the commit, told while it is written, changes nothing.
+fn check_stops<R: Threads + Wait + Sync + Abort>(
+    rt: &R,
+    alloc: Global,
+    behind: &str,
+) -> Result<(), Fail> {
     for changes in 0..=WRITING_CALLS {
-        let (status, store) = stopped(&rt, alloc, changes)?;
-        assert!(rt; status == (if changes < WRITING_CALLS { 7 } else { 0 }));
+        let (status, store) = stopped(rt, alloc, changes, behind)?;
+        assert!(*rt; status == (if changes < WRITING_CALLS { 7 } else { 0 }));
         for choice in 0..16u32 {
-            let one = finds(&rt, alloc, &store, choice, ONE)?;
-            let two = finds(&rt, alloc, &store, choice, TWO)?;
-            assert!(rt;
+            let one = finds(rt, alloc, &store, choice, ONE)?;
+            let two = finds(rt, alloc, &store, choice, TWO)?;
+            assert!(*rt;
                 (one && changes < WRITING_CALLS) || (two && changes + 1 >= WRITING_CALLS),
                 "changes {changes} choice {choice}"
             );
         }
     }
     Ok(())
+}
+
+#[test]
+fn stops_after_each_change(rt: HostRuntime) -> Result<(), Fail> {
+    check_stops(&rt, rt.alloc(), "")
+}
+
+#[test]
+fn stops_after_each_change_beside_a_round(rt: HostRuntime) -> Result<(), Fail> {
+    check_stops(&rt, rt.alloc(), ADD_A1)
 }
 
 /// A session whose reads fail leaves the store as it was.
