@@ -38,7 +38,7 @@ use Rattle.index_run.specs.Leaving.{CommitLaws, IsNextCommit, first_numbers}
 use Rattle.index_run.specs.Replied.{CanTell, IsCounted}
 use Rattle.index_run.specs.RepliedLaws.{outcomes_counted}
 use Rattle.index_run.specs.Outcomes.{AreOutcomes}
-use Rattle.index_run.specs.Rounds.{gave_of, pieces_of, share_of, writers_of}
+use Rattle.index_run.specs.Rounds.{AllCame, gave_of, pieces_of, share_of, writers_of}
 use Rattle.index_run.proofs.DiskAfter.{crash_longer, disk_commit, disk_count, disk_same, disk_start}
 use Rattle.index_run.proofs.LogNumbers.{numbers_whole}
 use Rattle.index_run.proofs.RunEnds.{stops_files}
@@ -218,22 +218,22 @@ pub round_done : (r : Run) (lines : List Line) (commits : List Pair) (threads : 
     (shares news : List Share) (worked : List Worked) (parts : RoundParts) (now : Option Disk) → r.workers ≡ threads
     → (come : HasCome r lines shares commits v now) → v.pending ≡ None → v.out ≡ true
     → v.published.upto ≡ w.published.upto → v.buffer ≡ w.buffer → IsBegun threads w round
-    → AreWorked round.queue round.writers.items shares worked → parts.queue ≡ round.queue
+    → AreWorked round.queue round.writers.items shares worked → AllCame worked → parts.queue ≡ round.queue
     → parts.writers.items ≡ writers_of worked → pieces_of parts.pieces.items ≡ gave_of worked
     → news ≡ map share_of worked → IsRound r lines shares news come.log v parts now
-round_done r lines commits threads w v round shares news worked parts now size come pending out upto buffer begun all queue writers pieces news_are =
+round_done r lines commits threads w v round shares news worked parts now size come pending out upto buffer begun all came queue writers pieces news_are =
     let are : AreShares threads lines shares =
     subst (λ (n : ℕ). AreShares n lines shares) size come.done.shares_are in
     record {
       before = come.done;
       pending = pending;
       go_on =
-          subst (AllZip GoesOn shares) (sym news_are) (all_go_on round.queue round.writers.items shares worked all);
+          subst (AllZip GoesOn shares) (sym news_are) (all_go_on round.queue round.writers.items shares worked all came);
       out = out;
       parts_are =
           subst (λ (ss : List Share). ArePartsOf v.published.upto (pairs_since shares ss) parts) (sym news_are)
           (parts_back threads v round lines shares worked parts (begun_on threads w v round upto buffer begun) are all
-          queue writers pieces);
+          came queue writers pieces);
     }
 
 -- ---- a round was ended

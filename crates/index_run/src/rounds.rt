@@ -92,13 +92,13 @@ fn part(
         let Worked {
             writer,
             share,
+            pieces: given,
             stop,
         } = one;
         if stop == Stop::NoMemory {
             return Err(NoMemory);
         }
-        let mut share = share;
-        pieces.push(share.take_gave(alloc))?;
+        pieces.push(given.into_vec())?;
         writers.push(writer)?;
         shares.push(share)?;
     }
