@@ -19,6 +19,7 @@ const MOST_TURNS: u64 = 4_000_000;
 /// Hears of a store's calls before they are done.
 trait Watch: Drop {
     fn before_sync(&self);
+
     fn before_rename(&self);
 }
 
@@ -149,7 +150,8 @@ fn commit_beside_round(rt: HostRuntime) -> Result<(), Fail> {
     let script = [ADD_A1, COMMIT, ADD_A2];
     let done = run_watched(&rt, alloc, "1", &script, store, &*meeting)?;
     assert!(rt; meeting.heard() == (1, 1, false));
-    let report = "{\"line\":1,\"seq\":1}\n{\"docs\":1,\"line\":2,\"seq\":2}\n{\"line\":3,\"seq\":3}\n";
+    let report =
+        "{\"line\":1,\"seq\":1}\n{\"docs\":1,\"line\":2,\"seq\":2}\n{\"line\":3,\"seq\":3}\n";
     let _store = ended(&rt, done, 0, report);
     Ok(())
 }
@@ -209,14 +211,22 @@ fn a_commit_that_fails(rt: HostRuntime) -> Result<(), Fail> {
     let alloc = rt.alloc();
     let behind: [&[&str]; 2] = [&[ADD_A2, COMMIT], &[ADD_A2, COMMIT, ADD_A1]];
     for script in behind {
-        // The list, five reads, and a write and a sync of the segment's rows come before.
-        let calls = vec![in alloc; 10u64]?;
+        // The list, five reads, the writes of the segment's four files and the sync of its rows come
+        // before.
+        let calls = vec![in alloc; 12u64]?;
         let store = one_document(&rt, alloc)?.failing(calls);
         let done = run_script(&rt, alloc, script, store)?;
         let store = ended(&rt, done, 7, "{\"status\":7,\"why\":\"store\"}\n");
         let none = Vec::new(alloc);
-        let listed: Done<MemoryStore> =
-            run_words(&rt, alloc, &["list"], &[], store, none, Vec::new(alloc))?;
+        let listed: Done<MemoryStore> = run_words(
+            &rt,
+            alloc,
+            &["list"],
+            &[],
+            store,
+            none,
+            Vec::new(alloc),
+        )?;
         let _store = ended(&rt, listed, 0, "{\"commit\":2,\"docs\":1}\n");
     }
     Ok(())
