@@ -20,7 +20,6 @@ pub mod Searchable
 pub mod Summarised
 pub mod Listed
 pub mod Finish
-pub mod Checked
 pub mod Commanded
 pub mod Promised
 pub mod Ended
