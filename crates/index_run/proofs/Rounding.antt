@@ -74,6 +74,11 @@ cut_done r lines shares log w now h =
       standing = disk.standing;
     }
 
+-- a number that is there
+pub some_pending : (pending : Option ℕ) → (pending ≡ None → ⊥) → (s : ℕ) × (pending ≡ Some s)
+some_pending None some = absurd (some refl)
+some_pending (Some s) some = (s, refl)
+
 -- a stop while the pending commit was written
 pub cut_written : (r : Run) (lines : List Line) (shares : List Share) (log : List Line) (w : State) (s : ℕ)
     (old now : Option Disk) → CommitLaws → HasDone r lines shares log w old → w.pending ≡ Some s
