@@ -24,7 +24,7 @@ use Rattle.line_shares.specs.ShareLaws.{shares_go_on}
 use Rattle.line_shares.specs.TellLaws.{pairs_are, tells_since}
 use Rattle.line_shares.specs.Tells.{pairs_since, told_since}
 use Rattle.index_writer.specs.declared.round.RoundEnd.{RoundEnd}
-use Rattle.index_writer.specs.declared.round.RoundEnd.TheVariants.{Committed, Turned, Ran}
+use Rattle.index_writer.specs.declared.round.RoundEnd.TheVariants as ending
 use Rattle.index_writer.specs.declared.round.RoundParts.{RoundParts}
 use Rattle.index_writer.specs.declared.fault.WriterFault.{WriterFault}
 use Rattle.index_writer.specs.declared.state.State.{State}
@@ -73,6 +73,11 @@ cut_done r lines shares log w now h =
       only = disk.only;
       standing = disk.standing;
     }
+
+-- a number that is there
+pub some_pending : (pending : Option ℕ) → (pending ≡ None → ⊥) → (s : ℕ) × (pending ≡ Some s)
+some_pending None some = absurd (some refl)
+some_pending (Some s) some = (s, refl)
 
 -- a stop while the pending commit was written
 pub cut_written : (r : Run) (lines : List Line) (shares : List Share) (log : List Line) (w : State) (s : ℕ)
@@ -180,7 +185,7 @@ module _ (r : Run) (lines : List Line) (olds news : List Share) (log : List Line
       × (commit_numbers (base_of r + length log) more ≡ number_in pending)
 
   pending_by : (x : RoundEnd) → EndsBy x (seconds e.ts) v → (pending : Option ℕ) × IsPending pending
-  pending_by (Committed s) by = (
+  pending_by (ending.Committed s) by = (
     Some s,
     (
       by.1,
@@ -188,8 +193,8 @@ module _ (r : Run) (lines : List Line) (olds news : List Share) (log : List Line
       one_in by.2.0 by.2.1 by.2.2 ∙ ap (λ (n : ℕ). n ∷ []) (sym by.0),
     ),
   )
-  pending_by Turned by = (None, (by.0, due_none by.1, none_in by.1))
-  pending_by Ran by = (None, (by.0, due_none by.1, none_in by.1))
+  pending_by ending.Turned by = (None, (by.0, due_none by.1, none_in by.1))
+  pending_by ending.Ran by = (None, (by.0, due_none by.1, none_in by.1))
 
   is_pending : IsPending v.pending
   is_pending = let found = pending_by end e.by_end in subst IsPending (sym found.1.0) found.1

@@ -1,0 +1,24 @@
+use Rattle.std.proofs.Common.{◌≡◌, ◌∙◌, ◌+◌, ◌≤◌, ℕ, arith, subst, sym, ap}
+use Rattle.std.specs.Prelude.{OnErr}
+use Rattle.index_run.proofs.RoundCount.{few_open}
+use Rattle.index_run.proofs.Rounding.{cut_done, stopped_cut}
+use Rattle.index_run.proofs.lines.do_rounds.Goals as goal
+
+pub returns-in-Err-clause-cut : goal.returns-in-Err-clause-cut
+returns-in-Err-clause-cut g c = λ r lines size come.
+    let at = c.loop-alloc in
+    stopped_cut g.S.Store.disk r lines _ _ _ c.stopped.ensures
+    (c.in-Err.ensures.cut r lines at.commits.items size (at.invariant.come r lines size come))
+
+pub returns-in-Err-note-clause-cut : goal.returns-in-Err-note-clause-cut
+returns-in-Err-note-clause-cut g c = λ r lines size come.
+    let at = c.loop-alloc in
+    let next = c.in-Ok.ensures.come r lines at.commits.items size (at.invariant.come r lines size come) in
+    stopped_cut g.S.Store.disk r lines _ _ _ c.stopped.ensures (cut_done r lines _ next.log _ _ next.done)
+
+pub returns-clause-come : goal.returns-clause-come
+returns-clause-come g c = λ r lines size come.
+    c.write_last.ensures.come r lines (c.loop-alloc.invariant.come r lines size come)
+
+pub returns-clause-few : goal.returns-clause-few
+returns-clause-few g c = ?
