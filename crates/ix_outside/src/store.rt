@@ -60,7 +60,7 @@ impl<T: Drop> From<AllocFailed<T>> for StoreFault {
 /// A call that returned `Failed` has taken no step, or a part of its own. A call that was out of
 /// memory has changed nothing.
 ///
-/// A store can be dropped, so that a closure may own it: a commit is written in one while workers run.
+/// Every store can be dropped, and so can what owns one.
 pub trait Store: Drop {
     ghost use Rattle.ix_outside.specs.declared.step.Step.TheVariants.{Wrote, Synced, Renamed, Deleted, Settled};
 
