@@ -224,8 +224,8 @@ fn rises<R: Threads + Wait + Sync + Abort>(
 
 /// After the first run's segment come those of two rounds; one that is merged of two is the fourth.
 fn has_merged(alloc: Global, store: MemoryStore) -> Result<bool, Fail> {
-    let mut store = store;
-    Ok(store.read(alloc, FileName::Rows(4))?.is_some())
+    let mut image = store.crash(alloc, 0)?;
+    Ok(image.read(alloc, FileName::Rows(4))?.is_some())
 }
 
 /// A run of three commits whose segments are merged two by two.
