@@ -123,7 +123,7 @@ const BETWEEN: Case = Case {
         Deed::Turn,
     ],
     rows: 2,
-    shown: "SSM 15 6; 3:1@15 g11; 4:1@15 h15; 5:5@15 b2=5 d4=7 e5=8",
+    shown: "SSM 15 6; 3:1@15 g11; 4:1@15 h15; 5:6@15 b2=5 d4=7 e5=8",
 };
 
 /// Nothing is merged of no segment, and of one.
@@ -235,10 +235,10 @@ fn large_shown<R: Threads + Sync>(rt: &R, alloc: Global) -> Result<String, Fail>
     Ok(out)
 }
 
-/// The dead rows that were read before they died are in the merged segment, and the others aren't.
+/// The rows that died since the merge was started are in the merged segment, as dead ones.
 #[test]
 fn many_rows_in_steps(rt: HostRuntime) -> Result<(), Fail> {
     let shown = large_shown(&rt, rt.alloc())?;
-    assert!(rt; shown.as_str() == "SSSSSSSSSSSSSSSSSSSSSSSSSSSSSM 4; 3:2250 1500");
+    assert!(rt; shown.as_str() == "SSSSSSSSSSSSSSSSSSSSSSSSSSSSSM 4; 3:3000 1500");
     Ok(())
 }
