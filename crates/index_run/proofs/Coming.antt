@@ -1,9 +1,17 @@
 -- How far a run has come, with one round more.
-use Rattle.std.proofs.Common.{◌≡◌, ◌∙◌, ℕ, ◌+◌, ◌<◌, ◌≤◌, List, [], ◌∷◌, ◌++◌, length, map, true, false, refl, sym, ap, subst, arith}
+use Rattle.std.proofs.Common.{◌≡◌, ◌∙◌, ℕ, ◌+◌, ◌<◌, ◌≤◌, ◌^◌, List, [], ◌∷◌, ◌++◌, length, map, true, false, refl, sym, ap, subst, arith}
 use Rattle.std.specs.Prelude.{Option, Some, None, Result, Ok, Err, IfOk}
 use Rattle.std.specs.List.{AllByRecursion, AllZip}
 use Rattle.std.proofs.lemmas.List.{append-nil, map-append}
-use Rattle.ix_outside.specs.Disk.{Disk}
+use Rattle.ix_base.specs.Steps.{after}
+use Rattle.ix_base.specs.declared.document.Row.{Row}
+use Rattle.ix_outside.specs.Calls.{LeavesOnly}
+use Rattle.ix_outside.specs.Crash.{MayHold}
+use Rattle.ix_outside.specs.Disk.{Disk, Told, told_files}
+use Rattle.ix_outside.specs.Files.{Files, Changes}
+use Rattle.ix_outside.specs.Images.{Follows, Reaches}
+use Rattle.commit_point.specs.Steps.{KeepsMade, OnlyCommits}
+use Rattle.flush_control.specs.declared.published.Published.{Published}
 use Rattle.op_script.specs.Shape.{LinesRise}
 use Rattle.op_script.specs.declared.script.Line.{Line}
 use Rattle.round_work.specs.declared.share.Share.{Share}
@@ -18,21 +26,24 @@ use Rattle.index_writer.specs.declared.round.CommitInfo.{CommitInfo}
 use Rattle.index_writer.specs.declared.round.Round.{Round}
 use Rattle.index_writer.specs.declared.round.RoundParts.{RoundParts}
 use Rattle.index_writer.specs.declared.state.State.{State}
-use Rattle.index_writer.specs.Rounds.{ArePartsOf, IsBegun}
-use Rattle.index_writer.specs.Ready.{IsReady, IsSound}
-use Rattle.run_log.specs.Headline.{commit_numbers, numbered}
+use Rattle.index_writer.specs.Rounds.{AreBegunFrom, ArePartsOf, IsBegun}
+use Rattle.index_writer.specs.Ready.{HasRows, IsReady, IsSound}
+use Rattle.index_writer.specs.Storing.{Commits, GoesOn as WriterGoesOn, MayCommit, Settles, on_commit}
+use Rattle.run_log.specs.Headline.{commit_numbers, numbered, operations}
 use Rattle.run_log.specs.Lists.{each_behind, each_in_both, each_pair}
-use Rattle.run_log.specs.NumberLaws.{commits_append, commits_within, rows_at_front}
-use Rattle.index_run.specs.Doing.{CanBegin}
-use Rattle.index_run.specs.Driving.{EndsRound, HasCome, HasDone, IsAt, IsCut, IsDocs, IsOver, IsRound, Run, base_of}
+use Rattle.run_log.specs.NumberLaws.{commits_append, commits_within, rows_at_all, rows_at_front}
+use Rattle.index_run.specs.Doing.{CanBegin, IsWriterOn}
+use Rattle.index_run.specs.Driving.{EndsRound, HasCome, HasDone, IsAt, IsCut, IsDocs, IsDue, IsOver, IsRound, Run, base_of, number_in}
+use Rattle.index_run.specs.Leaving.{CommitLaws, IsNextCommit, first_numbers}
 use Rattle.index_run.specs.Replied.{CanTell, IsCounted}
 use Rattle.index_run.specs.RepliedLaws.{outcomes_counted}
 use Rattle.index_run.specs.Outcomes.{AreOutcomes}
-use Rattle.index_run.specs.Rounds.{gave_of, given, pieces_of, share_of, writers_of}
-use Rattle.index_run.proofs.DiskAfter.{crash_longer, disk_same, disk_start}
+use Rattle.index_run.specs.Rounds.{AllCame, gave_of, pieces_of, share_of, writers_of}
+use Rattle.index_run.proofs.DiskAfter.{crash_longer, disk_commit, disk_count, disk_same, disk_start}
+use Rattle.index_run.proofs.LogNumbers.{numbers_whole}
 use Rattle.index_run.proofs.RunEnds.{stops_files}
 use Rattle.index_run.proofs.Workers.{all_go_on, parts_back}
-use Rattle.index_run.proofs.WriterOn.{writer_same, writer_start}
+use Rattle.index_run.proofs.WriterOn.{writer_commit, writer_same, writer_start}
 
 abbrev Pair : Type 0
 Pair = ℕ × ℕ
@@ -43,14 +54,16 @@ pub at_start : (r : Run) → CanBegin r.first → IsAt r [] r.first r.start
 at_start r can = record {
   first = can;
   writer = writer_start r.first can;
-  pending = can.pending;
+  front = 0;
+  within = omega arith;
+  due = subst (IsDue r.first [] 0 r.first.published.upto) (sym can.pending) refl;
   disk = disk_start r.first r.start can;
 }
 
 -- a stop before the lines were dealt out
 pub cut_start : (r : Run) (lines : List Line) → CanBegin r.first → IsCut r lines r.start
 cut_start r lines can =
-    let disk = (at_start r can).disk in
+    let disk = disk_start r.first r.start can in
     record {
       log = numbered lines;
       numbering = λ caller. refl;
@@ -61,10 +74,9 @@ cut_start r lines can =
       standing = disk.standing;
     }
 
-pub come_start : (r : Run) (lines : List Line) (shares : List Share) → CanBegin r.first → r.first.out ≡ false
-    → LinesRise 1 lines → AreShares r.workers lines shares → AllByRecursion IsFresh shares
-    → HasCome r lines shares [] r.first r.start
-come_start r lines shares can out rise are fresh = record {
+pub come_start : (r : Run) (lines : List Line) (shares : List Share) → CanBegin r.first → LinesRise 1 lines
+    → AreShares r.workers lines shares → AllByRecursion IsFresh shares → HasCome r lines shares [] r.first r.start
+come_start r lines shares can rise are fresh = record {
   log = [];
   done = record {
     rise = rise;
@@ -73,8 +85,7 @@ come_start r lines shares can out rise are fresh = record {
     log_is = fresh_log r.workers lines shares are fresh;
     told = fresh_told r.workers (base_of r) lines shares [] are fresh;
   };
-  out = out;
-  numbers = refl;
+  numbers = ap number_in can.pending;
   docs = tt;
 }
 
@@ -87,11 +98,15 @@ at_same : (r : Run) (log : List Line) (w v : State) (now : Option Disk) → IsAt
 at_same r log w v now at ready published written last since closed pending = record {
   first = at.first;
   writer = writer_same r.first w v log at.writer published closed ready;
-  pending = pending ∙ at.pending;
-  disk = disk_same r.first log (length log) w v r.start now published written last since at.disk;
+  front = at.front;
+  within = at.within;
+  due =
+      subst (λ (p : Published). IsDue r.first log at.front p.upto v.pending) (sym published)
+      (subst (IsDue r.first log at.front w.published.upto) (sym pending) at.due);
+  disk = disk_same r.first log at.front w v r.start now published written last since at.disk;
 }
 
-pub done_begun : (r : Run) (lines : List Line) (shares : List Share) (log : List Line) (w v : State) (now : Option Disk)
+done_begun : (r : Run) (lines : List Line) (shares : List Share) (log : List Line) (w v : State) (now : Option Disk)
     → v ≡ record w { out = true } → IsSound v → HasDone r lines shares log w now → HasDone r lines shares log v now
 done_begun r lines shares log w v now is sound h =
     let closed : v.closed ≡ w.closed = ap (λ (s : State). s.closed) is in
@@ -106,28 +121,119 @@ done_begun r lines shares log w v now is sound h =
       told = h.told;
     }
 
+pub come_begun : (r : Run) (lines : List Line) (shares : List Share) (commits : List Pair) (w v : State)
+    (old now : Option Disk) → now ≡ old → v ≡ record w { out = true } → IsSound v
+    → HasCome r lines shares commits w old → HasCome r lines shares commits v now
+come_begun r lines shares commits w v old now same is sound come =
+    subst (HasCome r lines shares commits v) (sym same) (record {
+      log = come.log;
+      done = done_begun r lines shares come.log w v old is sound come.done;
+      numbers =
+          ap (λ (s : State). map (λ (c : Pair). c.0) commits ++ number_in s.pending) is ∙ come.numbers;
+      docs = come.docs;
+    })
+
+-- ---- the pending commit was written
+
+-- the commit that is pending is the log's next one
+pub next_commit : (first : State) (log : List Line) (front upto s : ℕ) (pending : Option ℕ) → pending ≡ Some s
+    → IsDue first log front upto pending → IsNextCommit first log front s × (s ≡ upto)
+next_commit first log front upto s pending is due = subst (IsDue first log front upto) is due
+
+-- the commit of the log's last line has the rows of all its lines
+docs_written : (first w : State) (log : List Line) (c : CommitInfo) → IsWriterOn first log w
+    → c.number ≡ w.published.upto → ((rows : List Row) → HasRows w rows → c.docs ≡ length rows)
+    → IsDocs first log c.number c.docs
+docs_written first w log c on is docs_of rows has =
+    let at_end : c.number ≡ first.published.upto + length log = is ∙ on.upto in
+    docs_of (after rows first.published.upto (operations log)) (on.rows rows has)
+    ∙ ap length (sym (rows_at_all first.published.upto rows log c.number at_end))
+
+module _ (r : Run) (lines : List Line) (shares : List Share) (commits : List Pair) (w v : State) (old now : Option Disk)
+    (come : HasCome r lines shares commits w old) where
+  abbrev log : List Line
+  log = come.log
+
+  pub come_written : (c : CommitInfo) → CommitLaws → w.pending ≡ Some c.number → v ≡ on_commit w → IsReady v
+      → w.published.next_id ≤ 2 ^ 62 → ((rows : List Row) → HasRows w rows → c.docs ≡ length rows)
+      → ((rows : List Row) → HasRows w rows → HasRows v rows)
+      → (w.published.next_id ≤ 2 ^ 62 → Changes (Commits w v) (told_files old) (told_files now))
+      → (w.published.next_id ≤ 2 ^ 62 → Follows (Commits w v) (MayHold old) (MayHold now))
+      → (w.published.next_id ≤ 2 ^ 62 → Settles w old now)
+      → (w.published.next_id ≤ 2 ^ 62 → LeavesOnly old now (Reaches (MayCommit w) (MayHold old)))
+      → Told OnlyCommits old now
+      → ((files : Files) → told_files old ≡ Some files → WriterGoesOn files w → Told KeepsMade old now)
+      → HasCome r lines shares (commits ++ (c.number, c.docs) ∷ []) v now
+  come_written c laws pending is ready room docs_of keeps_rows made acknowledged settled crash only standing =
+      let at = come.done.at in
+      let due = next_commit r.first log at.front w.published.upto c.number w.pending pending at.due in
+      let next : IsNextCommit r.first log at.front w.published.upto =
+      subst (IsNextCommit r.first log at.front) due.1 due.0 in
+      let none : v.pending ≡ None = ap (λ (s : State). s.pending) is in
+      record {
+        log = log;
+        done = record {
+          rise = come.done.rise;
+          shares_are = come.done.shares_are;
+          at = record {
+            first = at.first;
+            writer = writer_commit r.first w v log at.writer is ready keeps_rows;
+            front = length log;
+            within = omega arith;
+            due =
+                subst (IsDue r.first log (length log) v.published.upto) (sym none)
+                (sym (numbers_whole (base_of r) log));
+            disk =
+                disk_commit r.first w v log at.front r.start old now laws at.first at.writer at.within next is room made
+                acknowledged settled crash only standing at.disk;
+          };
+          log_is = come.done.log_is;
+          told = come.done.told;
+        };
+        numbers =
+            ap (λ (p : Option ℕ). map (λ (c : Pair). c.0) (commits ++ (c.number, c.docs) ∷ []) ++ number_in p) none
+            ∙ append-nil (map (λ (c : Pair). c.0) (commits ++ (c.number, c.docs) ∷ []))
+            ∙ map-append (λ (c : Pair). c.0) commits ((c.number, c.docs) ∷ [])
+            ∙ sym (ap (λ (p : Option ℕ). map (λ (c : Pair). c.0) commits ++ number_in p) pending)
+            ∙ come.numbers;
+        docs =
+            each_in_both (λ (p : Pair). IsDocs r.first log p.0 p.1) commits ((c.number, c.docs) ∷ []) come.docs
+            (docs_written r.first w log c at.writer due.1 docs_of, tt);
+      }
+
+-- ---- a round was done
+
+-- a round that was begun is one of a writer with the same number and size of its buffers
+begun_on : (n : ℕ) (w v : State) (round : Round) → v.published.upto ≡ w.published.upto → v.buffer ≡ w.buffer
+    → IsBegun n w round → IsBegun n v round
+begun_on n w v round upto buffer begun = record {
+  base = begun.base ∙ sym upto;
+  seats = begun.seats;
+  all = begun.all;
+  writers = subst (λ (size : ℕ). AreBegunFrom round.queue size 0 round.writers.items) (sym buffer) begun.writers;
+}
+
 -- what came back of the workers of a round that was begun
 pub round_done : (r : Run) (lines : List Line) (commits : List Pair) (threads : ℕ) (w v : State) (round : Round)
-    (shares news : List Share) (worked : List Worked) (parts : RoundParts) (old now : Option Disk) → r.workers ≡ threads
-    → (come : HasCome r lines shares commits w old) → IsBegun threads w round → v ≡ record w { out = true } → IsSound v
-    → now ≡ old → AreWorked round.queue round.writers.items shares worked → parts.queue ≡ round.queue
+    (shares news : List Share) (worked : List Worked) (parts : RoundParts) (now : Option Disk) → r.workers ≡ threads
+    → (come : HasCome r lines shares commits v now) → v.pending ≡ None → v.out ≡ true
+    → v.published.upto ≡ w.published.upto → v.buffer ≡ w.buffer → IsBegun threads w round
+    → AreWorked round.queue round.writers.items shares worked → AllCame worked → parts.queue ≡ round.queue
     → parts.writers.items ≡ writers_of worked → pieces_of parts.pieces.items ≡ gave_of worked
     → news ≡ map share_of worked → IsRound r lines shares news come.log v parts now
-round_done r lines commits threads w v round shares news worked parts old now size come begun is sound same all queue writers pieces news_are =
+round_done r lines commits threads w v round shares news worked parts now size come pending out upto buffer begun all came queue writers pieces news_are =
     let are : AreShares threads lines shares =
     subst (λ (n : ℕ). AreShares n lines shares) size come.done.shares_are in
-    let upto : w.published.upto ≡ v.published.upto = sym (ap (λ (s : State). s.published.upto) is) in
     record {
-      before =
-          subst (HasDone r lines shares come.log v) (sym same)
-          (done_begun r lines shares come.log w v old is sound come.done);
+      before = come.done;
+      pending = pending;
       go_on =
-          subst (AllZip GoesOn shares) (sym news_are) (all_go_on round.queue round.writers.items shares worked all);
-      out = ap (λ (s : State). s.out) is;
+          subst (AllZip GoesOn shares) (sym news_are) (all_go_on round.queue round.writers.items shares worked all came);
+      out = out;
       parts_are =
-          subst (λ (n : ℕ). ArePartsOf n (pairs_since shares news) parts) upto
-          (subst (λ (ss : List Share). ArePartsOf w.published.upto (pairs_since shares ss) parts) (sym news_are)
-          (parts_back threads w round lines shares worked parts begun are all queue writers pieces));
+          subst (λ (ss : List Share). ArePartsOf v.published.upto (pairs_since shares ss) parts) (sym news_are)
+          (parts_back threads v round lines shares worked parts (begun_on threads w v round upto buffer begun) are all
+          came queue writers pieces);
     }
 
 -- ---- a round was ended
@@ -152,46 +258,39 @@ all_stay first log more commits numbers docs =
     base : ℕ
     base = first.published.upto
 
-module _ (r : Run) (lines : List Line) (news : List Share) (commits : List Pair) (log : List Line) (v : State)
-    (now : Option Disk) (numbers : map (λ (c : Pair). c.0) commits ≡ commit_numbers (base_of r) log)
-    (docs : AllByRecursion (λ (c : Pair). IsDocs r.first log c.0 c.1) commits) (out : v.out ≡ false) where
-  more_numbers : (more : List Line) (some : List ℕ) → commit_numbers (base_of r + length log) more ≡ some
-      → map (λ (c : Pair). c.0) commits ++ some ≡ commit_numbers (base_of r) (log ++ more)
-  more_numbers more some is =
-      ap (λ (ns : List ℕ). ns ++ some) numbers
-      ∙ ap (λ (ns : List ℕ). commit_numbers (base_of r) log ++ ns) (sym is)
-      ∙ sym (commits_append (base_of r) log more)
+-- the commits that were written, where none is pending
+pub all_written : (base : ℕ) (log : List Line) (commits : List Pair) (pending : Option ℕ) → pending ≡ None
+    → map (λ (c : Pair). c.0) commits ++ number_in pending ≡ commit_numbers base log
+    → map (λ (c : Pair). c.0) commits ≡ commit_numbers base log
+all_written base log commits pending none numbers =
+    sym (append-nil (map (λ (c : Pair). c.0) commits))
+    ∙ sym (ap (λ (p : Option ℕ). map (λ (c : Pair). c.0) commits ++ number_in p) none)
+    ∙ numbers
 
-  pub come_on : (commit : Option CommitInfo) → EndsRound r lines news log commit v now
-      → HasCome r lines news (given commits commit) v now
-  come_on None ends = record {
-    log = log ++ ends.more;
-    done = ends.done;
-    out = out;
-    numbers =
-        sym (append-nil (map (λ (c : Pair). c.0) commits)) ∙ more_numbers ends.more [] ends.commit_is;
-    docs = all_stay r.first log ends.more commits numbers docs;
-  }
-  come_on (Some c) ends = record {
-    log = log ++ ends.more;
-    done = ends.done;
-    out = out;
-    numbers =
-        map-append (λ (p : Pair). p.0) commits ((c.number, c.docs) ∷ [])
-        ∙ more_numbers ends.more (c.number ∷ []) ends.commit_is.0;
-    docs =
-        each_in_both (λ (p : Pair). IsDocs r.first (log ++ ends.more) p.0 p.1) commits ((c.number, c.docs) ∷ [])
-        (all_stay r.first log ends.more commits numbers docs) (ends.commit_is.1, tt);
-  }
+pub come_on : (r : Run) (lines : List Line) (olds news : List Share) (commits : List Pair) (w v : State)
+    (now : Option Disk) → (come : HasCome r lines olds commits w now) → w.pending ≡ None
+    → EndsRound r lines news come.log v now → HasCome r lines news commits v now
+come_on r lines olds news commits w v now come none ends =
+    let log = come.log in
+    let numbers = all_written (base_of r) log commits w.pending none come.numbers in
+    record {
+      log = log ++ ends.more;
+      done = ends.done;
+      numbers =
+          ap (λ (ns : List ℕ). ns ++ number_in v.pending) numbers
+          ∙ ap (λ (ns : List ℕ). commit_numbers (base_of r) log ++ ns) (sym ends.commit_is)
+          ∙ sym (commits_append (base_of r) log ends.more);
+      docs = all_stay r.first log ends.more commits numbers come.docs;
+    }
 
 -- ---- the end
 
 -- what was told of the lines, where each was told something
 pub can_tell : (r : Run) (lines : List Line) (places : List Place) (shares : List Share) (commits : List Pair) (w : State)
     (now : Option Disk) → AllByRecursion (λ (l : Line). l.caller < 256) lines → places ≡ map place_of lines
-    → AreDone shares → (h : HasCome r lines shares commits w now)
+    → AreDone shares → w.pending ≡ None → (h : HasCome r lines shares commits w now)
     → CanTell (base_of r) lines h.log places shares commits
-can_tell r lines places shares commits w now callers places_are done h =
+can_tell r lines places shares commits w now callers places_are done none h =
     let are = h.done.shares_are in
     record {
       rise = h.done.rise;
@@ -201,17 +300,24 @@ can_tell r lines places shares commits w now callers places_are done h =
       done = done;
       numbering = log_whole r.workers lines shares h.log are done h.done.log_is;
       told = subst (λ (n : ℕ). AreTold n (base_of r) lines shares h.log) (sym are.count) h.done.told;
-      numbers = h.numbers;
+      numbers = all_written (base_of r) h.log commits w.pending none h.numbers;
     }
 
 -- the run is over
 pub over_of : (r : Run) (lines : List Line) (shares : List Share) (commits : List Pair) (became : List Outcome) (w : State)
-    (now : Option Disk) → AreDone shares → (h : HasCome r lines shares commits w now)
+    (now : Option Disk) → AreDone shares → w.pending ≡ None → (h : HasCome r lines shares commits w now)
     → AreOutcomes (IsCounted commits) (base_of r) h.log [] lines became → IsOver r lines became w now
-over_of r lines shares commits became w now done h are = record {
-  log = h.log;
-  over = h.done.at;
-  numbering = log_whole r.workers lines shares h.log h.done.shares_are done h.done.log_is;
-  outcomes =
-      outcomes_counted (IsDocs r.first h.log) commits (base_of r) h.log lines became h.docs are;
-}
+over_of r lines shares commits became w now done none h are =
+    let at = h.done.at in
+    let all : commit_numbers (base_of r) h.log ≡ first_numbers r.first h.log at.front =
+    subst (IsDue r.first h.log at.front w.published.upto) none at.due in
+    record {
+      log = h.log;
+      writer = at.writer;
+      disk =
+          disk_count r.first h.log at.front (length h.log) w r.start now
+          (sym all ∙ sym (numbers_whole (base_of r) h.log)) at.disk;
+      numbering = log_whole r.workers lines shares h.log h.done.shares_are done h.done.log_is;
+      outcomes =
+          outcomes_counted (IsDocs r.first h.log) commits (base_of r) h.log lines became h.docs are;
+    }

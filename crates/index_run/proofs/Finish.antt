@@ -165,14 +165,14 @@ over_same r lines outcomes seen w did now same still over =
 over_crash : (g : Given) (r : Run) (lines : List Line) (outcomes : List Outcome) (w : State) (now : Option Disk)
     → IsOnGiven g r.first → (o : IsOver r lines outcomes w now) → IsKept g r.start
     → LeavesOnly r.start now (HasSome g o.log)
-over_crash g r lines outcomes w now on o are = crash_some g r.first o.log r.start now on o.over.disk.crash are
+over_crash g r lines outcomes w now on o are = crash_some g r.first o.log r.start now on o.disk.crash are
 
 over_files : (g : Given) (r : Run) (lines : List Line) (outcomes : List Outcome) (w : State) (now : Option Disk)
     → told_files r.start ≡ Some g.files → IsOnGiven g r.first → (o : IsOver r lines outcomes w now)
     → IsSomeAnd (told_files now) (HasSome g o.log)
 over_files g r lines outcomes w now told on o =
     some_onto (told_files now) (HasAll g o.log) (HasSome g o.log) (λ f all. (length o.log, all))
-    (ends_files g r.first w o.log r.start now on told o.over.disk)
+    (ends_files g r.first w o.log r.start now on told o.disk)
 
 pub over_stops : (g : Given) (r : Run) (lines : List Line) (outcomes : List Outcome) (w : State) (now : Option Disk)
     → g.lines ≡ lines → CanRun g → told_files r.start ≡ Some g.files → IsOnGiven g r.first
@@ -180,15 +180,15 @@ pub over_stops : (g : Given) (r : Run) (lines : List Line) (outcomes : List Outc
 over_stops g r lines outcomes w now same can told on o =
     stops_by g o.log r.start now can (numbering_of g.lines lines o.log same o.numbering)
     (over_files g r lines outcomes w now told on o) (over_crash g r lines outcomes w now on o)
-    (own_some g r.first o.log r.start now on o.over.disk.crash)
+    (own_some g r.first o.log r.start now on o.disk.crash)
 
 pub over_keeps : (g : Given) (r : Run) (lines : List Line) (outcomes : List Outcome) (w : State) (now : Option Disk)
     → told_files r.start ≡ Some g.files → IsOnGiven g r.first → IsOver r lines outcomes w now → Keeps g r.start now
 over_keeps g r lines outcomes w now told on o = record {
   kept = kept_some g o.log now (over_files g r lines outcomes w now told on o);
   crash = λ are. keeps_some g o.log r.start now (over_crash g r lines outcomes w now on o are);
-  standing = o.over.disk.standing g.files told on.goes_on;
-  each = each_some g r.first o.log r.start now on o.over.disk.crash;
+  standing = o.disk.standing g.files told on.goes_on;
+  each = each_some g r.first o.log r.start now on o.disk.crash;
 }
 
 -- what became of the lines, by what was given
@@ -224,16 +224,16 @@ over_runs g r lines outcomes w now text wrote same can told on o written = recor
   log = o.log;
   numbering = numbering_of g.lines lines o.log same o.numbering;
   written = written;
-  files = ends_files g r.first w o.log r.start now on told o.over.disk;
-  images = λ are. ends_images g r.first w o.log r.start now on are o.over.disk;
+  files = ends_files g r.first w o.log r.start now on told o.disk;
+  images = λ are. ends_images g r.first w o.log r.start now on are o.disk;
   crash = over_crash g r lines outcomes w now on o;
   again = λ are room.
       let count : length o.log ≡ length (numbered g.lines) =
       same_count o.log (numbered lines) o.numbering ∙ sym (ap (λ (ls : List Line). length (numbered ls)) same) in
       ends_again g r.first w o.log r.start now on can told are
-      (omega (arith, room, count)) o.over.disk;
-  own_images = λ last. ends_own g r.first w o.log r.start now on last o.over.disk;
-  own_crash = own_some g r.first o.log r.start now on o.over.disk.crash;
+      (omega (arith, room, count)) o.disk;
+  own_images = λ last. ends_own g r.first w o.log r.start now on last o.disk;
+  own_crash = own_some g r.first o.log r.start now on o.disk.crash;
 }
 
 -- What is said of the text that was made, by the files that have all of the log's commits.
@@ -246,7 +246,7 @@ over_told : (g : Given) (r : Run) (lines : List Line) (outcomes : List Outcome) 
 over_told g r lines outcomes w now form (Err s) same can told on o text = tt
 over_told g r lines outcomes w now form (Ok bytes) same can told on o text =
     let found = the_files (told_files now) (HasAll g o.log)
-    (ends_files g r.first w o.log r.start now on told o.over.disk) in
+    (ends_files g r.first w o.log r.start now on told o.disk) in
     over_runs g r lines outcomes w now (form_text form g) (λ (told : List ℕ). bytes.items ≡ told) same can told on o
     (text found.0 found.1 found.2)
 
@@ -284,7 +284,7 @@ sums_of law g r lines outcomes w now base upto result same made can told on o fr
     first = from_is ∙ on.number
 
     last : upto ≡ g.base + length o.log
-    last = let end = o.over.writer.upto in let number = on.number in omega (arith, last_is, end, number)
+    last = let end = o.writer.upto in let number = on.number in omega (arith, last_is, end, number)
 
     count : count_by is_committed outcomes ≡ count_by (λ (l : Line). is_commit l.act) lines
     count = commits_counted (IsDocs r.first o.log) (base_of r) o.log [] lines outcomes o.outcomes
@@ -347,10 +347,10 @@ whole_in law g r form lines outcomes w now upto (Err s) rise made on told here l
 
     found : (f : Files) × (told_files now ≡ Some f) × CanBeRead f
     found = the_files (told_files now) CanBeRead
-        (reads g r.first w o.log r.start now told on here.number here.next_id here.stored o.over.disk)
+        (reads g r.first w o.log r.start now told on here.number here.next_id here.stored o.disk)
 
     last : upto ≡ g.base + length o.log
-    last = let end = o.over.writer.upto in let number = here.number in omega (arith, last_is, end, number)
+    last = let end = o.writer.upto in let number = here.number in omega (arith, last_is, end, number)
 
     can : (form : Form) → (form ≡ Summary → IsMade lines) → CanTell form upto found.0 outcomes
     can Report made =
@@ -376,7 +376,7 @@ pub untold : MadeRuns → (r : Run) (form : Form) (lines : List Line) (outcomes 
     → IfErr result (λ s. (s ≡ stop.Fault fault.Store) ⊎ (s ≡ stop.NoMemory)))
     → result ≡ Err (stop.Fault (fault.Damaged damaged)) → (r.start ≡ None) × (now ≡ None)
 untold law r form lines outcomes w now upto result damaged rise made begins on last_is o whole is =
-    let start = by r.start refl in (start, none_still r.start now o.over.disk.only start)
+    let start = by r.start refl in (start, none_still r.start now o.disk.only start)
   where
     not_told : (f : Files) → told_files r.start ≡ Some f → ⊥
     not_told f told =
@@ -435,7 +435,7 @@ damaged_in law r Report lines outcomes w old now base upto damaged made is_base 
   broken = found.2.broken;
 }
 damaged_in law r Summary lines outcomes w old now base upto damaged made is_base last_is o none found =
-    let last : upto ≡ base_of r + length o.log = (let end = o.over.writer.upto in omega (arith, last_is, end)) in
+    let last : upto ≡ base_of r + length o.log = (let end = o.writer.upto in omega (arith, last_is, end)) in
     record {
       base = base_of r;
       last = is_base;

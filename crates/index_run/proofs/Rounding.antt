@@ -1,6 +1,6 @@
 -- The end of a round.
 use Rattle.std.proofs.Common.{◌≡◌, ◌∙◌, ℕ, ◌+◌, ◌<◌, ◌≤◌, ◌^◌, List, [], ◌∷◌, ◌++◌, length, take, refl, sym, ap, subst, arith, append_assoc}
-use Rattle.std.specs.Prelude.{Option, Some, None, Result, Ok, Err, OnErr}
+use Rattle.std.specs.Prelude.{Option, Some, None, Err, OnErr}
 use Rattle.std.specs.List.{AllByRecursion}
 use Rattle.std.proofs.lemmas.List.{append-nil, length-append}
 use Rattle.ix_base.specs.Steps.{after}
@@ -11,7 +11,7 @@ use Rattle.ix_outside.specs.Calls.{LeavesOnly}
 use Rattle.ix_outside.specs.Crash.{MayHold}
 use Rattle.ix_outside.specs.Disk.{Disk, Told, told_files}
 use Rattle.ix_outside.specs.Files.{Files, Changes}
-use Rattle.ix_outside.specs.Images.{Follows, Reaches}
+use Rattle.ix_outside.specs.Images.{Reaches}
 use Rattle.commit_point.specs.StepLaws.{goes_then}
 use Rattle.commit_point.specs.Steps.{KeepsMade, MakesCommits, OnlyCommits}
 use Rattle.op_script.specs.declared.script.Line.{Line}
@@ -23,60 +23,88 @@ use Rattle.line_shares.specs.NumberLaws.{told_go_on}
 use Rattle.line_shares.specs.ShareLaws.{shares_go_on}
 use Rattle.line_shares.specs.TellLaws.{pairs_are, tells_since}
 use Rattle.line_shares.specs.Tells.{pairs_since, told_since}
-use Rattle.index_writer.specs.declared.round.CommitInfo.{CommitInfo}
 use Rattle.index_writer.specs.declared.round.RoundEnd.{RoundEnd}
+use Rattle.index_writer.specs.declared.round.RoundEnd.TheVariants as ending
 use Rattle.index_writer.specs.declared.round.RoundParts.{RoundParts}
+use Rattle.index_writer.specs.declared.fault.WriterFault.{WriterFault}
 use Rattle.index_writer.specs.declared.state.State.{State}
-use Rattle.index_writer.specs.Ready.{HasRows, IsReady}
-use Rattle.index_writer.specs.Storing.{Commits, GoesOn, MayCommit, Settles, on_commit}
+use Rattle.index_writer.specs.declared.writer.IndexWriter.{IndexWriter}
+use Rattle.index_writer.specs.Ready.{IsReady}
+use Rattle.index_writer.specs.Rounds.{EndsBy}
+use Rattle.index_writer.specs.Storing.{GoesOn, MayCommit}
 use Rattle.run_log.specs.CommitLaws.{IsDoing, each_doing, last_committed, none_committed, plain_lines}
-use Rattle.run_log.specs.Headline.{Interleaves, commit_numbers, numbered, operations}
-use Rattle.run_log.specs.NumberLaws.{commits_append, rows_at_all}
+use Rattle.run_log.specs.Headline.{commit_numbers, numbered}
+use Rattle.run_log.specs.NumberLaws.{commits_append}
 use Rattle.run_log.specs.PlaceLaws.{filter_rises}
 use Rattle.run_log.specs.Telling.{AreTells, IsOrder, Tell}
 use Rattle.run_log.specs.TellingLaws.{order_of}
 use Rattle.index_run.specs.Doing.{IsWriterOn}
-use Rattle.index_run.specs.Driving.{EndsRound, HasDone, IsAt, IsCut, IsDocs, IsRound, Run, base_of}
-use Rattle.index_run.specs.Leaving.{CommitLaws, IsDiskAfter, IsNextCommit}
+use Rattle.index_run.specs.Driving.{EndsRound, HasDone, IsCut, IsDue, IsRound, Run, base_of, number_in}
+use Rattle.index_run.specs.Leaving.{CommitLaws, IsDiskAfter, IsNextCommit, first_numbers}
 use Rattle.index_run.specs.Merged.{EndsMerged}
-use Rattle.index_run.proofs.DiskAfter.{crash_commit, crash_longer, disk_commit, disk_count, disk_round, standing_commit}
-use Rattle.index_run.proofs.LogNumbers.{numbers_front, numbers_whole}
+use Rattle.index_run.specs.declared.rounds.Ran.{Ran}
+use Rattle.index_run.proofs.Coming.{next_commit}
+use Rattle.index_run.proofs.DiskAfter.{crash_commit, crash_longer, disk_round, standing_commit}
+use Rattle.index_run.proofs.LogNumbers.{numbers_front}
 use Rattle.index_run.proofs.RunEnds.{files_commit, stops_files}
-use Rattle.index_run.proofs.WriterOn.{writer_commit, writer_round}
+use Rattle.index_run.proofs.WriterOn.{writer_round}
 
 -- ---- stops
 
-pub on_err : {T E : Type 0} (r : Result T E) (P : Type 0) → P → OnErr r P
-on_err (Ok x) P p = tt
-on_err (Err x) P p = p
+-- a run that stopped, with its writer
+pub stopped_cut : {S T : Type 0} (disk : S → Option Disk) (r : Run) (lines : List Line) (writer : IndexWriter S)
+    (fault : WriterFault) (ran : Ran S T) → ran ≡ record { writer = writer; came = Err fault }
+    → IsCut r lines (disk writer.store) → OnErr ran.came (IsCut r lines (disk ran.writer.store))
+stopped_cut {S} {T} disk r lines writer fault ran is cut =
+    subst (λ (x : Ran S T). OnErr x.came (IsCut r lines (disk x.writer.store))) (sym is) cut
 
 -- a stop, where the lines that were told a number are on the log, or are of a round that is lost
 pub cut_done : (r : Run) (lines : List Line) (shares : List Share) (log : List Line) (w : State) (now : Option Disk)
     → HasDone r lines shares log w now → IsCut r lines now
 cut_done r lines shares log w now h =
     let rest = log_completes r.workers lines shares log h.shares_are h.log_is in
-    let disk = h.at.disk in
+    let at = h.at in
+    let disk = at.disk in
     record {
       log = log ++ rest.0;
       numbering = rest.1;
       crash = crash_longer r.first log rest.0 r.start now disk.crash;
-      files = λ g told on. stops_files g r.first w log rest.0 (length log) r.start now on (omega arith) told disk;
+      files = λ g told on. stops_files g r.first w log rest.0 at.front r.start now on at.within told disk;
       only = disk.only;
       standing = disk.standing;
     }
 
--- ---- the end of a round
+-- a number that is there
+pub some_pending : (pending : Option ℕ) → (pending ≡ None → ⊥) → (s : ℕ) × (pending ≡ Some s)
+some_pending None some = absurd (some refl)
+some_pending (Some s) some = (s, refl)
 
-no_more_commits : (base : ℕ) (log more : List Line) → commit_numbers (base + length log) more ≡ []
-    → commit_numbers base (take (length log) (log ++ more))
-    ≡ commit_numbers base (take (length (log ++ more)) (log ++ more))
-no_more_commits base log more none =
-    numbers_front base (length log) log more (omega arith)
-    ∙ numbers_whole base log
-    ∙ sym (append-nil (commit_numbers base log))
-    ∙ ap (λ (ns : List ℕ). commit_numbers base log ++ ns) (sym none)
-    ∙ sym (commits_append base log more)
-    ∙ sym (numbers_whole base (log ++ more))
+-- a stop while the pending commit was written
+pub cut_written : (r : Run) (lines : List Line) (shares : List Share) (log : List Line) (w : State) (s : ℕ)
+    (old now : Option Disk) → CommitLaws → HasDone r lines shares log w old → w.pending ≡ Some s
+    → Changes (MayCommit w) (told_files old) (told_files now)
+    → LeavesOnly old now (Reaches (MayCommit w) (MayHold old)) → Told OnlyCommits old now
+    → ((files : Files) → told_files old ≡ Some files → GoesOn files w → Told KeepsMade old now) → IsCut r lines now
+cut_written r lines shares log w s old now laws h pending left crash only standing =
+    let rest = log_completes r.workers lines shares log h.shares_are h.log_is in
+    let at = h.at in
+    let due = next_commit r.first log at.front w.published.upto s w.pending pending at.due in
+    let next : IsNextCommit r.first log at.front w.published.upto =
+    subst (IsNextCommit r.first log at.front) due.1 due.0 in
+    record {
+      log = log ++ rest.0;
+      numbering = rest.1;
+      crash =
+          crash_longer r.first log rest.0 r.start now
+          (crash_commit r.first w log at.front r.start old now laws at.first at.writer at.within next crash at.disk);
+      files = λ g told on.
+          files_commit g r.first w log rest.0 at.front r.start old now laws at.first on at.writer told at.within next
+          left at.disk;
+      only = goes_then (λ step older. MakesCommits step) r.start old now at.disk.only only;
+      standing = standing_commit r.first w log at.front r.start old now standing at.disk;
+    }
+
+-- ---- the end of a round
 
 module _ (r : Run) (lines : List Line) (olds news : List Share) (log : List Line) (w v : State) (parts : RoundParts)
     (end : RoundEnd) (mid : Option Disk) (h : IsRound r lines olds news log w parts mid)
@@ -107,9 +135,12 @@ module _ (r : Run) (lines : List Line) (olds news : List Share) (log : List Line
   writer_on =
       writer_round r.first w v log more (pairs_since olds news) end h.before.at.writer e ready order.ops order.count
 
-  disk_on : IsDiskAfter r.first (log ++ more) (length log) v r.start mid
+  abbrev front : ℕ
+  front = h.before.at.front
+
+  disk_on : IsDiskAfter r.first (log ++ more) front v r.start mid
   disk_on =
-      disk_round r.first w v log more (pairs_since olds news) end (length log) r.start mid e (omega arith)
+      disk_round r.first w v log more (pairs_since olds news) end front r.start mid e h.before.at.within
       h.before.at.disk
 
   doing : AllByRecursion IsDoing more
@@ -128,20 +159,59 @@ module _ (r : Run) (lines : List Line) (olds news : List Share) (log : List Line
       last_committed (base_of r + length log) more before
       (record { doing = doing; ends = order.ops ∙ ends; plain = plain }) ∙ ap (λ (n : ℕ). n ∷ []) last
 
-  last_in : (before : List Operation) → NoCommit before → seconds e.ts ≡ before ++ Commit ∷ []
-      → IsNextCommit r.first (log ++ more) (length log) v.published.upto
-  last_in before plain ends =
+  -- the commits before the round's lines
+  before_in : commit_numbers (base_of r) log ≡ first_numbers r.first (log ++ more) front
+  before_in =
+      subst (IsDue r.first log front w.published.upto) h.pending h.before.at.due
+      ∙ sym (numbers_front (base_of r) front log more h.before.at.within)
+
+  due_none : NoCommit (seconds e.ts) → IsDue r.first (log ++ more) front v.published.upto None
+  due_none plain =
+      commits_append (base_of r) log more
+      ∙ ap (λ (ns : List ℕ). commit_numbers (base_of r) log ++ ns) (none_in plain)
+      ∙ append-nil (commit_numbers (base_of r) log)
+      ∙ before_in
+
+  due_one : (before : List Operation) → NoCommit before → seconds e.ts ≡ before ++ Commit ∷ []
+      → IsNextCommit r.first (log ++ more) front v.published.upto
+  due_one before plain ends =
       commits_append (base_of r) log more
       ∙ ap (λ (ns : List ℕ). commit_numbers (base_of r) log ++ ns) (one_in before plain ends)
-      ∙ ap (λ (ns : List ℕ). ns ++ v.published.upto ∷ [])
-      (sym (numbers_front (base_of r) (length log) log more (omega arith) ∙ numbers_whole (base_of r) log))
+      ∙ ap (λ (ns : List ℕ). ns ++ v.published.upto ∷ []) before_in
 
-  -- what the run has done once the writer and the disk are on the round's lines
-  done_now : (x : State) (now : Option Disk) → IsAt r (log ++ more) x now → HasDone r lines news (log ++ more) x now
-  done_now x now at = record {
+  -- what is pending then
+  abbrev IsPending : Option ℕ → Type 0
+  IsPending pending = (v.pending ≡ pending) × IsDue r.first (log ++ more) front v.published.upto pending
+      × (commit_numbers (base_of r + length log) more ≡ number_in pending)
+
+  pending_by : (x : RoundEnd) → EndsBy x (seconds e.ts) v → (pending : Option ℕ) × IsPending pending
+  pending_by (ending.Committed s) by = (
+    Some s,
+    (
+      by.1,
+      (subst (IsNextCommit r.first (log ++ more) front) (sym by.0) (due_one by.2.0 by.2.1 by.2.2), by.0),
+      one_in by.2.0 by.2.1 by.2.2 ∙ ap (λ (n : ℕ). n ∷ []) (sym by.0),
+    ),
+  )
+  pending_by ending.Turned by = (None, (by.0, due_none by.1, none_in by.1))
+  pending_by ending.Ran by = (None, (by.0, due_none by.1, none_in by.1))
+
+  is_pending : IsPending v.pending
+  is_pending = let found = pending_by end e.by_end in subst IsPending (sym found.1.0) found.1
+
+  -- what the run has done once the round has ended
+  done_now : HasDone r lines news (log ++ more) v mid
+  done_now = record {
     rise = h.before.rise;
     shares_are = shares_go_on r.workers lines olds news h.before.shares_are h.go_on;
-    at = at;
+    at = record {
+      first = h.before.at.first;
+      writer = writer_on;
+      front = front;
+      within = omega (arith, h.before.at.within, length-append log more);
+      due = is_pending.1;
+      disk = disk_on;
+    };
     log_is =
         log_grows r.workers w.published.upto lines olds news log e.ts more h.before.shares_are h.go_on
         h.before.log_is order;
@@ -151,90 +221,5 @@ module _ (r : Run) (lines : List Line) (olds news : List Share) (log : List Line
         (subst (λ (n : ℕ). IsOrder r.workers n told e.ts more) on_base order);
   }
 
-  -- the round ended without a commit
-  pub ended_without : v.pending ≡ None → NoCommit (seconds e.ts) → EndsRound r lines news log None v mid
-  ended_without pending plain = record {
-    more = more;
-    done =
-        done_now v mid (record {
-          first = h.before.at.first;
-          writer = writer_on;
-          pending = pending;
-          disk =
-              disk_count r.first (log ++ more) (length log) (length (log ++ more)) v r.start mid
-              (no_more_commits (base_of r) log more (none_in plain)) disk_on;
-        });
-    commit_is = none_in plain;
-  }
-
-  -- a stop while its commit was written
-  pub cut_commit : (now : Option Disk) → CommitLaws → (before : List Operation) → NoCommit before
-      → seconds e.ts ≡ before ++ Commit ∷ []
-      → Changes (MayCommit v) (told_files mid) (told_files now)
-      → LeavesOnly mid now (Reaches (MayCommit v) (MayHold mid)) → Told OnlyCommits mid now
-      → ((files : Files) → told_files mid ≡ Some files → GoesOn files v → Told KeepsMade mid now)
-      → IsCut r lines now
-  cut_commit now laws before plain ends left crash only standing =
-      let news_are = shares_go_on r.workers lines olds news h.before.shares_are h.go_on in
-      let rest =
-      log_completes r.workers lines news (log ++ more) news_are
-      (log_grows r.workers w.published.upto lines olds news log e.ts more h.before.shares_are h.go_on h.before.log_is
-      order) in
-      let within : length log ≤ length (log ++ more) = omega (arith, length-append log more) in
-      record {
-        log = (log ++ more) ++ rest.0;
-        numbering = rest.1;
-        crash =
-            crash_longer r.first (log ++ more) rest.0 r.start now
-            (crash_commit r.first v (log ++ more) (length log) r.start mid now laws h.before.at.first writer_on within
-            (last_in before plain ends) crash disk_on);
-        files = λ g told on.
-            files_commit g r.first v (log ++ more) rest.0 (length log) r.start mid now laws h.before.at.first
-            on writer_on told within (last_in before plain ends) left disk_on;
-        only = goes_then (λ step older. MakesCommits step) r.start mid now disk_on.only only;
-        standing = standing_commit r.first v (log ++ more) (length log) r.start mid now standing disk_on;
-      }
-
-  -- the commit was written
-  pub ended_with : (x : State) (c : CommitInfo) (now : Option Disk) → CommitLaws
-      → (before : List Operation) → NoCommit before → seconds e.ts ≡ before ++ Commit ∷ []
-      → v.pending ≡ Some v.published.upto → v.pending ≡ Some c.number
-      → x ≡ on_commit v → IsReady x → v.published.next_id ≤ 2 ^ 62
-      → ((rows : List Row) → HasRows v rows → c.docs ≡ length rows)
-      → ((rows : List Row) → HasRows v rows → HasRows x rows)
-      → (v.published.next_id ≤ 2 ^ 62 → Changes (Commits v x) (told_files mid) (told_files now))
-      → (v.published.next_id ≤ 2 ^ 62 → Follows (Commits v x) (MayHold mid) (MayHold now))
-      → (v.published.next_id ≤ 2 ^ 62 → Settles v mid now)
-      → (v.published.next_id ≤ 2 ^ 62 → LeavesOnly mid now (Reaches (MayCommit v) (MayHold mid)))
-      → Told OnlyCommits mid now
-      → ((files : Files) → told_files mid ≡ Some files → GoesOn files v → Told KeepsMade mid now)
-      → EndsRound r lines news log (Some c) x now
-  ended_with x c now laws before plain ends pending number is ready_x room docs_of keeps_rows made acknowledged settled crash only standing =
-      let is_number : c.number ≡ v.published.upto = some_same (sym number ∙ pending) in
-      let at_end : c.number ≡ base_of r + length (log ++ more) = omega (arith, is_number, writer_on.upto) in
-      record {
-        more = more;
-        done =
-            done_now x now (record {
-              first = h.before.at.first;
-              writer = writer_commit r.first v x (log ++ more) writer_on is ready_x keeps_rows;
-              pending = ap (λ (s : State). s.pending) is;
-              disk =
-                  disk_commit r.first v x (log ++ more) (length log) r.start mid now laws h.before.at.first writer_on
-                  (omega (arith, length-append log more)) (last_in before plain ends) is room made acknowledged settled
-                  crash only standing disk_on;
-            });
-        commit_is = (
-          one_in before plain ends ∙ ap (λ (n : ℕ). n ∷ []) (sym is_number),
-          (λ rows has.
-              docs_of (after rows (base_of r) (operations (log ++ more))) (writer_on.rows rows has)
-              ∙ ap length (sym (rows_at_all (base_of r) rows (log ++ more) c.number at_end))),
-        );
-      }
-    where
-      number_or : Option ℕ → ℕ
-      number_or (Some n) = n
-      number_or None = 0
-
-      some_same : Some c.number ≡ Some v.published.upto → c.number ≡ v.published.upto
-      some_same e = ap number_or e
+  pub ended : EndsRound r lines news log v mid
+  ended = record { more = more; done = done_now; commit_is = is_pending.2 }

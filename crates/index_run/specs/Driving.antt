@@ -1,5 +1,6 @@
 -- A run under way: between two rounds, and at the end of one.
-use Rattle.std.specs.Prelude.{◌≡◌, ℕ, ◌+◌, List, [], ◌∷◌, ◌++◌, length, map, Option, Some, None, IsSomeAnd, true, false}
+use Rattle.std.specs.Prelude.{◌≡◌, ℕ, ◌+◌, ◌≤◌, List, [], ◌∷◌, ◌++◌, length, map, Option, Some, None, IsSomeAnd, true}
+use Rattle.std.specs.Prelude.{IfOk, OnErr, OnOk}
 use Rattle.std.specs.List.{AllByRecursion, AllZip}
 use Rattle.ix_base.specs.declared.document.Row.{Row}
 use Rattle.ix_outside.specs.Calls.{LeavesOnly}
@@ -17,13 +18,16 @@ use Rattle.run_report.specs.declared.outcome.Outcome.{Outcome}
 use Rattle.index_writer.specs.declared.round.CommitInfo.{CommitInfo}
 use Rattle.index_writer.specs.declared.round.RoundParts.{RoundParts}
 use Rattle.index_writer.specs.declared.state.State.{State}
-use Rattle.index_writer.specs.Ready.{HasRows}
+use Rattle.index_writer.specs.declared.writer.IndexWriter.{IndexWriter}
+use Rattle.index_writer.specs.Ready.{HasRows, IsSound}
 use Rattle.index_writer.specs.Rounds.{ArePartsOf}
 use Rattle.index_writer.specs.Storing.{GoesOn as WriterGoesOn}
 use Rattle.run_log.specs.Headline.{Given, HasSome, Interleaves, commit_numbers, rows_at}
 use Rattle.index_run.specs.Doing.{CanBegin, IsOnGiven, IsWriterOn}
-use Rattle.index_run.specs.Leaving.{HasSomeFront, IsDiskAfter}
+use Rattle.index_run.specs.Leaving.{HasSomeFront, IsDiskAfter, IsNextCommit, first_numbers}
 use Rattle.index_run.specs.Outcomes.{AreOutcomes}
+use Rattle.index_run.specs.Rounds.{given}
+use Rattle.index_run.specs.declared.rounds.Ran.{Ran}
 
 -- What a run began with: so many workers, its writer, and its disk.
 pub record Run : Type 0 where
@@ -35,12 +39,27 @@ pub record Run : Type 0 where
 abbrev pub base_of : Run → ℕ
 base_of r = r.first.published.upto
 
--- Between two rounds: the writer is on the log, and each of the log's commits is on the disk.
+-- ---- the commit that is still to be written
+
+-- The log's commits are those of its first lines, up to `front`, and then the one that is pending, if one is. That has
+-- the number of the last line.
+abbrev pub IsDue : State → List Line → ℕ → ℕ → Option ℕ → Type 0
+IsDue first log front upto None = commit_numbers first.published.upto log ≡ first_numbers first log front
+IsDue first log front upto (Some s) = IsNextCommit first log front s × (s ≡ upto)
+
+-- the number of a commit that is pending
+abbrev pub number_in : Option ℕ → List ℕ
+number_in None = []
+number_in (Some s) = s ∷ []
+
+-- The writer is on the log. The disk has the log's commits, but for one that is pending.
 pub record IsAt (r : Run) (log : List Line) (w : State) (now : Option Disk) : Type 0 where
   pub first : CanBegin r.first
   pub writer : IsWriterOn r.first log w
-  pub pending : w.pending ≡ None
-  pub disk : IsDiskAfter r.first log (length log) w r.start now
+  pub front : ℕ
+  pub within : front ≤ length log
+  pub due : IsDue r.first log front w.published.upto w.pending
+  pub disk : IsDiskAfter r.first log front w r.start now
 
 -- the commit s has so many rows, where the writer had some when the run began
 abbrev pub IsDocs : State → List Line → ℕ → ℕ → Type 0
@@ -58,47 +77,44 @@ pub record HasDone (r : Run) (lines : List Line) (shares : List Share) (log : Li
   pub log_is : IsLogOf r.workers lines shares log
   pub told : AreTold r.workers (base_of r) lines shares log
 
--- The same, with the number of each commit and how many rows it has; no round is out.
+-- The same, with the number of each commit that was written and how many rows it has. Behind these the log has the
+-- commit that is pending, if one is.
 pub record HasCome (r : Run) (lines : List Line) (shares : List Share) (commits : List (ℕ × ℕ)) (w : State)
     (now : Option Disk)
     : Type 0 where
   pub log : List Line
   pub done : HasDone r lines shares log w now
-  pub out : w.out ≡ false
-  pub numbers : map (λ (c : ℕ × ℕ). c.0) commits ≡ commit_numbers (base_of r) log
+  pub numbers : map (λ (c : ℕ × ℕ). c.0) commits ++ number_in w.pending ≡ commit_numbers (base_of r) log
   pub docs : AllByRecursion (λ (c : ℕ × ℕ). IsDocs r.first log c.0 c.1) commits
 
 -- ---- one round
 
--- A round was done that began where the run had come so far: what its workers were told is what came back.
+-- A round was done that began where the run had come so far: what its workers were told is what came back. No commit is
+-- pending any more.
 pub record IsRound (r : Run) (lines : List Line) (olds news : List Share) (log : List Line) (w : State)
     (parts : RoundParts) (now : Option Disk)
     : Type 0 where
   pub before : HasDone r lines olds log w now
+  pub pending : w.pending ≡ None
   pub go_on : AllZip GoesOn olds news
   pub out : w.out ≡ true
   pub parts_are : ArePartsOf w.published.upto (pairs_since olds news) parts
 
--- the commit of a round, if it ended with one: it is the only one of the round's lines
-abbrev pub IsCommitOf : Run → List Line → List Line → Option CommitInfo → Type 0
-IsCommitOf r log more None = commit_numbers (base_of r + length log) more ≡ []
-IsCommitOf r log more (Some c) = (commit_numbers (base_of r + length log) more ≡ c.number ∷ [])
-    × IsDocs r.first (log ++ more) c.number c.docs
-
--- What the end of a round leaves: its lines stand behind the log.
-pub record EndsRound (r : Run) (lines : List Line) (news : List Share) (log : List Line) (commit : Option CommitInfo)
-    (w : State) (now : Option Disk)
+-- What the end of a round leaves: its lines stand behind the log. Their only commit is the one that is pending then, if
+-- one is.
+pub record EndsRound (r : Run) (lines : List Line) (news : List Share) (log : List Line) (w : State) (now : Option Disk)
     : Type 0 where
   pub more : List Line
   pub done : HasDone r lines news (log ++ more) w now
-  pub commit_is : IsCommitOf r log more commit
+  pub commit_is : commit_numbers (base_of r + length log) more ≡ number_in w.pending
 
 -- ---- ends
 
 -- A run that was done: what became of its lines, by the log that it is.
 pub record IsOver (r : Run) (lines : List Line) (became : List Outcome) (w : State) (now : Option Disk) : Type 0 where
   pub log : List Line
-  pub over : IsAt r log w now
+  pub writer : IsWriterOn r.first log w
+  pub disk : IsDiskAfter r.first log (length log) w r.start now
   pub numbering : Interleaves lines log
   pub outcomes : AreOutcomes (IsDocs r.first log) (base_of r) log [] lines became
 
@@ -112,3 +128,19 @@ pub record IsCut (r : Run) (lines : List Line) (now : Option Disk) : Type 0 wher
       → IsSomeAnd (told_files now) (HasSome g log)
   pub only : Told OnlyCommits r.start now
   pub standing : (was : Files) → told_files r.start ≡ Some was → WriterGoesOn was r.first → Told KeepsMade r.start now
+
+-- ---- a pending commit that is written
+
+-- A writer's pending commit was written, if there was one: whatever a run had come to, it has come to the same, and notes
+-- the commit. Or the writer stopped, and so does the run.
+pub record WritesPending {S : Type 0} (disk : S → Option Disk) (old : IndexWriter S) (ran : Ran S (Option CommitInfo))
+    : Type 0 where
+  pub come : (r : Run) (lines : List Line) (shares : List Share) (commits : List (ℕ × ℕ))
+      → HasCome r lines shares commits old.state (disk old.store)
+      → IfOk ran.came (λ commit. HasCome r lines shares (given commits commit) ran.writer.state (disk ran.writer.store))
+  pub cut : (r : Run) (lines : List Line) (shares : List Share) (commits : List (ℕ × ℕ))
+      → HasCome r lines shares commits old.state (disk old.store) → OnErr ran.came (IsCut r lines (disk ran.writer.store))
+  pub written : OnOk ran.came (ran.writer.state.pending ≡ None)
+  pub upto : OnOk ran.came (ran.writer.state.published.upto ≡ old.state.published.upto)
+  pub same : (ran.writer.state.out ≡ old.state.out) × (ran.writer.state.buffer ≡ old.state.buffer)
+  pub sound : IsSound ran.writer.state

@@ -15,6 +15,7 @@ ghost use Rattle.run_log.specs.Headline.{CanEnd, CanRun, Given, IsLast, Keeps, R
 
 use crate::begin::begin;
 use crate::lines::do_lines;
+use crate::rounds::Ran;
 use crate::stop::Stop;
 use crate::telling::{Form, text_of};
 use ix_base::List;
@@ -89,7 +90,7 @@ pub fn do_script<R: Threads + Wait + Sync, S: Store, G: Gate>(
     ensures others { IfErr result.text (λ stop. IsOneOf (stop_status stop) (4 ∷ 7 ∷ 8 ∷ 10 ∷ [])) }
 {
     made_runs();
-    let mut writer = match begin(alloc, store, options.buffer, options.merge) {
+    let writer = match begin(alloc, store, options.buffer, options.merge) {
         Ok(writer) => writer,
         Err(unbegun) => {
             return Done {
@@ -99,10 +100,10 @@ pub fn do_script<R: Threads + Wait + Sync, S: Store, G: Gate>(
         }
     };
     let base = writer.upto();
-    let done = do_lines(rt, alloc, gate, &mut writer, options.threads, lines);
+    let Ran { writer, came } = do_lines(rt, alloc, gate, writer, options.threads, lines);
     let upto = writer.upto();
     let mut store = writer.into_store();
-    match done {
+    match came {
         Ok(outcomes) => Done {
             text: text_of(alloc, &mut store, form, base, upto, outcomes.as_slice()),
             store,

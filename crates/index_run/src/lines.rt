@@ -1,5 +1,5 @@
 //! The lines of a script, done in rounds by workers that run at the same time.
-ghost use Rattle.std.specs.Prelude.{◌≡◌, ◌≤◌, ℕ, List as ListOf, [], length, IfOk, OnOk, OnErr, Err, false};
+ghost use Rattle.std.specs.Prelude.{◌≡◌, ◌≤◌, ℕ, List as ListOf, [], length, IfOk, OnOk, OnErr, Err, None, false};
 ghost use Rattle.ix_outside.specs.Causes.{Rose};
 ghost use Rattle.op_script.specs.Shape.{AreScriptLines};
 ghost use Rattle.index_run.specs.Doing.{CanBegin};
@@ -9,7 +9,7 @@ ghost use Rattle.index_run.specs.Driving.{HasCome, IsCut, IsOver, Run};
 ghost use Rattle.index_run.specs.Rounds.{doing_lines, given};
 
 use crate::outcomes::outcomes_of;
-use crate::rounds::do_round;
+use crate::rounds::{Ran, do_round, write_pending};
 use index_writer::{CommitInfo, IndexWriter, WriterFault};
 use ix_base::{List, NoMemory};
 use ix_outside::{Gate, Store};
@@ -32,83 +32,147 @@ struct Rounds {
     count: u64,
 }
 
-/// Does the lines, and returns what became of each. The lines of caller c are done by worker c mod
-/// `threads`, in their order; the workers run at the same time. A commit ends the round of all, and so
-/// does a worker whose part of the queue is full: what is left is done in later rounds.
+/// Does the lines, and returns what became of each, beside the writer. The lines of caller c are done
+/// by worker c mod `threads`, in their order; the workers run at the same time. A commit ends the round
+/// of all, and so does a worker whose part of the queue is full: what is left is done in later rounds.
+/// A round's commit is written while the workers of the next one run, and that of the last round at once.
 pub fn do_lines<R: Threads + Wait + Sync, S: Store, G: Gate>(
     rt: &R,
     alloc: Global,
     gate: &G,
-    writer: &mut IndexWriter<S>,
+    writer: IndexWriter<S>,
     threads: u32,
     lines: List<Line>,
-) -> Result<Vec<Outcome>, WriterFault>
-    requires ready { CanBegin writer.old.state }
-    requires out { writer.old.state.out ≡ false }
+) -> Ran<S, Vec<Outcome>>
+    requires ready { CanBegin writer.state }
+    requires out { writer.state.out ≡ false }
     requires threads { (1 ≤ threads) × (threads ≤ 16) }
     requires script { AreScriptLines lines }
-    ensures over { IfOk result (λ outcomes. IsOver
-        (record { workers = threads; first = writer.old.state; start = S.disk writer.old.store })
-        lines outcomes.items writer.new.state (S.disk writer.new.store)) }
-    ensures cut { OnErr result (IsCut
-        (record { workers = threads; first = writer.old.state; start = S.disk writer.old.store })
-        lines (S.disk writer.new.store)) }
-    ensures closed { result ≡ Err WriterFault.Closed → ⊥ }
-    ensures later { S.fault_count writer.old.store ≤ S.fault_count writer.new.store }
-    ensures failed { result ≡ Err WriterFault.Store
-        → Rose (S.fault_count writer.old.store) (S.fault_count writer.new.store) }
+    ensures over { IfOk result.came (λ outcomes. IsOver
+        (record { workers = threads; first = writer.state; start = S.disk writer.store })
+        lines outcomes.items result.writer.state (S.disk result.writer.store)) }
+    ensures cut { OnErr result.came (IsCut
+        (record { workers = threads; first = writer.state; start = S.disk writer.store })
+        lines (S.disk result.writer.store)) }
+    ensures closed { result.came ≡ Err WriterFault.Closed → ⊥ }
+    ensures later { S.fault_count writer.store ≤ S.fault_count result.writer.store }
+    ensures failed { result.came ≡ Err WriterFault.Store
+        → Rose (S.fault_count writer.store) (S.fault_count result.writer.store) }
 {
     let base = writer.upto();
-    let Dealt { places, shares } = deal(alloc, threads, lines)?;
+    let Dealt { places, shares } = match deal(alloc, threads, lines) {
+        Ok(dealt) => dealt,
+        Err(error) => return Ran::stopped(writer, WriterFault::from(error)),
+    };
+    let Ran { writer, came } = do_rounds(rt, alloc, gate, writer, threads, shares);
     let Rounds {
         shares,
         commits,
         ..
-    } = do_rounds(rt, alloc, gate, writer, threads, shares)?;
-    Ok(outcomes_of(alloc, base, places, shares, commits.as_slice())?)
+    } = match came {
+        Ok(rounds) => rounds,
+        Err(fault) => return Ran::stopped(writer, fault),
+    };
+    match outcomes_of(alloc, base, places, shares, commits.as_slice()) {
+        Ok(outcomes) => Ran {
+            writer,
+            came: Ok(outcomes),
+        },
+        Err(error) => Ran::stopped(writer, WriterFault::from(error)),
+    }
 }
 
-/// Does rounds until each task was told something. There is none without a task that is open, and each
-/// tells one something: so there are no more of them than lines that write or commit.
+/// Does rounds until each task was told something, and writes their commits. There is no round without
+/// a task that is open, and each tells one something: so there are no more of them than lines that
+/// write or commit.
 fn do_rounds<R: Threads + Wait + Sync, S: Store, G: Gate>(
     rt: &R,
     alloc: Global,
     gate: &G,
-    writer: &mut IndexWriter<S>,
+    writer: IndexWriter<S>,
     threads: u32,
     shares: Vec<Share>,
-) -> Result<Rounds, WriterFault>
+) -> Ran<S, Rounds>
     requires threads { (1 ≤ threads) × (threads ≤ 16) }
+    requires out { writer.state.out ≡ false }
     requires come { (r : Run) × (lines : ListOf Line) × (r.workers ≡ threads)
-        × HasCome r lines shares.items [] writer.old.state (S.disk writer.old.store) }
+        × HasCome r lines shares.items [] writer.state (S.disk writer.store) }
     ensures come { (r : Run) (lines : ListOf Line) → r.workers ≡ threads
-        → HasCome r lines shares.items [] writer.old.state (S.disk writer.old.store)
-        → IfOk result (λ x. HasCome r lines x.shares.items x.commits.items writer.new.state
-        (S.disk writer.new.store)) }
+        → HasCome r lines shares.items [] writer.state (S.disk writer.store)
+        → IfOk result.came (λ x. HasCome r lines x.shares.items x.commits.items result.writer.state
+        (S.disk result.writer.store)) }
     ensures cut { (r : Run) (lines : ListOf Line) → r.workers ≡ threads
-        → HasCome r lines shares.items [] writer.old.state (S.disk writer.old.store)
-        → OnErr result (IsCut r lines (S.disk writer.new.store)) }
-    ensures done { IfOk result (λ x. AreDone x.shares.items) }
+        → HasCome r lines shares.items [] writer.state (S.disk writer.store)
+        → OnErr result.came (IsCut r lines (S.disk result.writer.store)) }
+    ensures written { OnOk result.came (result.writer.state.pending ≡ None) }
+    ensures done { IfOk result.came (λ x. AreDone x.shares.items) }
     ensures few { (lines : ListOf Line) → AreShares threads lines shares.items
-        → IfOk result (λ x. x.count ≤ length (doing_lines lines)) }
-    ensures closed { result ≡ Err WriterFault.Closed → ⊥ }
-    ensures later { S.fault_count writer.old.store ≤ S.fault_count writer.new.store }
-    ensures failed { result ≡ Err WriterFault.Store
-        → Rose (S.fault_count writer.old.store) (S.fault_count writer.new.store) }
+        → IfOk result.came (λ x. x.count ≤ length (doing_lines lines)) }
+    ensures closed { result.came ≡ Err WriterFault.Closed → ⊥ }
+    ensures later { S.fault_count writer.store ≤ S.fault_count result.writer.store }
+    ensures failed { result.came ≡ Err WriterFault.Store
+        → Rose (S.fault_count writer.store) (S.fault_count result.writer.store) }
 {
+    let mut writer = writer;
     let mut shares = shares;
     let mut commits = Vec::new(alloc);
     let mut count = 0;
     while !all_done(shares.as_slice()) {
-        let (next, commit) = do_round(rt, alloc, gate, writer, threads, shares, &mut count)?;
+        let round = do_round(rt, alloc, gate, writer, threads, shares, &mut count);
+        writer = round.writer;
+        let (next, commit) = match round.came {
+            Ok(came) => came,
+            Err(fault) => return Ran::stopped(writer, fault),
+        };
         shares = next;
-        note(&mut commits, commit)?;
+        match note(&mut commits, commit) {
+            Ok(()) => {}
+            Err(error) => return Ran::stopped(writer, WriterFault::from(error)),
+        }
     }
-    Ok(Rounds {
-        shares,
-        commits,
-        count,
-    })
+    write_last(
+        writer,
+        Rounds {
+            shares,
+            commits,
+            count,
+        },
+    )
+}
+
+/// Writes the commit with which the last round ended, if it ended with one, and notes it.
+fn write_last<S: Store>(writer: IndexWriter<S>, rounds: Rounds) -> Ran<S, Rounds>
+    requires come { (r : Run) × (lines : ListOf Line)
+        × HasCome r lines rounds.shares.items rounds.commits.items writer.state
+        (S.disk writer.store) }
+    ensures come { (r : Run) (lines : ListOf Line)
+        → HasCome r lines rounds.shares.items rounds.commits.items writer.state
+        (S.disk writer.store) → IfOk result.came (λ x. HasCome r lines rounds.shares.items
+        x.commits.items result.writer.state (S.disk result.writer.store)) }
+    ensures cut { (r : Run) (lines : ListOf Line)
+        → HasCome r lines rounds.shares.items rounds.commits.items writer.state
+        (S.disk writer.store) → OnErr result.came (IsCut r lines (S.disk result.writer.store)) }
+    ensures written { OnOk result.came (result.writer.state.pending ≡ None) }
+    ensures same { IfOk result.came (λ x.
+        (x.shares ≡ rounds.shares) × (x.count ≡ rounds.count)) }
+    ensures closed { result.came ≡ Err WriterFault.Closed → ⊥ }
+    ensures later { S.fault_count writer.store ≤ S.fault_count result.writer.store }
+    ensures failed { result.came ≡ Err WriterFault.Store
+        → Rose (S.fault_count writer.store) (S.fault_count result.writer.store) }
+{
+    let mut rounds = rounds;
+    let Ran { writer, came } = write_pending(writer);
+    let commit = match came {
+        Ok(commit) => commit,
+        Err(fault) => return Ran::stopped(writer, fault),
+    };
+    match note(&mut rounds.commits, commit) {
+        Ok(()) => Ran {
+            writer,
+            came: Ok(rounds),
+        },
+        Err(error) => Ran::stopped(writer, WriterFault::from(error)),
+    }
 }
 
 /// Notes the number of a round's commit and how many rows it has, if there was one.

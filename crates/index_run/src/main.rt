@@ -26,6 +26,8 @@ mod telling;
 #[cfg(test)]
 mod tests;
 #[cfg(test)]
+mod tests_beside;
+#[cfg(test)]
 mod tests_check;
 #[cfg(test)]
 mod tests_commands;

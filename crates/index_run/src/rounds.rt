@@ -9,7 +9,7 @@ ghost use Rattle.line_shares.specs.Shares.{AreDone, open_count};
 ghost use Rattle.index_writer.specs.Ready.{IsSound};
 ghost use Rattle.index_writer.specs.Rounds.{ArePartsOf, IsBegun};
 ghost use Rattle.index_writer.specs.Working.{IsStuck};
-ghost use Rattle.index_run.specs.Driving.{EndsRound, HasCome, HasDone, IsCut, IsRound, Run};
+ghost use Rattle.index_run.specs.Driving.{EndsRound, HasCome, IsCut, IsRound, Run, WritesPending};
 ghost use Rattle.index_run.specs.Merged.{EndsMerged};
 ghost use Rattle.index_run.specs.Rounds.{AllCame, gave_of, given, pieces_of, share_of, writers_of};
 
@@ -28,6 +28,25 @@ use std::thread::Threads;
 /// begun where the next segment's id is above it: 2^62. Over a store that this program made no script
 /// leads there.
 const MOST: u64 = 4_611_686_018_427_387_904;
+
+/// What was done with a writer, or why it stopped, and the writer.
+#[derive(Drop)]
+pub struct Ran<S, T> {
+    pub writer: IndexWriter<S>,
+    pub came: Result<T, WriterFault>,
+}
+
+impl<S, T> Ran<S, T> {
+    /// It stopped by this fault.
+    pub fn stopped(writer: IndexWriter<S>, fault: WriterFault) -> Self
+        ensures { result ≡ record { writer = writer; came = Err fault } }
+    {
+        Ran {
+            writer,
+            came: Err(fault),
+        }
+    }
+}
 
 /// Begins the next round, of so many writers, and counts it.
 fn begin_round<S: Store>(
@@ -73,13 +92,13 @@ fn part(
         let Worked {
             writer,
             share,
+            pieces: given,
             stop,
         } = one;
         if stop == Stop::NoMemory {
             return Err(NoMemory);
         }
-        let mut share = share;
-        pieces.push(share.take_gave(alloc))?;
+        pieces.push(given.into_vec())?;
         writers.push(writer)?;
         shares.push(share)?;
     }
@@ -142,81 +161,164 @@ fn operations_of(end: RoundEnd, numbers: u64) -> u64
     }
 }
 
-/// Ends the round that is out, and writes its commit where it ended with one.
+/// Ends the round that is out: its lines stand behind those of the rounds before. A commit with which it
+/// ended is pending then.
 fn finish_round<R: Threads + Sync, S: Store>(
     rt: &R,
     writer: &mut IndexWriter<S>,
     parts: RoundParts,
-) -> Result<Option<CommitInfo>, WriterFault>
+) -> Result<(), WriterFault>
     requires round { (r : Run) × (lines : List Line) × (olds : List Share) × (news : List Share)
         × (log : List Line)
         × IsRound r lines olds news log writer.old.state parts (S.disk writer.old.store) }
     ensures ends { (r : Run) (lines : List Line) (olds news : List Share) (log : List Line)
         → IsRound r lines olds news log writer.old.state parts (S.disk writer.old.store)
-        → IfOk result (λ commit.
-        EndsRound r lines news log commit writer.new.state (S.disk writer.new.store)) }
-    ensures cut { (r : Run) (lines : List Line) (olds news : List Share) (log : List Line)
-        → IsRound r lines olds news log writer.old.state parts (S.disk writer.old.store)
-        → OnErr result (IsCut r lines (S.disk writer.new.store)) }
+        → OnOk result (EndsRound r lines news log writer.new.state (S.disk writer.new.store)) }
     ensures out { OnOk result (writer.new.state.out ≡ false) }
+    ensures store { writer.new.store ≡ writer.old.store }
     ensures closed { result ≡ Err WriterFault.Closed → ⊥ }
+    ensures outside { result ≡ Err WriterFault.Store → ⊥ }
     ensures open { OnOk result (IsStuck parts → ⊥) }
-    ensures later { S.fault_count writer.old.store ≤ S.fault_count writer.new.store }
-    ensures failed { result ≡ Err WriterFault.Store
-        → Rose (S.fault_count writer.old.store) (S.fault_count writer.new.store) }
+{
+    end_round(rt, writer, parts)?;
+    Ok(())
+}
+
+/// Writes the commit with which the last round ended, if it ended with one, and returns its number and
+/// how many rows it has, beside the writer. A round may be out.
+pub fn write_pending<S: Store>(writer: IndexWriter<S>) -> Ran<S, Option<CommitInfo>>
+    requires sound { IsSound writer.state }
+    requires open { writer.state.closed ≡ false }
+    ensures pending { WritesPending S.disk writer result }
+    ensures closed { result.came ≡ Err WriterFault.Closed → ⊥ }
+    ensures later { S.fault_count writer.store ≤ S.fault_count result.writer.store }
+    ensures failed { result.came ≡ Err WriterFault.Store
+        → Rose (S.fault_count writer.store) (S.fault_count result.writer.store) }
 {
     commits_go_on();
     commits_hold();
-    match end_round(rt, writer, parts) {
-        Ok(RoundEnd::Committed(_)) => {
-            if writer.next_id() > MOST {
-                return Err(WriterFault::NoMemory);
-            }
-            Ok(Some(writer.commit()?))
-        }
-        Ok(RoundEnd::Turned) => Ok(None),
-        Ok(RoundEnd::Ran) => Ok(None),
-        Err(fault) => Err(fault),
+    let mut writer = writer;
+    if writer.pending_commit().is_none() {
+        return Ran {
+            writer,
+            came: Ok(None),
+        };
+    }
+    if writer.next_id() > MOST {
+        return Ran::stopped(writer, WriterFault::NoMemory);
+    }
+    match writer.commit() {
+        Ok(info) => Ran {
+            writer,
+            came: Ok(Some(info)),
+        },
+        Err(fault) => Ran::stopped(writer, fault),
+    }
+}
+
+/// Lets a round go whose commit before it couldn't be written. Where the store failed the writer is
+/// closed, and gives the round back.
+fn let_go<R: Threads + Sync, S: Store>(
+    rt: &R,
+    alloc: Global,
+    writer: &mut IndexWriter<S>,
+    queue: DeleteQueue,
+    back: Result<Vec<Worked>, NoMemory>,
+)
+    requires sound { IsSound writer.old.state }
+    requires out { writer.old.state.out ≡ true }
+    ensures { writer.new ≡ writer.old }
+{
+    if !writer.is_closed() {
+        return;
+    }
+    let Ok(worked) = back else {
+        return;
+    };
+    if let Ok((parts, _)) = part(alloc, queue, worked) {
+        let _ = writer.end_round(rt, parts);
     }
 }
 
 /// Does a round: its workers go on with their shares at the same time, each by a writer of its own,
-/// until the lines are done or one of them closes the queue. Then the round is ended, with its commit.
-/// It returns the shares as the workers left them, and the commit, if there was one. It asks that a
-/// worker has a line that was told nothing, and counts the round.
+/// until the lines are done or one of them closes the queue. Meanwhile the commit with which the round
+/// before ended is written, if it ended with one. It returns the shares as the workers left them, and
+/// that commit, beside the index writer. It asks that a worker has a line that was told nothing, and
+/// counts the round.
 pub fn do_round<R: Threads + Wait + Sync, S: Store, G: Gate>(
     rt: &R,
     alloc: Global,
     gate: &G,
-    writer: &mut IndexWriter<S>,
+    writer: IndexWriter<S>,
     threads: u32,
     shares: Vec<Share>,
     rounds: &mut u64,
-) -> Result<(Vec<Share>, Option<CommitInfo>), WriterFault>
+) -> Ran<S, (Vec<Share>, Option<CommitInfo>)>
     requires threads { (1 ≤ threads) × (threads ≤ 16) }
     requires open { AreDone shares.items → ⊥ }
+    requires out { writer.state.out ≡ false }
     requires come { (r : Run) × (lines : List Line) × (commits : List (ℕ × ℕ))
         × (r.workers ≡ threads)
-        × HasCome r lines shares.items commits writer.old.state (S.disk writer.old.store) }
+        × HasCome r lines shares.items commits writer.state (S.disk writer.store) }
     ensures come { (r : Run) (lines : List Line) (commits : List (ℕ × ℕ)) → r.workers ≡ threads
-        → HasCome r lines shares.items commits writer.old.state (S.disk writer.old.store)
-        → IfOk result (λ x. HasCome r lines x.0.items (given commits x.1) writer.new.state
-        (S.disk writer.new.store)) }
+        → HasCome r lines shares.items commits writer.state (S.disk writer.store)
+        → IfOk result.came (λ x. HasCome r lines x.0.items (given commits x.1) result.writer.state
+        (S.disk result.writer.store)) }
     ensures cut { (r : Run) (lines : List Line) (commits : List (ℕ × ℕ)) → r.workers ≡ threads
-        → HasCome r lines shares.items commits writer.old.state (S.disk writer.old.store)
-        → OnErr result (IsCut r lines (S.disk writer.new.store)) }
+        → HasCome r lines shares.items commits writer.state (S.disk writer.store)
+        → OnErr result.came (IsCut r lines (S.disk result.writer.store)) }
+    ensures out { OnOk result.came (result.writer.state.out ≡ false) }
     // Where a task was left, one was told something.
     ensures goes_on { (AreDone shares.items → ⊥)
-        → IfOk result (λ x. open_count x.0.items < open_count shares.items) }
-    ensures counted { OnOk result (rounds.new ≡ rounds.old + 1) }
-    ensures closed { result ≡ Err WriterFault.Closed → ⊥ }
-    ensures later { S.fault_count writer.old.store ≤ S.fault_count writer.new.store }
-    ensures failed { result ≡ Err WriterFault.Store
-        → Rose (S.fault_count writer.old.store) (S.fault_count writer.new.store) }
+        → IfOk result.came (λ x. open_count x.0.items < open_count shares.items) }
+    ensures counted { OnOk result.came (rounds.new ≡ rounds.old + 1) }
+    ensures closed { result.came ≡ Err WriterFault.Closed → ⊥ }
+    ensures later { S.fault_count writer.store ≤ S.fault_count result.writer.store }
+    ensures failed { result.came ≡ Err WriterFault.Store
+        → Rose (S.fault_count writer.store) (S.fault_count result.writer.store) }
 {
-    let Round { queue, writers } = begin_round(writer, threads, rounds)?;
-    let worked = run_round(rt, alloc, &queue, writers, shares, gate)?;
-    let (parts, shares) = part(alloc, queue, worked)?;
-    let commit = finish_round(rt, writer, parts)?;
-    Ok((shares, commit))
+    let mut writer = writer;
+    let Round { queue, writers } = match begin_round(&mut writer, threads, rounds) {
+        Ok(round) => round,
+        Err(fault) => return Ran::stopped(writer, fault),
+    };
+    let (Ran { mut writer, came }, back) = run_round(
+        rt,
+        alloc,
+        &queue,
+        writers,
+        shares,
+        gate,
+        move || -> Ran<S, Option<CommitInfo>>
+            requires sound { IsSound writer.state }
+            requires open { writer.state.closed ≡ false }
+            ensures pending { WritesPending S.disk writer result }
+            ensures closed { result.came ≡ Err WriterFault.Closed → ⊥ }
+            ensures later { S.fault_count writer.store ≤ S.fault_count result.writer.store }
+            ensures failed { result.came ≡ Err WriterFault.Store
+                → Rose (S.fault_count writer.store) (S.fault_count result.writer.store) }
+        { write_pending(writer) },
+    );
+    let commit = match came {
+        Ok(commit) => commit,
+        Err(fault) => {
+            let_go(rt, alloc, &mut writer, queue, back);
+            return Ran::stopped(writer, fault);
+        }
+    };
+    let worked = match back {
+        Ok(worked) => worked,
+        Err(error) => return Ran::stopped(writer, WriterFault::from(error)),
+    };
+    let (parts, shares) = match part(alloc, queue, worked) {
+        Ok(parted) => parted,
+        Err(error) => return Ran::stopped(writer, WriterFault::from(error)),
+    };
+    match finish_round(rt, &mut writer, parts) {
+        Ok(()) => Ran {
+            writer,
+            came: Ok((shares, commit)),
+        },
+        Err(fault) => Ran::stopped(writer, fault),
+    }
 }

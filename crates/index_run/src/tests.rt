@@ -32,7 +32,7 @@ pub(crate) struct Done<S> {
 }
 
 /// A call of the program with these words, over these streams and this store, watched by this gate.
-fn run_top<R: Threads + Wait + Sync, S: Store + Drop, G: Gate>(
+fn run_top<R: Threads + Wait + Sync, S: Store, G: Gate>(
     rt: &R,
     alloc: Global,
     words: &[&str],
@@ -71,7 +71,7 @@ fn joined(alloc: Global, script: &[&str]) -> Result<Vec<u8>, NoMemory> {
 }
 
 /// A run of the script over the store, with these words.
-pub(crate) fn run_words<R: Threads + Wait + Sync, S: Store + Drop>(
+pub(crate) fn run_words<R: Threads + Wait + Sync, S: Store>(
     rt: &R,
     alloc: Global,
     words: &[&str],
@@ -86,7 +86,7 @@ pub(crate) fn run_words<R: Threads + Wait + Sync, S: Store + Drop>(
 }
 
 /// A call with these words and this input over the store, whose sink has room for so many bytes.
-pub(crate) fn run_into<R: Threads + Wait + Sync, S: Store + Drop>(
+pub(crate) fn run_into<R: Threads + Wait + Sync, S: Store>(
     rt: &R,
     alloc: Global,
     words: &[&str],
@@ -113,14 +113,14 @@ pub(crate) fn run_bytes<R: Threads + Wait + Sync, S: Store + Drop>(
 }
 
 /// A run of the script by so many threads over the store, which this gate watches.
-pub(crate) fn run_watched<R: Threads + Wait + Sync, G: Gate>(
+pub(crate) fn run_watched<R: Threads + Wait + Sync, S: Store, G: Gate>(
     rt: &R,
     alloc: Global,
     threads: &str,
     script: &[&str],
-    store: MemoryStore,
+    store: S,
     gate: &G,
-) -> Result<Done<MemoryStore>, NoMemory> {
+) -> Result<Done<S>, NoMemory> {
     let words = ["run", "--threads", threads];
     let input = MemorySource::failing(joined(alloc, script)?, Vec::new(alloc));
     let out = MemorySink::failing(alloc, 1_048_576, Vec::new(alloc))?;
@@ -129,7 +129,7 @@ pub(crate) fn run_watched<R: Threads + Wait + Sync, G: Gate>(
 
 /// A run of the script over the store, by one worker: the lines get their numbers in the order of the
 /// script.
-pub(crate) fn run_over<R: Threads + Wait + Sync, S: Store + Drop>(
+pub(crate) fn run_over<R: Threads + Wait + Sync, S: Store>(
     rt: &R,
     alloc: Global,
     script: &[&str],
@@ -149,7 +149,7 @@ pub(crate) fn run_over<R: Threads + Wait + Sync, S: Store + Drop>(
 }
 
 /// A run of the script over the store, in which no read and no write fails.
-pub(crate) fn run_script<R: Threads + Wait + Sync, S: Store + Drop>(
+pub(crate) fn run_script<R: Threads + Wait + Sync, S: Store>(
     rt: &R,
     alloc: Global,
     script: &[&str],

@@ -3,6 +3,7 @@
 use crate::tests::{Done, run_words};
 use ix_base::NoMemory;
 use ix_memory::MemoryStore;
+use ix_outside::Store;
 use plain_fold::{
     Draws, Kept, Leaf, Line, Options, Query, answer_text, compare, compare_numbers, last_commit,
     numbers_in, report_of, script_of,
@@ -13,13 +14,13 @@ use std::test::*;
 use std::thread::Threads;
 
 /// A run of the script over the store, with these options.
-fn run_with<R: Threads + Wait + Sync>(
+fn run_with<R: Threads + Wait + Sync, S: Store>(
     rt: &R,
     alloc: Global,
     options: Options,
     script: &str,
-    store: MemoryStore,
-) -> Result<Done<MemoryStore>, NoMemory> {
+    store: S,
+) -> Result<Done<S>, NoMemory> {
     let threads = format!(in alloc; "--threads={}", options.threads)?;
     let buffer = format!(in alloc; "--buffer={}", options.buffer)?;
     let merge = format!(in alloc; "--merge={}", options.merge)?;
@@ -46,14 +47,14 @@ fn check_report(
 
 /// Runs the lines over the store, whose last commit this is, and compares the whole report with the one
 /// that is folded from its numbers. Returns the last commit after it, and the store.
-pub(crate) fn check_run<R: Threads + Wait + Sync>(
+pub(crate) fn check_run<R: Threads + Wait + Sync, S: Store>(
     rt: &R,
     alloc: Global,
     options: Options,
     lines: &[Line],
     begun: &Kept,
-    store: MemoryStore,
-) -> Result<(Kept, MemoryStore), Fail> {
+    store: S,
+) -> Result<(Kept, S), Fail> {
     let script = script_of(alloc, lines)?;
     let done = run_with(rt, alloc, options, script.as_str(), store)?;
     let report = str::from_utf8(done.written.as_slice())

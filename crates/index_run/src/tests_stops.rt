@@ -1,6 +1,6 @@
 //! Runs that stop at a call of the store, and what calls make of each image that a crash then leaves:
 //! which commits it has, what each of them holds, and how a further run goes on from the last.
-use crate::tests::{ADD_A2, COMMIT, Done, ended, one_document, run_bytes, run_words};
+use crate::tests::{ADD_A1, ADD_A2, COMMIT, Done, ended, one_document, run_bytes, run_words};
 use ix_base::FileName;
 use ix_memory::{FuseStore, MemoryStore};
 use ix_outside::Store;
@@ -132,21 +132,17 @@ fn left<R: Threads + Wait + Sync + Abort>(
     Ok((fewest, most))
 }
 
-/// A second run of one commit over a store that passes so many calls on, and fails each later one: its
-/// status, and how many commits the images have.
+/// A second run of one commit, with this line behind it or with none, over a store that passes so many
+/// calls on, and fails each later one: its status, and how many commits the images have.
 fn stopped<R: Threads + Wait + Sync + Abort>(
     rt: &R,
     alloc: Global,
+    behind: &str,
     passes: u64,
 ) -> Result<(u8, (usize, usize)), Fail> {
     let fuse = FuseStore::new(one_document(rt, alloc)?, passes);
-    let done = second(
-        rt,
-        alloc,
-        &["run", "--threads", "1"],
-        &[ADD_A2, COMMIT],
-        fuse,
-    )?;
+    let script = [ADD_A2, COMMIT, behind];
+    let done = second(rt, alloc, &["run", "--threads", "1"], &script, fuse)?;
     let store = done.store.into_inner();
     Ok((done.status, left(rt, alloc, &TWO, &store)?))
 }
@@ -165,8 +161,11 @@ fn second<R: Threads + Wait + Sync + Abort, S: Store + Drop>(
 
 /// Up to the rename the first commit is there alone, once the directory is synced both are, and
 /// between them one or both.
-#[test]
-fn stops_at_each_call_of_a_commit(rt: HostRuntime) -> Result<(), Fail> {
+fn stops_at_each_call<R: Threads + Wait + Sync + Abort>(
+    rt: &R,
+    alloc: Global,
+    behind: &str,
+) -> Result<(), Fail> {
     let last = READING_CALLS + WRITING_CALLS;
     for passes in 0..=last {
         let wanted = if passes == last {
@@ -176,12 +175,23 @@ fn stops_at_each_call_of_a_commit(rt: HostRuntime) -> Result<(), Fail> {
         } else {
             (7, (1, 1))
         };
-        assert!(rt;
-            stopped(&rt, rt.alloc(), passes)? == wanted,
+        assert!(*rt;
+            stopped(rt, alloc, behind, passes)? == wanted,
             "passes {passes}"
         );
     }
     Ok(())
+}
+
+#[test]
+fn stops_at_each_call_of_a_commit(rt: HostRuntime) -> Result<(), Fail> {
+    stops_at_each_call(&rt, rt.alloc(), "")
+}
+
+/// A line behind the commit, told while it is written, changes nothing.
+#[test]
+fn stops_at_each_call_beside_a_round(rt: HostRuntime) -> Result<(), Fail> {
+    stops_at_each_call(&rt, rt.alloc(), ADD_A1)
 }
 
 /// A second run of three commits, whose call of the store of this number fails.

@@ -1,5 +1,5 @@
 -- What the functions inside the crate say of lines on their way to the workers.
-use Rattle.std.specs.Prelude.{◌≡◌, ℕ, ◌+◌, List, [], ◌∷◌, length, map}
+use Rattle.std.specs.Prelude.{◌≡◌, ℕ, ◌+◌, List, [], ◌∷◌, None, length, map}
 use Rattle.std.specs.Global.{Vec}
 use Rattle.std.specs.List.{AllByRecursion}
 use Rattle.op_script.specs.declared.script.Line.{Line}
@@ -23,4 +23,4 @@ AreNoTasks n vs = (length vs ≡ n) × AllByRecursion (λ (v : Vec Task). v.item
 
 -- a share has these tasks, and was told nothing
 abbrev pub IsShareOf : Vec Task → Share → Type 0
-IsShareOf v s = (s.tasks ≡ v.items) × (s.replies ≡ []) × (s.gave ≡ [])
+IsShareOf v s = (s.tasks ≡ v.items) × (s.replies ≡ []) × (s.held ≡ None)

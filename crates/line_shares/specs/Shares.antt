@@ -1,6 +1,6 @@
 -- How the lines of a script are dealt out to workers.
 use Rattle.std.specs.Prelude.{◌≡◌, ℕ, ◌+◌, ◌-◌, ◌<◌, ◌≤◌, ◌%◌, ◌==◌, ◌&&◌, Bool, true, false}
-use Rattle.std.specs.Prelude.{List, [], ◌∷◌, ◌++◌, length, map}
+use Rattle.std.specs.Prelude.{List, [], ◌∷◌, ◌++◌, None, length, map}
 use Rattle.std.specs.List.{filter, AllByRecursion}
 use Rattle.ix_base.specs.declared.document.Operation.{Operation}
 use Rattle.ix_base.specs.declared.document.Operation.TheVariants.{Add, Update, DeleteTerm, DeleteQuery, SetNumber, Commit}
@@ -54,12 +54,12 @@ place_of l = record { line = l.line; caller = l.caller; kind = kind_of l.act }
 abbrev pub own_lines : ℕ → ℕ → List Line → List Line
 own_lines n worker lines = filter (λ (l : Line). is_doing l.act && (l.caller % n == worker)) lines
 
--- A worker's share has its lines as tasks, of which the first ones were told something. It holds no pieces.
+-- A worker's share has its lines as tasks, of which the first ones were told something. It holds no piece.
 pub record IsShare (n worker : ℕ) (lines : List Line) (share : Share) : Type 0 where
   pub tasks : share.tasks ≡ map task_of (own_lines n worker lines)
   pub few : length share.replies ≤ length share.tasks
   pub fits : AreReplies share.tasks share.replies
-  pub none : share.gave ≡ []
+  pub none : share.held ≡ None
 
 -- the shares of this worker and of those after it, in their order
 abbrev pub AreSharesFrom : ℕ → ℕ → List Line → List Share → Type 0
@@ -95,4 +95,4 @@ pub record GoesOn (old new : Share) : Type 0 where
   pub replies : new.replies ≡ old.replies ++ more
   pub few : length new.replies ≤ length new.tasks
   pub fits : AreReplies (open_tasks old) more
-  pub none : new.gave ≡ []
+  pub none : new.held ≡ None

@@ -14,21 +14,18 @@ use Rattle.delete_queue.specs.contracts.queue.DeleteQueue as queue
 use Rattle.thread_writer.specs.contracts.writer.ThreadWriter as thread_writer
 use Rattle.ix_base.specs.contracts.document.Operation as operation
 use Rattle.ix_base.specs.contracts.query.Query as query
-use Rattle.frozen_packet.specs.contracts.updates.QueryDelete as query_delete
-use Rattle.frozen_packet.specs.contracts.updates.Updates as updates
-use Rattle.thread_writer.specs.contracts.piece.Piece as piece
+use Rattle.piece_queue.specs.contracts.queue.PieceQueue as pieces
+use Rattle.piece_queue.specs.contracts.sender.Sender as sender
 use Rattle.round_work.specs.contracts.share.Share as share
 use Rattle.round_work.specs.contracts.task.Task as task
-use Rattle.round_work.specs.contracts.worked.Worked as worked
+use Rattle.round_work.specs.contracts.worked.Stopped as stopped
 use Rattle.ix_base.proofs.document.Document.TheSendSync as document
 use Rattle.ix_base.proofs.document.Term.TheSendSync as term
 use Rattle.ix_base.proofs.query.Queries.TheLaws.TheKnot as knot
 use Rattle.ix_base.proofs.text.Name.TheSendSync as name
 use Rattle.ix_base.proofs.text.PhraseText.TheSendSync as phrase
 use Rattle.ix_base.proofs.list.List.TheSendSync as list
-use Rattle.frozen_packet.proofs.deleted_terms.DeletedTerms.TheSendSync as deleted_terms
-use Rattle.frozen_packet.proofs.updates.Setting.TheSendSync as setting
-use Rattle.ram_postings.proofs.freezing.Frozen.TheSendSync as frozen
+use Rattle.piece_queue.proofs.Sending.{piece_send, queue_shared, sender_send}
 use Rattle.delete_queue.proofs.queue.DeleteQueue.TheSendSync as queue_sync
 use Rattle.thread_writer.proofs.writer.ThreadWriter.TheSendSync as written
 use Rattle.std.proofs.Crossing.{frees}
@@ -44,23 +41,14 @@ query_send = as_row_send query.the_field (knot.send-Query term.the_field_send na
 operation_send : IsSend operation.the_row
 operation_send = search (sendable, variants_send, document.the_send, term.the_send, query_send, name.the_send) depth 14
 
-query_delete_send : IsSend query_delete.the_row
-query_delete_send = search (sendable, declared_send, query_send) depth 14
-
-updates_send : IsSend updates.the_row
-updates_send = search (sendable, declared_send, deleted_terms.the_send, query_delete_send, setting.the_send, list.the_send) depth 14
-
-piece_send : IsSend piece.the_row
-piece_send = search (sendable, declared_send, frozen.the_send, updates_send) depth 14
-
 task_send : IsSend task.the_row
 task_send = search (sendable, declared_send, operation_send) depth 14
 
 pub share_send : IsSend share.the_row
 share_send = search (sendable, declared_send, list.the_send, task_send, reply.the_send, piece_send) depth 14
 
-pub worked_send : IsSend worked.the_row
-worked_send = search (sendable, declared_send, written.the_send, share_send, stop.the_send) depth 14
+pub stopped_send : IsSend stopped.the_row
+stopped_send = search (sendable, declared_send, written.the_send, share_send, sender_send, stop.the_send) depth 14
 
 parts_send : (Ts : List RattleType) → AllSend Ts → FieldsHave IsSend (parts Ts)
 parts_send [] s = tt
@@ -69,11 +57,21 @@ parts_send (T ∷ Ts) s = (as_row_send (row_field T) s.0, parts_send Ts s.1)
 tuple_send : (name : Sym) (Ts : List RattleType) → AllSend Ts → IsSend (TupleAt name Ts)
 tuple_send name Ts s = declared_send (type_at name Ts) (parts_send Ts s)
 
--- of what a worker takes: the queue, its writer, its share and the gate
-pub worker_send : (name : Sym) (δ : Ty) (k : Kept) (q : Lifetime) (κ : Lft) (g : Lifetime) (ν : Lft) (G : RattleType)
-    → IsSync (param 1 G)
-    → IsSend (param 2 (arg δ k (TupleAt name (ShrRef q κ queue.the_row ∷ thread_writer.the_row ∷ share.the_row ∷ ShrRef g ν (param 1 G) ∷ []))))
-worker_send name δ k q κ g ν G s =
-    let Ts : List RattleType = ShrRef q κ queue.the_row ∷ thread_writer.the_row ∷ share.the_row ∷ ShrRef g ν (param 1 G) ∷ [] in
-    param_send 2 (arg δ k (TupleAt name Ts)) (arg_send δ k (TupleAt name Ts) (tuple_send name Ts
-    (shr_send q κ queue.the_row queue_sync.the_sync, (written.the_send, (share_send, (shr_send g ν (param 1 G) s, tt))))))
+-- of what a worker takes: the handle, the queues, its writer, its share, its sender and the gate
+pub worker_send : (name : Sym) (δ : Ty) (k : Kept) (r : Lifetime) (ρ : Lft) (R : RattleType) (q : Lifetime) (κ : Lft)
+    (p : Lifetime) (π : Lft) (g : Lifetime) (ν : Lft) (G : RattleType) → IsSync R → IsSync G
+    → IsSend (param 2 (arg δ k (TupleAt name (ShrRef r ρ R ∷ ShrRef q κ queue.the_row ∷ ShrRef p π pieces.the_row
+    ∷ thread_writer.the_row ∷ share.the_row ∷ sender.the_row ∷ ShrRef g ν G ∷ []))))
+worker_send name δ k r ρ R q κ p π g ν G rs gs =
+    let Ts : List RattleType = ShrRef r ρ R ∷ ShrRef q κ queue.the_row ∷ ShrRef p π pieces.the_row
+    ∷ thread_writer.the_row ∷ share.the_row ∷ sender.the_row ∷ ShrRef g ν G ∷ [] in
+    param_send 2 (arg δ k (TupleAt name Ts)) (arg_send δ k (TupleAt name Ts) (tuple_send name Ts (
+      shr_send r ρ R rs,
+      (
+        shr_send q κ queue.the_row queue_sync.the_sync,
+        (
+          shr_send p π pieces.the_row queue_shared,
+          (written.the_send, (share_send, (sender_send, (shr_send g ν G gs, tt)))),
+        ),
+      ),
+    )))

@@ -1,5 +1,5 @@
 -- One task after another.
-use Rattle.std.proofs.Common.{◌≡◌, ◌∙◌, ℕ, ◌+◌, ◌<◌, ◌≤◌, List, [], ◌∷◌, ◌++◌, false, length, refl, sym, ap, subst, arith, append-nil, append_assoc, length-append, length-drop}
+use Rattle.std.proofs.Common.{◌≡◌, ◌∙◌, ℕ, ◌+◌, ◌<◌, ◌≤◌, List, [], ◌∷◌, ◌++◌, Option, false, length, refl, sym, ap, subst, arith, append-nil, append_assoc, length-append, length-drop}
 use Rattle.std.specs.Prelude.{slice_index_or}
 use Rattle.std.proofs.lemmas.Bool.{true≢false}
 use Rattle.std.proofs.lemmas.List.{get_or-drop}
@@ -24,8 +24,9 @@ NoCommits [] (r ∷ rs) = Unit {0}
 NoCommits (t ∷ ts) (r ∷ rs) = (is_commit t.operation ≡ false) × NoCommits ts rs
 
 -- Tasks were done, none of them a commit, and no turn was linked.
-pub record Going (q : DeleteQueue) (old : ThreadWriter) (share : Share) (new : ThreadWriter) (after : Share) : Type 0 where
-  pub does : Does q old share new after
+pub record Going (q : DeleteQueue) (old : ThreadWriter) (share : Share) (new : ThreadWriter) (after : Share) (given : List Piece)
+    : Type 0 where
+  pub does : Does q old share new after given
   pub none : NoCommits (open_tasks share) does.more
   pub turns : turns_of new ≡ turns_of old
 
@@ -75,20 +76,20 @@ next_open share replies more t is inside at =
       get_or-drop k share.tasks (length more) t ∙ (ap (λ (i : ℕ). slice_index_or share.tasks i t) (sym many) ∙ at),
     )
 
-pub does_start : (q : DeleteQueue) (writer : ThreadWriter) (share : Share) → length share.replies ≤ length share.tasks → WorksOn q [] writer share.gave writer share.gave
-    → Going q writer share writer share
-does_start q writer share few works = record {
+pub does_start : (q : DeleteQueue) (writer : ThreadWriter) (share : Share) (given : List Piece) → length share.replies ≤ length share.tasks
+    → WorksOn q [] writer [] writer given → Going q writer share writer share given
+does_start q writer share given few works = record {
   does = record { tasks = refl; more = []; replies = sym (append-nil share.replies); few = few; fits = tt; commit = tt; works = works };
   none = tt;
   turns = refl;
 }
 
 -- one task more was told something
-pub does_next : (q : DeleteQueue) (a b c : ThreadWriter) (share : Share) (replies noted : List Reply) (two three : List Piece) (t : Task) (r : Reply)
-    → Going q a share b (share_of share.tasks replies two) → length replies < length share.tasks → slice_index_or share.tasks (length replies) t ≡ t
-    → IsReplyTo t.operation r → noted ≡ replies ++ r ∷ [] → WorksOn q (told_by t.operation r) b two c three
-    → Does q a share c (share_of share.tasks noted three)
-does_next q a b c share replies noted two three t r going inside at fits noted_is works =
+pub does_next : (q : DeleteQueue) (a b c : ThreadWriter) (share : Share) (replies noted : List Reply) (one_held two_held : Option Piece)
+    (two three : List Piece) (t : Task) (r : Reply) → Going q a share b (share_of share.tasks replies one_held) two
+    → length replies < length share.tasks → slice_index_or share.tasks (length replies) t ≡ t → IsReplyTo t.operation r
+    → noted ≡ replies ++ r ∷ [] → WorksOn q (told_by t.operation r) b two c three → Does q a share c (share_of share.tasks noted two_held) three
+does_next q a b c share replies noted one_held two_held two three t r going inside at fits noted_is works =
     let does = going.does in
     let more = does.more in
     let ts = open_tasks share in
@@ -102,28 +103,29 @@ does_next q a b c share replies noted two three t r going inside at fits noted_i
           omega (arith, many, one, inside);
       fits = replies_next ts more t r next.0 next.1 does.fits fits;
       commit = ends_next ts more r going.none;
-      works = subst (λ (told : List NumberedOperation). WorksOn q told a share.gave c three) (sym (told_next ts more t r next.0 next.1))
-          (works_then q (told_in ts more) (told_by t.operation r) a b c share.gave two three does.works works);
+      works = subst (λ (told : List NumberedOperation). WorksOn q told a [] c three) (sym (told_next ts more t r next.0 next.1))
+          (works_then q (told_in ts more) (told_by t.operation r) a b c [] two three does.works works);
     }
 
 -- and it was no commit, and linked no turn
-pub going_next : (q : DeleteQueue) (a b c : ThreadWriter) (share : Share) (replies noted : List Reply) (two three : List Piece) (t : Task) (r : Reply)
-    → Going q a share b (share_of share.tasks replies two) → length replies < length share.tasks → slice_index_or share.tasks (length replies) t ≡ t
-    → IsReplyTo t.operation r → noted ≡ replies ++ r ∷ [] → WorksOn q (told_by t.operation r) b two c three → is_commit t.operation ≡ false
-    → turns_of c ≡ turns_of b → Going q a share c (share_of share.tasks noted three)
+pub going_next : (q : DeleteQueue) (a b c : ThreadWriter) (share : Share) (replies noted : List Reply) (one_held two_held : Option Piece)
+    (two three : List Piece) (t : Task) (r : Reply) → Going q a share b (share_of share.tasks replies one_held) two
+    → length replies < length share.tasks → slice_index_or share.tasks (length replies) t ≡ t → IsReplyTo t.operation r
+    → noted ≡ replies ++ r ∷ [] → WorksOn q (told_by t.operation r) b two c three → is_commit t.operation ≡ false
+    → turns_of c ≡ turns_of b → Going q a share c (share_of share.tasks noted two_held) three
 unfolding does_next
-going_next q a b c share replies noted two three t r going inside at fits noted_is works no_commit same =
+going_next q a b c share replies noted one_held two_held two three t r going inside at fits noted_is works no_commit same =
     let next = next_open share replies going.does.more t going.does.replies inside at in record {
-      does = does_next q a b c share replies noted two three t r going inside at fits noted_is works;
+      does = does_next q a b c share replies noted one_held two_held two three t r going inside at fits noted_is works;
       none = none_next (open_tasks share) going.does.more t r next.0 next.1 going.none no_commit;
       turns = same ∙ going.turns;
     }
 
 -- a task was told nothing
-pub does_stop : (q : DeleteQueue) (a b c : ThreadWriter) (share : Share) (replies noted : List Reply) (two three : List Piece)
-    → Going q a share b (share_of share.tasks replies two) → noted ≡ replies → WorksOn q [] b two c three
-    → Does q a share c (share_of share.tasks noted three)
-does_stop q a b c share replies noted two three going noted_is works =
+pub does_stop : (q : DeleteQueue) (a b c : ThreadWriter) (share : Share) (replies noted : List Reply) (one_held two_held : Option Piece)
+    (two three : List Piece) → Going q a share b (share_of share.tasks replies one_held) two → noted ≡ replies → WorksOn q [] b two c three
+    → Does q a share c (share_of share.tasks noted two_held) three
+does_stop q a b c share replies noted one_held two_held two three going noted_is works =
     let does = going.does in record {
       tasks = refl;
       more = does.more;
@@ -131,11 +133,11 @@ does_stop q a b c share replies noted two three going noted_is works =
       few = subst (λ (rs : List Reply). length rs ≤ length share.tasks) (sym noted_is) does.few;
       fits = does.fits;
       commit = does.commit;
-      works = works_on q (told_in (open_tasks share) does.more) a b c share.gave two three does.works works;
+      works = works_on q (told_in (open_tasks share) does.more) a b c [] two three does.works works;
     }
 
 -- a commit was told its number
-pub closed_next : (q : DeleteQueue) (a b c : ThreadWriter) (share : Share) (replies : List Reply) (two : List Piece) → IsAtWork q a share
-    → Going q a share b (share_of share.tasks replies two) → Closes q b two c → SawClosed (the_view c.seat)
-closed_next q a b c share replies two at going closes =
+pub closed_next : (q : DeleteQueue) (number : ℕ) (a b c : ThreadWriter) (share after : Share) (two : List Piece) → IsAtWork q number a share
+    → Going q a share b after two → Closes q b two c → SawClosed (the_view c.seat)
+closed_next q number a b c share after two at going closes =
     closes (at.so_far ++ told_in (open_tasks share) going.does.more) (going.does.works.history at.so_far at.did)

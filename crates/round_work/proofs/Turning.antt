@@ -1,5 +1,5 @@
 -- A writer links a turn only where its part of the queue has no room for the operation.
-use Rattle.std.proofs.Common.{◌≡◌, ◌∙◌, ℕ, ◌-◌, ◌^◌, ◌<◌, ◌⊎◌, List, [], ◌∷◌, ◌++◌, Result, Ok, Err, false}
+use Rattle.std.proofs.Common.{◌≡◌, ◌∙◌, ℕ, ◌-◌, ◌^◌, ◌<◌, ◌⊎◌, List, [], ◌∷◌, ◌++◌, Option, Result, Ok, Err, false}
 use Rattle.std.proofs.Common.{length, slice_index, refl, sym, ap, subst, arith, append-nil, inl, inr, ne_eqb}
 use Rattle.std.specs.Prelude.{slice_index_or}
 use Rattle.std.specs.List.{filter}
@@ -124,12 +124,12 @@ full_turns is said need left (linked.Full a b) old ready done new full finds fir
 -- ---- a worker
 
 -- a task was told nothing, after tasks without a turn
-pub stop_turns : (a b c : ThreadWriter) (tasks : List Task) (replies noted : List Reply) (given : List Piece)
+pub stop_turns : (a b c : ThreadWriter) (tasks : List Task) (replies noted : List Reply) (held : Option Piece)
     (t : Task) (h : Halt) → turns_of b ≡ turns_of a → length replies < length tasks
     → slice_index_or tasks (length replies) t ≡ t → noted ≡ replies
-    → TurnsFor (Err h) t.operation b c → (turns_of c ≡ turns_of a) ⊎ LacksRoom c (share_of tasks noted given)
-stop_turns a b c tasks replies noted given t h before inside at same (inl still) = inl (still ∙ before)
-stop_turns a b c tasks replies noted given t h before inside at same (inr lacks) = inr (record {
+    → TurnsFor (Err h) t.operation b c → (turns_of c ≡ turns_of a) ⊎ LacksRoom c (share_of tasks noted held)
+stop_turns a b c tasks replies noted held t h before inside at same (inl still) = inl (still ∙ before)
+stop_turns a b c tasks replies noted held t h before inside at same (inr lacks) = inr (record {
   task = t;
   inside = subst (λ (rs : List Reply). length rs < length tasks) (sym same) inside;
   is = subst (λ (rs : List Reply). slice_index_or tasks (length rs) t ≡ t) (sym same) at;

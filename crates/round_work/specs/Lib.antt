@@ -1,4 +1,5 @@
 pub mod Shares
+pub mod Outboxes
 pub mod Working
 pub mod Lines
 pub mod Rounds

@@ -18,10 +18,11 @@ use Rattle.round_order.specs.Order.{is_commit}
 use Rattle.round_work.specs.declared.task.Reply.{Reply}
 use Rattle.round_work.specs.declared.task.Reply.TheVariants.{Numbered, Refused}
 use Rattle.round_work.specs.declared.task.Task.{Task}
-use Rattle.round_work.specs.declared.worked.Stop.TheVariants.{Done, Closed}
+use Rattle.round_work.specs.declared.worked.Stop.TheVariants.{Done, Closed, NoMemory}
 use Rattle.round_work.specs.declared.worked.Worked.{Worked}
 use Rattle.round_work.specs.declared.share.Share.{Share}
 use Rattle.round_work.specs.Shares.{open_tasks}
+use Rattle.round_work.specs.Outboxes.{held_of}
 
 -- ---- replies
 
@@ -75,24 +76,33 @@ turns_of w = length (filter (λ (o : Own). is_turn o.words) (own_of w.seat))
 
 -- ---- a worker
 
--- A writer of the queue can go on with this share: no more tasks were told something than there are, and the share has the
--- pieces that the writer gave off.
-pub record IsAtWork (q : DeleteQueue) (writer : ThreadWriter) (share : Share) : Type 0 where
+-- A writer of the queue with this number, which has given nothing off, can go on with this share: no more tasks were
+-- told something than there are, and it holds no piece.
+pub record IsAtWork (q : DeleteQueue) (number : ℕ) (writer : ThreadWriter) (share : Share) : Type 0 where
   pub is : IsWriter q writer
+  pub number_is : number_of writer.seat ≡ number
   pub few : length share.replies ≤ length share.tasks
+  pub empty : share.held ≡ None
   pub so_far : List NumberedOperation
-  pub did : Did q (parts_of writer) so_far share.gave
+  pub did : Did q (parts_of writer) so_far []
+
+-- each writer can go on with its share: those with the numbers from this one on, in their order
+abbrev pub AreAtWork : DeleteQueue → ℕ → List ThreadWriter → List Share → Type 0
+AreAtWork q i [] [] = Unit {0}
+AreAtWork q i (w ∷ ws) (s ∷ ss) = IsAtWork q i w s × AreAtWork q (i + 1) ws ss
+AreAtWork q i ws ss = ⊥
 
 -- Of the tasks that were told nothing yet, the first ones were told something; none behind a commit. The writer was told
--- the same.
-pub record Does (q : DeleteQueue) (old : ThreadWriter) (share : Share) (new : ThreadWriter) (after : Share) : Type 0 where
+-- the same, and gave these pieces off.
+pub record Does (q : DeleteQueue) (old : ThreadWriter) (share : Share) (new : ThreadWriter) (after : Share)
+    (given : List Piece) : Type 0 where
   pub tasks : after.tasks ≡ share.tasks
   pub more : List Reply
   pub replies : after.replies ≡ share.replies ++ more
   pub few : length after.replies ≤ length after.tasks
   pub fits : AreReplies (open_tasks share) more
   pub commit : EndsAtCommit (open_tasks share) more
-  pub works : WorksOn q (told_in (open_tasks share) more) old share.gave new after.gave
+  pub works : WorksOn q (told_in (open_tasks share) more) old [] new given
 
 -- The writer's last own entry is a turn. Right before it was linked, fewer words were left to the writer in its part of
 -- the queue than the operation's entry needs with its next word: the operation was told that the part is full.
@@ -111,8 +121,10 @@ pub record LacksRoom (w : ThreadWriter) (share : Share) : Type 0 where
 
 -- A worker did tasks of its share and stopped: by `Done` exactly where each task was told something, and by `Closed`
 -- only where its seat has seen that the queue is closed. It linked a turn only after the next task found its part full.
+-- What its writer gave off are its pieces and then the one that its share holds; it holds none but where memory ran out.
 pub record Works (q : DeleteQueue) (writer : ThreadWriter) (share : Share) (worked : Worked) : Type 0 where
-  pub does : Does q writer share worked.writer worked.share
+  pub does : Does q writer share worked.writer worked.share (worked.pieces ++ held_of worked.share.held)
+  pub sent : (worked.stop ≡ NoMemory → ⊥) → worked.share.held ≡ None
   pub done : (worked.stop ≡ Done) ↔ (length worked.share.replies ≡ length worked.share.tasks)
   pub closed : worked.stop ≡ Closed → SawClosed (the_view worked.writer.seat)
   pub turns : (turns_of worked.writer ≡ turns_of writer) ⊎ LacksRoom worked.writer worked.share

@@ -7,9 +7,12 @@
 //! where memory runs out. What it has not done it does in a later round, by a writer of a later queue.
 #![tactic(auto)]
 
+mod gathering;
 mod line;
+mod outbox;
 mod round;
 mod share;
+mod starting;
 mod task;
 mod worked;
 mod working;
@@ -18,4 +21,3 @@ pub use round::run_round;
 pub use share::Share;
 pub use task::{Reply, Task};
 pub use worked::{Stop, Worked};
-pub use working::work;

@@ -1,17 +1,21 @@
 //! One try of an operation, by a writer that gives its full buffer off before.
-ghost use Rattle.std.specs.Prelude.{◌≡◌, ◌<◌, [], length, IfOk, OnOk, Err, true};
-ghost use Rattle.delete_queue.specs.Seats.{SawClosed, own_of, the_view};
+ghost use Rattle.std.specs.Prelude.{◌≡◌, ◌<◌, [], None, length, IfOk, OnOk, Err, true};
+ghost use Rattle.delete_queue.specs.Seats.{SawClosed, number_of, own_of, the_view};
 ghost use Rattle.thread_writer.specs.Writing.{IsWriter};
 ghost use Rattle.round_order.specs.Order.{is_commit};
 ghost use Rattle.round_work.specs.declared.line.Halt.TheVariants as halt;
 ghost use Rattle.round_work.specs.Lines.{Closes, TurnsFor, reply_for, told_for};
+ghost use Rattle.round_work.specs.Outboxes.{IsOutbox, gave_by};
 ghost use Rattle.round_work.specs.Working.{IsReplyTo, WorksOn};
 
+use crate::outbox::Outbox;
 use crate::task::Reply;
 use delete_queue::DeleteQueue;
 use ix_base::{NoMemory, Operation, Refusal};
+use piece_queue::PieceQueue;
 use std::alloc::AllocError;
-use thread_writer::{Piece, ThreadWriter, Told};
+use std::sync::Wait;
+use thread_writer::{ThreadWriter, Told};
 
 /// Why a task was told nothing.
 #[derive(Clone, Copy, Debug, PartialEq, Eq)]
@@ -42,23 +46,29 @@ impl From<AllocError> for Halt {
     }
 }
 
-/// Gives a writer's buffer off where it is full. The only error is out of memory: nothing was given
-/// off.
-fn give_off(
+/// Gives a writer's buffer off where it is full, and sends it at once. The only error is out of memory:
+/// then nothing was given off, or the outbox holds what was.
+fn give_off<R: Wait>(
+    rt: &R,
     queue: &DeleteQueue,
+    pieces: &PieceQueue,
     writer: &mut ThreadWriter,
-    gave: &mut Vec<Piece>,
+    outbox: &mut Outbox,
 ) -> Result<(), NoMemory>
     requires writer { IsWriter queue.now writer.old }
-    ensures works { WorksOn queue.now [] writer.old gave.old.items writer.new gave.new.items }
+    requires outbox { IsOutbox pieces.now (number_of writer.old.seat) outbox.old }
+    requires empty { outbox.old.held ≡ None }
+    ensures works { WorksOn queue.now [] writer.old (gave_by outbox.old)
+        writer.new (gave_by outbox.new) }
+    ensures outbox { IsOutbox pieces.now (number_of writer.new.seat) outbox.new }
+    ensures sent { OnOk result (outbox.new.held ≡ None) }
     ensures own { own_of writer.new.seat ≡ own_of writer.old.seat }
     ensures room { OnOk result (length writer.new.rows < writer.new.size) }
 {
-    gave.reserve(1)?;
-    if let Some(piece) = writer.take_pieces(queue)? {
-        gave.push_reserved(piece);
+    match writer.take_pieces(queue)? {
+        Some(piece) => outbox.send(rt, pieces, piece),
+        None => Ok(()),
     }
-    Ok(())
 }
 
 /// What a task is told for what the writer answered, if anything.
@@ -74,26 +84,32 @@ fn reply(told: Told) -> Result<Reply, Halt>
     }
 }
 
-/// Tries an operation, by a writer which has given these pieces off, and returns what it is told.
+/// Tries an operation, by a writer whose pieces go into this outbox, and returns what it is told.
 /// `Closed` comes only where the seat has seen that the queue is closed: where its own part of the
 /// queue has no room for the operation, the writer closes the queue by a turn. After an error nothing
-/// was told; what was given off is kept.
-pub fn do_line(
+/// was told; what was given off was sent, or is held where memory ran out.
+pub fn do_line<R: Wait>(
+    rt: &R,
     queue: &DeleteQueue,
+    pieces: &PieceQueue,
     writer: &mut ThreadWriter,
-    gave: &mut Vec<Piece>,
+    outbox: &mut Outbox,
     operation: &Operation,
 ) -> Result<Reply, Halt>
     requires writer { IsWriter queue.now writer.old }
+    requires outbox { IsOutbox pieces.now (number_of writer.old.seat) outbox.old }
+    requires empty { outbox.old.held ≡ None }
     ensures works { WorksOn queue.now (told_for result operation.now)
-        writer.old gave.old.items writer.new gave.new.items }
+        writer.old (gave_by outbox.old) writer.new (gave_by outbox.new) }
+    ensures outbox { IsOutbox pieces.now (number_of writer.new.seat) outbox.new }
+    ensures sent { (result ≡ Err halt.NoMemory → ⊥) → outbox.new.held ≡ None }
     ensures reply { IfOk result (λ reply. IsReplyTo operation.now reply) }
     ensures closed { result ≡ Err halt.Closed → SawClosed (the_view writer.new.seat) }
     ensures commit { is_commit operation.now ≡ true
-        → OnOk result (Closes queue.now writer.old gave.old.items writer.new) }
+        → OnOk result (Closes queue.now writer.old (gave_by outbox.old) writer.new) }
     ensures turned { TurnsFor result operation.now writer.old writer.new }
 {
-    give_off(queue, writer, gave)?;
+    give_off(rt, queue, pieces, writer, outbox)?;
     let told = writer.do_line(queue, operation);
     if let Told::Full { .. } = told {
         let _ = writer.turn(queue);

@@ -1,7 +1,9 @@
 //! What comes back of a worker.
 
 use crate::share::Share;
-use thread_writer::ThreadWriter;
+use ix_base::List;
+use piece_queue::Sender;
+use thread_writer::{Piece, ThreadWriter};
 
 /// Why a worker stopped.
 #[derive(Clone, Copy, Debug, PartialEq, Eq)]
@@ -14,10 +16,20 @@ pub enum Stop {
     NoMemory,
 }
 
-/// A worker that stopped.
+/// A worker that came back, with the pieces that its writer gave off in the round, in order.
 #[derive(Drop)]
 pub struct Worked {
     pub writer: ThreadWriter,
     pub share: Share,
+    pub pieces: List<Piece>,
+    pub stop: Stop,
+}
+
+/// A worker that stopped. Its pieces were sent.
+#[derive(Drop)]
+pub(crate) struct Stopped {
+    pub writer: ThreadWriter,
+    pub share: Share,
+    pub sender: Sender,
     pub stop: Stop,
 }

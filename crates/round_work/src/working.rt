@@ -1,82 +1,108 @@
 //! One worker.
-ghost use Rattle.std.specs.Prelude.{◌≡◌, ◌≤◌, ◌↔◌, ◌⊎◌, ◌++◌, ◌∷◌, [], length, IfOk, OnOk, OnErr, Err, true};
+ghost use Rattle.std.specs.Prelude.{◌≡◌, ◌≤◌, ◌↔◌, ◌⊎◌, ◌++◌, ◌∷◌, [], length, IfOk, OnOk, OnErr, Err, None, true};
 ghost use Rattle.round_order.specs.Order.{is_commit};
-ghost use Rattle.delete_queue.specs.Seats.{SawClosed, the_view};
+ghost use Rattle.delete_queue.specs.Seats.{SawClosed, number_of as seat_number, the_view};
+ghost use Rattle.piece_queue.specs.Passes.{number_of};
 ghost use Rattle.thread_writer.specs.Writing.{IsWriter};
 ghost use Rattle.round_work.specs.declared.line.Halt.TheVariants as halt;
 ghost use Rattle.round_work.specs.declared.worked.Stop.TheVariants as stop;
 ghost use Rattle.round_work.specs.Lines.{Closes, TurnsFor, told_for};
+ghost use Rattle.round_work.specs.Outboxes.{IsFresh, IsOutbox, gave_by};
+ghost use Rattle.round_work.specs.Rounds.{Stops};
 ghost use Rattle.round_work.specs.Shares.{share_of};
-ghost use Rattle.round_work.specs.Working.{Does, IsAtWork, IsReplyTo, LacksRoom, Works, WorksOn, turns_of};
+ghost use Rattle.round_work.specs.Working.{Does, IsAtWork, IsReplyTo, LacksRoom, WorksOn, turns_of};
 
 use crate::line::{Halt, do_line};
+use crate::outbox::Outbox;
 use crate::share::Share;
 use crate::task::{Reply, Task};
-use crate::worked::{Stop, Worked};
+use crate::worked::{Stop, Stopped};
 use delete_queue::DeleteQueue;
 use ix_base::{List, Operation};
 use ix_outside::Gate;
-use thread_writer::{Piece, ThreadWriter};
+use piece_queue::{PieceQueue, Sender};
+use std::sync::Wait;
+use thread_writer::ThreadWriter;
 
-/// Does the tasks of a share that were told nothing yet, in order, by a writer of this queue. It asks
-/// that the pieces of the share are those that the writer gave off.
+/// Does the tasks of a share that were told nothing yet, in order, by a writer of this queue with the
+/// number of its sender, which has given nothing off. Each piece is sent as soon as it is full.
 ///
 /// The gate hears of each line before it is tried, and of each number. The worker stops where its
 /// tasks are done, after a commit, where the queue is closed, where the writer's part of the queue has
 /// no room for a task (it closes the queue by a turn then), and where memory runs out. What was done
 /// before is kept.
-pub fn work<G: Gate>(queue: &DeleteQueue, writer: ThreadWriter, share: Share, gate: &G) -> Worked
-    requires worker { IsAtWork queue.now writer share }
-    ensures works { Works queue.now writer share result }
+pub fn work<R: Wait, G: Gate>(
+    rt: &R,
+    queue: &DeleteQueue,
+    pieces: &PieceQueue,
+    writer: ThreadWriter,
+    share: Share,
+    sender: Sender,
+    gate: &G,
+) -> Stopped
+    requires sender { IsFresh pieces.now (number_of sender) sender }
+    requires worker { IsAtWork queue.now (number_of sender) writer share }
+    ensures stops { Stops queue.now pieces.now (number_of sender) writer share result }
 {
     let Share {
         tasks,
         replies,
-        gave,
+        held,
     } = share;
     let mut writer = writer;
     let mut replies = replies.into_vec();
-    let mut gave = gave.into_vec();
+    let mut outbox = Outbox { sender, held };
     let stop = do_tasks(
+        rt,
         queue,
+        pieces,
         &mut writer,
         tasks.as_slice(),
         &mut replies,
-        &mut gave,
+        &mut outbox,
         gate,
     );
-    Worked {
+    let Outbox { sender, held } = outbox;
+    let share = Share {
+        tasks,
+        replies: List::from_vec(replies),
+        held,
+    };
+    Stopped {
         writer,
-        share: Share {
-            tasks,
-            replies: List::from_vec(replies),
-            gave: List::from_vec(gave),
-        },
+        share,
+        sender,
         stop,
     }
 }
 
 /// Does the tasks behind those that have a reply, and says why it stopped.
-fn do_tasks<G: Gate>(
+fn do_tasks<R: Wait, G: Gate>(
+    rt: &R,
     queue: &DeleteQueue,
+    pieces: &PieceQueue,
     writer: &mut ThreadWriter,
     tasks: &[Task],
     replies: &mut Vec<Reply>,
-    gave: &mut Vec<Piece>,
+    outbox: &mut Outbox,
     gate: &G,
 ) -> Stop
-    requires worker { IsAtWork queue.now writer.old
-        (share_of tasks.now replies.old.items gave.old.items) }
-    ensures does { Does queue.now writer.old (share_of tasks.now replies.old.items gave.old.items)
-        writer.new (share_of tasks.now replies.new.items gave.new.items) }
+    requires outbox { IsFresh pieces.now (number_of outbox.old.sender) outbox.old.sender }
+    requires worker { IsAtWork queue.now (number_of outbox.old.sender) writer.old
+        (share_of tasks.now replies.old.items outbox.old.held) }
+    ensures does { Does queue.now
+        writer.old (share_of tasks.now replies.old.items outbox.old.held)
+        writer.new (share_of tasks.now replies.new.items outbox.new.held) (gave_by outbox.new) }
+    ensures outbox { IsOutbox pieces.now (number_of outbox.old.sender) outbox.new }
+    ensures sent { (result ≡ stop.NoMemory → ⊥) → outbox.new.held ≡ None }
     ensures done { (result ≡ stop.Done) ↔ (length replies.new.items ≡ length tasks.now) }
     ensures closed { result ≡ stop.Closed → SawClosed (the_view writer.new.seat) }
     ensures turned { (turns_of writer.new ≡ turns_of writer.old)
-        ⊎ LacksRoom writer.new (share_of tasks.now replies.new.items gave.new.items) }
+        ⊎ LacksRoom writer.new (share_of tasks.now replies.new.items outbox.new.held) }
 {
     while replies.len() < tasks.len() {
         let task = &tasks[replies.len()];
-        match do_task(queue, writer, task, replies, gave, gate) {
+        match do_task(rt, queue, pieces, writer, task, replies, outbox, gate) {
             Ok(_) => {}
             Err(halt) => return stop_for(halt),
         }
@@ -89,28 +115,34 @@ fn do_tasks<G: Gate>(
 
 /// Tries a task, and notes what it is told. The room for that is taken before. The gate hears of the
 /// line before it is tried, and of its number.
-fn do_task<G: Gate>(
+fn do_task<R: Wait, G: Gate>(
+    rt: &R,
     queue: &DeleteQueue,
+    pieces: &PieceQueue,
     writer: &mut ThreadWriter,
     task: &Task,
     replies: &mut Vec<Reply>,
-    gave: &mut Vec<Piece>,
+    outbox: &mut Outbox,
     gate: &G,
 ) -> Result<Reply, Halt>
     requires writer { IsWriter queue.now writer.old }
+    requires outbox { IsOutbox pieces.now (seat_number writer.old.seat) outbox.old }
+    requires empty { outbox.old.held ≡ None }
     ensures works { WorksOn queue.now (told_for result task.now.operation)
-        writer.old gave.old.items writer.new gave.new.items }
+        writer.old (gave_by outbox.old) writer.new (gave_by outbox.new) }
+    ensures outbox { IsOutbox pieces.now (seat_number writer.new.seat) outbox.new }
+    ensures sent { (result ≡ Err halt.NoMemory → ⊥) → outbox.new.held ≡ None }
     ensures reply { IfOk result (λ reply. IsReplyTo task.now.operation reply) }
     ensures noted { IfOk result (λ reply. replies.new.items ≡ replies.old.items ++ reply ∷ []) }
     ensures same { OnErr result (replies.new.items ≡ replies.old.items) }
     ensures closed { result ≡ Err halt.Closed → SawClosed (the_view writer.new.seat) }
     ensures commit { is_commit task.now.operation ≡ true
-        → OnOk result (Closes queue.now writer.old gave.old.items writer.new) }
+        → OnOk result (Closes queue.now writer.old (gave_by outbox.old) writer.new) }
     ensures turned { TurnsFor result task.now.operation writer.old writer.new }
 {
     replies.reserve(1)?;
     gate.before(task.line);
-    let reply = do_line(queue, writer, gave, &task.operation)?;
+    let reply = do_line(rt, queue, pieces, writer, outbox, &task.operation)?;
     replies.push_reserved(reply);
     tell(gate, task.line, reply);
     Ok(reply)
@@ -133,6 +165,7 @@ fn is_commit(operation: &Operation) -> bool
 /// Why a worker stops whose task was told nothing.
 fn stop_for(why: Halt) -> Stop
     ensures closed { result ≡ stop.Closed → why ≡ halt.Closed }
+    ensures memory { why ≡ halt.NoMemory → result ≡ stop.NoMemory }
     ensures left { result ≡ stop.Done → ⊥ }
 {
     match why {

@@ -1,22 +1,26 @@
 //! Workers of small queues, against what was worked out by hand.
-ghost use Rattle.std.specs.Prelude.{◌≡◌, ◌<◌, ◌≤◌, [], length, IfOk};
-ghost use Rattle.std.specs.List.{AllZip};
+ghost use Rattle.std.specs.Prelude.{◌≡◌, ◌<◌, ◌≤◌, [], None, length, IfOk};
+ghost use Rattle.std.specs.List.{AllByRecursion};
 ghost use Rattle.delete_queue.specs.Making.{AreNewFrom};
-ghost use Rattle.delete_queue.specs.Seats.{IsSeatOf, own_of};
-ghost use Rattle.round_work.specs.Working.{IsAtWork};
+ghost use Rattle.delete_queue.specs.Seats.{IsSeatOf, number_of, own_of};
+ghost use Rattle.round_work.specs.Working.{AreAtWork, IsAtWork};
+ghost use Rattle.round_work.specs.declared.worked.Stop.TheVariants as stop;
+ghost use Rattle.round_work_tests.specs.Shares.{CanGoOn};
 
 use delete_queue::{DeleteQueue, Reserve, Seat};
-use ix_base::{Document, Operation, Refusal, Text};
+use ix_base::{Document, NoMemory, Operation, Refusal, Text};
 use ix_memory::{GroupsGate, MeetingGate, RecordingGate};
 use ix_outside::Gate;
-use round_work::{Reply, Share, Stop, Task, Worked, run_round, work};
+use round_work::{Reply, Share, Stop, Task, Worked, run_round};
 use std::alloc::Global;
 use std::fmt::Write;
 use std::sync::Wait;
+use std::sync::atomic::{AtomicU64, Ordering};
 use std::test::*;
+use std::thread;
 use std::thread::Threads;
 use test_values::show_told;
-use thread_writer::ThreadWriter;
+use thread_writer::{Piece, ThreadWriter};
 
 fn adding(alloc: Global, line: u32, key: &str) -> Result<Task, Fail> {
     let key = Text::new(String::from_str(alloc, key)?).ok_or("long")?;
@@ -24,12 +28,11 @@ fn adding(alloc: Global, line: u32, key: &str) -> Result<Task, Fail> {
     Ok(Task { line, operation })
 }
 
-/// A writer of a new seat, whose buffer holds one document, for a share that has no pieces.
+/// A writer of a new seat, whose buffer holds one document.
 fn writer_for(alloc: Global, queue: &DeleteQueue, seat: Seat, share: &Share) -> ThreadWriter
     requires seat { IsSeatOf queue.now seat × (own_of seat ≡ []) }
-    requires few { length share.now.replies ≤ length share.now.tasks }
-    requires gave { share.now.gave ≡ [] }
-    ensures { IsAtWork queue.now result share.now }
+    requires share { CanGoOn share.now }
+    ensures { IsAtWork queue.now (number_of seat) result share.now }
 {
     ThreadWriter::make(alloc, seat, 1)
 }
@@ -68,8 +71,22 @@ fn four_tasks(alloc: Global) -> Result<Vec<Task>, Fail> {
     Ok(tasks)
 }
 
-/// Works by the only writer of a new queue. The share has no pieces before and after.
-fn one_round<G: Gate>(
+/// The share of a worker. The only error is that it ran out of memory.
+fn share_of(worked: Worked) -> Result<Share, NoMemory>
+    requires few { length worked.share.replies ≤ length worked.share.tasks }
+    requires sent { (worked.stop ≡ stop.NoMemory → ⊥) → worked.share.held ≡ None }
+    ensures { IfOk result CanGoOn }
+{
+    let Worked { share, stop, .. } = worked;
+    if stop == Stop::NoMemory {
+        return Err(NoMemory);
+    }
+    Ok(share)
+}
+
+/// Works by the only writer of a new queue.
+fn one_round<R: Threads + Wait + Sync, G: Gate>(
+    rt: &R,
     alloc: Global,
     base: u64,
     share: Share,
@@ -77,30 +94,32 @@ fn one_round<G: Gate>(
     out: &mut String,
 ) -> Result<Share, Fail>
     requires base { base ≤ 1000 }
-    requires few { length share.replies ≤ length share.tasks }
-    requires gave { share.gave ≡ [] }
-    ensures few { IfOk result (λ share. length share.replies ≤ length share.tasks) }
-    ensures gave { IfOk result (λ share. share.gave ≡ []) }
+    requires share { CanGoOn share }
+    ensures { IfOk result CanGoOn }
 {
-    let (queue, mut seats) = DeleteQueue::make(alloc, base, 1, &mut Reserve::new(alloc))?;
-    let seat = seats.pop().ok_or("a seat")?;
-    let writer = writer_for(alloc, &queue, seat, &share);
-    let Worked {
-        mut share,
-        stop,
-        ..
-    } = work(&queue, writer, share, gate);
-    let pieces = share.take_gave(alloc).len();
-    show(out, stop, &share, pieces)?;
-    Ok(share)
+    let (queue, seats) = DeleteQueue::make(alloc, base, 1, &mut Reserve::new(alloc))?;
+    let mut shares = Vec::new(alloc);
+    shares.push(share)?;
+    let (writers, shares) = begin_all(alloc, &queue, seats, shares)?;
+    let ((), back) = run_round(rt, alloc, &queue, writers, shares, gate, || ());
+    let mut all = back?;
+    let Some(worked) = all.pop() else {
+        return Err(Fail::new("a worker"));
+    };
+    show(out, worked.stop, &worked.share, worked.pieces.len())?;
+    Ok(share_of(worked)?)
 }
 
 /// What becomes of a share in two rounds, the first of them behind the number 250.
-fn two_rounds<G: Gate>(alloc: Global, gate: &G) -> Result<String, Fail> {
+fn two_rounds<R: Threads + Wait + Sync, G: Gate>(
+    rt: &R,
+    alloc: Global,
+    gate: &G,
+) -> Result<String, Fail> {
     let mut out = String::new(alloc);
     let share = Share::new(alloc, four_tasks(alloc)?);
-    let share = one_round(alloc, 250, share, gate, &mut out)?;
-    let share = one_round(alloc, 252, share, gate, &mut out)?;
+    let share = one_round(rt, alloc, 250, share, gate, &mut out)?;
+    let share = one_round(rt, alloc, 252, share, gate, &mut out)?;
     write!(out, " {}", share.tasks().len())?;
     Ok(out)
 }
@@ -110,7 +129,7 @@ fn two_rounds<G: Gate>(alloc: Global, gate: &G) -> Result<String, Fail> {
 #[test]
 fn worker_of_two_rounds(rt: HostRuntime) -> Result<(), Fail> {
     let gate = RecordingGate::new();
-    let shown = two_rounds(rt.alloc(), &gate)?;
+    let shown = two_rounds(&rt, rt.alloc(), &gate)?;
     let expected = " 251 term 32767 252 closed 1; 251 term 32767 252 253 done 0; 4";
     assert!(rt; shown.as_str() == expected);
     assert!(rt; gate.count() == 7);
@@ -133,7 +152,7 @@ fn worker_of_two_rounds(rt: HostRuntime) -> Result<(), Fail> {
 /// The tasks of one of several workers, each of which has so many: worker w of n adds by the lines
 /// w + 1, w + 1 + n and so on.
 fn adds_of(alloc: Global, worker: u32, workers: u32, each: u32) -> Result<Vec<Task>, Fail>
-    requires { (worker ≤ 16) × (workers ≤ 16) × (each ≤ 8) }
+    requires { (worker ≤ 16) × (workers ≤ 16) × (each ≤ 1000) }
 {
     let mut tasks = Vec::new(alloc);
     for at in 0..each {
@@ -142,43 +161,59 @@ fn adds_of(alloc: Global, worker: u32, workers: u32, each: u32) -> Result<Vec<Ta
     Ok(tasks)
 }
 
-/// The workers of a new queue, each with so many adds.
+/// The writers of a new queue with their shares, as far as there are seats and shares.
 fn begin_all(
     alloc: Global,
     queue: &DeleteQueue,
     seats: Vec<Seat>,
-    workers: u32,
-    each: u32,
+    shares: Vec<Share>,
 ) -> Result<(Vec<ThreadWriter>, Vec<Share>), Fail>
     requires seats { AreNewFrom queue.now 0 seats.items }
-    requires few { (workers ≤ 16) × (each ≤ 8) }
-    ensures { IfOk result (λ r. AllZip (IsAtWork queue.now) r.0.items r.1.items) }
+    requires shares { AllByRecursion CanGoOn shares.items }
+    ensures { IfOk result (λ r. AreAtWork queue.now 0 r.0.items r.1.items) }
 {
     let mut writers = Vec::new(alloc);
-    let mut shares = Vec::new(alloc);
-    for seat in seats {
-        let worker = writers.len().min(16) as u32;
-        let tasks = adds_of(alloc, worker, workers, each)?;
-        let share = Share::new(alloc, tasks);
+    let mut begun = Vec::new(alloc);
+    let mut seats = seats.into_iter();
+    for share in shares {
+        let Some(seat) = seats.next() else {
+            return Ok((writers, begun));
+        };
         writers.push(writer_for(alloc, queue, seat, &share))?;
-        shares.push(share)?;
+        begun.push(share)?;
     }
-    Ok((writers, shares))
+    Ok((writers, begun))
 }
 
-/// Does a round of so many workers, each with so many adds.
-fn round<R: Threads + Wait, G: Gate>(
+/// The shares of so many workers, each with so many adds.
+fn shares_of(alloc: Global, workers: u32, each: u32) -> Result<Vec<Share>, Fail>
+    requires { (workers ≤ 16) × (each ≤ 1000) }
+    ensures { IfOk result (λ shares. AllByRecursion CanGoOn shares.items) }
+{
+    let mut shares = Vec::new(alloc);
+    for worker in 0..workers {
+        shares.push(Share::new(alloc, adds_of(alloc, worker, workers, each)?))?;
+    }
+    Ok(shares)
+}
+
+/// Does a round of so many workers, each with so many adds, and calls `beside`.
+fn round<R: Threads + Wait + Sync, G: Gate, T: Drop, F: FnOnce() -> T>(
     rt: &R,
     alloc: Global,
     workers: u32,
     each: u32,
     gate: &G,
-) -> Result<Vec<Worked>, Fail>
-    requires { (1 ≤ workers) × (workers ≤ 16) × (each ≤ 8) }
+    beside: F,
+) -> Result<(T, Vec<Worked>), Fail>
+    requires few { (1 ≤ workers) × (workers ≤ 16) × (each ≤ 1000) }
+    requires beside { F.IsAlwaysCallable beside }
 {
     let (queue, seats) = DeleteQueue::make(alloc, 0, workers, &mut Reserve::new(alloc))?;
-    let (writers, shares) = begin_all(alloc, &queue, seats, workers, each)?;
-    Ok(run_round(rt, alloc, &queue, writers, shares, gate)?)
+    let shares = shares_of(alloc, workers, each)?;
+    let (writers, shares) = begin_all(alloc, &queue, seats, shares)?;
+    let (seen, back) = run_round(rt, alloc, &queue, writers, shares, gate, beside);
+    Ok((seen, back?))
 }
 
 /// Two workers meet: each has begun its first line before the other's is told, and the gate hears of a
@@ -187,14 +222,9 @@ fn round<R: Threads + Wait, G: Gate>(
 fn two_workers_meet(rt: HostRuntime) -> Result<(), Fail> {
     let gate = MeetingGate::new();
     let mut out = String::new(rt.alloc());
-    for worked in round(&rt, rt.alloc(), 2, 2, &gate)? {
-        let Worked {
-            mut share,
-            stop,
-            ..
-        } = worked;
-        let pieces = share.take_gave(rt.alloc()).len();
-        show(&mut out, stop, &share, pieces)?;
+    let ((), back) = round(&rt, rt.alloc(), 2, 2, &gate, || ())?;
+    for worked in back {
+        show(&mut out, worked.stop, &worked.share, worked.pieces.len())?;
     }
     assert!(rt; !gate.is_late());
     assert!(rt; out.as_str() == " 3 4 done 1; 1 2 done 1;");
@@ -229,12 +259,93 @@ fn workers_side_by_side(rt: HostRuntime) -> Result<(), Fail> {
     for (workers, each) in [(4, 8), (16, 2)] {
         let gate = GroupsGate::new(workers);
         let mut seen = [false; 33];
-        for worked in round(&rt, rt.alloc(), workers, each, &gate)? {
+        let ((), back) = round(&rt, rt.alloc(), workers, each, &gate, || ())?;
+        for worked in back {
             assert!(rt; worked.stop == Stop::Done && worked.share.is_done());
             let replies = worked.share.replies();
             assert!(rt; follow(replies, u64::from(workers), &mut seen));
         }
         assert!(rt; !gate.is_late());
+    }
+    Ok(())
+}
+
+/// A gate that counts the lines that it hears of, of which line 2 is tried only once the gate was
+/// opened. What waits in vain is let go after 4,000,000 turns, and the gate is late then.
+#[derive(Drop)]
+struct BesideGate {
+    heard: AtomicU64,
+    opened: AtomicU64,
+    late: AtomicU64,
+}
+
+impl BesideGate {
+    /// Waits until the number isn't below `least`.
+    fn wait_for(&self, number: &AtomicU64, least: u64) {
+        for _ in 0..4_000_000u64 {
+            if number.load(Ordering::SeqCst) >= least {
+                return;
+            }
+            thread::yield_now();
+        }
+        self.late.store(1, Ordering::SeqCst);
+    }
+
+    /// What is done beside the workers: waits for the first line, opens the gate, and waits until so many
+    /// lines were heard of.
+    fn beside(&self, lines: u64) -> u64 {
+        self.wait_for(&self.heard, 1);
+        self.opened.store(1, Ordering::SeqCst);
+        self.wait_for(&self.heard, lines);
+        self.heard.load(Ordering::SeqCst)
+    }
+}
+
+impl Gate for BesideGate {
+    fn before(&self, line: u32) {
+        self.heard.fetch_add(1, Ordering::SeqCst);
+        if line == 2 {
+            self.wait_for(&self.opened, 1);
+        }
+    }
+
+    fn told(&self, _line: u32, _number: u64) {}
+}
+
+/// Whether the pieces have one row each, in the order of the replies, of which the last one's row is in
+/// no piece.
+fn are_pieces_of(pieces: &[Piece], replies: &[Reply], number: u64) -> bool {
+    let mut replies = replies.iter();
+    for piece in pieces {
+        let Some(Reply::Numbered(told)) = replies.next() else {
+            return false;
+        };
+        let Some(row) = piece.frozen.rows.first() else {
+            return false;
+        };
+        if piece.worker != number || row.birth != *told || piece.frozen.rows.len() != 1 {
+            return false;
+        }
+    }
+    replies.len() == 1
+}
+
+/// Three workers send 799 pieces each while the keeper waits for their last line. All come back, each
+/// with its worker, in order.
+#[test]
+fn many_pieces_while_the_keeper_is_busy(rt: HostRuntime) -> Result<(), Fail> {
+    let gate = BesideGate {
+        heard: AtomicU64::new(0),
+        opened: AtomicU64::new(0),
+        late: AtomicU64::new(0),
+    };
+    let (heard, back) = round(&rt, rt.alloc(), 3, 800, &gate, || gate.beside(2400))?;
+    assert!(rt; heard == 2400 && gate.late.load(Ordering::SeqCst) == 0);
+    assert!(rt; back.len() == 3);
+    for (number, worked) in back.iter().enumerate() {
+        assert!(rt; worked.stop == Stop::Done && worked.pieces.len() == 799);
+        let pieces = worked.pieces.as_slice();
+        assert!(rt; are_pieces_of(pieces, worked.share.replies(), number as u64));
     }
     Ok(())
 }

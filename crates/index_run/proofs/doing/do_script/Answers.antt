@@ -143,4 +143,4 @@ pub returns-in-Ok-done-clause-steps : goal.returns-in-Ok-done-clause-steps
 returns-in-Ok-done-clause-steps g c =
     same_disks (Told OnlyCommits) (g.S.Store.disk c.args.store) (g.S.Store.disk c.in-Ok.writer.store)
     (g.S.Store.disk c.into_store-store.result) (g.S.Store.disk c.text_of.new.store) c.in-Ok.ensures.reads
-    c.text_of.ensures.reads (over g c).over.disk.only
+    c.text_of.ensures.reads (over g c).disk.only

@@ -1,4 +1,4 @@
-use Rattle.std.proofs.Common.{◌≡◌, ◌+◌, ◌≤◌, List, []}
+use Rattle.std.proofs.Common.{◌≡◌, ◌+◌, ◌≤◌, List, [], false}
 use Rattle.op_script.specs.declared.script.Line.{Line}
 use Rattle.line_shares.specs.Shares.{open_count}
 use Rattle.index_run.specs.Driving.{HasCome, Run}
@@ -10,6 +10,7 @@ invariant-loop-alloc g l =
       come : (r : Run) (lines : List Line) → r.workers ≡ l.fn.threads
           → HasCome r lines l.fn.shares.items [] l.fn.writer.state (g.S.Store.disk l.fn.writer.store)
           → HasCome r lines l.shares.items l.commits.items l.writer.state (g.S.Store.disk l.writer.store);
+      out : l.writer.state.out ≡ false;
       few : l.count + open_count l.shares.items ≤ open_count l.fn.shares.items;
       later : g.S.Store.fault_count l.fn.writer.store ≤ g.S.Store.fault_count l.writer.store;
     }

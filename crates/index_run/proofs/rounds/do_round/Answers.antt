@@ -1,81 +1,41 @@
-use Rattle.std.proofs.Common.{◌≡◌, ℕ, List, ap, subst, sym}
+use Rattle.std.proofs.Common.{◌≡◌, ◌∙◌, ℕ, List, ap, subst, sym}
 use Rattle.line_shares.specs.Shares.{AreShares}
-use Rattle.index_run.specs.Driving.{IsCut}
-use Rattle.index_run.proofs.Coming.{come_on, round_done}
-use Rattle.index_run.proofs.Rounding.{cut_done, on_err}
+use Rattle.index_run.specs.Driving.{HasCome, IsCut}
+use Rattle.index_run.proofs.Coming.{begun_on, come_begun, come_on, round_done}
+use Rattle.index_run.proofs.Rounding.{cut_done, stopped_cut}
 use Rattle.index_run.proofs.Workers.{at_work, fewer_open}
 use Rattle.index_run.proofs.rounds.do_round.Goals as goal
 
-pub returns-in_err-queue-clause-cut : goal.returns-in_err-queue-clause-cut
-returns-in_err-queue-clause-cut g c = λ r lines commits size come.
-    on_err c.from_residual.result _
+pub returns-in-Err-clause-cut : goal.returns-in-Err-clause-cut
+returns-in-Err-clause-cut g c = λ r lines commits size come.
+    stopped_cut g.S.Store.disk r lines _ _ _ c.stopped.ensures
     (subst (IsCut r lines) (sym (ap (λ s. g.S.Store.disk s) c.begin_round.ensures.store))
-    (cut_done r lines c.args.shares.items come.log c.args.writer.now.state _ come.done))
+    (cut_done r lines c.args.shares.items come.log c.args.writer.state _ come.done))
 
-pub run_round-requires-clause-workers : goal.run_round-requires-clause-workers
-run_round-requires-clause-workers g c = λ lifetimes lives.
+pub run_round-writer-requires-clause-workers : goal.run_round-writer-requires-clause-workers
+run_round-writer-requires-clause-workers g c κs within =
     let q = c.requires.come in
     let shares = c.args.shares.items in
-    at_work c.args.threads c.args.writer.now.state c.in_ok-queue.field-0 q.1 shares c.in_ok-queue.ensures.begun
+    at_work c.args.threads c.args.writer.state c.in-Ok.round q.1 shares c.in-Ok.ensures.begun
     (subst (λ (n : ℕ). AreShares n q.1 shares) q.3 q.4.done.shares_are)
 
-pub returns-in_err-worked-clause-cut : goal.returns-in_err-worked-clause-cut
-returns-in_err-worked-clause-cut g c = λ r lines commits size come.
-    on_err c.from_residual-in_err-worked.result _
-    (subst (IsCut r lines) (sym (ap (λ s. g.S.Store.disk s) c.begin_round.ensures.store))
-    (cut_done r lines c.args.shares.items come.log c.args.writer.now.state _ come.done))
+pub returns-in-Err-came-clause-cut : goal.returns-in-Err-came-clause-cut
+returns-in-Err-came-clause-cut g c = ?
 
-pub returns-in_err-parts-clause-cut : goal.returns-in_err-parts-clause-cut
-returns-in_err-parts-clause-cut g c = λ r lines commits size come.
-    on_err c.from_residual-in_err-parts.result _
-    (subst (IsCut r lines) (sym (ap (λ s. g.S.Store.disk s) c.begin_round.ensures.store))
-    (cut_done r lines c.args.shares.items come.log c.args.writer.now.state _ come.done))
+pub returns-in-Err-back-clause-cut : goal.returns-in-Err-back-clause-cut
+returns-in-Err-back-clause-cut g c = ?
+
+pub returns-in-Err-part-clause-cut : goal.returns-in-Err-part-clause-cut
+returns-in-Err-part-clause-cut g c = ?
 
 pub finish_round-requires-clause-round : goal.finish_round-requires-clause-round
-finish_round-requires-clause-round g c = λ lifetimes lives.
-    let q = c.requires.come in
-    let back = c.in_ok-parts.ensures in (
-      q.0,
-      q.1,
-      c.args.shares.items,
-      c.in_ok-parts.shares.items,
-      q.4.log,
-      round_done q.0 q.1 q.2 c.args.threads c.args.writer.now.state c.begin_round.new.writer.state c.in_ok-queue.field-0
-          c.args.shares.items c.in_ok-parts.shares.items c.in_ok-worked.worked.items c.in_ok-parts.parts _ _ q.3 q.4
-          c.in_ok-queue.ensures.begun c.in_ok-queue.ensures.on c.begin_round.ensures.sound
-          (ap (λ s. g.S.Store.disk s) c.begin_round.ensures.store) c.in_ok-worked.ensures.works back.queue back.writers
-          back.pieces back.shares,
-    )
+finish_round-requires-clause-round g c κs within = ?
 
-pub returns-in_err-commit-clause-cut : goal.returns-in_err-commit-clause-cut
-returns-in_err-commit-clause-cut g c = λ r lines commits size come.
-    let back = c.in_ok-parts.ensures in
-    let round =
-    round_done r lines commits c.args.threads c.args.writer.now.state c.begin_round.new.writer.state c.in_ok-queue.field-0
-    c.args.shares.items c.in_ok-parts.shares.items c.in_ok-worked.worked.items c.in_ok-parts.parts _ _ size come
-    c.in_ok-queue.ensures.begun c.in_ok-queue.ensures.on c.begin_round.ensures.sound
-    (ap (λ s. g.S.Store.disk s) c.begin_round.ensures.store) c.in_ok-worked.ensures.works back.queue back.writers
-    back.pieces back.shares in
-    on_err c.from_residual-in_err-commit.result _
-    (c.in_err-commit.ensures.cut r lines c.args.shares.items c.in_ok-parts.shares.items come.log round)
+pub returns-in-Ok-finish_round-clause-come : goal.returns-in-Ok-finish_round-clause-come
+returns-in-Ok-finish_round-clause-come g c = ?
 
-pub returns-clause-come : goal.returns-clause-come
-returns-clause-come g c = λ r lines commits size come.
-    let back = c.in_ok-parts.ensures in
-    let news = c.in_ok-parts.shares.items in
-    let round =
-    round_done r lines commits c.args.threads c.args.writer.now.state c.begin_round.new.writer.state c.in_ok-queue.field-0
-    c.args.shares.items news c.in_ok-worked.worked.items c.in_ok-parts.parts _ _ size come
-    c.in_ok-queue.ensures.begun c.in_ok-queue.ensures.on c.begin_round.ensures.sound
-    (ap (λ s. g.S.Store.disk s) c.begin_round.ensures.store) c.in_ok-worked.ensures.works back.queue back.writers
-    back.pieces back.shares in
-    come_on r lines news commits come.log c.finish_round.new.writer.state _ come.numbers come.docs
-    c.in_ok-commit.ensures.out c.in_ok-commit.commit
-    (c.in_ok-commit.ensures.ends r lines c.args.shares.items news come.log round)
+pub returns-in-Ok-finish_round-clause-goes_on : goal.returns-in-Ok-finish_round-clause-goes_on
+returns-in-Ok-finish_round-clause-goes_on g c = ?
 
-pub returns-clause-goes_on : goal.returns-clause-goes_on
-returns-clause-goes_on g c =
-    let back = c.in_ok-parts.ensures in
-    fewer_open c.args.threads c.args.writer.now.state c.in_ok-queue.field-0 c.args.shares.items
-    c.in_ok-parts.shares.items c.in_ok-worked.worked.items c.in_ok-parts.parts c.in_ok-queue.ensures.begun
-    c.in_ok-worked.ensures.works back.came back.writers back.shares c.in_ok-commit.ensures.open
+pub returns-in-Err-finish_round-clause-cut : goal.returns-in-Err-finish_round-clause-cut
+returns-in-Err-finish_round-clause-cut g c = ?

@@ -8,6 +8,7 @@ use Rattle.thread_writer.specs.Answers.{FullFor, IfNotNumbered}
 use Rattle.round_work.specs.declared.line.Halt.{Halt}
 use Rattle.round_work.specs.declared.task.Reply.{Reply}
 use Rattle.round_work.specs.Lines.{TurnsFor, reply_for, told_for}
+use Rattle.round_work.specs.Outboxes.{gave_by}
 use Rattle.round_work.specs.Working.{IsReplyTo, WorksOn}
 use Rattle.round_work.proofs.AtWork.{closed_for, closes_for, lined, replied, told_nothing, works_on, works_then}
 use Rattle.round_work.proofs.Seeing.{turned_seen}
@@ -16,7 +17,7 @@ use Rattle.round_work.proofs.line.do_line.Goals.{in-Full, in_default}
 use Rattle.round_work.proofs.line.do_line.Goals as goal
 
 pub returns-clause-works : goal.returns-clause-works
-returns-clause-works c =
+returns-clause-works g c =
     let q = c.args.queue.now in
     let op = c.args.operation.now in
     let old = c.args.writer.now in
@@ -24,8 +25,8 @@ returns-clause-works c =
     let done = c.do_line-told.new.self in
     let said = c.do_line-told.result in
     let does = c.do_line-told.ensures in
-    let before = c.args.gave.now.items in
-    let gave = c.give_off.new.gave.items in
+    let before = gave_by c.args.outbox.now in
+    let gave = gave_by c.give_off.new.outbox in
     let more = told_for (reply_for said) op in
     let line = lined q op said ready done gave does.writer does.grows does.size does.numbered does.stays in
     subst (λ (r : Result Reply Halt). WorksOn q (told_for r op) old before c.match-told.writer gave) (sym c.reply.ensures)
@@ -41,12 +42,12 @@ returns-clause-works c =
     ]))
 
 pub returns-clause-reply : goal.returns-clause-reply
-returns-clause-reply c =
+returns-clause-reply g c =
     let op = c.args.operation.now in
     subst (λ (r : Result Reply Halt). IfOk r (λ reply. IsReplyTo op reply)) (sym c.reply.ensures) (replied op c.do_line-told.result c.do_line-told.ensures.refusal)
 
 pub returns-clause-closed : goal.returns-clause-closed
-returns-clause-closed c = λ closed.
+returns-clause-closed g c = λ closed.
     let said = c.do_line-told.result in
     let Saw : ThreadWriter → Type 0 = λ v. SawClosed (the_view v.seat) in
     elim c.match-told.branch [
@@ -59,12 +60,12 @@ returns-clause-closed c = λ closed.
     ]
 
 pub returns-clause-commit : goal.returns-clause-commit
-returns-clause-commit c = λ commit.
-    closes_for c.args.queue.now c.args.operation.now c.reply.result c.args.writer.now c.match-told.writer c.args.gave.now.items c.give_off.new.gave.items commit
-    (returns-clause-reply c) (returns-clause-works c)
+returns-clause-commit g c = λ commit.
+    closes_for c.args.queue.now c.args.operation.now c.reply.result c.args.writer.now c.match-told.writer (gave_by c.args.outbox.now) (gave_by c.give_off.new.outbox) commit
+    (returns-clause-reply g c) (returns-clause-works g c)
 
 pub returns-clause-turned : goal.returns-clause-turned
-returns-clause-turned c =
+returns-clause-turned g c =
     let op = c.args.operation.now in
     let old = c.args.writer.now in
     let ready = c.give_off.new.writer in

@@ -1,11 +1,17 @@
-use Rattle.std.proofs.Common.{◌-◌, length}
+use Rattle.std.proofs.Common.{◌≡◌, ◌-◌, None, length}
+use Rattle.delete_queue.specs.Seats.{number_of}
+use Rattle.round_work.specs.Outboxes.{IsOutbox, gave_by}
 use Rattle.round_work.specs.Shares.{share_of}
 use Rattle.round_work.proofs.Tasks.{Going}
 use Rattle.round_work.proofs.working.do_tasks.Given as goal
 
 abbrev pub invariant-loop-replies : goal.invariant-loop-replies
-invariant-loop-replies g l =
-    Going l.queue l.fn.writer (share_of l.tasks l.fn.replies.items l.fn.gave.items) l.writer (share_of l.tasks l.replies.items l.gave.items)
+invariant-loop-replies g l = record {
+  going : Going l.queue l.fn.writer (share_of l.tasks l.fn.replies.items l.fn.outbox.held) l.writer
+      (share_of l.tasks l.replies.items l.outbox.held) (gave_by l.outbox);
+  outbox : IsOutbox l.pieces (number_of l.writer.seat) l.outbox;
+  empty : l.outbox.held ≡ None;
+}
 
 abbrev pub decreases-loop-replies : goal.decreases-loop-replies
 decreases-loop-replies g l = length l.tasks - length l.replies.items

@@ -1,0 +1,61 @@
+use Rattle.std.proofs.Common.{◌≡◌, ◌∙◌, ◌≤◌, ◌^◌, false, refl, sym, ap, subst, arith}
+use Rattle.std.specs.Prelude.{Option, Some, None, Ok, Err}
+use Rattle.index_writer.specs.declared.state.State.{State}
+use Rattle.index_run.specs.Driving.{WritesPending}
+use Rattle.index_run.specs.Leaving.{CommitLaws}
+use Rattle.index_run.proofs.Coming.{come_written}
+use Rattle.index_run.proofs.Rounding.{cut_done, cut_written, some_pending}
+use Rattle.index_run.proofs.rounds.write_pending.Goals as goal
+
+pub returns-then-next_id-gt-MOST-clause-pending : goal.returns-then-next_id-gt-MOST-clause-pending
+returns-then-next_id-gt-MOST-clause-pending g c =
+    subst (WritesPending g.S.Store.disk c.args.writer) (sym c.stopped.ensures) (record {
+      come = λ r lines shares commits come. tt;
+      cut = λ r lines shares commits come.
+          cut_done r lines shares come.log c.args.writer.state (g.S.Store.disk c.args.writer.store) come.done;
+      written = tt;
+      upto = tt;
+      same = (refl, refl);
+      sound = c.requires.sound;
+    })
+
+pub returns-in-Ok-clause-pending : goal.returns-in-Ok-clause-pending
+returns-in-Ok-clause-pending g c =
+    let w = c.args.writer in
+    let x = c.commit.new.self in
+    let well = c.in-Ok.ensures in
+    let low : w.state.published.next_id ≤ 2 ^ 62 =
+    (let small = c.if-next_id-gt-MOST.false in let id = c.next_id.ensures in omega (arith, small, id)) in
+    let laws : CommitLaws = record { go_on = c.commits_go_on.ensures; hold = c.commits_hold.ensures.made } in
+    let closed : x.state.closed ≡ false = ap (λ (s : State). s.closed) well.on ∙ c.requires.open in
+    record {
+      come = λ r lines shares commits come.
+          come_written r lines shares commits w.state x.state (g.S.Store.disk w.store) (g.S.Store.disk x.store) come
+          c.in-Ok.info laws well.number well.on (well.sound closed) low well.docs well.stands well.made
+          well.acknowledged well.settled c.commit.ensures.crash c.commit.ensures.only c.commit.ensures.standing;
+      cut = λ r lines shares commits come. tt;
+      written = ap (λ (s : State). s.pending) well.on;
+      upto = ap (λ (s : State). s.published.upto) well.on;
+      same = (ap (λ (s : State). s.out) well.on, ap (λ (s : State). s.buffer) well.on);
+      sound = c.commit.ensures.sound;
+    }
+
+pub returns-in-Err-clause-pending : goal.returns-in-Err-clause-pending
+returns-in-Err-clause-pending g c =
+    let w = c.args.writer in
+    let x = c.commit.new.self in
+    let low : w.state.published.next_id ≤ 2 ^ 62 =
+    (let small = c.if-next_id-gt-MOST.false in let id = c.next_id.ensures in omega (arith, small, id)) in
+    let laws : CommitLaws = record { go_on = c.commits_go_on.ensures; hold = c.commits_hold.ensures.made } in
+    let some = some_pending w.state.pending (λ none. absurd cc) in
+    subst (WritesPending g.S.Store.disk w) (sym c.stopped.ensures) (record {
+      come = λ r lines shares commits come. tt;
+      cut = λ r lines shares commits come.
+          cut_written r lines shares come.log w.state some.0 (g.S.Store.disk w.store) (g.S.Store.disk x.store) laws
+          come.done some.1 (c.in-Err.ensures.left low) (c.commit.ensures.crash low) c.commit.ensures.only
+          c.commit.ensures.standing;
+      written = tt;
+      upto = tt;
+      same = (ap (λ (s : State). s.out) c.in-Err.ensures.err, ap (λ (s : State). s.buffer) c.in-Err.ensures.err);
+      sound = c.commit.ensures.sound;
+    })
