@@ -25,13 +25,76 @@ do_rounds-writer-requires-clause-come g c κs within =
     )
 
 pub returns-in-Err-came-clause-cut : goal.returns-in-Err-came-clause-cut
-returns-in-Err-came-clause-cut g c = ?
+returns-in-Err-came-clause-cut g c =
+    let w = c.args.writer in
+    let r : Run = record { workers = c.args.threads; first = w.state; start = g.S.Store.disk w.store } in
+    let dealt = c.in-Ok in
+    let begun =
+    come_start r c.args.lines dealt.dealt.shares.items c.requires.ready c.requires.script.rise dealt.ensures.shares
+    dealt.ensures.fresh in
+    stopped_cut g.S.Store.disk r c.args.lines _ _ _ c.stopped.ensures
+    (c.in-Err-came.ensures.cut r c.args.lines refl begun)
 
 pub outcomes_of-requires : goal.outcomes_of-requires
-outcomes_of-requires g c = ?
+outcomes_of-requires g c =
+    let w = c.args.writer in
+    let r : Run = record { workers = c.args.threads; first = w.state; start = g.S.Store.disk w.store } in
+    let dealt = c.in-Ok in
+    let begun =
+    come_start r c.args.lines dealt.dealt.shares.items c.requires.ready c.requires.script.rise dealt.ensures.shares
+    dealt.ensures.fresh in
+    let places = dealt.dealt.places.items in
+    let done = c.in-Ok-came.rounds in
+    let come = c.in-Ok-came.ensures.come r c.args.lines refl begun in
+    let can =
+    can_tell r c.args.lines places done.shares.items done.commits.items _ _ c.requires.script.callers
+    dealt.ensures.places c.in-Ok-came.ensures.done c.in-Ok-came.ensures.written come in
+    record {
+      told = (
+        c.args.lines,
+        come.log,
+        subst (λ (n : ℕ). CanTell n c.args.lines come.log places done.shares.items c.as_slice.result.now)
+            (sym c.upto-base.ensures)
+            (subst (λ (cs : List (ℕ × ℕ)). CanTell (base_of r) c.args.lines come.log places done.shares.items cs)
+            (sym c.as_slice.ensures.value) can),
+      );
+    }
 
 pub returns-in-Ok-outcomes_of-clause-over : goal.returns-in-Ok-outcomes_of-clause-over
-returns-in-Ok-outcomes_of-clause-over g c = ?
+returns-in-Ok-outcomes_of-clause-over g c =
+    let w = c.args.writer in
+    let r : Run = record { workers = c.args.threads; first = w.state; start = g.S.Store.disk w.store } in
+    let dealt = c.in-Ok in
+    let begun =
+    come_start r c.args.lines dealt.dealt.shares.items c.requires.ready c.requires.script.rise dealt.ensures.shares
+    dealt.ensures.fresh in
+    let places = dealt.dealt.places.items in
+    let done = c.in-Ok-came.rounds in
+    let come = c.in-Ok-came.ensures.come r c.args.lines refl begun in
+    let can =
+    can_tell r c.args.lines places done.shares.items done.commits.items _ _ c.requires.script.callers
+    dealt.ensures.places c.in-Ok-came.ensures.done c.in-Ok-came.ensures.written come in
+    let became = c.in-Ok-outcomes_of.outcomes.items in
+    let told =
+    c.in-Ok-outcomes_of.ensures.outcomes c.args.lines come.log
+    (subst (λ (n : ℕ). CanTell n c.args.lines come.log places done.shares.items c.as_slice.result.now)
+    (sym c.upto-base.ensures)
+    (subst (λ (cs : List (ℕ × ℕ)). CanTell (base_of r) c.args.lines come.log places done.shares.items cs)
+    (sym c.as_slice.ensures.value) can)) in
+    over_of r c.args.lines done.shares.items done.commits.items became _ _ c.in-Ok-came.ensures.done
+    c.in-Ok-came.ensures.written come
+    (subst (λ (n : ℕ). AreOutcomes (IsCounted done.commits.items) n come.log [] c.args.lines became) c.upto-base.ensures
+    (subst (λ (cs : List (ℕ × ℕ)). AreOutcomes (IsCounted cs) c.upto-base.result come.log [] c.args.lines became)
+    c.as_slice.ensures.value told))
 
 pub returns-clause-cut : goal.returns-clause-cut
-returns-clause-cut g c = ?
+returns-clause-cut g c =
+    let w = c.args.writer in
+    let r : Run = record { workers = c.args.threads; first = w.state; start = g.S.Store.disk w.store } in
+    let dealt = c.in-Ok in
+    let begun =
+    come_start r c.args.lines dealt.dealt.shares.items c.requires.ready c.requires.script.rise dealt.ensures.shares
+    dealt.ensures.fresh in
+    let come = c.in-Ok-came.ensures.come r c.args.lines refl begun in
+    stopped_cut g.S.Store.disk r c.args.lines _ _ _ c.stopped.ensures
+    (cut_done r c.args.lines c.in-Ok-came.rounds.shares.items come.log _ _ come.done)

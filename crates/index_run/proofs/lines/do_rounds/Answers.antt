@@ -21,4 +21,6 @@ returns-clause-come g c = λ r lines size come.
     c.write_last.ensures.come r lines (c.loop-alloc.invariant.come r lines size come)
 
 pub returns-clause-few : goal.returns-clause-few
-returns-clause-few g c = ?
+returns-clause-few g c = λ lines are.
+    let few = few_open c.args.threads lines c.args.shares.items are in
+    ?
