@@ -14,7 +14,7 @@ use Rattle.commit_point.specs.Steps.{KeepsMade, OnlyCommits}
 use Rattle.flush_control.specs.declared.published.Published.{Published}
 use Rattle.op_script.specs.Shape.{LinesRise}
 use Rattle.op_script.specs.declared.script.Line.{Line}
-use Rattle.round_work.specs.declared.share.Share.{Share}
+use Rattle.worker_tasks.specs.declared.share.Share.{Share}
 use Rattle.round_work.specs.declared.worked.Worked.{Worked}
 use Rattle.round_work.specs.Working.{AreWorked}
 use Rattle.line_shares.specs.declared.place.Place.{Place}

@@ -16,7 +16,7 @@ use Rattle.commit_point.specs.StepLaws.{goes_then}
 use Rattle.commit_point.specs.Steps.{KeepsMade, MakesCommits, OnlyCommits}
 use Rattle.op_script.specs.declared.script.Line.{Line}
 use Rattle.round_order.specs.Order.{NoCommit, seconds}
-use Rattle.round_work.specs.declared.share.Share.{Share}
+use Rattle.worker_tasks.specs.declared.share.Share.{Share}
 use Rattle.line_shares.specs.Shares.{AreShares}
 use Rattle.line_shares.specs.LogLaws.{log_completes, log_grows}
 use Rattle.line_shares.specs.NumberLaws.{told_go_on}

@@ -10,13 +10,14 @@ use Rattle.row_fates.specs.Fate.{Numbered}
 use Rattle.thread_writer.specs.declared.piece.Piece.{Piece}
 use Rattle.thread_writer.specs.declared.writer.ThreadWriter.{ThreadWriter}
 use Rattle.thread_writer.specs.Writing.{Did, parts_of}
-use Rattle.round_work.specs.declared.share.Share.{Share}
-use Rattle.round_work.specs.declared.task.Reply.{Reply}
+use Rattle.worker_tasks.specs.declared.share.Share.{Share}
+use Rattle.worker_tasks.specs.declared.task.Reply.{Reply}
 use Rattle.round_work.specs.declared.worked.Stop.{Stop}
 use Rattle.round_work.specs.declared.worked.Stop.TheVariants.{Done, Closed, NoMemory}
 use Rattle.round_work.specs.declared.worked.Worked.{Worked}
-use Rattle.round_work.specs.Shares.{open_tasks}
-use Rattle.round_work.specs.Working.{AreWorked, IsAtWork, Works, told_in}
+use Rattle.worker_tasks.specs.Shares.{open_tasks}
+use Rattle.round_work.specs.Working.{AreWorked, IsAtWork, Works}
+use Rattle.worker_tasks.specs.Replies.{told_in}
 use Rattle.line_shares.specs.Shares.{AreDone, AreShares, AreSharesFrom, GoesOn, IsDone, IsShare, open_count}
 use Rattle.line_shares.specs.ShareLaws.{count_falls}
 use Rattle.line_shares.specs.Tells.{pairs_since}

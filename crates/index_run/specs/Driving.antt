@@ -11,7 +11,7 @@ use Rattle.ix_outside.specs.Images.{Reaches}
 use Rattle.commit_point.specs.Steps.{KeepsMade, OnlyCommits}
 use Rattle.op_script.specs.Shape.{LinesRise}
 use Rattle.op_script.specs.declared.script.Line.{Line}
-use Rattle.round_work.specs.declared.share.Share.{Share}
+use Rattle.worker_tasks.specs.declared.share.Share.{Share}
 use Rattle.line_shares.specs.Shares.{AreShares, GoesOn}
 use Rattle.line_shares.specs.Tells.{AreTold, IsLogOf, pairs_since}
 use Rattle.run_report.specs.declared.outcome.Outcome.{Outcome}

@@ -7,9 +7,9 @@ use Rattle.std.specs.declared.vec.IntoIter.{IntoIter}
 use Rattle.ix_base.specs.Refusals.{refusal}
 use Rattle.op_script.specs.Shape.{LinesRise}
 use Rattle.op_script.specs.declared.script.Line.{Line}
-use Rattle.round_work.specs.declared.share.Share.{Share}
-use Rattle.round_work.specs.declared.task.Reply.{Reply}
-use Rattle.round_work.specs.declared.task.Reply.TheVariants.{Numbered, Refused}
+use Rattle.worker_tasks.specs.declared.share.Share.{Share}
+use Rattle.worker_tasks.specs.declared.task.Reply.{Reply}
+use Rattle.worker_tasks.specs.declared.task.Reply.TheVariants.{Numbered, Refused}
 use Rattle.line_shares.specs.Shares.{AreDone, AreShares, operation_of, own_lines, place_of}
 use Rattle.line_shares.specs.Tells.{AreTold}
 use Rattle.line_shares.specs.declared.place.Place.{Place}

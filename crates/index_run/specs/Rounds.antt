@@ -3,7 +3,7 @@ use Rattle.std.specs.Prelude.{◌≡◌, ℕ, List, [], ◌∷◌, ◌++◌, map
 use Rattle.std.specs.List.{AllByRecursion, filter}
 use Rattle.std.specs.Global.{Vec}
 use Rattle.op_script.specs.declared.script.Line.{Line}
-use Rattle.round_work.specs.declared.share.Share.{Share}
+use Rattle.worker_tasks.specs.declared.share.Share.{Share}
 use Rattle.round_work.specs.declared.worked.Stop.TheVariants.{NoMemory}
 use Rattle.round_work.specs.declared.worked.Worked.{Worked}
 use Rattle.thread_writer.specs.declared.piece.Piece.{Piece}

@@ -15,11 +15,11 @@ use ix_base::{List, NoMemory};
 use ix_outside::{Gate, Store};
 use line_shares::{Dealt, all_done, deal};
 use op_script::Line;
-use round_work::Share;
 use run_report::Outcome;
 use std::alloc::Global;
 use std::sync::Wait;
 use std::thread::Threads;
+use worker_tasks::Share;
 
 /// What the rounds of a run leave.
 #[derive(Drop)]

@@ -1,7 +1,7 @@
 //! What became of each line, by what the workers were told.
 ghost use Rattle.std.specs.Prelude.{◌≡◌, ◌++◌, [], ◌∷◌, ℕ, List, length, IfOk, true, slice_set};
 ghost use Rattle.op_script.specs.declared.script.Line.{Line};
-ghost use Rattle.round_work.specs.declared.task.Reply.TheVariants as said;
+ghost use Rattle.worker_tasks.specs.declared.task.Reply.TheVariants as said;
 ghost use Rattle.line_shares.specs.Shares.{is_doing, place_of};
 ghost use Rattle.run_log.specs.CommitLaws.{Rises};
 ghost use Rattle.run_log.specs.Headline.{IsIn};
@@ -11,10 +11,10 @@ ghost use Rattle.index_run.specs.Replied.{IsCounted, IsReplyFor, IsSoFar, answer
 
 use ix_base::NoMemory;
 use line_shares::{Kind, Place};
-use round_work::{Reply, Share};
 use run_report::{Answer, Outcome};
 use std::alloc::Global;
 use std::vec;
+use worker_tasks::{Reply, Share};
 
 /// What became of each line, in the order of the script, by what the workers were told and by how many
 /// rows each commit has. A search asks in its caller's last commit before it, or else in that of the

@@ -4,7 +4,7 @@ ghost use Rattle.std.specs.List.{AllByRecursion};
 ghost use Rattle.ix_outside.specs.Causes.{Rose};
 ghost use Rattle.op_script.specs.declared.script.Line.{Line};
 ghost use Rattle.row_fates.specs.Fate.{Numbered};
-ghost use Rattle.round_work.specs.declared.share.Share.{Share};
+ghost use Rattle.worker_tasks.specs.declared.share.Share.{Share};
 ghost use Rattle.line_shares.specs.Shares.{AreDone, open_count};
 ghost use Rattle.index_writer.specs.Ready.{IsSound};
 ghost use Rattle.index_writer.specs.Rounds.{ArePartsOf, IsBegun};
@@ -19,10 +19,11 @@ use index_writer::{
 };
 use ix_base::NoMemory;
 use ix_outside::{Gate, Store};
-use round_work::{Share, Stop, Worked, run_round};
+use round_work::{Stop, Worked, run_round};
 use std::alloc::Global;
 use std::sync::Wait;
 use std::thread::Threads;
+use worker_tasks::Share;
 
 /// No round is begun after a number above this or after more rounds, and no commit written or round
 /// begun where the next segment's id is above it: 2^62. Over a store that this program made no script

@@ -6,8 +6,8 @@ use Rattle.std.specs.Global.{Vec}
 use Rattle.std.specs.List.{AllByRecursion, AllZip}
 use Rattle.std.proofs.lemmas.List.{map-append}
 use Rattle.op_script.specs.declared.script.Line.{Line}
-use Rattle.round_work.specs.declared.share.Share.{Share}
-use Rattle.round_work.specs.declared.task.Task.{Task}
+use Rattle.worker_tasks.specs.declared.share.Share.{Share}
+use Rattle.worker_tasks.specs.declared.task.Task.{Task}
 use Rattle.line_shares.specs.Dealing.{AreTasksFrom, IsShareOf}
 use Rattle.line_shares.specs.LineLaws.{is_own, other_worker, own_passed, own_pushed, same_worker}
 use Rattle.line_shares.specs.Shares.{AreShares, AreSharesFrom, IsFresh, IsShare, is_doing, own_lines, task_of}

@@ -6,7 +6,7 @@ use Rattle.std.proofs.lemmas.List.{drop_all}
 use Rattle.std.specs.List.{AllByRecursion, AllZip}
 use Rattle.op_script.specs.declared.script.Line.{Line}
 use Rattle.round_order.specs.Order.{Working}
-use Rattle.round_work.specs.declared.share.Share.{Share}
+use Rattle.worker_tasks.specs.declared.share.Share.{Share}
 use Rattle.run_log.specs.Headline.{Interleaves, numbered}
 use Rattle.run_log.specs.Lists.{Decided}
 use Rattle.run_log.specs.Telling.{IsOrder, IsPartOf, Tell, lines_of, of_caller}

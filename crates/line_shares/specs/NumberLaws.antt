@@ -4,7 +4,7 @@ use Rattle.std.specs.List.{AllByRecursion, AllZip}
 use Rattle.op_script.specs.Shape.{LinesRise}
 use Rattle.op_script.specs.declared.script.Line.{Line}
 use Rattle.round_order.specs.Order.{Working}
-use Rattle.round_work.specs.declared.share.Share.{Share}
+use Rattle.worker_tasks.specs.declared.share.Share.{Share}
 use Rattle.run_log.specs.Headline.{is_numbered, numbered}
 use Rattle.run_log.specs.Lists.{each_in_both, each_pair, each_says}
 use Rattle.run_log.specs.NumberLaws.{HasLine, has_line_behind, has_line_in_front}

@@ -9,10 +9,10 @@ use Rattle.op_script.specs.declared.script.Act.{Act}
 use Rattle.op_script.specs.declared.script.Act.TheVariants.{Do, Search}
 use Rattle.op_script.specs.declared.script.Line.{Line}
 use Rattle.row_fates.specs.Fate.{Numbered as NumberedOperation}
-use Rattle.round_work.specs.declared.task.Reply.{Reply}
-use Rattle.round_work.specs.declared.task.Reply.TheVariants.{Numbered, Refused}
-use Rattle.round_work.specs.declared.task.Task.{Task}
-use Rattle.round_work.specs.Working.{AreReplies, IsReplyTo, told_by, told_in}
+use Rattle.worker_tasks.specs.declared.task.Reply.{Reply}
+use Rattle.worker_tasks.specs.declared.task.Reply.TheVariants.{Numbered, Refused}
+use Rattle.worker_tasks.specs.declared.task.Task.{Task}
+use Rattle.worker_tasks.specs.Replies.{AreReplies, IsReplyTo, told_by, told_in}
 use Rattle.run_log.specs.Headline.{is_numbered, numbered}
 use Rattle.run_log.specs.Lists.{each_in_both}
 use Rattle.run_log.specs.Telling.{Tell, lines_of, pairs_of}

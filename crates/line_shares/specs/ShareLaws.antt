@@ -5,10 +5,10 @@ use Rattle.std.proofs.lemmas.List.{length-map}
 use Rattle.std.proofs.lemmas.Slice.Zip.{AllZip-long}
 use Rattle.std.specs.List.{AllByRecursion, AllZip}
 use Rattle.op_script.specs.declared.script.Line.{Line}
-use Rattle.round_work.specs.declared.share.Share.{Share}
-use Rattle.round_work.specs.declared.task.Reply.{Reply}
-use Rattle.round_work.specs.declared.task.Task.{Task}
-use Rattle.round_work.specs.Working.{AreReplies}
+use Rattle.worker_tasks.specs.declared.share.Share.{Share}
+use Rattle.worker_tasks.specs.declared.task.Reply.{Reply}
+use Rattle.worker_tasks.specs.declared.task.Task.{Task}
+use Rattle.worker_tasks.specs.Replies.{AreReplies}
 use Rattle.line_shares.specs.ReplyLaws.{replies_append}
 use Rattle.line_shares.specs.Shares.{AreDone, AreShares, AreSharesFrom, GoesOn, IsFresh, IsShare}
 use Rattle.line_shares.specs.Shares.{open_count, own_lines, task_of}

@@ -7,11 +7,11 @@ use Rattle.ix_base.specs.declared.document.Operation.TheVariants.{Add, Update, D
 use Rattle.op_script.specs.declared.script.Act.{Act}
 use Rattle.op_script.specs.declared.script.Act.TheVariants.{Do, Search}
 use Rattle.op_script.specs.declared.script.Line.{Line}
-use Rattle.round_work.specs.declared.share.Share.{Share}
-use Rattle.round_work.specs.declared.task.Reply.{Reply}
-use Rattle.round_work.specs.declared.task.Task.{Task}
-use Rattle.round_work.specs.Shares.{open_tasks}
-use Rattle.round_work.specs.Working.{AreReplies}
+use Rattle.worker_tasks.specs.declared.share.Share.{Share}
+use Rattle.worker_tasks.specs.declared.task.Reply.{Reply}
+use Rattle.worker_tasks.specs.declared.task.Task.{Task}
+use Rattle.worker_tasks.specs.Shares.{open_tasks}
+use Rattle.worker_tasks.specs.Replies.{AreReplies}
 use Rattle.line_shares.specs.declared.place.Kind.{Kind}
 use Rattle.line_shares.specs.declared.place.Kind.TheVariants as kind
 use Rattle.line_shares.specs.declared.place.Place.{Place}

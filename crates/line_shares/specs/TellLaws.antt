@@ -4,12 +4,12 @@ use Rattle.std.proofs.Common.{length, map, take, drop, slice_index_or, refl, sym
 use Rattle.std.proofs.lemmas.List.{drop_at, drop-map}
 use Rattle.std.specs.List.{AllByRecursion, AllZip}
 use Rattle.op_script.specs.declared.script.Line.{Line}
-use Rattle.round_work.specs.declared.share.Share.{Share}
-use Rattle.round_work.specs.declared.task.Reply.{Reply}
-use Rattle.round_work.specs.declared.task.Reply.TheVariants.{Numbered, Refused}
-use Rattle.round_work.specs.declared.task.Task.{Task}
-use Rattle.round_work.specs.Shares.{open_tasks}
-use Rattle.round_work.specs.Working.{AreReplies, told_in}
+use Rattle.worker_tasks.specs.declared.share.Share.{Share}
+use Rattle.worker_tasks.specs.declared.task.Reply.{Reply}
+use Rattle.worker_tasks.specs.declared.task.Reply.TheVariants.{Numbered, Refused}
+use Rattle.worker_tasks.specs.declared.task.Task.{Task}
+use Rattle.worker_tasks.specs.Shares.{open_tasks}
+use Rattle.worker_tasks.specs.Replies.{AreReplies, told_in}
 use Rattle.run_log.specs.Headline.{numbered}
 use Rattle.run_log.specs.Telling.{AreTells, IsPartOf, IsTell, Tell, lines_of, of_caller, pairs_of}
 use Rattle.line_shares.specs.OwnLaws.{numbered_split, each_dropped, numbered_parts, own_callers, own_doing}

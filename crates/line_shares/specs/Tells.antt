@@ -3,11 +3,11 @@ use Rattle.std.specs.Prelude.{◌≡◌, ℕ, zero, suc, ◌%◌, List, [], ◌�
 use Rattle.std.specs.List.{AllByRecursion}
 use Rattle.op_script.specs.declared.script.Line.{Line}
 use Rattle.row_fates.specs.Fate.{Numbered as NumberedOperation}
-use Rattle.round_work.specs.declared.share.Share.{Share}
-use Rattle.round_work.specs.declared.task.Reply.{Reply}
-use Rattle.round_work.specs.declared.task.Reply.TheVariants.{Numbered, Refused}
-use Rattle.round_work.specs.Shares.{open_tasks}
-use Rattle.round_work.specs.Working.{told_in}
+use Rattle.worker_tasks.specs.declared.share.Share.{Share}
+use Rattle.worker_tasks.specs.declared.task.Reply.{Reply}
+use Rattle.worker_tasks.specs.declared.task.Reply.TheVariants.{Numbered, Refused}
+use Rattle.worker_tasks.specs.Shares.{open_tasks}
+use Rattle.worker_tasks.specs.Replies.{told_in}
 use Rattle.run_log.specs.Headline.{number_of}
 use Rattle.run_log.specs.NumberLaws.{HasLine}
 use Rattle.run_log.specs.Telling.{Tell, lines_of, of_caller}

@@ -9,8 +9,8 @@ ghost use Rattle.line_shares.specs.Shares.{AreDone, AreShares, IsFresh, kind_of_
 use crate::place::{Kind, Place};
 use ix_base::{List, NoMemory, Operation};
 use op_script::{Act, Line};
-use round_work::{Share, Task};
 use std::alloc::Global;
+use worker_tasks::{Share, Task};
 
 /// A script's lines: the place of each, in their order, and the share of each worker.
 #[derive(Drop)]

@@ -4,10 +4,10 @@ ghost use Rattle.std.specs.Prelude.{◌≤◌};
 use ix_base::{Document, List, Operation, Query, Text};
 use line_shares::{Dealt, Kind, Place, all_done, deal};
 use op_script::{Act, Line};
-use round_work::{Share, Task};
 use std::alloc::Global;
 use std::fmt::Write;
 use std::test::*;
+use worker_tasks::{Share, Task};
 
 /// An add of a document of this key.
 fn adding(alloc: Global, key: &str) -> Result<Act, Fail> {

@@ -18,10 +18,11 @@ use Rattle.thread_writer.specs.Writing.{Did, IsWriter, Numbers, Stays, parts_of}
 use Rattle.round_order.specs.Order.{is_commit}
 use Rattle.round_work.specs.declared.line.Halt.{Halt}
 use Rattle.round_work.specs.declared.line.Halt.TheVariants as halt
-use Rattle.round_work.specs.declared.task.Reply.{Reply}
-use Rattle.round_work.specs.declared.task.Reply.TheVariants as reply
+use Rattle.worker_tasks.specs.declared.task.Reply.{Reply}
+use Rattle.worker_tasks.specs.declared.task.Reply.TheVariants as reply
 use Rattle.round_work.specs.Lines.{Closes, reply_for, told_for}
-use Rattle.round_work.specs.Working.{IsReplyTo, WorksOn}
+use Rattle.round_work.specs.Working.{WorksOn}
+use Rattle.worker_tasks.specs.Replies.{IsReplyTo}
 use Rattle.round_work.proofs.Seeing.{committed_seen}
 
 -- ---- lists

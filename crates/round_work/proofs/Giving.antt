@@ -10,7 +10,7 @@ use Rattle.thread_writer.specs.declared.writer.ThreadWriter.{ThreadWriter}
 use Rattle.round_work.specs.declared.line.Halt.{Halt}
 use Rattle.round_work.specs.declared.line.Halt.TheVariants as halt
 use Rattle.round_work.specs.declared.outbox.Outbox.{Outbox}
-use Rattle.round_work.specs.declared.task.Reply.{Reply}
+use Rattle.worker_tasks.specs.declared.task.Reply.{Reply}
 use Rattle.round_work.specs.Outboxes.{IsOutbox, gave_by, held_of}
 use Rattle.round_work.specs.Working.{WorksOn}
 

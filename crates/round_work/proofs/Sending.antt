@@ -16,8 +16,8 @@ use Rattle.ix_base.specs.contracts.document.Operation as operation
 use Rattle.ix_base.specs.contracts.query.Query as query
 use Rattle.piece_queue.specs.contracts.queue.PieceQueue as pieces
 use Rattle.piece_queue.specs.contracts.sender.Sender as sender
-use Rattle.round_work.specs.contracts.share.Share as share
-use Rattle.round_work.specs.contracts.task.Task as task
+use Rattle.worker_tasks.specs.contracts.share.Share as share
+use Rattle.worker_tasks.specs.contracts.task.Task as task
 use Rattle.round_work.specs.contracts.worked.Stopped as stopped
 use Rattle.ix_base.proofs.document.Document.TheSendSync as document
 use Rattle.ix_base.proofs.document.Term.TheSendSync as term
@@ -31,7 +31,7 @@ use Rattle.thread_writer.proofs.writer.ThreadWriter.TheSendSync as written
 use Rattle.std.proofs.Crossing.{frees}
 use Rattle.std.proofs.alloc.Global.TheSendSync as global
 use Rattle.std.proofs.vec.Vec.TheSendSync as vec
-use Rattle.round_work.proofs.task.Reply.TheSendSync as reply
+use Rattle.worker_tasks.proofs.task.Reply.TheSendSync as reply
 use Rattle.round_work.proofs.worked.Stop.TheSendSync as stop
 
 query_send : IsSend query.the_row

@@ -9,12 +9,13 @@ use Rattle.row_fates.specs.Fate.{Numbered as NumberedOperation}
 use Rattle.thread_writer.specs.declared.piece.Piece.{Piece}
 use Rattle.thread_writer.specs.declared.writer.ThreadWriter.{ThreadWriter}
 use Rattle.round_order.specs.Order.{is_commit}
-use Rattle.round_work.specs.declared.task.Reply.{Reply}
-use Rattle.round_work.specs.declared.task.Task.{Task}
+use Rattle.worker_tasks.specs.declared.task.Reply.{Reply}
+use Rattle.worker_tasks.specs.declared.task.Task.{Task}
 use Rattle.round_work.specs.Lines.{Closes}
-use Rattle.round_work.specs.declared.share.Share.{Share}
-use Rattle.round_work.specs.Shares.{open_tasks, share_of}
-use Rattle.round_work.specs.Working.{AreReplies, Does, EndsAtCommit, IsAtWork, IsReplyTo, WorksOn, told_by, told_in, turns_of}
+use Rattle.worker_tasks.specs.declared.share.Share.{Share}
+use Rattle.worker_tasks.specs.Shares.{open_tasks, share_of}
+use Rattle.round_work.specs.Working.{Does, EndsAtCommit, IsAtWork, WorksOn, turns_of}
+use Rattle.worker_tasks.specs.Replies.{AreReplies, IsReplyTo, told_by, told_in}
 use Rattle.round_work.proofs.AtWork.{works_on, works_then}
 
 -- None of the tasks that have these replies is a commit.

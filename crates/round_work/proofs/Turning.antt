@@ -23,11 +23,11 @@ use Rattle.thread_writer.specs.declared.told.Told.{Told}
 use Rattle.thread_writer.specs.declared.told.Told.TheVariants as told
 use Rattle.thread_writer.specs.declared.writer.ThreadWriter.{ThreadWriter}
 use Rattle.round_work.specs.Lines.{TurnsFor, reply_for}
-use Rattle.round_work.specs.Shares.{share_of}
+use Rattle.worker_tasks.specs.Shares.{share_of}
 use Rattle.round_work.specs.Working.{LacksRoom, turns_of}
 use Rattle.round_work.specs.declared.line.Halt.{Halt}
-use Rattle.round_work.specs.declared.task.Reply.{Reply}
-use Rattle.round_work.specs.declared.task.Task.{Task}
+use Rattle.worker_tasks.specs.declared.task.Reply.{Reply}
+use Rattle.worker_tasks.specs.declared.task.Task.{Task}
 
 -- ---- own entries
 

@@ -9,7 +9,7 @@ use Rattle.piece_queue.specs.Passes.{number_of, sent_by}
 use Rattle.piece_queue.specs.Views.{parcels_of, pieces_of}
 use Rattle.thread_writer.specs.declared.piece.Piece.{Piece}
 use Rattle.thread_writer.specs.declared.writer.ThreadWriter.{ThreadWriter}
-use Rattle.round_work.specs.declared.share.Share.{Share}
+use Rattle.worker_tasks.specs.declared.share.Share.{Share}
 use Rattle.round_work.specs.declared.starting.Started.{Started}
 use Rattle.round_work.specs.declared.worked.Stopped.{Stopped}
 use Rattle.round_work.specs.Outboxes.{IsFresh}

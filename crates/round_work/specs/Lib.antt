@@ -1,4 +1,3 @@
-pub mod Shares
 pub mod Outboxes
 pub mod Working
 pub mod Lines

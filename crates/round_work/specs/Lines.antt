@@ -12,9 +12,10 @@ use Rattle.thread_writer.specs.declared.writer.ThreadWriter.{ThreadWriter}
 use Rattle.thread_writer.specs.Writing.{Did, parts_of}
 use Rattle.round_work.specs.declared.line.Halt.{Halt}
 use Rattle.round_work.specs.declared.line.Halt.TheVariants.{Closed, NoMemory}
-use Rattle.round_work.specs.declared.task.Reply.{Reply}
-use Rattle.round_work.specs.declared.task.Reply.TheVariants.{Numbered, Refused}
-use Rattle.round_work.specs.Working.{EndsByTurnFor, told_by, turns_of}
+use Rattle.worker_tasks.specs.declared.task.Reply.{Reply}
+use Rattle.worker_tasks.specs.declared.task.Reply.TheVariants.{Numbered, Refused}
+use Rattle.round_work.specs.Working.{EndsByTurnFor, turns_of}
+use Rattle.worker_tasks.specs.Replies.{told_by}
 
 -- what a task is told for what the writer answered, if anything
 abbrev pub reply_for : Told → Result Reply Halt

@@ -11,7 +11,7 @@ use Rattle.thread_writer.specs.declared.piece.Piece.{Piece}
 use Rattle.thread_writer.specs.declared.writer.ThreadWriter.{ThreadWriter}
 use Rattle.round_work.specs.declared.starting.Started.{Started}
 use Rattle.round_work.specs.declared.starting.Started.TheVariants.{Thread, Here}
-use Rattle.round_work.specs.declared.share.Share.{Share}
+use Rattle.worker_tasks.specs.declared.share.Share.{Share}
 use Rattle.round_work.specs.declared.worked.Stopped.{Stopped}
 use Rattle.round_work.specs.declared.worked.Worked.{Worked}
 use Rattle.round_work.specs.Outboxes.{IsFresh}

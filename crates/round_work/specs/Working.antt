@@ -1,9 +1,8 @@
 -- What a worker does in a round.
 use Rattle.std.specs.Prelude.{◌≡◌, ◌↔◌, ℕ, ◌+◌, ◌<◌, ◌≤◌, ◌⊎◌, List, [], ◌∷◌, ◌++◌, length, slice_index_or}
-use Rattle.std.specs.Prelude.{Some, None, true}
+use Rattle.std.specs.Prelude.{None, true}
 use Rattle.std.specs.List.{AllByRecursion, filter}
 use Rattle.ix_base.specs.Entry.{entry_of, turn}
-use Rattle.ix_base.specs.Refusals.{refusal}
 use Rattle.ix_base.specs.Words.{entry_words}
 use Rattle.ix_base.specs.declared.document.Operation.{Operation}
 use Rattle.queue_rule.specs.declared.view.Own.{Own}
@@ -15,44 +14,22 @@ use Rattle.thread_writer.specs.declared.piece.Piece.{Piece}
 use Rattle.thread_writer.specs.declared.writer.ThreadWriter.{ThreadWriter}
 use Rattle.thread_writer.specs.Writing.{Did, IsWriter, is_turn, parts_of}
 use Rattle.round_order.specs.Order.{is_commit}
-use Rattle.round_work.specs.declared.task.Reply.{Reply}
-use Rattle.round_work.specs.declared.task.Reply.TheVariants.{Numbered, Refused}
-use Rattle.round_work.specs.declared.task.Task.{Task}
+use Rattle.worker_tasks.specs.declared.task.Reply.{Reply}
+use Rattle.worker_tasks.specs.Replies.{AreReplies, told_in}
+use Rattle.worker_tasks.specs.declared.task.Task.{Task}
 use Rattle.round_work.specs.declared.worked.Stop.TheVariants.{Done, Closed, NoMemory}
 use Rattle.round_work.specs.declared.worked.Worked.{Worked}
-use Rattle.round_work.specs.declared.share.Share.{Share}
-use Rattle.round_work.specs.Shares.{open_tasks}
+use Rattle.worker_tasks.specs.declared.share.Share.{Share}
+use Rattle.worker_tasks.specs.Shares.{open_tasks}
 use Rattle.round_work.specs.Outboxes.{held_of}
 
 -- ---- replies
-
--- An operation gets a number exactly where it isn't refused, and is told its refusal exactly where it is.
-abbrev pub IsReplyTo : Operation → Reply → Type 0
-IsReplyTo op (Numbered n) = refusal op ≡ None
-IsReplyTo op (Refused r) = refusal op ≡ Some r
-
--- These are the replies to the first of the tasks, in order.
-abbrev pub AreReplies : List Task → List Reply → Type 0
-AreReplies ts [] = Unit {0}
-AreReplies [] (r ∷ rs) = ⊥
-AreReplies (t ∷ ts) (r ∷ rs) = IsReplyTo t.operation r × AreReplies ts rs
 
 -- A commit is the last of the tasks that have one of these replies.
 abbrev pub EndsAtCommit : List Task → List Reply → Type 0
 EndsAtCommit ts [] = Unit {0}
 EndsAtCommit [] (r ∷ rs) = Unit {0}
 EndsAtCommit (t ∷ ts) (r ∷ rs) = (is_commit t.operation ≡ true → rs ≡ []) × EndsAtCommit ts rs
-
--- the operation with its number, where it got one
-abbrev pub told_by : Operation → Reply → List NumberedOperation
-told_by op (Numbered n) = (n, op) ∷ []
-told_by op (Refused r) = []
-
--- what the first of the tasks were told by these replies: the operations that got a number, in order
-abbrev pub told_in : List Task → List Reply → List NumberedOperation
-told_in ts [] = []
-told_in [] (r ∷ rs) = []
-told_in (t ∷ ts) (r ∷ rs) = told_by t.operation r ++ told_in ts rs
 
 -- ---- a writer
 

@@ -4,7 +4,7 @@ ghost use Rattle.delete_queue.specs.declared.queue.DeleteQueue.{DeleteQueue};
 ghost use Rattle.piece_queue.specs.Passes.{IsReceiver, ended_with, made_by};
 ghost use Rattle.thread_writer.specs.declared.writer.ThreadWriter.{ThreadWriter};
 ghost use Rattle.round_work.specs.Rounds.{AreSenders, AreStopped, sent_of, with_pieces, without};
-ghost use Rattle.round_work.specs.declared.share.Share.{Share};
+ghost use Rattle.worker_tasks.specs.declared.share.Share.{Share};
 ghost use Rattle.round_work.specs.Working.{AreWorked};
 
 use crate::worked::{Stopped, Worked};

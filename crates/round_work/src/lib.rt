@@ -11,13 +11,9 @@ mod gathering;
 mod line;
 mod outbox;
 mod round;
-mod share;
 mod starting;
-mod task;
 mod worked;
 mod working;
 
 pub use round::run_round;
-pub use share::Share;
-pub use task::{Reply, Task};
 pub use worked::{Stop, Worked};

@@ -6,16 +6,17 @@ ghost use Rattle.round_order.specs.Order.{is_commit};
 ghost use Rattle.round_work.specs.declared.line.Halt.TheVariants as halt;
 ghost use Rattle.round_work.specs.Lines.{Closes, TurnsFor, reply_for, told_for};
 ghost use Rattle.round_work.specs.Outboxes.{IsOutbox, gave_by};
-ghost use Rattle.round_work.specs.Working.{IsReplyTo, WorksOn};
+ghost use Rattle.round_work.specs.Working.{WorksOn};
+ghost use Rattle.worker_tasks.specs.Replies.{IsReplyTo};
 
 use crate::outbox::Outbox;
-use crate::task::Reply;
 use delete_queue::DeleteQueue;
 use ix_base::{NoMemory, Operation, Refusal};
 use piece_queue::PieceQueue;
 use std::alloc::AllocError;
 use std::sync::Wait;
 use thread_writer::{ThreadWriter, Told};
+use worker_tasks::Reply;
 
 /// Why a task was told nothing.
 #[derive(Clone, Copy, Debug, PartialEq, Eq)]

@@ -6,7 +6,6 @@ ghost use Rattle.round_work.specs.Rounds.{AreStopped, IsRoom};
 ghost use Rattle.round_work.specs.Working.{AreAtWork, AreWorked};
 
 use crate::gathering::gather;
-use crate::share::Share;
 use crate::starting::{Started, come_all, make_senders, start_all};
 use crate::worked::{Stopped, Worked};
 use delete_queue::DeleteQueue;
@@ -18,6 +17,7 @@ use std::sync::Wait;
 use std::thread;
 use std::thread::Threads;
 use thread_writer::ThreadWriter;
+use worker_tasks::Share;
 
 /// Does the shares of a round, each by its writer in a thread of its own, and calls `beside` in the
 /// caller's thread once they were started. Then it waits for all, and returns what `beside` returned and,

@@ -7,7 +7,6 @@ ghost use Rattle.round_work.specs.Outboxes.{IsFresh};
 ghost use Rattle.round_work.specs.Rounds.{AreFresh, AreStarted, ComesBack, IsRoom, Stops};
 ghost use Rattle.round_work.specs.Working.{AreAtWork, IsAtWork};
 
-use crate::share::Share;
 use crate::worked::Stopped;
 use crate::working::work;
 use delete_queue::DeleteQueue;
@@ -17,6 +16,7 @@ use std::snapshot::Snapshot;
 use std::sync::Wait;
 use std::thread::{Promise, PromisedHandle, Scope, Threads};
 use thread_writer::ThreadWriter;
+use worker_tasks::Share;
 
 /// What a worker that was started will have done: what `work` promises of what it was given.
 #[derive(Drop)]

@@ -1,9 +1,9 @@
 //! What comes back of a worker.
 
-use crate::share::Share;
 use ix_base::List;
 use piece_queue::Sender;
 use thread_writer::{Piece, ThreadWriter};
+use worker_tasks::Share;
 
 /// Why a worker stopped.
 #[derive(Clone, Copy, Debug, PartialEq, Eq)]

@@ -9,13 +9,12 @@ ghost use Rattle.round_work.specs.declared.worked.Stop.TheVariants as stop;
 ghost use Rattle.round_work.specs.Lines.{Closes, TurnsFor, told_for};
 ghost use Rattle.round_work.specs.Outboxes.{IsFresh, IsOutbox, gave_by};
 ghost use Rattle.round_work.specs.Rounds.{Stops};
-ghost use Rattle.round_work.specs.Shares.{share_of};
-ghost use Rattle.round_work.specs.Working.{Does, IsAtWork, IsReplyTo, LacksRoom, WorksOn, turns_of};
+ghost use Rattle.worker_tasks.specs.Shares.{share_of};
+ghost use Rattle.round_work.specs.Working.{Does, IsAtWork, LacksRoom, WorksOn, turns_of};
+ghost use Rattle.worker_tasks.specs.Replies.{IsReplyTo};
 
 use crate::line::{Halt, do_line};
 use crate::outbox::Outbox;
-use crate::share::Share;
-use crate::task::{Reply, Task};
 use crate::worked::{Stop, Stopped};
 use delete_queue::DeleteQueue;
 use ix_base::{List, Operation};
@@ -23,6 +22,7 @@ use ix_outside::Gate;
 use piece_queue::{PieceQueue, Sender};
 use std::sync::Wait;
 use thread_writer::ThreadWriter;
+use worker_tasks::{Reply, Share, Task};
 
 /// Does the tasks of a share that were told nothing yet, in order, by a writer of this queue with the
 /// number of its sender, which has given nothing off. Each piece is sent as soon as it is full.

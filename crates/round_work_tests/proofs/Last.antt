@@ -2,7 +2,7 @@
 use Rattle.std.proofs.Common.{◌≡◌, List, [], ◌∷◌, ◌++◌, subst}
 use Rattle.delete_queue.specs.declared.queue.DeleteQueue.{DeleteQueue}
 use Rattle.thread_writer.specs.declared.writer.ThreadWriter.{ThreadWriter}
-use Rattle.round_work.specs.declared.share.Share.{Share}
+use Rattle.worker_tasks.specs.declared.share.Share.{Share}
 use Rattle.round_work.specs.declared.worked.Worked.{Worked}
 use Rattle.round_work.specs.Working.{AreWorked, Works}
 

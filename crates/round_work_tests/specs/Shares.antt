@@ -1,6 +1,6 @@
 -- What the tests' functions say of a share.
 use Rattle.std.specs.Prelude.{◌≡◌, ◌≤◌, None, length}
-use Rattle.round_work.specs.declared.share.Share.{Share}
+use Rattle.worker_tasks.specs.declared.share.Share.{Share}
 
 -- A worker can go on with it: it has no more replies than tasks, and holds no piece.
 pub record CanGoOn (share : Share) : Type 0 where

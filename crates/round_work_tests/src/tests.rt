@@ -11,7 +11,7 @@ use delete_queue::{DeleteQueue, Reserve, Seat};
 use ix_base::{Document, NoMemory, Operation, Refusal, Text};
 use ix_memory::{GroupsGate, MeetingGate, RecordingGate};
 use ix_outside::Gate;
-use round_work::{Reply, Share, Stop, Task, Worked, run_round};
+use round_work::{Stop, Worked, run_round};
 use std::alloc::Global;
 use std::fmt::Write;
 use std::sync::Wait;
@@ -21,6 +21,7 @@ use std::thread;
 use std::thread::Threads;
 use test_values::show_told;
 use thread_writer::{Piece, ThreadWriter};
+use worker_tasks::{Reply, Share, Task};
 
 fn adding(alloc: Global, line: u32, key: &str) -> Result<Task, Fail> {
     let key = Text::new(String::from_str(alloc, key)?).ok_or("long")?;

@@ -1,6 +1,6 @@
 use Rattle.std.proofs.Common.{◌≡◌, ◌∙◌, [], ◌∷◌, ◌++◌, length, sym, ap, subst, arith}
 use Rattle.std.specs.Vec.Iter.{into_iter_items}
-use Rattle.round_work.specs.declared.share.Share.{Share}
+use Rattle.worker_tasks.specs.declared.share.Share.{Share}
 use Rattle.index_run.specs.Replied.{AreRepliesOf, Counts, Replies}
 use Rattle.line_shares.specs.LineLaws.{zip_more}
 use Rattle.index_run.proofs.outcomes.replies_of.Goals as goal

@@ -1,7 +1,7 @@
 use Rattle.std.proofs.Common.{◌≡◌, [], length}
 use Rattle.std.specs.List.{AllByRecursion}
 use Rattle.std.specs.Global.{Vec}
-use Rattle.round_work.specs.declared.task.Task.{Task}
+use Rattle.worker_tasks.specs.declared.task.Task.{Task}
 use Rattle.line_shares.proofs.dealing.no_tasks.Given as goal
 
 abbrev pub invariant-loop-worker : goal.invariant-loop-worker

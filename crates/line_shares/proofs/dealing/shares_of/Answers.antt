@@ -1,6 +1,6 @@
 use Rattle.std.proofs.Common.{[], ◌∷◌, ◌++◌, List, sym, subst}
 use Rattle.std.specs.List.{AllZip}
-use Rattle.round_work.specs.declared.share.Share.{Share}
+use Rattle.worker_tasks.specs.declared.share.Share.{Share}
 use Rattle.line_shares.specs.Dealing.{IsShareOf}
 use Rattle.line_shares.specs.LineLaws.{zip_more}
 use Rattle.line_shares.proofs.dealing.shares_of.Goals as goal

@@ -6,10 +6,11 @@ use Rattle.thread_writer.specs.declared.told.Told.{Told}
 use Rattle.thread_writer.specs.declared.writer.ThreadWriter.{ThreadWriter}
 use Rattle.thread_writer.specs.Answers.{FullFor, IfNotNumbered}
 use Rattle.round_work.specs.declared.line.Halt.{Halt}
-use Rattle.round_work.specs.declared.task.Reply.{Reply}
+use Rattle.worker_tasks.specs.declared.task.Reply.{Reply}
 use Rattle.round_work.specs.Lines.{TurnsFor, reply_for, told_for}
 use Rattle.round_work.specs.Outboxes.{gave_by}
-use Rattle.round_work.specs.Working.{IsReplyTo, WorksOn}
+use Rattle.round_work.specs.Working.{WorksOn}
+use Rattle.worker_tasks.specs.Replies.{IsReplyTo}
 use Rattle.round_work.proofs.AtWork.{closed_for, closes_for, lined, replied, told_nothing, works_on, works_then}
 use Rattle.round_work.proofs.Seeing.{turned_seen}
 use Rattle.round_work.proofs.Turning.{full_turns, lined_turns, no_turns, same_turns, stays_own}

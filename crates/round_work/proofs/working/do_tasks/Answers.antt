@@ -2,7 +2,7 @@ use Rattle.std.proofs.Common.{◌≡◌, ◌∙◌, ℕ, ◌<◌, List, [], leng
 use Rattle.std.specs.Prelude.{slice_index_or}
 use Rattle.thread_writer.specs.declared.piece.Piece.{Piece}
 use Rattle.round_work.specs.Outboxes.{gave_by}
-use Rattle.round_work.specs.Shares.{share_of}
+use Rattle.worker_tasks.specs.Shares.{share_of}
 use Rattle.round_work.specs.Working.{WorksOn}
 use Rattle.round_work.proofs.AtWork.{works_not}
 use Rattle.round_work.proofs.Giving.{gave_sent, told_not}

@@ -1,7 +1,7 @@
 use Rattle.std.proofs.Common.{◌≡◌, ◌-◌, None, length}
 use Rattle.delete_queue.specs.Seats.{number_of}
 use Rattle.round_work.specs.Outboxes.{IsOutbox, gave_by}
-use Rattle.round_work.specs.Shares.{share_of}
+use Rattle.worker_tasks.specs.Shares.{share_of}
 use Rattle.round_work.proofs.Tasks.{Going}
 use Rattle.round_work.proofs.working.do_tasks.Given as goal
 

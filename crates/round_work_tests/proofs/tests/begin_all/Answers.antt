@@ -4,7 +4,7 @@ use Rattle.std.specs.Vec.Iter.{into_iter_items}
 use Rattle.delete_queue.specs.Making.{AreNewFrom}
 use Rattle.delete_queue.specs.declared.seat.Seat.{Seat}
 use Rattle.thread_writer.specs.declared.writer.ThreadWriter.{ThreadWriter}
-use Rattle.round_work.specs.declared.share.Share.{Share}
+use Rattle.worker_tasks.specs.declared.share.Share.{Share}
 use Rattle.round_work.specs.Working.{AreAtWork, IsAtWork}
 use Rattle.round_work.proofs.Workers.{at_work_more}
 use Rattle.round_work_tests.specs.Shares.{CanGoOn}

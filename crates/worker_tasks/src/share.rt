@@ -10,9 +10,9 @@ use thread_writer::Piece;
 /// there is one: the worker stopped there, for want of memory.
 #[derive(Drop)]
 pub struct Share {
-    pub(crate) tasks: List<Task>,
-    pub(crate) replies: List<Reply>,
-    pub(crate) held: Option<Piece>,
+    pub tasks: List<Task>,
+    pub replies: List<Reply>,
+    pub held: Option<Piece>,
 }
 
 impl Share {

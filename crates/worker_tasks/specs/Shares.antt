@@ -1,9 +1,9 @@
 -- What contracts say of a share.
 use Rattle.std.specs.Prelude.{List, Option, length, drop}
 use Rattle.thread_writer.specs.declared.piece.Piece.{Piece}
-use Rattle.round_work.specs.declared.share.Share.{Share}
-use Rattle.round_work.specs.declared.task.Reply.{Reply}
-use Rattle.round_work.specs.declared.task.Task.{Task}
+use Rattle.worker_tasks.specs.declared.share.Share.{Share}
+use Rattle.worker_tasks.specs.declared.task.Reply.{Reply}
+use Rattle.worker_tasks.specs.declared.task.Task.{Task}
 
 abbrev pub share_of : List Task → List Reply → Option Piece → Share
 share_of tasks replies held = record { tasks = tasks; replies = replies; held = held }
