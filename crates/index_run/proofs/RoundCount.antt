@@ -1,10 +1,13 @@
 -- No more rounds than lines that write or commit.
 use Rattle.std.proofs.Common.{◌≡◌, ℕ, zero, suc, ◌+◌, ◌-◌, ◌<◌, ◌≤◌, ◌%◌, Bool, true, false, cond, eqb, ◌&&◌, List, [], ◌∷◌, length, map, refl, sym, ap, arith, ne_eqb}
+use Rattle.std.specs.Prelude.{IfOk, Result, Ok, Err}
 use Rattle.std.proofs.lemmas.Bool.{eqb-true}
 use Rattle.std.proofs.lemmas.List.{length-map}
 use Rattle.op_script.specs.declared.script.Line.{Line}
 use Rattle.worker_tasks.specs.declared.share.Share.{Share}
 use Rattle.line_shares.specs.Shares.{AreShares, AreSharesFrom, is_doing, open_count, own_lines, task_of}
+use Rattle.index_writer.specs.declared.fault.WriterFault.{WriterFault}
+use Rattle.index_run.specs.declared.lines.Rounds.{Rounds}
 use Rattle.index_run.specs.Rounds.{doing_lines}
 
 -- how many lines so many of n workers have, from this one on
@@ -72,3 +75,10 @@ pub few_open : (n : ℕ) (lines : List Line) (shares : List Share) → AreShares
 few_open n lines shares are =
     let open_ones = open_own n 0 lines shares are.each in
     let few = few_own n 0 lines (length shares) in omega (arith, open_ones, few)
+
+-- the last commit is none more
+pub few_last : (came : Result Rounds WriterFault) (rounds : Rounds) (most : ℕ)
+    → IfOk came (λ x. (x.shares ≡ rounds.shares) × (x.count ≡ rounds.count)) → rounds.count ≤ most
+    → IfOk came (λ x. x.count ≤ most)
+few_last (Ok x) rounds most same few = (let count = same.1 in omega (arith, count, few))
+few_last (Err fault) rounds most same few = tt

@@ -24,40 +24,40 @@ pub returns-in-Err-clause-kept : goal.returns-in-Err-clause-kept
 returns-in-Err-clause-kept g c = λ given told can.
     keeps_none given (g.S.Store.disk c.args.store) (g.S.Store.disk c.in-Err.unbegun.store) c.in-Err.ensures.left told
 
-pub returns-in-Err-done-clause-stops : goal.returns-in-Err-done-clause-stops
-returns-in-Err-done-clause-stops g c = λ given same told can.
+pub returns-in-Err-came-clause-stops : goal.returns-in-Err-came-clause-stops
+returns-in-Err-came-clause-stops g c = λ given same told can.
     let start = g.S.Store.disk c.args.store in
     let began = g.S.Store.disk c.in-Ok.writer.store in
     let still = told_still start began given.files c.in-Ok.ensures.reads told in
     let on = c.in-Ok.ensures.given given told can in
-    same_disks (Stops given) start began (g.S.Store.disk c.do_lines-done.new.writer.store)
+    same_disks (Stops given) start began _
     (g.S.Store.disk c.into_store-store.result) c.in-Ok.ensures.reads
     (ap (λ s. g.S.Store.disk s) c.into_store-store.ensures)
-    (cut_stops given _ c.args.lines _ same can still on c.in-Err-done.ensures.cut)
+    (cut_stops given _ c.args.lines _ same can still on c.in-Err-came.ensures.cut)
 
-pub returns-in-Err-done-clause-kept : goal.returns-in-Err-done-clause-kept
-returns-in-Err-done-clause-kept g c = λ given told can.
+pub returns-in-Err-came-clause-kept : goal.returns-in-Err-came-clause-kept
+returns-in-Err-came-clause-kept g c = λ given told can.
     let start = g.S.Store.disk c.args.store in
     let began = g.S.Store.disk c.in-Ok.writer.store in
     let still = told_still start began given.files c.in-Ok.ensures.reads told in
     let on = c.in-Ok.ensures.given given told can in
-    same_disks (Keeps given) start began (g.S.Store.disk c.do_lines-done.new.writer.store)
+    same_disks (Keeps given) start began _
     (g.S.Store.disk c.into_store-store.result) c.in-Ok.ensures.reads
     (ap (λ s. g.S.Store.disk s) c.into_store-store.ensures)
-    (cut_keeps given _ c.args.lines _ still on c.in-Err-done.ensures.cut)
+    (cut_keeps given _ c.args.lines _ still on c.in-Err-came.ensures.cut)
 
 -- the lines were done, and the store is the writer's
 over : (g : given.Over) (c : goal.After-drop-outcomes g) → IsOver (record {
   workers = c.args.options.threads;
   first = c.in-Ok.writer.state;
   start = g.S.Store.disk c.in-Ok.writer.store;
-}) c.args.lines c.as_slice.result.now c.do_lines-done.new.writer.state (g.S.Store.disk c.into_store-store.result)
+}) c.args.lines c.as_slice.result.now c.do_lines-writer.result.writer.state (g.S.Store.disk c.into_store-store.result)
 over g c =
-    over_same _ c.args.lines c.in-Ok-done.outcomes.items c.as_slice.result.now _ _ _ c.as_slice.ensures.value
-    (ap (λ s. g.S.Store.disk s) c.into_store-store.ensures) c.in-Ok-done.ensures.over
+    over_same _ c.args.lines c.in-Ok-came.outcomes.items c.as_slice.result.now _ _ _ c.as_slice.ensures.value
+    (ap (λ s. g.S.Store.disk s) c.into_store-store.ensures) c.in-Ok-came.ensures.over
 
-pub returns-in-Ok-done-clause-done : goal.returns-in-Ok-done-clause-done
-returns-in-Ok-done-clause-done g c = λ given same told can.
+pub returns-in-Ok-came-clause-done : goal.returns-in-Ok-came-clause-done
+returns-in-Ok-came-clause-done g c = λ given same told can.
     let start = g.S.Store.disk c.args.store in
     let began = g.S.Store.disk c.in-Ok.writer.store in
     let still = told_still start began given.files c.in-Ok.ensures.reads told in
@@ -69,8 +69,8 @@ returns-in-Ok-done-clause-done g c = λ given same told can.
     c.requires.lines.rise c.requires.made can still on (over g c) c.upto-base.ensures c.upto-upto.ensures
     c.text_of.ensures.report c.text_of.ensures.summary)
 
-pub returns-in-Ok-done-clause-stops : goal.returns-in-Ok-done-clause-stops
-returns-in-Ok-done-clause-stops g c = λ given same told can.
+pub returns-in-Ok-came-clause-stops : goal.returns-in-Ok-came-clause-stops
+returns-in-Ok-came-clause-stops g c = λ given same told can.
     let start = g.S.Store.disk c.args.store in
     let began = g.S.Store.disk c.in-Ok.writer.store in
     let still = told_still start began given.files c.in-Ok.ensures.reads told in
@@ -79,8 +79,8 @@ returns-in-Ok-done-clause-stops g c = λ given same told can.
     (g.S.Store.disk c.text_of.new.store) c.in-Ok.ensures.reads c.text_of.ensures.reads
     (over_stops given _ c.args.lines c.as_slice.result.now _ _ same can still on (over g c))
 
-pub returns-in-Ok-done-clause-kept : goal.returns-in-Ok-done-clause-kept
-returns-in-Ok-done-clause-kept g c = λ given told can.
+pub returns-in-Ok-came-clause-kept : goal.returns-in-Ok-came-clause-kept
+returns-in-Ok-came-clause-kept g c = λ given told can.
     let start = g.S.Store.disk c.args.store in
     let began = g.S.Store.disk c.in-Ok.writer.store in
     let still = told_still start began given.files c.in-Ok.ensures.reads told in
@@ -89,8 +89,8 @@ returns-in-Ok-done-clause-kept g c = λ given told can.
     (g.S.Store.disk c.text_of.new.store) c.in-Ok.ensures.reads c.text_of.ensures.reads
     (over_keeps given _ c.args.lines c.as_slice.result.now _ _ still on (over g c))
 
-pub returns-in-Ok-done-clause-whole : goal.returns-in-Ok-done-clause-whole
-returns-in-Ok-done-clause-whole g c = λ given told last can.
+pub returns-in-Ok-came-clause-whole : goal.returns-in-Ok-came-clause-whole
+returns-in-Ok-came-clause-whole g c = λ given told last can.
     let began = g.S.Store.disk c.in-Ok.writer.store in
     let still = told_still (g.S.Store.disk c.args.store) began given.files c.in-Ok.ensures.reads told in
     whole_in c.made_runs.ensures given _ c.args.form c.args.lines c.as_slice.result.now _ _ c.upto-upto.result c.text_of.result c.requires.lines.rise
@@ -108,8 +108,8 @@ none_told g c damaged is =
     c.upto-upto.ensures (over g c) c.text_of.ensures.whole is in
     (sym before ∙ none.0, none.1)
 
-pub returns-in-Ok-done-clause-damaged : goal.returns-in-Ok-done-clause-damaged
-returns-in-Ok-done-clause-damaged g c = λ damaged is.
+pub returns-in-Ok-came-clause-damaged : goal.returns-in-Ok-came-clause-damaged
+returns-in-Ok-came-clause-damaged g c = λ damaged is.
     let none = none_told g c damaged is in
     subst (λ (told : Option Files). ReadsDamaged c.args.form c.args.lines (told_files (g.S.Store.disk c.args.store)) told damaged)
     (sym (ap told_files c.text_of.ensures.reads))
@@ -117,30 +117,30 @@ returns-in-Ok-done-clause-damaged g c = λ damaged is.
     c.requires.made c.in-Ok.ensures.last c.upto-upto.ensures (over g c) (ap told_files none.0, ap told_files none.1)
     (c.text_of.ensures.damaged damaged is))
 
-pub returns-in-Ok-done-clause-same : goal.returns-in-Ok-done-clause-same
-returns-in-Ok-done-clause-same g c =
+pub returns-in-Ok-came-clause-same : goal.returns-in-Ok-came-clause-same
+returns-in-Ok-came-clause-same g c =
     same_told c.text_of.result (g.S.Store.disk c.args.store) (g.S.Store.disk c.text_of.new.store) c.text_of.ensures.others
     (λ damaged is. let none = none_told g c damaged is in (none.0, c.text_of.ensures.reads ∙ none.1))
 
-pub returns-in-Ok-done-clause-unbegun : goal.returns-in-Ok-done-clause-unbegun
-returns-in-Ok-done-clause-unbegun g c = λ f told not. absurd (not (c.in-Ok.ensures.begins f told))
+pub returns-in-Ok-came-clause-unbegun : goal.returns-in-Ok-came-clause-unbegun
+returns-in-Ok-came-clause-unbegun g c = λ f told not. absurd (not (c.in-Ok.ensures.begins f told))
 
-pub returns-in-Err-done-clause-unbegun : goal.returns-in-Err-done-clause-unbegun
-returns-in-Err-done-clause-unbegun g c = λ f told not. absurd (not (c.in-Ok.ensures.begins f told))
+pub returns-in-Err-came-clause-unbegun : goal.returns-in-Err-came-clause-unbegun
+returns-in-Err-came-clause-unbegun g c = λ f told not. absurd (not (c.in-Ok.ensures.begins f told))
 
 -- ---- steps by which commits are made
 
 pub returns-in-Err-clause-steps : goal.returns-in-Err-clause-steps
 returns-in-Err-clause-steps g c = goes_still (λ step older. MakesCommits step) _ _ c.in-Err.ensures.left
 
-pub returns-in-Err-done-clause-steps : goal.returns-in-Err-done-clause-steps
-returns-in-Err-done-clause-steps g c =
+pub returns-in-Err-came-clause-steps : goal.returns-in-Err-came-clause-steps
+returns-in-Err-came-clause-steps g c =
     same_disks (Told OnlyCommits) (g.S.Store.disk c.args.store) (g.S.Store.disk c.in-Ok.writer.store)
-    (g.S.Store.disk c.do_lines-done.new.writer.store) (g.S.Store.disk c.into_store-store.result) c.in-Ok.ensures.reads
-    (ap (λ s. g.S.Store.disk s) c.into_store-store.ensures) c.in-Err-done.ensures.cut.only
+    _ (g.S.Store.disk c.into_store-store.result) c.in-Ok.ensures.reads
+    (ap (λ s. g.S.Store.disk s) c.into_store-store.ensures) c.in-Err-came.ensures.cut.only
 
-pub returns-in-Ok-done-clause-steps : goal.returns-in-Ok-done-clause-steps
-returns-in-Ok-done-clause-steps g c =
+pub returns-in-Ok-came-clause-steps : goal.returns-in-Ok-came-clause-steps
+returns-in-Ok-came-clause-steps g c =
     same_disks (Told OnlyCommits) (g.S.Store.disk c.args.store) (g.S.Store.disk c.in-Ok.writer.store)
     (g.S.Store.disk c.into_store-store.result) (g.S.Store.disk c.text_of.new.store) c.in-Ok.ensures.reads
     c.text_of.ensures.reads (over g c).disk.only

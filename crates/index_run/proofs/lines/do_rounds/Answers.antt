@@ -1,6 +1,7 @@
-use Rattle.std.proofs.Common.{◌≡◌, ◌∙◌, ◌+◌, ◌≤◌, ℕ, arith, subst, sym, ap}
+use Rattle.std.proofs.Common.{◌≡◌, ◌∙◌, ◌+◌, ◌≤◌, ℕ, length, arith, subst, sym, ap}
 use Rattle.std.specs.Prelude.{OnErr}
-use Rattle.index_run.proofs.RoundCount.{few_open}
+use Rattle.index_run.specs.Rounds.{doing_lines}
+use Rattle.index_run.proofs.RoundCount.{few_last, few_open}
 use Rattle.index_run.proofs.Rounding.{cut_done, stopped_cut}
 use Rattle.index_run.proofs.lines.do_rounds.Goals as goal
 
@@ -23,4 +24,6 @@ returns-clause-come g c = λ r lines size come.
 pub returns-clause-few : goal.returns-clause-few
 returns-clause-few g c = λ lines are.
     let few = few_open c.args.threads lines c.args.shares.items are in
-    ?
+    let at = c.loop-alloc in
+    few_last c.write_last.result.came _ (length (doing_lines lines)) c.write_last.ensures.same
+    (omega (arith, few, at.invariant.few))
