@@ -1,6 +1,6 @@
 -- The end of a round.
 use Rattle.std.proofs.Common.{◌≡◌, ◌∙◌, ℕ, ◌+◌, ◌<◌, ◌≤◌, ◌^◌, List, [], ◌∷◌, ◌++◌, length, take, refl, sym, ap, subst, arith, append_assoc}
-use Rattle.std.specs.Prelude.{Option, Some, None, Err, OnErr}
+use Rattle.std.specs.Prelude.{Bool, true, false, not, is_some, Option, Some, None, Result, Ok, Err, IfOk, OnErr}
 use Rattle.std.specs.List.{AllByRecursion}
 use Rattle.std.proofs.lemmas.List.{append-nil, length-append}
 use Rattle.ix_base.specs.Steps.{after}
@@ -51,6 +51,13 @@ use Rattle.index_run.proofs.WriterOn.{writer_round}
 
 -- ---- stops
 
+-- what holds where there is an answer, or none
+pub on_ok : {T E : Type 0} (P : T → Type 0) (r : Result T E) (x : T) → r ≡ Ok x → IfOk r P → P x
+on_ok {T} {E} P r x is h = subst (λ (q : Result T E). IfOk q P) is h
+
+pub on_fault : {T E : Type 0} {P : Type 0} (r : Result T E) (e : E) → r ≡ Err e → OnErr r P → P
+on_fault {T} {E} {P} r e is h = subst (λ (q : Result T E). OnErr q P) is h
+
 -- a run that stopped, with its writer
 pub stopped_cut : {S T : Type 0} (disk : S → Option Disk) (r : Run) (lines : List Line) (writer : IndexWriter S)
     (fault : WriterFault) (ran : Ran S T) → ran ≡ record { writer = writer; came = Err fault }
@@ -74,10 +81,12 @@ cut_done r lines shares log w now h =
       standing = disk.standing;
     }
 
--- a number that is there
-pub some_pending : (pending : Option ℕ) → (pending ≡ None → ⊥) → (s : ℕ) × (pending ≡ Some s)
-some_pending None some = absurd (some refl)
-some_pending (Some s) some = (s, refl)
+-- a number that is there, as one was found
+pub pending_there : (pending found : Option ℕ) (none : Bool) → found ≡ pending → is_some found ≡ not none → none ≡ false
+    → (s : ℕ) × (pending ≡ Some s)
+pending_there pending (Some s) none same there is = (s, sym same)
+pending_there pending None true same there is = absurd cc
+pending_there pending None false same there is = absurd cc
 
 -- a stop while the pending commit was written
 pub cut_written : (r : Run) (lines : List Line) (shares : List Share) (log : List Line) (w : State) (s : ℕ)

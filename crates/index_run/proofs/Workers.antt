@@ -2,6 +2,8 @@
 use Rattle.std.proofs.Common.{◌≡◌, ◌⊎◌, inl, inr, ◌∙◌, ℕ, suc, ◌+◌, ◌<◌, List, [], ◌∷◌, ◌++◌, length, map, drop, refl, sym, ap, subst, arith}
 use Rattle.std.specs.List.{AllByRecursion, AllZip, Any}
 use Rattle.std.specs.Global.{Vec}
+use Rattle.std.specs.Prelude.{Option, None}
+use Rattle.std.proofs.lemmas.List.{append-nil}
 use Rattle.std.proofs.Math.Seq.{drop-append_seam}
 use Rattle.op_script.specs.declared.script.Line.{Line}
 use Rattle.delete_queue.specs.declared.queue.DeleteQueue.{DeleteQueue}
@@ -16,7 +18,8 @@ use Rattle.round_work.specs.declared.worked.Stop.{Stop}
 use Rattle.round_work.specs.declared.worked.Stop.TheVariants.{Done, Closed, NoMemory}
 use Rattle.round_work.specs.declared.worked.Worked.{Worked}
 use Rattle.worker_tasks.specs.Shares.{open_tasks}
-use Rattle.round_work.specs.Working.{AreWorked, IsAtWork, Works}
+use Rattle.round_work.specs.Outboxes.{held_of}
+use Rattle.round_work.specs.Working.{AreAtWork, AreWorked, Works}
 use Rattle.worker_tasks.specs.Replies.{told_in}
 use Rattle.line_shares.specs.Shares.{AreDone, AreShares, AreSharesFrom, GoesOn, IsDone, IsShare, open_count}
 use Rattle.line_shares.specs.ShareLaws.{count_falls}
@@ -32,62 +35,72 @@ use Rattle.index_run.specs.Rounds.{AllCame, gave_of, pieces_of, share_of, writer
 
 -- each writer of a round that was begun can go on with its worker's share
 begun_at_work : (q : DeleteQueue) (size i n : ℕ) (lines : List Line) (ws : List ThreadWriter) (ss : List Share)
-    → length ws ≡ length ss → AreBegunFrom q size i ws → AreSharesFrom n i lines ss → AllZip (IsAtWork q) ws ss
+    → length ws ≡ length ss → AreBegunFrom q size i ws → AreSharesFrom n i lines ss → AreAtWork q i ws ss
 begun_at_work q size i n lines [] [] same begun are = tt
 begun_at_work q size i n lines [] (s ∷ ss) same begun are = absurd (omega (arith, same))
 begun_at_work q size i n lines (w ∷ ws) [] same begun are = absurd (omega (arith, same))
 begun_at_work q size i n lines (w ∷ ws) (s ∷ ss) same begun are = (
   record {
     is = begun.0.writer;
+    number_is = begun.0.number_is;
     few = are.0.few;
+    empty = are.0.none;
     so_far = [];
-    did = subst (λ (gave : List Piece). Did q (parts_of w) [] gave) (sym are.0.none) begun.0.did;
+    did = begun.0.did;
   },
   begun_at_work q size (i + 1) n lines ws ss (omega (arith, same)) begun.1 are.1,
 )
 
 pub at_work : (n : ℕ) (s : State) (round : Round) (lines : List Line) (shares : List Share) → IsBegun n s round
-    → AreShares n lines shares → AllZip (IsAtWork round.queue) round.writers.items shares
+    → AreShares n lines shares → AreAtWork round.queue 0 round.writers.items shares
 at_work n s round lines shares begun are =
     begun_at_work round.queue s.buffer 0 n lines round.writers.items shares (begun.all ∙ sym are.count) begun.writers are.each
 
 -- ---- behind
 
-goes_on : (q : DeleteQueue) (w : ThreadWriter) (s : Share) (x : Worked) → Works q w s x → GoesOn s (share_of x)
-goes_on q w s x works = record {
+goes_on : (q : DeleteQueue) (w : ThreadWriter) (s : Share) (x : Worked) → Works q w s x → (x.stop ≡ NoMemory → ⊥)
+    → GoesOn s (share_of x)
+goes_on q w s x works came = record {
   tasks = works.does.tasks;
   more = works.does.more;
   replies = works.does.replies;
   few = works.does.few;
   fits = works.does.fits;
-  none = refl;
+  none = works.sent came;
 }
 
 -- each worker went on with its share
 pub all_go_on : (q : DeleteQueue) (ws : List ThreadWriter) (ss : List Share) (xs : List Worked) → AreWorked q ws ss xs
-    → AllZip GoesOn ss (map share_of xs)
-all_go_on q [] [] [] all = tt
-all_go_on q [] [] (x ∷ xs) all = absurd all
-all_go_on q [] (s ∷ ss) xs all = absurd all
-all_go_on q (w ∷ ws) [] xs all = absurd all
-all_go_on q (w ∷ ws) (s ∷ ss) [] all = absurd all
-all_go_on q (w ∷ ws) (s ∷ ss) (x ∷ xs) all = (goes_on q w s x all.0, all_go_on q ws ss xs all.1)
+    → AllCame xs → AllZip GoesOn ss (map share_of xs)
+all_go_on q [] [] [] all came = tt
+all_go_on q [] [] (x ∷ xs) all came = absurd all
+all_go_on q [] (s ∷ ss) xs all came = absurd all
+all_go_on q (w ∷ ws) [] xs all came = absurd all
+all_go_on q (w ∷ ws) (s ∷ ss) [] all came = absurd all
+all_go_on q (w ∷ ws) (s ∷ ss) (x ∷ xs) all came =
+    (goes_on q w s x all.0 came.0, all_go_on q ws ss xs all.1 came.1)
+
+-- a worker that holds no piece gave off those that came back
+gave_all : (pieces : List Piece) (held : Option Piece) → held ≡ None → pieces ++ held_of held ≡ pieces
+gave_all pieces held none = ap (λ (h : Option Piece). pieces ++ held_of h) none ∙ append-nil pieces
 
 -- a worker was told what its share says, and gave off the pieces that it has
 worker_of : (q : DeleteQueue) (size i n : ℕ) (lines : List Line) (w : ThreadWriter) (s : Share) (x : Worked) (gave : List Piece)
-    → IsBegunWriter q size i w → IsShare n i lines s → Works q w s x → gave ≡ x.share.gave
+    → IsBegunWriter q size i w → IsShare n i lines s → Works q w s x → (x.stop ≡ NoMemory → ⊥) → gave ≡ x.pieces
     → IsWorker q i (told_in (open_tasks s) (drop (length s.replies) x.share.replies)) x.writer gave
-worker_of q size i n lines w s x gave begun is works same =
-    let did = works.does.works.history [] (subst (λ (ps : List Piece). Did q (parts_of w) [] ps) (sym is.none) begun.did) in
+worker_of q size i n lines w s x gave begun is works came same =
+    let did = works.does.works.history [] begun.did in
     let more : drop (length s.replies) x.share.replies ≡ works.does.more =
     ap (λ (rs : List Reply). drop (length s.replies) rs) works.does.replies ∙ drop-append_seam s.replies works.does.more in
     let told : List Numbered = told_in (open_tasks s) (drop (length s.replies) x.share.replies) in
+    let given : x.pieces ++ held_of x.share.held ≡ gave = gave_all x.pieces x.share.held (works.sent came) ∙ sym same in
     record {
       number_is = works.does.works.number_is ∙ begun.number_is;
       writer = works.does.works.writer;
       did =
-          subst (λ (ps : List Piece). Did q (parts_of x.writer) told ps) (sym same)
-          (subst (λ (rs : List Reply). Did q (parts_of x.writer) (told_in (open_tasks s) rs) x.share.gave) (sym more) did);
+          subst (λ (ps : List Piece). Did q (parts_of x.writer) told ps) given
+          (subst (λ (rs : List Reply). Did q (parts_of x.writer) (told_in (open_tasks s) rs)
+          (x.pieces ++ held_of x.share.held)) (sym more) did);
     }
 
 abbrev head_or : List Piece → List (List Piece) → List Piece
@@ -99,18 +112,18 @@ rest_of [] = []
 rest_of (p ∷ ps) = ps
 
 workers_back : (q : DeleteQueue) (size i n : ℕ) (lines : List Line) (ws : List ThreadWriter) (ss : List Share) (xs : List Worked) (ps : List (Vec Piece))
-    → AreBegunFrom q size i ws → AreSharesFrom n i lines ss → AreWorked q ws ss xs → pieces_of ps ≡ gave_of xs
+    → AreBegunFrom q size i ws → AreSharesFrom n i lines ss → AreWorked q ws ss xs → AllCame xs → pieces_of ps ≡ gave_of xs
     → AreWorkersFrom q i (pairs_since ss (map share_of xs)) (writers_of xs) ps
-workers_back q size i n lines [] [] [] [] begun are all same = tt
-workers_back q size i n lines [] [] [] (p ∷ ps) begun are all same = absurd cc
-workers_back q size i n lines [] [] (x ∷ xs) ps begun are all same = absurd all
-workers_back q size i n lines [] (s ∷ ss) xs ps begun are all same = absurd all
-workers_back q size i n lines (w ∷ ws) [] xs ps begun are all same = absurd all
-workers_back q size i n lines (w ∷ ws) (s ∷ ss) [] ps begun are all same = absurd all
-workers_back q size i n lines (w ∷ ws) (s ∷ ss) (x ∷ xs) [] begun are all same = absurd cc
-workers_back q size i n lines (w ∷ ws) (s ∷ ss) (x ∷ xs) (p ∷ ps) begun are all same = (
-  worker_of q size i n lines w s x p.items begun.0 are.0 all.0 (ap (head_or []) same),
-  workers_back q size (i + 1) n lines ws ss xs ps begun.1 are.1 all.1 (ap rest_of same),
+workers_back q size i n lines [] [] [] [] begun are all came same = tt
+workers_back q size i n lines [] [] [] (p ∷ ps) begun are all came same = absurd cc
+workers_back q size i n lines [] [] (x ∷ xs) ps begun are all came same = absurd all
+workers_back q size i n lines [] (s ∷ ss) xs ps begun are all came same = absurd all
+workers_back q size i n lines (w ∷ ws) [] xs ps begun are all came same = absurd all
+workers_back q size i n lines (w ∷ ws) (s ∷ ss) [] ps begun are all came same = absurd all
+workers_back q size i n lines (w ∷ ws) (s ∷ ss) (x ∷ xs) [] begun are all came same = absurd cc
+workers_back q size i n lines (w ∷ ws) (s ∷ ss) (x ∷ xs) (p ∷ ps) begun are all came same = (
+  worker_of q size i n lines w s x p.items begun.0 are.0 all.0 came.0 (ap (head_or []) same),
+  workers_back q size (i + 1) n lines ws ss xs ps begun.1 are.1 all.1 came.1 (ap rest_of same),
 )
 
 worked_count : (q : DeleteQueue) (ws : List ThreadWriter) (ss : List Share) (xs : List Worked) → AreWorked q ws ss xs
@@ -125,9 +138,9 @@ worked_count q (w ∷ ws) (s ∷ ss) (x ∷ xs) all = (let rest = worked_count q
 -- what came back is a round's parts
 pub parts_back : (n : ℕ) (s : State) (round : Round) (lines : List Line) (shares : List Share) (worked : List Worked) (parts : RoundParts)
     → IsBegun n s round → AreShares n lines shares → AreWorked round.queue round.writers.items shares worked
-    → parts.queue ≡ round.queue → parts.writers.items ≡ writers_of worked → pieces_of parts.pieces.items ≡ gave_of worked
+    → AllCame worked → parts.queue ≡ round.queue → parts.writers.items ≡ writers_of worked → pieces_of parts.pieces.items ≡ gave_of worked
     → ArePartsOf s.published.upto (pairs_since shares (map share_of worked)) parts
-parts_back n s round lines shares worked parts begun are all queue writers pieces =
+parts_back n s round lines shares worked parts begun are all came queue writers pieces =
     let told = pairs_since shares (map share_of worked) in
     let count : length parts.writers.items ≡ seats_of round.queue =
     ap (λ (ws : List ThreadWriter). length ws) writers ∙ worked_count round.queue round.writers.items shares worked all
@@ -138,7 +151,7 @@ parts_back n s round lines shares worked parts begun are all queue writers piece
       workers =
           subst (λ (q : DeleteQueue). AreWorkersFrom q 0 told parts.writers.items parts.pieces.items) (sym queue)
           (subst (λ (ws : List ThreadWriter). AreWorkersFrom round.queue 0 told ws parts.pieces.items) (sym writers)
-          (workers_back round.queue s.buffer 0 n lines round.writers.items shares worked parts.pieces.items begun.writers are.each all pieces));
+          (workers_back round.queue s.buffer 0 n lines round.writers.items shares worked parts.pieces.items begun.writers are.each all came pieces));
     }
 
 -- ---- a round in which nothing was told
@@ -223,7 +236,7 @@ pub fewer_open : (n : ℕ) (s : State) (round : Round) (shares news : List Share
     → parts.writers.items ≡ writers_of worked → news ≡ map share_of worked → (IsStuck parts → ⊥)
     → (AreDone shares → ⊥) → open_count news < open_count shares
 fewer_open n s round shares news worked parts begun all came writers same unstuck left =
-    by (count_falls shares (map share_of worked) (all_go_on round.queue round.writers.items shares worked all))
+    by (count_falls shares (map share_of worked) (all_go_on round.queue round.writers.items shares worked all came))
   where
     by : (open_count (map share_of worked) < open_count shares) ⊎ AllZip SameReplies shares (map share_of worked)
         → open_count news < open_count shares

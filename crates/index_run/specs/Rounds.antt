@@ -21,14 +21,13 @@ writers_of worked = map (λ (w : Worked). w.writer) worked
 
 -- the pieces that they gave off
 abbrev pub gave_of : List Worked → List (List Piece)
-gave_of worked = map (λ (w : Worked). w.share.gave) worked
+gave_of worked = map (λ (w : Worked). w.pieces) worked
 
 abbrev pub pieces_of : List (Vec Piece) → List (List Piece)
 pieces_of pieces = map (λ (p : Vec Piece). p.items) pieces
 
--- a worker's share without its pieces
 abbrev pub share_of : Worked → Share
-share_of w = record w.share { gave = [] }
+share_of w = w.share
 
 -- none of the workers ran out of memory
 abbrev pub AllCame : List Worked → Type 0

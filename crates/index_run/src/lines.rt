@@ -147,7 +147,7 @@ fn write_last<S: Store>(writer: IndexWriter<S>, rounds: Rounds) -> Ran<S, Rounds
         (S.disk writer.store) }
     ensures come { (r : Run) (lines : ListOf Line)
         → HasCome r lines rounds.shares.items rounds.commits.items writer.state
-        (S.disk writer.store) → IfOk result.came (λ x. HasCome r lines rounds.shares.items
+        (S.disk writer.store) → IfOk result.came (λ x. HasCome r lines x.shares.items
         x.commits.items result.writer.state (S.disk result.writer.store)) }
     ensures cut { (r : Run) (lines : ListOf Line)
         → HasCome r lines rounds.shares.items rounds.commits.items writer.state

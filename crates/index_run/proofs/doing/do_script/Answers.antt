@@ -13,6 +13,7 @@ use Rattle.index_run.proofs.Finish.{same_disks, same_told, stops_none, told_by, 
 use Rattle.index_run.specs.declared.stop.Stop.TheVariants as stop
 use Rattle.ix_base.specs.declared.damaged.Damaged.{Damaged}
 use Rattle.report_text.specs.declared.fault.Fault.TheVariants as fault
+use Rattle.index_run.proofs.Rounding.{on_fault, on_ok}
 use Rattle.index_run.proofs.doing.do_script.Given as given
 use Rattle.index_run.proofs.doing.do_script.Goals as goal
 
@@ -33,7 +34,7 @@ returns-in-Err-came-clause-stops g c = λ given same told can.
     same_disks (Stops given) start began _
     (g.S.Store.disk c.into_store-store.result) c.in-Ok.ensures.reads
     (ap (λ s. g.S.Store.disk s) c.into_store-store.ensures)
-    (cut_stops given _ c.args.lines _ same can still on c.in-Err-came.ensures.cut)
+    (cut_stops given _ c.args.lines _ same can still on (on_fault _ _ c.in-Err-came.is c.do_lines-writer.ensures.cut))
 
 pub returns-in-Err-came-clause-kept : goal.returns-in-Err-came-clause-kept
 returns-in-Err-came-clause-kept g c = λ given told can.
@@ -44,7 +45,7 @@ returns-in-Err-came-clause-kept g c = λ given told can.
     same_disks (Keeps given) start began _
     (g.S.Store.disk c.into_store-store.result) c.in-Ok.ensures.reads
     (ap (λ s. g.S.Store.disk s) c.into_store-store.ensures)
-    (cut_keeps given _ c.args.lines _ still on c.in-Err-came.ensures.cut)
+    (cut_keeps given _ c.args.lines _ still on (on_fault _ _ c.in-Err-came.is c.do_lines-writer.ensures.cut))
 
 -- the lines were done, and the store is the writer's
 over : (g : given.Over) (c : goal.After-drop-outcomes g) → IsOver (record {
@@ -54,7 +55,7 @@ over : (g : given.Over) (c : goal.After-drop-outcomes g) → IsOver (record {
 }) c.args.lines c.as_slice.result.now c.do_lines-writer.result.writer.state (g.S.Store.disk c.into_store-store.result)
 over g c =
     over_same _ c.args.lines c.in-Ok-came.outcomes.items c.as_slice.result.now _ _ _ c.as_slice.ensures.value
-    (ap (λ s. g.S.Store.disk s) c.into_store-store.ensures) c.in-Ok-came.ensures.over
+    (ap (λ s. g.S.Store.disk s) c.into_store-store.ensures) (on_ok _ _ _ c.in-Ok-came.is c.do_lines-writer.ensures.over)
 
 pub returns-in-Ok-came-clause-done : goal.returns-in-Ok-came-clause-done
 returns-in-Ok-came-clause-done g c = λ given same told can.
@@ -137,7 +138,7 @@ pub returns-in-Err-came-clause-steps : goal.returns-in-Err-came-clause-steps
 returns-in-Err-came-clause-steps g c =
     same_disks (Told OnlyCommits) (g.S.Store.disk c.args.store) (g.S.Store.disk c.in-Ok.writer.store)
     _ (g.S.Store.disk c.into_store-store.result) c.in-Ok.ensures.reads
-    (ap (λ s. g.S.Store.disk s) c.into_store-store.ensures) c.in-Err-came.ensures.cut.only
+    (ap (λ s. g.S.Store.disk s) c.into_store-store.ensures) (on_fault _ _ c.in-Err-came.is c.do_lines-writer.ensures.cut).only
 
 pub returns-in-Ok-came-clause-steps : goal.returns-in-Ok-came-clause-steps
 returns-in-Ok-came-clause-steps g c =

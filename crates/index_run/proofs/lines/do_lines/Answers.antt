@@ -3,7 +3,7 @@ use Rattle.index_run.specs.Driving.{HasCome, Run, base_of}
 use Rattle.index_run.specs.Outcomes.{AreOutcomes}
 use Rattle.index_run.specs.Replied.{CanTell, IsCounted}
 use Rattle.index_run.proofs.Coming.{can_tell, come_start, cut_start, over_of}
-use Rattle.index_run.proofs.Rounding.{cut_done, stopped_cut}
+use Rattle.index_run.proofs.Rounding.{cut_done, on_fault, on_ok, stopped_cut}
 use Rattle.index_run.proofs.lines.do_lines.Goals as goal
 
 pub returns-in-Err-clause-cut : goal.returns-in-Err-clause-cut
@@ -32,8 +32,8 @@ returns-in-Err-came-clause-cut g c =
     let begun =
     come_start r c.args.lines dealt.dealt.shares.items c.requires.ready c.requires.script.rise dealt.ensures.shares
     dealt.ensures.fresh in
-    stopped_cut g.S.Store.disk r c.args.lines _ _ _ c.stopped.ensures
-    (c.in-Err-came.ensures.cut r c.args.lines refl begun)
+    stopped_cut g.S.Store.disk r c.args.lines _ _ _ c.stopped-in-Err-came.ensures
+    (on_fault _ _ c.in-Err-came.is (c.do_rounds-writer.ensures.cut r c.args.lines refl begun))
 
 pub outcomes_of-requires : goal.outcomes_of-requires
 outcomes_of-requires g c =
@@ -45,10 +45,11 @@ outcomes_of-requires g c =
     dealt.ensures.fresh in
     let places = dealt.dealt.places.items in
     let done = c.in-Ok-came.rounds in
-    let come = c.in-Ok-came.ensures.come r c.args.lines refl begun in
+    let come = on_ok _ _ _ c.in-Ok-came.is (c.do_rounds-writer.ensures.come r c.args.lines refl begun) in
     let can =
     can_tell r c.args.lines places done.shares.items done.commits.items _ _ c.requires.script.callers
-    dealt.ensures.places c.in-Ok-came.ensures.done c.in-Ok-came.ensures.written come in
+    dealt.ensures.places (on_ok _ _ _ c.in-Ok-came.is c.do_rounds-writer.ensures.done)
+    (on_ok _ _ _ c.in-Ok-came.is c.do_rounds-writer.ensures.written) come in
     record {
       told = (
         c.args.lines,
@@ -70,10 +71,11 @@ returns-in-Ok-outcomes_of-clause-over g c =
     dealt.ensures.fresh in
     let places = dealt.dealt.places.items in
     let done = c.in-Ok-came.rounds in
-    let come = c.in-Ok-came.ensures.come r c.args.lines refl begun in
+    let come = on_ok _ _ _ c.in-Ok-came.is (c.do_rounds-writer.ensures.come r c.args.lines refl begun) in
     let can =
     can_tell r c.args.lines places done.shares.items done.commits.items _ _ c.requires.script.callers
-    dealt.ensures.places c.in-Ok-came.ensures.done c.in-Ok-came.ensures.written come in
+    dealt.ensures.places (on_ok _ _ _ c.in-Ok-came.is c.do_rounds-writer.ensures.done)
+    (on_ok _ _ _ c.in-Ok-came.is c.do_rounds-writer.ensures.written) come in
     let became = c.in-Ok-outcomes_of.outcomes.items in
     let told =
     c.in-Ok-outcomes_of.ensures.outcomes c.args.lines come.log
@@ -81,8 +83,9 @@ returns-in-Ok-outcomes_of-clause-over g c =
     (sym c.upto-base.ensures)
     (subst (λ (cs : List (ℕ × ℕ)). CanTell (base_of r) c.args.lines come.log places done.shares.items cs)
     (sym c.as_slice.ensures.value) can)) in
-    over_of r c.args.lines done.shares.items done.commits.items became _ _ c.in-Ok-came.ensures.done
-    c.in-Ok-came.ensures.written come
+    over_of r c.args.lines done.shares.items done.commits.items became _ _
+    (on_ok _ _ _ c.in-Ok-came.is c.do_rounds-writer.ensures.done)
+    (on_ok _ _ _ c.in-Ok-came.is c.do_rounds-writer.ensures.written) come
     (subst (λ (n : ℕ). AreOutcomes (IsCounted done.commits.items) n come.log [] c.args.lines became) c.upto-base.ensures
     (subst (λ (cs : List (ℕ × ℕ)). AreOutcomes (IsCounted cs) c.upto-base.result come.log [] c.args.lines became)
     c.as_slice.ensures.value told))
@@ -95,6 +98,6 @@ returns-clause-cut g c =
     let begun =
     come_start r c.args.lines dealt.dealt.shares.items c.requires.ready c.requires.script.rise dealt.ensures.shares
     dealt.ensures.fresh in
-    let come = c.in-Ok-came.ensures.come r c.args.lines refl begun in
-    stopped_cut g.S.Store.disk r c.args.lines _ _ _ c.stopped.ensures
+    let come = on_ok _ _ _ c.in-Ok-came.is (c.do_rounds-writer.ensures.come r c.args.lines refl begun) in
+    stopped_cut g.S.Store.disk r c.args.lines _ _ _ c.stopped-in-Err-outcomes_of.ensures
     (cut_done r c.args.lines c.in-Ok-came.rounds.shares.items come.log _ _ come.done)

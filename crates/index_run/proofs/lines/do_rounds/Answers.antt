@@ -1,21 +1,23 @@
-use Rattle.std.proofs.Common.{◌≡◌, ◌∙◌, ◌+◌, ◌≤◌, ℕ, length, arith, subst, sym, ap}
-use Rattle.std.specs.Prelude.{OnErr}
+use Rattle.std.proofs.Common.{◌≡◌, ◌+◌, ◌≤◌, length, arith}
 use Rattle.index_run.specs.Rounds.{doing_lines}
 use Rattle.index_run.proofs.RoundCount.{few_last, few_open}
-use Rattle.index_run.proofs.Rounding.{cut_done, stopped_cut}
+use Rattle.index_run.proofs.Rounding.{cut_done, on_fault, on_ok, stopped_cut}
 use Rattle.index_run.proofs.lines.do_rounds.Goals as goal
 
 pub returns-in-Err-clause-cut : goal.returns-in-Err-clause-cut
 returns-in-Err-clause-cut g c = λ r lines size come.
     let at = c.loop-alloc in
     stopped_cut g.S.Store.disk r lines _ _ _ c.stopped.ensures
-    (c.in-Err.ensures.cut r lines at.commits.items size (at.invariant.come r lines size come))
+    (on_fault _ _ c.in-Err.is
+    (c.do_round-round.ensures.cut r lines at.commits.items size (at.invariant.come r lines size come)))
 
 pub returns-in-Err-note-clause-cut : goal.returns-in-Err-note-clause-cut
 returns-in-Err-note-clause-cut g c = λ r lines size come.
     let at = c.loop-alloc in
-    let next = c.in-Ok.ensures.come r lines at.commits.items size (at.invariant.come r lines size come) in
-    stopped_cut g.S.Store.disk r lines _ _ _ c.stopped.ensures (cut_done r lines _ next.log _ _ next.done)
+    let next =
+    on_ok _ _ _ c.in-Ok.is
+    (c.do_round-round.ensures.come r lines at.commits.items size (at.invariant.come r lines size come)) in
+    stopped_cut g.S.Store.disk r lines _ _ _ c.stopped-in-Err-note.ensures (cut_done r lines _ next.log _ _ next.done)
 
 pub returns-clause-come : goal.returns-clause-come
 returns-clause-come g c = λ r lines size come.
@@ -25,5 +27,5 @@ pub returns-clause-few : goal.returns-clause-few
 returns-clause-few g c = λ lines are.
     let few = few_open c.args.threads lines c.args.shares.items are in
     let at = c.loop-alloc in
-    few_last c.write_last.result.came _ (length (doing_lines lines)) c.write_last.ensures.same
-    (omega (arith, few, at.invariant.few))
+    few_last c.write_last.result.came (record { shares = at.shares; commits = at.commits; count = at.count })
+    (length (doing_lines lines)) c.write_last.ensures.same (omega (arith, few, at.invariant.few))

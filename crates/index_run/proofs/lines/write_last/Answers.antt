@@ -1,13 +1,18 @@
-use Rattle.index_run.proofs.Rounding.{cut_done, stopped_cut}
+use Rattle.index_run.proofs.Rounding.{cut_done, on_fault, on_ok, stopped_cut}
 use Rattle.index_run.proofs.lines.write_last.Goals as goal
 
 pub returns-in-Err-clause-cut : goal.returns-in-Err-clause-cut
 returns-in-Err-clause-cut g c = λ r lines come.
+    let rounds = c.args.rounds in
     stopped_cut g.S.Store.disk r lines _ _ _ c.stopped.ensures
-    (c.in-Err.ensures.pending.cut r lines c.args.rounds.shares.items c.args.rounds.commits.items come)
+    (on_fault _ _ c.in-Err.is
+    (c.write_pending-writer.ensures.pending.cut r lines rounds.shares.items rounds.commits.items come))
 
 pub returns-in-Err-note-clause-cut : goal.returns-in-Err-note-clause-cut
 returns-in-Err-note-clause-cut g c = λ r lines come.
-    let next = c.in-Ok.ensures.pending.come r lines c.args.rounds.shares.items c.args.rounds.commits.items come in
-    stopped_cut g.S.Store.disk r lines _ _ _ c.stopped.ensures
-    (cut_done r lines c.args.rounds.shares.items next.log _ _ next.done)
+    let rounds = c.args.rounds in
+    let next =
+    on_ok _ _ _ c.in-Ok.is
+    (c.write_pending-writer.ensures.pending.come r lines rounds.shares.items rounds.commits.items come) in
+    stopped_cut g.S.Store.disk r lines _ _ _ c.stopped-in-Err-note.ensures
+    (cut_done r lines rounds.shares.items next.log _ _ next.done)

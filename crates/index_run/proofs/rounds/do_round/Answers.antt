@@ -1,11 +1,11 @@
 use Rattle.std.proofs.Common.{◌≡◌, ◌∙◌, ℕ, List, ap, subst, sym}
-use Rattle.std.specs.Prelude.{None}
 use Rattle.line_shares.specs.Shares.{AreShares}
 use Rattle.index_writer.specs.declared.state.State.{State}
 use Rattle.index_writer.specs.declared.writer.IndexWriter.{IndexWriter}
-use Rattle.index_run.specs.Driving.{HasCome, IsCut}
+use Rattle.index_run.specs.Driving.{EndsRound, HasCome, IsCut}
+use Rattle.index_run.specs.Rounds.{given}
 use Rattle.index_run.proofs.Coming.{come_begun, come_on, round_done}
-use Rattle.index_run.proofs.Rounding.{cut_done, stopped_cut}
+use Rattle.index_run.proofs.Rounding.{cut_done, on_fault, on_ok, stopped_cut}
 use Rattle.index_run.proofs.Workers.{at_work, fewer_open}
 use Rattle.index_run.proofs.rounds.do_round.Goals as goal
 
@@ -30,9 +30,9 @@ returns-in-Err-came-clause-cut g c = λ r lines commits size come.
     let begun =
     come_begun r lines shares commits w.state v.state (g.S.Store.disk w.store) (g.S.Store.disk v.store)
     (ap (λ s. g.S.Store.disk s) c.begin_round.ensures.store) c.in-Ok.ensures.on c.begin_round.ensures.sound come in
-    stopped_cut g.S.Store.disk r lines _ _ _ c.stopped.ensures
-    (subst (λ (x : IndexWriter g.S). IsCut r lines (g.S.Store.disk x.store)) (sym c.let_go.ensures)
-    (c.run_round-writer.ensures.beside.0.cut r lines shares commits begun))
+    stopped_cut g.S.Store.disk r lines _ _ _ c.stopped-in-Err-came.ensures
+    (subst (λ (x : IndexWriter g.row.S.Denot). IsCut r lines (g.S.Store.disk x.store)) (sym c.let_go.ensures)
+    (on_fault _ _ c.in-Err-came.is (c.run_round-writer.ensures.beside.0.cut r lines shares commits begun)))
 
 pub returns-in-Err-back-clause-cut : goal.returns-in-Err-back-clause-cut
 returns-in-Err-back-clause-cut g c = λ r lines commits size come.
@@ -42,8 +42,8 @@ returns-in-Err-back-clause-cut g c = λ r lines commits size come.
     let begun =
     come_begun r lines shares commits w.state v.state (g.S.Store.disk w.store) (g.S.Store.disk v.store)
     (ap (λ s. g.S.Store.disk s) c.begin_round.ensures.store) c.in-Ok.ensures.on c.begin_round.ensures.sound come in
-    let next = c.run_round-writer.ensures.beside.0.come r lines shares commits begun in
-    stopped_cut g.S.Store.disk r lines _ _ _ c.stopped.ensures (cut_done r lines shares next.log _ _ next.done)
+    let next = on_ok _ _ _ c.in-Ok-came.is (c.run_round-writer.ensures.beside.0.come r lines shares commits begun) in
+    stopped_cut g.S.Store.disk r lines _ _ _ c.stopped-in-Err-back.ensures (cut_done r lines shares next.log _ _ next.done)
 
 pub returns-in-Err-part-clause-cut : goal.returns-in-Err-part-clause-cut
 returns-in-Err-part-clause-cut g c = λ r lines commits size come.
@@ -53,8 +53,8 @@ returns-in-Err-part-clause-cut g c = λ r lines commits size come.
     let begun =
     come_begun r lines shares commits w.state v.state (g.S.Store.disk w.store) (g.S.Store.disk v.store)
     (ap (λ s. g.S.Store.disk s) c.begin_round.ensures.store) c.in-Ok.ensures.on c.begin_round.ensures.sound come in
-    let next = c.run_round-writer.ensures.beside.0.come r lines shares commits begun in
-    stopped_cut g.S.Store.disk r lines _ _ _ c.stopped.ensures (cut_done r lines shares next.log _ _ next.done)
+    let next = on_ok _ _ _ c.in-Ok-came.is (c.run_round-writer.ensures.beside.0.come r lines shares commits begun) in
+    stopped_cut g.S.Store.disk r lines _ _ _ c.stopped-in-Err-part.ensures (cut_done r lines shares next.log _ _ next.done)
 
 pub finish_round-requires-clause-round : goal.finish_round-requires-clause-round
 finish_round-requires-clause-round g c κs within =
@@ -71,15 +71,16 @@ finish_round-requires-clause-round g c κs within =
     come_begun r lines shares commits w.state v.state (g.S.Store.disk w.store) (g.S.Store.disk v.store)
     (ap (λ s. g.S.Store.disk s) c.begin_round.ensures.store) c.in-Ok.ensures.on c.begin_round.ensures.sound come in
     let wrote = c.run_round-writer.ensures.beside.0 in
-    let next = wrote.come r lines shares commits begun in
+    let next = on_ok _ _ _ c.in-Ok-came.is (wrote.come r lines shares commits begun) in
+    let none = on_ok _ _ _ c.in-Ok-came.is wrote.written in
     let back = c.in-Ok-part.ensures in
     let on = c.in-Ok.ensures.on in
     let news = c.in-Ok-part.parted.1.items in
     let round =
     round_done r lines _ c.args.threads w.state _ c.in-Ok.round shares news c.in-Ok-back.worked.items c.in-Ok-part.parted.0 _
-    size next wrote.written (wrote.same.0 ∙ ap (λ (s : State). s.out) on)
-    (wrote.upto ∙ ap (λ (s : State). s.published.upto) on) (wrote.same.1 ∙ ap (λ (s : State). s.buffer) on)
-    c.in-Ok.ensures.begun c.run_round-writer.ensures.works back.came back.queue back.writers back.pieces back.shares in
+    size next none (wrote.same.0 ∙ ap (λ (s : State). s.out) on)
+    (on_ok _ _ _ c.in-Ok-came.is wrote.upto ∙ ap (λ (s : State). s.published.upto) on) (wrote.same.1 ∙ ap (λ (s : State). s.buffer) on)
+    c.in-Ok.ensures.begun (on_ok _ _ _ c.in-Ok-back.is c.run_round-writer.ensures.works) back.came back.queue back.writers back.pieces back.shares in
     (r, lines, shares, news, next.log, round)
 
 pub returns-in-Ok-finish_round-clause-come : goal.returns-in-Ok-finish_round-clause-come
@@ -91,23 +92,28 @@ returns-in-Ok-finish_round-clause-come g c = λ r lines commits size come.
     come_begun r lines shares commits w.state v.state (g.S.Store.disk w.store) (g.S.Store.disk v.store)
     (ap (λ s. g.S.Store.disk s) c.begin_round.ensures.store) c.in-Ok.ensures.on c.begin_round.ensures.sound come in
     let wrote = c.run_round-writer.ensures.beside.0 in
-    let next = wrote.come r lines shares commits begun in
+    let next = on_ok _ _ _ c.in-Ok-came.is (wrote.come r lines shares commits begun) in
+    let none = on_ok _ _ _ c.in-Ok-came.is wrote.written in
     let back = c.in-Ok-part.ensures in
     let on = c.in-Ok.ensures.on in
     let news = c.in-Ok-part.parted.1.items in
     let round =
     round_done r lines _ c.args.threads w.state _ c.in-Ok.round shares news c.in-Ok-back.worked.items c.in-Ok-part.parted.0 _
-    size next wrote.written (wrote.same.0 ∙ ap (λ (s : State). s.out) on)
-    (wrote.upto ∙ ap (λ (s : State). s.published.upto) on) (wrote.same.1 ∙ ap (λ (s : State). s.buffer) on)
-    c.in-Ok.ensures.begun c.run_round-writer.ensures.works back.came back.queue back.writers back.pieces back.shares in
-    come_on r lines shares news _ _ c.finish_round.new.writer.state _ next wrote.written
-    (c.in-Ok-finish_round.ensures.ends r lines shares news next.log round)
+    size next none (wrote.same.0 ∙ ap (λ (s : State). s.out) on)
+    (on_ok _ _ _ c.in-Ok-came.is wrote.upto ∙ ap (λ (s : State). s.published.upto) on) (wrote.same.1 ∙ ap (λ (s : State). s.buffer) on)
+    c.in-Ok.ensures.begun (on_ok _ _ _ c.in-Ok-back.is c.run_round-writer.ensures.works) back.came back.queue back.writers back.pieces back.shares in
+    let v' = c.finish_round.new.writer.state in
+    let same = ap (λ s. g.S.Store.disk s) c.finish_round.ensures.store in
+    subst (HasCome r lines news (given commits c.in-Ok-came.commit) v') (sym same)
+    (come_on r lines shares news _ _ v' _ next none
+    (subst (EndsRound r lines news next.log v') same
+    (c.in-Ok-finish_round.ensures.ends r lines shares news next.log round)))
 
 pub returns-in-Ok-finish_round-clause-goes_on : goal.returns-in-Ok-finish_round-clause-goes_on
 returns-in-Ok-finish_round-clause-goes_on g c =
     let back = c.in-Ok-part.ensures in
     fewer_open c.args.threads c.args.writer.state c.in-Ok.round c.args.shares.items c.in-Ok-part.parted.1.items
-    c.in-Ok-back.worked.items c.in-Ok-part.parted.0 c.in-Ok.ensures.begun c.run_round-writer.ensures.works back.came
+    c.in-Ok-back.worked.items c.in-Ok-part.parted.0 c.in-Ok.ensures.begun (on_ok _ _ _ c.in-Ok-back.is c.run_round-writer.ensures.works) back.came
     back.writers back.shares c.in-Ok-finish_round.ensures.open
 
 pub returns-in-Err-finish_round-clause-cut : goal.returns-in-Err-finish_round-clause-cut
@@ -118,7 +124,7 @@ returns-in-Err-finish_round-clause-cut g c = λ r lines commits size come.
     let begun =
     come_begun r lines shares commits w.state v.state (g.S.Store.disk w.store) (g.S.Store.disk v.store)
     (ap (λ s. g.S.Store.disk s) c.begin_round.ensures.store) c.in-Ok.ensures.on c.begin_round.ensures.sound come in
-    let next = c.run_round-writer.ensures.beside.0.come r lines shares commits begun in
-    stopped_cut g.S.Store.disk r lines _ _ _ c.stopped.ensures
+    let next = on_ok _ _ _ c.in-Ok-came.is (c.run_round-writer.ensures.beside.0.come r lines shares commits begun) in
+    stopped_cut g.S.Store.disk r lines _ _ _ c.stopped-in-Err-finish_round.ensures
     (subst (IsCut r lines) (sym (ap (λ s. g.S.Store.disk s) c.finish_round.ensures.store))
     (cut_done r lines shares next.log _ _ next.done))

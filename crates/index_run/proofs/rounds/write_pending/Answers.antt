@@ -4,7 +4,7 @@ use Rattle.index_writer.specs.declared.state.State.{State}
 use Rattle.index_run.specs.Driving.{WritesPending}
 use Rattle.index_run.specs.Leaving.{CommitLaws}
 use Rattle.index_run.proofs.Coming.{come_written}
-use Rattle.index_run.proofs.Rounding.{cut_done, cut_written, some_pending}
+use Rattle.index_run.proofs.Rounding.{cut_done, cut_written, pending_there}
 use Rattle.index_run.proofs.rounds.write_pending.Goals as goal
 
 pub returns-then-next_id-gt-MOST-clause-pending : goal.returns-then-next_id-gt-MOST-clause-pending
@@ -47,8 +47,9 @@ returns-in-Err-clause-pending g c =
     let low : w.state.published.next_id ≤ 2 ^ 62 =
     (let small = c.if-next_id-gt-MOST.false in let id = c.next_id.ensures in omega (arith, small, id)) in
     let laws : CommitLaws = record { go_on = c.commits_go_on.ensures; hold = c.commits_hold.ensures.made } in
-    let some = some_pending w.state.pending (λ none. absurd cc) in
-    subst (WritesPending g.S.Store.disk w) (sym c.stopped.ensures) (record {
+    let some =
+    pending_there w.state.pending _ _ c.pending_commit.ensures c.is_none.ensures c.if-is_none.false in
+    subst (WritesPending g.S.Store.disk w) (sym c.stopped-in-Err.ensures) (record {
       come = λ r lines shares commits come. tt;
       cut = λ r lines shares commits come.
           cut_written r lines shares come.log w.state some.0 (g.S.Store.disk w.store) (g.S.Store.disk x.store) laws
