@@ -129,12 +129,14 @@ same_replaced ids None gs p q is next upto = λ i. record {
   next_id = next i;
   upto = upto i;
   merge = None;
+  gone = q.gone;
 }
 same_replaced ids (Some s) gs p q is next upto = λ i. record {
   segments = without ids (is i) ++ s ∷ [];
   next_id = next i + 1;
   upto = upto i;
   merge = None;
+  gone = q.gone;
 }
 
 -- ---- after an error

@@ -8,8 +8,10 @@ mod laws;
 mod log_laws;
 mod merging;
 mod published;
+mod released;
 
 pub use laws::{merges_stand, rounds_meet, rounds_stand};
 pub use log_laws::{last_heads, rounds_are_ordered};
 pub use merging::MergeTurn;
 pub use published::Published;
+pub use released::Released;

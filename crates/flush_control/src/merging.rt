@@ -1,19 +1,23 @@
 //! Merges of the segments of an index, in steps.
-ghost use Rattle.std.specs.Prelude.{◌≡◌, ◌<◌, ◌≤◌, ◌^◌, ℕ, List as ListOf, None, Some, length};
+ghost use Rattle.std.specs.Prelude.{◌≡◌, ◌<◌, ◌≤◌, ◌^◌, ℕ, [], List as ListOf, None, Some, length};
 ghost use Rattle.std.specs.Prelude.{IfOk, IfSome, MatchOption, OnErr, vec_capacity};
 ghost use Rattle.segment_core.specs.LiveRows.{Lived};
 ghost use Rattle.merge_core.specs.Merging.{row_count};
 ghost use Rattle.merge_core.specs.Picking.{HasNoPick};
 ghost use Rattle.flush_control.specs.Merging.{Advanced, IsBegunBy, IsEnd, IsTaken, PicksStart, Runs};
-ghost use Rattle.flush_control.specs.Merging.{SameSegments, StillRuns, Turns, replaced};
+ghost use Rattle.flush_control.specs.Merging.{SameSegments, StillRuns, Turns, replaced, without};
 ghost use Rattle.flush_control.specs.Published.{IsPublished};
 
 use crate::published::Published;
+use crate::released::Released;
 use ix_base::{List, NoMemory};
 use merge_core::{Merge, Step, is_one_of, pick};
 use segment_core::LiveSegment;
 use std::alloc::Global;
 use std::mem;
+
+/// For each row that a step reads, so many rows of the segments that merges replaced are let go.
+const LET_GO: usize = 2;
 
 /// What a merge turn did.
 #[derive(Clone, Copy, Debug, PartialEq, Eq)]
@@ -50,8 +54,25 @@ impl Published {
     /// none, and no id is taken. `Idle` comes exactly where no merge runs and there are fewer than m
     /// segments, those have 2^31 live rows or more together, or one file has no room for the rows,
     /// or for the postings, of all of them; nothing changes then. After an error the segments are as
-    /// before; a merge that ran still runs, and has read at most `rows` rows more.
+    /// before; a merge that ran still runs, and has read at most `rows` rows more. The memory of the
+    /// segments that were replaced is given back in the turns that follow, twice as many rows in each
+    /// as it may read.
     pub fn merge_turn(&mut self, alloc: Global, m: u32, rows: u32) -> Result<MergeTurn, NoMemory>
+        requires m { (2 ≤ m) × (m ≤ 64) }
+        requires rows { 1 ≤ rows }
+        requires published { IsPublished self.old }
+        requires room { self.old.next_id ≤ 2 ^ 63 }
+        ensures turn { IfOk result (λ turn. Turns m rows self.old turn self.new) }
+        ensures err { OnErr result (SameSegments self.old self.new) }
+        ensures kept { OnErr result
+            (IfSome self.old.merge (λ run. StillRuns rows self.old run self.new)) }
+    {
+        self.gone.let_go(LET_GO * rows as usize);
+        self.turn(alloc, m, rows)
+    }
+
+    /// Takes a step of the merge that runs, or of one that is begun.
+    fn turn(&mut self, alloc: Global, m: u32, rows: u32) -> Result<MergeTurn, NoMemory>
         requires m { (2 ≤ m) × (m ≤ 64) }
         requires rows { 1 ≤ rows }
         requires published { IsPublished self.old }
@@ -131,35 +152,40 @@ impl Published {
             self.merge = Some(merge);
             return Err(NoMemory);
         };
-        let mut items = mem::replace(&mut self.segments, List::new(alloc)).into_vec();
-        if items.reserve(1).is_err() {
-            self.segments = List::from_vec(items);
+        let Ok(room) = Vec::with_capacity(alloc, self.segments.as_slice().len() + 1) else {
             self.merge = Some(merge);
             return Err(NoMemory);
-        }
-        match merge.finish(items.as_slice(), self.next_id) {
+        };
+        match merge.finish(self.segments.as_slice(), self.next_id) {
             Ok(merged) => {
-                self.replace(items, ids.as_slice(), merged);
+                let items = mem::replace(&mut self.segments, List::new(alloc)).into_vec();
+                self.replace(room, items, ids.as_slice(), merged);
                 Ok(MergeTurn::Merged)
             }
             Err(refused) => {
-                self.segments = List::from_vec(items);
                 self.merge = Some(refused.merge);
                 Err(NoMemory)
             }
         }
     }
 
-    /// Puts these segments in the place of the published ones, without those with these ids; the
-    /// merged one, if there is one, takes the next id and stands last. It takes no memory.
-    fn replace(&mut self, items: Vec<LiveSegment>, ids: &[u64], merged: Option<LiveSegment>)
-        requires room { length items.items < vec_capacity items }
+    /// Puts these segments in the place of the published ones, without those with these ids, which are
+    /// released; the merged one, if there is one, takes the next id and stands last. There is room for
+    /// them.
+    fn replace(
+        &mut self,
+        room: Vec<LiveSegment>,
+        items: Vec<LiveSegment>,
+        ids: &[u64],
+        merged: Option<LiveSegment>,
+    )
+        requires empty { room.items ≡ [] }
+        requires room { length items.items < vec_capacity room }
         requires next_id { self.old.next_id ≤ 2 ^ 63 }
         requires none { self.old.merge ≡ None }
         ensures { self.new ≡ replaced ids.now merged (record self.old { segments = items.items }) }
     {
-        let mut left = items;
-        left.retain(|segment| !is_one_of(ids, segment));
+        let mut left = parted(room, items, ids, &mut self.gone);
         let Some(merged) = merged else {
             self.segments = List::from_vec(left);
             return;
@@ -168,4 +194,27 @@ impl Published {
         self.segments = List::from_vec(left);
         self.next_id += 1;
     }
+}
+
+/// Moves the segments that have none of these ids into a list that has room for one more than there are.
+/// The others are released.
+fn parted(
+    mut room: Vec<LiveSegment>,
+    items: Vec<LiveSegment>,
+    ids: &[u64],
+    gone: &mut Released,
+) -> Vec<LiveSegment>
+    requires empty { room.items ≡ [] }
+    requires room { length items.items < vec_capacity room }
+    ensures left { result.items ≡ without ids.now items.items }
+    ensures more { length result.items < vec_capacity result }
+{
+    for segment in items {
+        if is_one_of(ids, &segment) {
+            gone.take(segment);
+        } else {
+            room.push_reserved(segment);
+        }
+    }
+    room
 }

@@ -6,6 +6,7 @@ ghost use Rattle.flush_control.specs.Made.{HasMarks, renewed};
 ghost use Rattle.flush_control.specs.Published.{AppliesUp, HasInversion, TakesPieces};
 
 use crate::building::{Made, made_of};
+use crate::released::Released;
 use frozen_packet::Packet;
 use ix_base::{List, NoMemory};
 use live_docs::LiveDocs;
@@ -18,7 +19,8 @@ use std::thread::Threads;
 use thread_writer::Piece;
 
 /// The segments of an index, by rising id, the id that the next one takes, the number up to which
-/// operations are in them, and the merge that runs.
+/// operations are in them, the merge that runs, and what is still to be let go of the segments that
+/// merges replaced.
 #[derive(Drop)]
 pub struct Published {
     pub segments: List<LiveSegment>,
@@ -27,6 +29,8 @@ pub struct Published {
     /// The merge that runs, if one does: it has read some rows of its sources, which are among the
     /// segments.
     pub merge: Option<Merge>,
+    /// What merges replaced, and is still to be let go.
+    pub gone: Released,
 }
 
 impl Published {

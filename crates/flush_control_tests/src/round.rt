@@ -8,7 +8,7 @@ ghost use Rattle.flush_control_tests.specs.Told.{AddsNone, IsPieceOf, IsTold};
 
 use crate::told::Told;
 use analysis::invert;
-use flush_control::{Published, rounds_meet, rounds_stand};
+use flush_control::{Published, Released, rounds_meet, rounds_stand};
 use frozen_packet::{Packet, Updates, taking_stands};
 use ix_base::{List, Row};
 use node_words::Entry;
@@ -36,6 +36,7 @@ pub(crate) fn fresh(alloc: Global, upto: u64) -> Published
         next_id: 1,
         upto,
         merge: None,
+        gone: Released::none(alloc),
     }
 }
 

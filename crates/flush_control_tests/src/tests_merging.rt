@@ -242,3 +242,38 @@ fn many_rows_in_steps(rt: HostRuntime) -> Result<(), Fail> {
     assert!(rt; shown.as_str() == "SSSSSSSSSSSSSSSSSSSSSSSSSSSSSM 4; 3:3000 1500");
     Ok(())
 }
+
+/// Takes so many turns of 100 rows, and appends how many rows of what was replaced are left then.
+fn turns_and_left(
+    alloc: Global,
+    index: &mut Published,
+    count: u32,
+    out: &mut String,
+) -> Result<(), Fail>
+    requires { IsPublished index.old }
+    ensures { OnOk result (IsPublished index.new) }
+{
+    turns(alloc, index, count, out)?;
+    Ok(write!(out, " {} ", index.gone.rows())?)
+}
+
+fn left_shown<R: Threads + Sync>(rt: &R, alloc: Global) -> Result<String, Fail> {
+    let mut index = fresh(alloc, 0);
+    do_round(rt, alloc, &mut index, many_rows(alloc, 0, 300)?)?;
+    do_round(rt, alloc, &mut index, many_rows(alloc, 300, 700)?)?;
+    let mut out = String::new(alloc);
+    turns_and_left(alloc, &mut index, 10, &mut out)?;
+    turns_and_left(alloc, &mut index, 1, &mut out)?;
+    turns_and_left(alloc, &mut index, 3, &mut out)?;
+    turns_and_left(alloc, &mut index, 1, &mut out)?;
+    Ok(out)
+}
+
+/// The rows of the segments that a merge replaced are let go in the turns that follow, twice as many in
+/// each as it may read.
+#[test]
+fn replaced_rows_are_let_go(rt: HostRuntime) -> Result<(), Fail> {
+    let shown = left_shown(&rt, rt.alloc())?;
+    assert!(rt; shown.as_str() == "SSSSSSSSSM 1000 I 800 III 200 I 0 ");
+    Ok(())
+}

@@ -57,7 +57,7 @@ pub record IsReady (s : State) : Type 0 where
 -- the state of a writer on a commit, with nothing since, and no merge that runs
 abbrev pub opened_on : Opened → ℕ → ℕ → State
 opened_on last size merge = record {
-  published = record { segments = last.segments; next_id = last.next_id; upto = last.number; merge = None };
+  published = record { segments = last.segments; next_id = last.next_id; upto = last.number; merge = None; gone = tt };
   written = written_of last.entries last.segments;
   last = last.number;
   since = last.next_id;

@@ -6,7 +6,7 @@ use crate::fault::OpenRefused;
 use crate::state::State;
 use commit_point::{HeadSegment, Opened, Written};
 use delete_queue::Reserve;
-use flush_control::Published;
+use flush_control::{Published, Released};
 use ix_base::{List, NoMemory};
 use segment_core::LiveSegment;
 use std::alloc::Global;
@@ -45,6 +45,7 @@ impl<S> IndexWriter<S> {
                     next_id: 1,
                     upto: 0,
                     merge: None,
+                    gone: Released::none(alloc),
                 },
                 written: List::new(alloc),
                 last: 0,
@@ -90,6 +91,7 @@ impl<S> IndexWriter<S> {
                     next_id: last.next_id,
                     upto: last.number,
                     merge: None,
+                    gone: Released::none(alloc),
                 },
                 written,
                 last: last.number,

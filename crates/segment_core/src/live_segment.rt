@@ -41,6 +41,14 @@ impl LiveSegment {
         &self.segment
     }
 
+    /// The rows and their postings, without the live docs. It takes no memory.
+    pub fn into_segment(self) -> Segment
+        ensures { result ≡ self.segment }
+    {
+        let LiveSegment { segment, live: _ } = self;
+        segment
+    }
+
     /// Which rows are live, and the numbers that were set in them.
     pub fn live(&self) -> &LiveDocs
         ensures live { result.now ≡ self.now.live }

@@ -1,5 +1,4 @@
-use Rattle.std.proofs.Common.{List, sym, subst}
-use Rattle.segment_core.specs.LiveRows.{Lived}
+use Rattle.std.proofs.Common.{sym, subst}
 use Rattle.flush_control.specs.Merging.{PicksStart}
 use Rattle.flush_control.proofs.Turning.{picks_start}
 use Rattle.flush_control.proofs.published.Published.begin.Goals as goal
