@@ -27,7 +27,7 @@ def words_of(query):
     (kind, of), = query.items() if query != "all" else [("all", None)]
     if kind in ("term", "phrase"):
         return f'"{of[1]}"' if of[0] == "body" else None
-    if kind == "all" or "should" in of or not of.get("must"):
+    if kind in ("all", "range") or "should" in of or not of.get("must"):
         return None
     must, lack = ([words_of(one) for one in of.get(part, ())] for part in ("must", "not"))
     if None in must + lack:
