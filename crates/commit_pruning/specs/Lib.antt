@@ -1,0 +1,4 @@
+pub mod Pruning
+pub mod Deleting
+pub mod Choosing
+pub mod ListedLaws
