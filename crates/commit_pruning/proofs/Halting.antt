@@ -4,11 +4,14 @@ use Rattle.std.proofs.lemmas.Grind.{take_at_read}
 use Rattle.std.proofs.lemmas.List.{take-append-drop, map-append}
 use Rattle.ix_base.specs.declared.file_name.FileName.{FileName}
 use Rattle.ix_outside.specs.declared.step.Step.{Step}
-use Rattle.ix_outside.specs.declared.step.Step.TheVariants.{Deleted, Settled}
+use Rattle.ix_outside.specs.declared.step.Step.TheVariants.{Deleted, HalfDeleted, HalfRenamed, Renamed, Settled, Spoilt, Synced, Wrote}
 use Rattle.ix_outside.specs.declared.store.StoreFault.{StoreFault}
 use Rattle.ix_outside.specs.declared.store.StoreFault.TheVariants.{Failed, NoMemory}
-use Rattle.ix_outside.specs.Disk.{Disk, taken, Stops, Told, TakesOn}
+use Rattle.ix_outside.specs.Disk.{Disk, IsPartOf, taken, Stops, Told, TakesOn}
 use Rattle.ix_outside.specs.DiskLaws.{taken_then, stops_done, stops_early, stops_late, told_then, told_onto}
+use Rattle.std.specs.List.{AllByRecursion}
+use Rattle.commit_point.specs.StepLaws.{by_none, by_one, by_then}
+use Rattle.commit_pruning.specs.Pruning.{Deletes, OnlyDeletes}
 use Rattle.commit_pruning.specs.Deleting.{Pauses, HaltsAt, Halts, delete_steps, prune_steps}
 
 halts_one : (U : Type 0) (step : Step) (old new : Disk) (fault : StoreFault) → TakesOn {T = U} step old new (Err fault) → HaltsAt fault (step ∷ []) old new
@@ -109,3 +112,40 @@ told_pause_stops gone rest seen others a b first second paused =
     subst (λ (xs : List FileName). Told (Stops (prune_steps xs rest)) a b) first
     (subst (λ (ys : List FileName). Told (Stops (prune_steps seen ys)) a b) second
     (told_onto _ (Stops (prune_steps seen others)) a b (λ x y is. halts_stops (prune_steps seen others) x y NoMemory is) paused))
+
+-- ---- only deletes
+
+abbrev AreDeletes : List Step → Type 0
+AreDeletes steps = AllByRecursion Deletes steps
+
+deletes_are : (names : List FileName) (more : List Step) → AreDeletes more → AreDeletes (map Deleted names ++ more)
+deletes_are [] more are = are
+deletes_are (n ∷ ns) more are = (tt, deletes_are ns more are)
+
+prune_deletes : (gone rest : List FileName) → AreDeletes (prune_steps gone rest)
+prune_deletes gone rest =
+    subst (λ (steps : List Step). AllByRecursion Deletes steps) (sym (append_assoc (map Deleted gone) (Settled ∷ []) (delete_steps rest)))
+    (deletes_are gone (Settled ∷ delete_steps rest) (tt, deletes_are rest (Settled ∷ []) (tt, tt)))
+
+part_deletes : (step part : Step) → Deletes step → IsPartOf step part → Deletes part
+part_deletes (Deleted name) part is (inl same) = subst Deletes (sym same) tt
+part_deletes (Deleted name) part is (inr same) = subst Deletes (sym same) tt
+part_deletes (HalfDeleted name) part is none = absurd none
+part_deletes Settled part is none = absurd none
+part_deletes (Wrote name bytes) part is any = absurd is
+part_deletes (Spoilt name found) part is any = absurd is
+part_deletes (Synced name) part is any = absurd is
+part_deletes (Renamed «from» to) part is any = absurd is
+part_deletes (HalfRenamed «from» to) part is any = absurd is
+
+stops_delete : (steps : List Step) (x y : Disk) → AreDeletes steps → Stops steps x y → OnlyDeletes x y
+stops_delete [] x y are same = subst (OnlyDeletes x) (sym same) (by_none (λ step older. Deletes step) x)
+stops_delete (s ∷ ss) x y are (inl (inl same)) = subst (OnlyDeletes x) (sym same) (by_none (λ step older. Deletes step) x)
+stops_delete (s ∷ ss) x y are (inl (inr part)) = by_one (λ step older. Deletes step) part.0 x y part.2 (part_deletes s part.0 are.0 part.1)
+stops_delete (s ∷ ss) x y are (inr later) =
+    by_then (λ step older. Deletes step) x (s ∷ x) y (by_one (λ step older. Deletes step) s x (s ∷ x) refl are.0) (stops_delete ss (s ∷ x) y are.1 later)
+
+pub told_deletes : (gone rest : List FileName) (a mid b : Option Disk) → mid ≡ a → Told (Stops (prune_steps gone rest)) mid b → Told OnlyDeletes a b
+told_deletes gone rest a mid b same stops =
+    subst (λ (o : Option Disk). Told OnlyDeletes o b) same
+    (told_onto (Stops (prune_steps gone rest)) OnlyDeletes mid b (λ x y is. stops_delete (prune_steps gone rest) x y (prune_deletes gone rest) is) stops)

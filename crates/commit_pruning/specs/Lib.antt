@@ -2,3 +2,4 @@ pub mod Pruning
 pub mod Deleting
 pub mod Choosing
 pub mod ListedLaws
+pub mod Naming

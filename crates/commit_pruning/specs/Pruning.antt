@@ -1,13 +1,17 @@
 -- Which commits are given up where only the latest are kept, and what that makes of the files.
-use Rattle.std.specs.Prelude.{◌≡◌, ◌⊎◌, ◌<◌, ◌↔◌, ℕ, List, ◌∷◌, length, Option, None, IsSome, Err, AllPairs, Contains}
+use Rattle.std.specs.Prelude.{◌≡◌, ◌⊎◌, ◌<◌, ◌↔◌, ℕ, List, ◌∷◌, length, Option, None, ⊤, IsSome, Err, AllPairs, Contains}
 use Rattle.std.specs.List.{AllByRecursion}
 use Rattle.ix_base.specs.declared.damaged.Damaged.{Damaged}
 use Rattle.ix_base.specs.declared.file_name.FileName.{FileName}
 use Rattle.ix_base.specs.declared.file_name.FileName.TheVariants.{Commit}
+use Rattle.ix_outside.specs.Disk.{Disk}
 use Rattle.ix_outside.specs.Files.{Files, Was}
+use Rattle.ix_outside.specs.declared.step.Step.{Step}
+use Rattle.ix_outside.specs.declared.step.Step.TheVariants.{Deleted, HalfDeleted, Settled}
 use Rattle.commit_point.specs.declared.heads.Head.{Head}
 use Rattle.commit_point.specs.Holds.{HasHead, IsFileOf, KeepsCommits}
 use Rattle.commit_point.specs.Reading.{head_from}
+use Rattle.commit_point.specs.Steps.{GoesBy}
 use Rattle.commit_pruning.specs.declared.fault.PruningFault.{PruningFault}
 use Rattle.commit_pruning.specs.declared.fault.PruningFault.TheVariants as pruning
 
@@ -55,6 +59,19 @@ pub record AreKeptBut (keep : ℕ) (before files : Files) (images : Files → Ty
   pub kept : (d : Files) → images d → KeepsCommits files d
   pub only : (d : Files) → images d → (s : ℕ) → IsSome (d (Commit s))
       → IsSome (files (Commit s)) ⊎ (IsGivenUp keep before s × IsWholeAs s before d)
+
+-- ---- steps
+
+-- a file is deleted, perhaps in part, or the directory is synced
+abbrev pub Deletes : Step → Type 0
+Deletes (Deleted name) = ⊤
+Deletes (HalfDeleted name) = ⊤
+Deletes Settled = ⊤
+Deletes step = ⊥
+
+-- each step of the calls is such a one: nothing is written or renamed
+abbrev pub OnlyDeletes : Disk → Disk → Type 0
+OnlyDeletes = GoesBy (λ step older. Deletes step)
 
 -- ---- refusals
 

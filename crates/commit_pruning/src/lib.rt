@@ -6,6 +6,7 @@
 mod choosing;
 mod deleting;
 mod fault;
+mod named;
 mod planning;
 mod pruning;
 

@@ -8,7 +8,7 @@ ghost use Rattle.ix_outside.specs.Disk.{Stops, Told, taken, told_files};
 ghost use Rattle.ix_outside.specs.Files.{Files};
 ghost use Rattle.commit_point.specs.Holds.{AreKept};
 ghost use Rattle.commit_pruning.specs.Deleting.{Pauses, prune_steps};
-ghost use Rattle.commit_pruning.specs.Pruning.{AreKeptBut, AreWhole, BreaksStaying, IsBrokenCommit, IsOutside, IsPruned, MayBePruned};
+ghost use Rattle.commit_pruning.specs.Pruning.{AreKeptBut, AreWhole, BreaksStaying, IsBrokenCommit, IsOutside, IsPruned, MayBePruned, OnlyDeletes};
 
 use crate::deleting::prune_files;
 use crate::fault::PruningFault;
@@ -58,6 +58,8 @@ pub fn prune<S: Store>(alloc: Global, store: &mut S, keep: u32) -> Result<u64, P
     // What reads give, success and error alike.
     ensures left { (files : Files) (now : Files) → told_files (S.disk store.old) ≡ Some files
         → told_files (S.disk store.new) ≡ Some now → MayBePruned keep files now }
+    // Nothing is written or renamed.
+    ensures only { Told OnlyDeletes (S.disk store.old) (S.disk store.new) }
     // What a crash leaves at any moment of the call.
     ensures crash { (files : Files) → told_files (S.disk store.old) ≡ Some files
         → AreKept files (MayHold (S.disk store.old))

@@ -4,14 +4,14 @@ ghost use Rattle.ix_base.specs.declared.damaged.Damaged.{Damaged};
 ghost use Rattle.ix_outside.specs.Calls.{LeavesOnly};
 ghost use Rattle.ix_outside.specs.Causes.{Rose};
 ghost use Rattle.ix_outside.specs.Crash.{MayHold};
-ghost use Rattle.ix_outside.specs.Disk.{told_files};
+ghost use Rattle.ix_outside.specs.Disk.{Told, told_files};
 ghost use Rattle.ix_outside.specs.Files.{Files, Was};
 ghost use Rattle.segment_core.specs.LiveRows.{Lived};
 ghost use Rattle.commit_point.specs.declared.heads.HeadSegment.{HeadSegment};
 ghost use Rattle.commit_point.specs.Holds.{AreKept, HasSegments};
 ghost use Rattle.commit_point.specs.Loading.{IsOutside, TellsNone};
 ghost use Rattle.commit_point.specs.Reading.{reading};
-ghost use Rattle.commit_pruning.specs.Pruning.{AreKeptBut, AreWhole, BreaksStaying, IsBrokenCommit, IsPruned, MayBePruned};
+ghost use Rattle.commit_pruning.specs.Pruning.{AreKeptBut, AreWhole, BreaksStaying, IsBrokenCommit, IsPruned, MayBePruned, OnlyDeletes};
 ghost use Rattle.index_writer.specs.Ready.{IsSound};
 ghost use Rattle.index_writer.specs.Standing.{StandsOnLast};
 ghost use Rattle.index_writer.specs.Storing.{GoesOn};
@@ -44,6 +44,8 @@ impl<S: Store> IndexWriter<S> {
         ensures left { (files : Files) (now : Files)
             → told_files (S.disk self.old.store) ≡ Some files
             → told_files (S.disk self.new.store) ≡ Some now → MayBePruned keep files now }
+        // Nothing is written or renamed.
+        ensures only { Told OnlyDeletes (S.disk self.old.store) (S.disk self.new.store) }
         // What a crash leaves at any moment of the call.
         ensures crash { (files : Files) → told_files (S.disk self.old.store) ≡ Some files
             → AreKept files (MayHold (S.disk self.old.store))

@@ -1,6 +1,9 @@
 use Rattle.std.proofs.Common.{Err}
 use Rattle.commit_pruning.specs.declared.planning.Plan.{Plan}
 use Rattle.commit_pruning.proofs.Carried.{crash_by, crash_same, kept_by, left_by, left_same, never_damaged, paused_by, paused_same, pruned_by}
+use Rattle.commit_point.specs.StepLaws.{goes_still}
+use Rattle.commit_pruning.specs.Pruning.{Deletes}
+use Rattle.commit_pruning.proofs.Halting.{told_deletes}
 use Rattle.commit_pruning.proofs.Planned.{whole_or_outside}
 use Rattle.commit_pruning.proofs.pruning.prune.Goals as goal
 
@@ -54,3 +57,10 @@ returns-in-Err-clause-paused g c = λ files now is end kept memory.
 pub returns-in-Err-clause-whole : goal.returns-in-Err-clause-whole
 returns-in-Err-clause-whole g c = λ files told whole.
     whole_or_outside {T = Plan} c.args.keep files (Err c.in-Err.fault) (λ damaged is. c.in-Err.ensures.staying files damaged told cc) whole
+
+pub returns-in-Ok-clause-only : goal.returns-in-Ok-clause-only
+returns-in-Ok-clause-only g c =
+    told_deletes c.in-Ok.plan.gone c.in-Ok.plan.rest (g.S.Store.disk c.args.store.now) (g.S.Store.disk c.make_plan.new.store) _ c.in-Ok.ensures.reads c.carry_out.ensures.stops
+
+pub returns-in-Err-clause-only : goal.returns-in-Err-clause-only
+returns-in-Err-clause-only g c = goes_still (λ step older. Deletes step) (g.S.Store.disk c.args.store.now) (g.S.Store.disk c.make_plan.new.store) c.in-Err.ensures.reads

@@ -1,3 +1,5 @@
+use Rattle.commit_point.specs.StepLaws.{goes_none}
+use Rattle.commit_pruning.specs.Pruning.{Deletes}
 use Rattle.index_writer.proofs.Standing.{closed_too, crash_before, pruned_go_on}
 use Rattle.index_writer.proofs.writer.IndexWriter.prune.Goals as goal
 
@@ -15,3 +17,6 @@ returns-in-Err-Store-clause-goes_on g c files now told after goes stands =
 pub returns-in-Err-NoMemory-clause-goes_on : goal.returns-in-Err-NoMemory-clause-goes_on
 returns-in-Err-NoMemory-clause-goes_on g c files now told after goes stands =
     pruned_go_on c.args.keep c.args.self.now.state files now c.requires.some (c.in-Err-NoMemory.ensures.left files now told after) goes stands
+
+pub returns-then-self-clause-only : goal.returns-then-self-clause-only
+returns-then-self-clause-only g c = goes_none (λ step older. Deletes step) (g.S.Store.disk c.args.self.now.store)
