@@ -12,6 +12,7 @@ use Rattle.commit_point.specs.declared.written.Written.{Written}
 use Rattle.commit_point.specs.Encoding.{own_files}
 use Rattle.commit_point.specs.Publishing.{File, IsNoneOf, AreApart, AreThere, SameBesides, CanPublish}
 use Rattle.commit_point.specs.Steps.{IsNoCommit}
+use Rattle.commit_point.specs.Holds.{Pairs}
 use Rattle.commit_point.specs.Writing.{SegmentIdsRise, IsOldId, IsElsewhere, SameElsewhere, is_same, is_alive, row_files, live_files, files_of, commit_files}
 
 -- ---- lists of files
@@ -128,8 +129,8 @@ all_apart s low limit (g ∷ gs) (w ∷ ws) rise =
     (none_rest s (g.segment.id + 1) limit g.segment.id gs ws (own_files s w g) (omega arith) rise.2 (own_are s w g))
 
 -- the files of the segments, the pending name and that of the commit are apart
-pub can_publish : (s next : ℕ) (gs : List Lived) (ws : List (Option Written)) → SegmentIdsRise 1 next gs → CanPublish (commit_files s gs ws) (Pending s) (Commit s)
-can_publish s next gs ws rise = record {
+pub can_publish : (s next : ℕ) (pairs : Pairs) (gs : List Lived) (ws : List (Option Written)) → SegmentIdsRise 1 next gs → CanPublish (commit_files s gs ws) (Pending s) (Commit s)
+can_publish s next pairs gs ws rise = record {
   files = all_apart s 1 next gs ws rise;
   pending_none = none_before s 1 next gs ws (Pending s) (omega arith) rise;
   final_none = none_before s 1 next gs ws (Commit s) (omega arith) rise;
@@ -149,9 +150,9 @@ names_real s low limit (g ∷ gs) (w ∷ ws) number some fits rise =
     (of_alive P s w g (all_append P (row_files w g) (live_files s w g) (of_rows P w g (λ bytes. id) (λ bytes. id)) (of_live P s w g (λ bytes. (id, number)) (λ bytes. (id, number)))))
     (names_real s (g.segment.id + 1) limit gs ws number (omega arith) fits rise.2)
 
-pub are_names : (s next : ℕ) (gs : List Lived) (ws : List (Option Written)) (files : List File) → IsCounted s → next < 2 ^ 64 → SegmentIdsRise 1 next gs → files ≡ commit_files s gs ws
+pub are_names : (s next : ℕ) (pairs : Pairs) (gs : List Lived) (ws : List (Option Written)) (files : List File) → IsCounted s → next < 2 ^ 64 → SegmentIdsRise 1 next gs → files ≡ commit_files s gs ws
     → All (λ file. IsFileName file.0) files
-are_names s next gs ws files number fits rise is =
+are_names s next pairs gs ws files number fits rise is =
     subst (λ (fs : List File). All (λ file. IsFileName file.0) fs) (sym is)
     (All-from_recursion (λ (f : File). IsFileName f.0) (commit_files s gs ws) (names_real s 1 next gs ws number (omega arith) fits rise))
 

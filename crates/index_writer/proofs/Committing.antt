@@ -17,7 +17,7 @@ use Rattle.row_fates.specs.Fate.{renumbered}
 use Rattle.segment_core.specs.LiveRows.{Lived, all_live, live, live_rows, with_numbers}
 use Rattle.segment_core.specs.Segments.{IsInverted}
 use Rattle.commit_point.specs.declared.written.Written.{Written}
-use Rattle.commit_point.specs.Holds.{AreInverted, AreRowsOf, HasSegment, HaveSegments}
+use Rattle.commit_point.specs.Holds.{AreInverted, AreRowsOf, HasSegment, HaveSegments, Pairs}
 use Rattle.commit_point.specs.Settling as settling
 use Rattle.commit_point.specs.Writing as commit
 use Rattle.commit_point.specs.Writing.{AreWritten, CanCommit, ComesAfter, CanWrite, IsOldId, SegmentIdsRise, WrittenUpTo, entries_of, entry_of, is_alive, listed, version}
@@ -193,9 +193,10 @@ pub same_below : (s : State) → IsReady s → (old new : Files)
     → commit.SameElsewhere s.published.upto (IsOldId s.published.segments s.written) old new → SameBelow s.published.upto s.since old new
 same_below s ready old new same = λ name other. same name (elsewhere s ready name other)
 
-pub commits : (s new : State) (files now : Files) → IsReady s → new ≡ on_commit s
-    → commit.Commits s.published.upto s.published.next_id s.published.segments s.written files now → Commits s new files now
-commits s new files now ready is made = record {
+pub commits : (s new : State) (files now : Files) (pairs : Pairs) → IsReady s → new ≡ on_commit s
+    → commit.Commits s.published.upto s.published.next_id pairs s.published.segments s.written files now → Commits s new files now
+commits s new files now pairs ready is made = record {
+  pairs = pairs;
   made = made;
   stands = λ stored.
       subst (IsStored now) (sym is)
@@ -208,7 +209,11 @@ on_err (Err x) P p = p
 
 -- nothing was written
 pub unmade : (s : State) (a : Option Files) → Changes (MayCommit s) a a
-unmade s a = stays (MayCommit s) a a (λ x. record { elsewhere = λ name not. refl; whole = inl refl }) refl
+unmade s a = stays (MayCommit s) a a (λ x. record { pairs = []; elsewhere = λ name not. refl; whole = inl refl }) refl
+
+-- what was written may be there
+pub may_commit : (s : State) (pairs : Pairs) (files now : Files) → commit.MayCommit s.published.upto s.published.next_id pairs s.published.segments s.written files now → MayCommit s files now
+may_commit s pairs files now may = record { pairs = pairs; elsewhere = may.elsewhere; whole = may.whole }
 
 -- the commit comes after those of the files that the writer can go on from
 pub comes : (s : State) (files : Files) → IsReady s → s.last < s.published.upto → GoesOn files s

@@ -1,5 +1,5 @@
 -- What a commit does to the files, and to the state.
-use Rattle.std.specs.Prelude.{◌≡◌, ℕ, ◌<◌, List, [], ◌∷◌, Option, Some, None}
+use Rattle.std.specs.Prelude.{◌≡◌, ◌⊎◌, ℕ, ◌<◌, List, [], ◌∷◌, Option, Some, None}
 use Rattle.ix_base.specs.declared.file_name.FileName.TheVariants.{Commit}
 use Rattle.ix_outside.specs.Crash.{MayHold}
 use Rattle.ix_outside.specs.Disk.{Disk, told_files}
@@ -7,9 +7,9 @@ use Rattle.ix_outside.specs.Files.{Files}
 use Rattle.segment_core.specs.LiveRows.{Lived}
 use Rattle.commit_point.specs.declared.heads.HeadSegment.{HeadSegment}
 use Rattle.commit_point.specs.declared.written.Written.{Written}
-use Rattle.commit_point.specs.Holds.{AreKept, Lists}
+use Rattle.commit_point.specs.Holds.{AreKept, Lists, Pairs}
 use Rattle.commit_point.specs.Writing as commit
-use Rattle.commit_point.specs.Writing.{SameElsewhere, version}
+use Rattle.commit_point.specs.Writing.{IsOldId, SameElsewhere, version}
 use Rattle.index_writer.specs.declared.state.State.{State}
 use Rattle.index_writer.specs.Ready.{IsStored}
 
@@ -46,12 +46,16 @@ SameBelow s next = SameElsewhere s (λ id. id < next)
 
 -- A writer committed: the files have the commit, and what is on the store of its segments stands in them.
 pub record Commits (old new : State) (files now : Files) : Type 0 where
-  pub made : commit.Commits old.published.upto old.published.next_id old.published.segments old.written files now
+  pub pairs : Pairs
+  pub made : commit.Commits old.published.upto old.published.next_id pairs old.published.segments old.written files now
   pub stands : IsStored files old → IsStored now new
 
 -- a crash while a writer commits: the commit is there whole, or its commit file is as before
-abbrev pub MayCommit : State → Files → Files → Type 0
-MayCommit s = commit.MayCommit s.published.upto s.published.next_id s.published.segments s.written
+pub record MayCommit (s : State) (files now : Files) : Type 0 where
+  pub pairs : Pairs
+  pub elsewhere : SameElsewhere s.published.upto (IsOldId s.published.segments s.written) files now
+  pub whole : (now (Commit s.published.upto) ≡ files (Commit s.published.upto))
+      ⊎ commit.Commits s.published.upto s.published.next_id pairs s.published.segments s.written files now
 
 -- The writer can go on from these files: no commit is above its last one, none lists an id that is new since that one,
 -- and what is on the store of its segments stands.

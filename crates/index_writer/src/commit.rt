@@ -10,6 +10,7 @@ ghost use Rattle.ix_outside.specs.Crash.{MayHold};
 ghost use Rattle.ix_outside.specs.Disk.{Told, told_files};
 ghost use Rattle.ix_outside.specs.Files.{Files, Changes};
 ghost use Rattle.ix_outside.specs.Images.{Follows, Reaches};
+ghost use Rattle.commit_point.specs.Holds.{HasPairs};
 ghost use Rattle.commit_point.specs.Steps.{KeepsMade, OnlyCommits};
 ghost use Rattle.index_writer.specs.Ready.{HasRows, IsSound};
 ghost use Rattle.index_writer.specs.Storing.{Commits, GoesOn, MayCommit, SameBelow, Settles, on_commit, renewed};
@@ -19,21 +20,21 @@ use crate::round::CommitInfo;
 use crate::state::State;
 use crate::writer::IndexWriter;
 use commit_point::{CommitRefused, Written, version, write_commit};
-use ix_base::{List, NoMemory};
+use ix_base::{Fields, List, NoMemory};
 use ix_outside::{Store, StoreFault};
 use segment_core::LiveSegment;
 use std::alloc::Global;
 
 impl<S: Store> IndexWriter<S> {
-    /// Writes the commit with which the last round ended, and returns its number and how many rows it
-    /// has. It asks that there is one, unless the writer is closed. Only what is new or changed since
+    /// Writes the commit with which the last round ended, with these pairs of the caller, and returns its
+    /// number and how many rows it has. It asks that there is one, unless the writer is closed. Only what is new or changed since
     /// the last commit is written. The commit lists the segments with a live row. The writer's segments
     /// stay, those without one too, and a merge that runs goes on after it.
     ///
     /// `Closed` comes exactly where the writer is closed; nothing changes then. After `Store` it is
     /// closed. After `NoMemory` all is as before, and the commit can be tried again; but where the
     /// commit is on the store by then, the writer is closed.
-    pub fn commit(&mut self) -> Result<CommitInfo, WriterFault>
+    pub fn commit(&mut self, pairs: &Fields) -> Result<CommitInfo, WriterFault>
         requires sound { IsSound self.old.state }
         requires pending { self.old.state.closed ≡ false → IsSome self.old.state.pending }
         ensures sound { IsSound self.new.state }
@@ -45,6 +46,10 @@ impl<S: Store> IndexWriter<S> {
             → OnOk result (HasRows self.new.state rows) }
         ensures made { self.old.state.published.next_id ≤ 2 ^ 62
             → OnOk result (Changes (Commits self.old.state self.new.state)
+            (told_files (S.disk self.old.store)) (told_files (S.disk self.new.store))) }
+        // The pairs stand in the commit file.
+        ensures data { self.old.state.published.next_id ≤ 2 ^ 62 → OnOk result
+            (Changes (λ old now. HasPairs now self.old.state.published.upto pairs.now)
             (told_files (S.disk self.old.store)) (told_files (S.disk self.new.store))) }
         ensures elsewhere { OnErr result (Changes
             (SameBelow self.old.state.published.upto self.old.state.since)
@@ -93,7 +98,7 @@ impl<S: Store> IndexWriter<S> {
         let written = self.state.written.as_slice();
         let renewed = renewed(alloc, number, segments, written)?;
         let next_id = self.state.published.next_id;
-        match write_commit(alloc, &mut self.store, number, next_id, segments, written) {
+        match write_commit(alloc, &mut self.store, number, next_id, pairs, segments, written) {
             Ok(head) => {
                 self.state.go_on(renewed);
                 Ok(CommitInfo {

@@ -22,12 +22,12 @@ use Rattle.index_writer.proofs.writer.IndexWriter.commit.Goals as goal
 pub returns-then-self-clause-crash : goal.returns-then-self-clause-crash
 returns-then-self-clause-crash g c room =
     leaves_none _ (Reaches (MayCommit c.args.self.now.state) (MayHold _))
-    (λ image may. (image, may, record { elsewhere = λ name x. refl; whole = inl refl }))
+    (λ image may. (image, may, record { pairs = []; elsewhere = λ name x. refl; whole = inl refl }))
 
 pub returns-in_err-renewed-clause-crash : goal.returns-in_err-renewed-clause-crash
 returns-in_err-renewed-clause-crash g c room =
     leaves_none _ (Reaches (MayCommit c.args.self.now.state) (MayHold _))
-    (λ image may. (image, may, record { elsewhere = λ name x. refl; whole = inl refl }))
+    (λ image may. (image, may, record { pairs = []; elsewhere = λ name x. refl; whole = inl refl }))
 
 pub returns-then-self-clause-only : goal.returns-then-self-clause-only
 returns-then-self-clause-only g c = goes_none (λ step older. MakesCommits step) _
@@ -73,7 +73,7 @@ pub returns-in-Err-clause-left : goal.returns-in-Err-clause-left
 returns-in-Err-clause-left g c room =
     let s = c.args.self.now.state in
     at_state
-    (λ (gs : List Lived) (ws : List (Option Written)). Changes (commit.MayCommit s.published.upto s.published.next_id gs ws)
+    (λ (gs : List Lived) (ws : List (Option Written)). Changes (commit.MayCommit s.published.upto s.published.next_id c.args.pairs.now gs ws)
     (told_files (g.S.Store.disk c.args.self.now.store)) (told_files (g.S.Store.disk c.write_commit.new.store))) _ _ s
     c.as_slice-segments.ensures c.as_slice-written.ensures (c.in-Err.ensures.left room)
 
@@ -103,9 +103,9 @@ returns-in-Ok-clause-made g c room =
     let before = told_files (g.S.Store.disk c.args.self.now.store) in
     let after = told_files (g.S.Store.disk c.write_commit.new.store) in
     let on = is_on _ _ c.in_ok-renewed.renewed s new c.as_slice-segments.ensures c.as_slice-written.ensures c.in_ok-renewed.ensures c.go_on.ensures in
-    let made = at_state (λ (gs : List Lived) (ws : List (Option Written)). Changes (commit.Commits s.published.upto s.published.next_id gs ws) before after) _ _ s c.as_slice-segments.ensures c.as_slice-written.ensures (c.in-Ok.ensures.ok room) in
-    onto (commit.Commits s.published.upto s.published.next_id s.published.segments s.written) (Commits s new) before after
-    (λ files now. commits s new files now (c.requires.sound c.if-self.false) on) made
+    let made = at_state (λ (gs : List Lived) (ws : List (Option Written)). Changes (commit.Commits s.published.upto s.published.next_id c.args.pairs.now gs ws) before after) _ _ s c.as_slice-segments.ensures c.as_slice-written.ensures (c.in-Ok.ensures.ok room) in
+    onto (commit.Commits s.published.upto s.published.next_id c.args.pairs.now s.published.segments s.written) (Commits s new) before after
+    (λ files now. commits s new files now c.args.pairs.now (c.requires.sound c.if-self.false) on) made
 
 pub returns-in-Ok-clause-acknowledged : goal.returns-in-Ok-clause-acknowledged
 returns-in-Ok-clause-acknowledged g c room image holds =
@@ -115,8 +115,8 @@ returns-in-Ok-clause-acknowledged g c room image holds =
     let before = c.in-Ok.ensures.acknowledged room image holds in (
       before.0,
       before.1,
-      commits s new before.0 image (c.requires.sound c.if-self.false) on
-          (at_state (λ (gs : List Lived) (ws : List (Option Written)). commit.Commits s.published.upto s.published.next_id gs ws before.0 image) _ _ s
+      commits s new before.0 image c.args.pairs.now (c.requires.sound c.if-self.false) on
+          (at_state (λ (gs : List Lived) (ws : List (Option Written)). commit.Commits s.published.upto s.published.next_id c.args.pairs.now gs ws before.0 image) _ _ s
           c.as_slice-segments.ensures c.as_slice-written.ensures before.2),
     )
 
