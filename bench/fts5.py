@@ -6,7 +6,7 @@ usage: fts5.py DATABASE run < SCRIPT
 
 It knows the documents and queries of the benchmark: one text, `body`, the exact texts `kind` and `tag`, the number
 `n`. Documents are rows of a table with an index on each column that is looked for; their words are in FTS5, under
-the same row numbers. A commit is SQLite's. Searches and questions print {"hits":[KEY, ..]}, and a script at its
+the same row numbers. An index on `n` is made for the first query of a range. A commit is SQLite's. Searches and questions print {"hits":[KEY, ..]}, and a script at its
 end {"docs":D}, the rows that are there, if it has a line.
 """
 import json
@@ -27,7 +27,7 @@ def words_of(query):
     (kind, of), = query.items() if query != "all" else [("all", None)]
     if kind in ("term", "phrase"):
         return f'"{of[1]}"' if of[0] == "body" else None
-    if kind == "all" or "should" in of or not of.get("must"):
+    if kind in ("all", "range") or "should" in of or not of.get("must"):
         return None
     must, lack = ([words_of(one) for one in of.get(part, ())] for part in ("must", "not"))
     if None in must + lack:
@@ -47,18 +47,29 @@ def condition_of(query, values):
     if kind == "term":
         values.append(of[1])
         return f"{of[0]} = ?"
+    if kind == "range":
+        values.extend(of[1:])
+        return f"{of[0]} between ? and ?"
     must = [condition_of(one, values) for one in of["must"]]
     return " and ".join(must + [f"not ({condition_of(one, values)})" for one in of.get("not", ())])
 
 
+def has_range(query):
+    return '"range"' in json.dumps(query)
+
+
 def ids_of(store, query):
     values = []
+    if has_range(query):
+        store.execute("create index if not exists by_n on docs (n)")
     return store.execute(f"select id from docs where {condition_of(query, values)}", values).fetchall()
 
 
 def hits(store, query):
     """The keys of the documents that match, in the order in which they were added."""
     words, values = words_of(query), []
+    if has_range(query):
+        store.execute("create index if not exists by_n on docs (n)")
     if words:
         text = "select key from words join docs on id = words.rowid where words match ? order by words.rowid"
         return [key for key, in store.execute(text, [words])]

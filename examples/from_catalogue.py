@@ -2,8 +2,9 @@
 """Makes a script for index_run of a catalogue, and prints it.
 
 usage: from_catalogue.py NEW [OLD]
+       from_catalogue.py --cut PERCENT --least CENTS NOW
 
-Both are CSV files with the columns id, title, description, category, price, stock. The script brings an index from
+The files are CSV with the columns id, title, description, category, price, stock. The first form brings an index from
 OLD, or from nothing, to NEW. Of each product, by its id:
 
 it is new                              an add
@@ -14,10 +15,13 @@ it is gone                             a delete by its key
 text   title, description
 exact  category
 num    price, in cents; stock
+
+The second form cuts the prices of an index that has NOW: it sets each product's new price by its key, deletes what then
+costs less than CENTS, and searches for what costs up to twice as much.
 """
+import argparse
 import csv
 import json
-import sys
 from decimal import Decimal
 
 
@@ -54,9 +58,26 @@ def lines_from(old, new):
     yield {"op": "commit"}
 
 
+def lines_of_cut(products, percent, least):
+    """The lines that cut the prices of these products, without their caller."""
+    for key, product in products.items():
+        price = product["num"]["price"] * (100 - percent) // 100
+        yield {"op": "set", "field": "key", "term": key, "num": "price", "value": price}
+    yield {"op": "delete_query", "query": {"range": ["price", 0, least - 1]}}
+    yield {"op": "commit"}
+    yield {"op": "search", "query": {"range": ["price", least, 2 * least]}}
+
+
 def main():
-    new, *old = map(read_catalogue, sys.argv[1:])
-    for line in lines_from(old[0] if old else {}, new):
+    parser = argparse.ArgumentParser()
+    parser.add_argument("--cut", type=int, metavar="PERCENT")
+    parser.add_argument("--least", type=int, default=0, metavar="CENTS")
+    parser.add_argument("new")
+    parser.add_argument("old", nargs="?")
+    args = parser.parse_args()
+    new, old = read_catalogue(args.new), read_catalogue(args.old) if args.old else {}
+    lines = lines_from(old, new) if args.cut is None else lines_of_cut(new, args.cut, args.least)
+    for line in lines:
         print(json.dumps({"c": 0, **line}))
 
 

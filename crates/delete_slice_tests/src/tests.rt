@@ -8,7 +8,7 @@ ghost use Rattle.delete_slice.specs.Slices.{IsSliceOf};
 
 use delete_queue::{DeleteQueue, Linked, QueueLog, Reserve, Seat};
 use delete_slice::Slice;
-use frozen_packet::Updates;
+use frozen_packet::{Change, Updates};
 use ix_base::NoMemory;
 use std::alloc::Global;
 use std::test::*;
@@ -77,9 +77,11 @@ fn shown(alloc: Global, updates: &Updates) -> Result<String, NoMemory> {
         shown.push_str(key.term().bytes.as_str())?;
         shown.push((b'0' + (*number % 10) as u8) as char)?;
     }
-    for setting in updates.settings() {
-        shown.push_str(setting.num.as_str())?;
-        shown.push((b'0' + (setting.number % 10) as u8) as char)?;
+    for change in updates.changes() {
+        if let Change::Set(setting) = change {
+            shown.push_str(setting.num.as_str())?;
+            shown.push((b'0' + (setting.number % 10) as u8) as char)?;
+        }
     }
     Ok(shown)
 }
@@ -186,8 +188,10 @@ fn numbers_in(alloc: Global, updates: &Updates) -> Result<Vec<u64>, NoMemory> {
     for (_, number) in updates.deletes().as_map() {
         numbers.push(*number)?;
     }
-    for setting in updates.settings() {
-        numbers.push(setting.number)?;
+    for change in updates.changes() {
+        if let Change::Set(setting) = change {
+            numbers.push(setting.number)?;
+        }
     }
     Ok(numbers)
 }

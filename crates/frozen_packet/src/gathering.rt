@@ -1,8 +1,9 @@
-//! Settings gathered: of those of one name in the documents of one term the last alone is kept.
+//! Settings gathered: of those of one name in the documents of one term the last alone is kept, where
+//! no delete by a query with a range came between.
 ghost use Rattle.std.specs.Prelude.{◌≡◌, ◌≤◌, [], false, length, replicate, IfOk, IsTrue, vec_capacity};
-ghost use Rattle.frozen_packet.specs.Gathered.{Replaces, AreReplaced, unmarked};
+ghost use Rattle.frozen_packet.specs.Gathered.{Replaces, SetsOver, AreReplaced, unmarked};
 
-use crate::updates::Setting;
+use crate::updates::{Change, Setting};
 use ix_base::NoMemory;
 use std::alloc::Global;
 use std::collections::HashMap;
@@ -17,23 +18,42 @@ fn replaces(later: &Setting, earlier: &Setting) -> bool
         && later.num.as_str() == earlier.num.as_str()
 }
 
-/// A mark for each setting, which says whether one of those behind it replaces it.
-pub(crate) fn replaced(alloc: Global, settings: &[Setting]) -> Result<Vec<bool>, NoMemory>
-    ensures long { IfOk result (λ marks. length marks.items ≡ length settings.now) }
-    ensures replaced { IfOk result (λ marks. AreReplaced settings.now marks.items) }
+/// Whether the later of two changes is a setting that sets anew whatever the earlier one, a setting
+/// too, sets.
+fn sets_over(later: &Change, earlier: &Change) -> bool
+    ensures { IsTrue result → SetsOver later.now earlier.now }
+{
+    match later {
+        Change::Set(later) => match earlier {
+            Change::Set(earlier) => replaces(later, earlier),
+            Change::Delete(_) => false,
+        },
+        Change::Delete(_) => false,
+    }
+}
+
+/// A mark for each change, which says whether it is a setting that one of those behind it replaces.
+pub(crate) fn replaced(alloc: Global, changes: &[Change]) -> Result<Vec<bool>, NoMemory>
+    ensures long { IfOk result (λ marks. length marks.items ≡ length changes.now) }
+    ensures replaced { IfOk result (λ marks. AreReplaced changes.now marks.items) }
 {
     let mut marks = Vec::new(alloc);
-    marks.resize(settings.len(), false)?;
+    marks.resize(changes.len(), false)?;
     let mut last: HashMap<(&str, &str, &str), usize> = HashMap::new(alloc);
-    for place in 0..settings.len() {
-        let setting = &settings[place];
+    // The place behind the last delete.
+    let mut since = 0;
+    for place in 0..changes.len() {
+        let Change::Set(setting) = &changes[place] else {
+            since = place + 1;
+            continue;
+        };
         let key = (
             setting.term.field.as_str(),
             setting.term.bytes.as_str(),
             setting.num.as_str(),
         );
         if let Some(before) = last.insert(key, place)? {
-            if before < place && replaces(setting, &settings[before]) {
+            if since <= before && before < place && sets_over(&changes[place], &changes[before]) {
                 marks[before] = true;
             }
         }
@@ -41,21 +61,21 @@ pub(crate) fn replaced(alloc: Global, settings: &[Setting]) -> Result<Vec<bool>,
     Ok(marks)
 }
 
-/// The settings without a mark, moved into a list that has room for all. It takes no memory.
+/// The changes without a mark, moved into a list that has room for all. It takes no memory.
 pub(crate) fn without_marked(
-    mut room: Vec<Setting>,
-    settings: Vec<Setting>,
+    mut room: Vec<Change>,
+    changes: Vec<Change>,
     marks: &[bool],
-) -> Vec<Setting>
+) -> Vec<Change>
     requires empty { room.items ≡ [] }
-    requires room { length settings.items ≤ vec_capacity room }
-    requires marks { length marks.now ≡ length settings.items }
-    ensures { result.items ≡ unmarked settings.items marks.now }
+    requires room { length changes.items ≤ vec_capacity room }
+    requires marks { length marks.now ≡ length changes.items }
+    ensures { result.items ≡ unmarked changes.items marks.now }
 {
     let mut at = 0;
-    for setting in settings {
+    for change in changes {
         if !marks[at] {
-            room.push_reserved(setting);
+            room.push_reserved(change);
         }
         at += 1;
     }

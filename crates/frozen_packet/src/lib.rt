@@ -1,5 +1,5 @@
 //! What a list of operations does to the rows that stand when they come, coalesced: of each term
-//! its last delete, and the deletes by query and the settings. Updates grow by one entry at a time
+//! its last delete, the deletes by query, and the settings. Updates grow by one entry at a time
 //! and are then frozen into a packet, which segments apply.
 #![tactic(auto)]
 
@@ -14,4 +14,4 @@ mod updates;
 pub use deleted_terms::DeletedTerms;
 pub use laws::{stands_for_itself, taking_stands};
 pub use packet::{Packet, freeze};
-pub use updates::{QueryDelete, Setting, Updates};
+pub use updates::{Change, QueryDelete, Setting, Updates};

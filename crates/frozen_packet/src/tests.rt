@@ -3,7 +3,7 @@ ghost use Rattle.std.specs.Prelude.{◌<◌, IfOk, OnOk};
 ghost use Rattle.frozen_packet.specs.Updates.{as_operations, NumberedUpTo, NumberedWithin};
 
 use crate::packet::freeze;
-use crate::updates::Updates;
+use crate::updates::{Change, Updates};
 use ix_base::{Name, NoMemory, Query, Term, Text};
 use node_words::Entry;
 use std::alloc::Global;
@@ -87,8 +87,11 @@ fn eight_entries(rt: HostRuntime) {
     for delete in packet.updates.queries() {
         assert!(rt; delete.number == 3);
     }
-    assert!(rt; packet.updates.settings().len() == 1);
-    for setting in packet.updates.settings() {
+    assert!(rt; packet.updates.changes().len() == 1);
+    for change in packet.updates.changes() {
+        let Change::Set(setting) = change else {
+            panic!(rt; "a delete");
+        };
         assert!(rt; (setting.number, setting.value) == (4, -7));
         assert!(rt; setting.term.bytes.as_str() == "a");
         assert!(rt; setting.num.as_str() == "n");
@@ -128,9 +131,67 @@ fn settings_gathered(rt: HostRuntime) {
     let Ok(updates) = set_often(rt.alloc()) else {
         panic!(rt; "memory");
     };
-    assert!(rt; updates.settings().len() == 100);
-    for (place, setting) in updates.settings().iter().enumerate() {
+    assert!(rt; updates.changes().len() == 100);
+    for (place, change) in updates.changes().iter().enumerate() {
+        let Change::Set(setting) = change else {
+            panic!(rt; "a delete");
+        };
         let first = if place < 50 { 2450 } else { 4900 };
         assert!(rt; setting.value == first + place as i64);
     }
+}
+
+/// A setting of `n` in the documents of the key `a`, or a delete by a range of it.
+fn step(alloc: Global, value: Option<i64>) -> Result<Entry, NoMemory> {
+    let num = name(alloc, "n")?;
+    match value {
+        Some(value) => {
+            let term = key_term(alloc, "a")?;
+            Ok(Entry::SetNumber { term, num, value })
+        }
+        None => Ok(Entry::DeleteQuery(Query::Range(num, 2, 2))),
+    }
+}
+
+fn take_step(alloc: Global, updates: &mut Updates, value: Option<i64>) -> Result<(), NoMemory>
+    requires { NumberedUpTo 8 (as_operations updates.old) }
+    ensures { OnOk result (NumberedUpTo 8 (as_operations updates.new)) }
+{
+    updates.take(8, step(alloc, value)?)
+}
+
+/// The values that are set, and 0 for each delete, once these steps were gathered.
+fn gathered(alloc: Global, steps: &[Option<i64>]) -> Result<Vec<i64>, NoMemory> {
+    let mut updates = Updates::new(alloc);
+    for value in steps {
+        take_step(alloc, &mut updates, *value)?;
+    }
+    updates.gather(alloc)?;
+    let mut left = Vec::new(alloc);
+    for change in updates.changes() {
+        left.push(match change {
+            Change::Set(setting) => setting.value,
+            Change::Delete(_) => 0,
+        })?;
+    }
+    Ok(left)
+}
+
+/// A setting that a delete by a range reads is kept beside a later one.
+#[test]
+fn gathered_between_ranges(rt: HostRuntime) {
+    let steps = [
+        Some(1),
+        Some(2),
+        None,
+        Some(3),
+        None,
+        None,
+        Some(4),
+        Some(5),
+    ];
+    let Ok(left) = gathered(rt.alloc(), &steps) else {
+        panic!(rt; "memory");
+    };
+    assert!(rt; left.as_slice() == [2, 0, 3, 0, 0, 5].as_slice());
 }

@@ -46,6 +46,8 @@ mod tests_operations;
 #[cfg(test)]
 mod tests_program;
 #[cfg(test)]
+mod tests_ranges;
+#[cfg(test)]
 mod tests_refusals;
 #[cfg(test)]
 mod tests_rounds;

@@ -121,6 +121,28 @@ const LATER: &str =
      {\"c\": 0, \"op\": \"delete\", \"field\": \"key\", \"term\": \"p-05\"}\n\
      {\"c\": 0, \"op\": \"commit\"}\n";
 
+/// What `from_catalogue.py --cut 50 --least 85` makes of the later catalogue.
+const CUT: &str =
+    "{\"c\": 0, \"op\": \"set\", \"field\": \"key\", \"term\": \"p-01\", \"num\": \"price\", \"value\": 260}\n\
+     {\"c\": 0, \"op\": \"set\", \"field\": \"key\", \"term\": \"p-02\", \"num\": \"price\", \"value\": 210}\n\
+     {\"c\": 0, \"op\": \"set\", \"field\": \"key\", \"term\": \"p-03\", \"num\": \"price\", \"value\": 410}\n\
+     {\"c\": 0, \"op\": \"set\", \"field\": \"key\", \"term\": \"p-04\", \"num\": \"price\", \"value\": 340}\n\
+     {\"c\": 0, \"op\": \"set\", \"field\": \"key\", \"term\": \"p-06\", \"num\": \"price\", \"value\": 1950}\n\
+     {\"c\": 0, \"op\": \"set\", \"field\": \"key\", \"term\": \"p-07\", \"num\": \"price\", \"value\": 105}\n\
+     {\"c\": 0, \"op\": \"set\", \"field\": \"key\", \"term\": \"p-08\", \"num\": \"price\", \"value\": 45}\n\
+     {\"c\": 0, \"op\": \"set\", \"field\": \"key\", \"term\": \"p-09\", \"num\": \"price\", \"value\": 40}\n\
+     {\"c\": 0, \"op\": \"set\", \"field\": \"key\", \"term\": \"p-10\", \"num\": \"price\", \"value\": 270}\n\
+     {\"c\": 0, \"op\": \"set\", \"field\": \"key\", \"term\": \"p-11\", \"num\": \"price\", \"value\": 400}\n\
+     {\"c\": 0, \"op\": \"set\", \"field\": \"key\", \"term\": \"p-12\", \"num\": \"price\", \"value\": 165}\n\
+     {\"c\": 0, \"op\": \"set\", \"field\": \"key\", \"term\": \"p-13\", \"num\": \"price\", \"value\": 340}\n\
+     {\"c\": 0, \"op\": \"delete_query\", \"query\": {\"range\": [\"price\", 0, 84]}}\n\
+     {\"c\": 0, \"op\": \"commit\"}\n\
+     {\"c\": 0, \"op\": \"search\", \"query\": {\"range\": [\"price\", 85, 170]}}\n";
+
+/// Its last two lines' report: two of the twelve cost too little then, and two less than twice as much.
+const CUT_ENDS: &str =
+    "{\"docs\":10,\"line\":14,\"seq\":36}\n{\"commit\":36,\"hits\":[{\"key\":\"p-07\",\"num\":{\"price\":105,\"stock\":300}},{\"key\":\"p-12\",\"num\":{\"price\":165,\"stock\":60}}],\"line\":15}\n";
+
 /// A question on the catalogue.
 const ON_PENS: &str = "{\"term\":[\"description\",\"pens\"]}\n";
 
@@ -182,7 +204,8 @@ fn letters_twice(rt: HostRuntime) -> Result<(), Fail> {
     Ok(())
 }
 
-/// A catalogue is brought from its earlier to its later state. Both commits can be asked.
+/// A catalogue is brought from its earlier to its later state. Both commits can be asked. Then its prices
+/// are cut.
 #[test]
 fn catalogue_before_and_after(rt: HostRuntime) -> Result<(), Fail> {
     let alloc = rt.alloc();
@@ -195,6 +218,8 @@ fn catalogue_before_and_after(rt: HostRuntime) -> Result<(), Fail> {
     let found = asked(&rt, alloc, &["ask"], ON_PENS, after.store)?;
     let store = ended(&rt, found, 0, PENS_LATER);
     let found = asked(&rt, alloc, &["ask", "--commit", "13"], ON_PENS, store)?;
-    let _store = ended(&rt, found, 0, PENS_BEFORE);
+    let store = ended(&rt, found, 0, PENS_BEFORE);
+    let cut = run_script(&rt, alloc, &[CUT], store)?;
+    assert!(rt; cut.written.as_slice().ends_with(CUT_ENDS.as_bytes()));
     Ok(())
 }

@@ -3,7 +3,7 @@ use Rattle.std.proofs.Common.{◌≡◌, ℕ, pos, negsuc, List, [], ◌∷◌, 
 use Rattle.unicode_segmentation.proofs.Computing.{unicode_segmentation}
 use Rattle.caseless.proofs.Computing.{caseless}
 use Rattle.ix_base.specs.Terms.{Place, terms}
-use Rattle.ix_base.specs.Tree.{all, term, phrase, bool, no_trees, tree}
+use Rattle.ix_base.specs.Tree.{all, term, phrase, range, bool, no_trees, tree}
 use Rattle.ix_base.specs.Matches.{matches}
 use Rattle.ix_base.specs.Steps.{Named, after}
 use Rattle.ix_base.specs.Documents.{Document}
@@ -127,3 +127,22 @@ phrase_is_folded = refl
 exact_is_not_folded : matches (term (codes "tag") (codes "x")) (tagged (codes "a1") (codes "X") []) ≡ false
 unfolding unicode_segmentation caseless
 exact_is_not_folded = refl
+
+-- both bounds are in a range
+range_has_its_bounds : matches (range (codes "price") (negsuc 1) (pos 5)) (tagged (codes "a1") (codes "x") ((codes "price", pos 5) ∷ [])) ≡ true
+unfolding unicode_segmentation caseless
+range_has_its_bounds = refl
+
+range_is_of_one_name : matches (range (codes "price") (negsuc 1) (pos 5)) (tagged (codes "a1") (codes "x") ((codes "rank", pos 5) ∷ [])) ≡ false
+unfolding unicode_segmentation caseless
+range_is_of_one_name = refl
+
+range_the_wrong_way_round : matches (range (codes "price") (pos 6) (pos 5)) (tagged (codes "a1") (codes "x") ((codes "price", pos 5) ∷ [])) ≡ false
+unfolding unicode_segmentation caseless
+range_the_wrong_way_round = refl
+
+-- a delete by a range reads the number that stands when it comes
+set_before_a_range : after [] 0 (Add (tagged (codes "a1") (codes "x") ((codes "price", pos 5) ∷ [])) ∷ SetNumber (key_term (codes "a1")) (codes "price") (pos 9) ∷ DeleteQuery (query.Range (codes "price") (pos 5) (pos 5)) ∷ [])
+    ≡ row_of 1 (tagged (codes "a1") (codes "x") ((codes "price", pos 9) ∷ [])) ∷ []
+unfolding unicode_segmentation caseless
+set_before_a_range = refl

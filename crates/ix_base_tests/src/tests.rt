@@ -429,3 +429,18 @@ fn texts_that_are_read(rt: HostRuntime) {
     assert!(rt; text_at(b"\0\0\0\x01\xff") == Err(BrokenField { left: 5 }));
     assert!(rt; name_at(b"\0\0\0\0!") == Err(BrokenField { left: 5 }));
 }
+
+/// A range of numbers, as a query and in a list of them.
+#[test]
+fn ranges(rt: HostRuntime) -> Result<(), Fail> {
+    let alloc = rt.alloc();
+    let range = Query::Range(name_of(alloc, "price")?, -2, i64::MAX);
+    let copy = range.clone_in(alloc)?;
+    let mut shown = String::new(alloc);
+    show_query(&mut shown, &copy, 0)?;
+    assert!(rt; shown.as_str() == "price:-2..9223372036854775807");
+    assert!(rt; copy.has_range());
+    assert!(rt; alone(alloc, range)?.any_range());
+    assert!(rt; !nested(alloc)?.has_range());
+    Ok(())
+}

@@ -5,6 +5,7 @@ use Rattle.std.specs.List.{filter, AllByRecursion}
 use Rattle.std.specs.Ordering.{int_eq}
 use Rattle.std.specs.Str.{bytes_eq}
 use Rattle.ix_base.specs.Limits.{names_rise}
+pub use Rattle.ix_base.specs.Matches.{value_of}
 use Rattle.ix_base.specs.Steps.{Named, with_number}
 use Rattle.live_docs.specs.declared.live_docs.Mark.{Mark}
 
@@ -57,11 +58,6 @@ numbered_from row (m ∷ marks) = if has_numbers m.values then row ∷ numbered_
 -- the rows in which numbers were set, in order
 abbrev pub numbered_rows : List Mark → List ℕ
 numbered_rows marks = numbered_from 0 marks
-
--- the number by this name, if there is one
-abbrev pub value_of : List ℕ → List Named → Option ℤ
-value_of name [] = None
-value_of name (v ∷ values) = if bytes_eq v.0 name then Some v.1 else value_of name values
 
 -- What was set last by a name is read by it, and the numbers by other names stay.
 pub record SetsOne (name : List ℕ) (value : ℤ) (values : List Named) : Type 0 where

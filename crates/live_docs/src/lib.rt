@@ -9,4 +9,4 @@ mod set_numbers;
 mod shared_numbers;
 
 pub use laws::set_numbers_are_a_map;
-pub use live_docs::{LiveDocs, Mark};
+pub use live_docs::{LiveDocs, Mark, value_in};

@@ -146,12 +146,16 @@ impl LiveDocs {
         self.numbers.at(row)
     }
 
-    /// The number by this name that was set in the row last: `None` exactly where none was.
+    /// The number by this name that was set in the row last: `None` exactly where none was, or where
+    /// there is no such row.
     pub fn value(&self, row: u32, name: &Name) -> Option<i64>
-        requires { row < length self.now.marks }
         ensures { result ≡ value_of name.now (slice_index_or self.now.marks row fresh).values }
     {
-        value_in(self.values(row), name)
+        if (row as usize) < self.flags.len() {
+            value_in(self.values(row), name)
+        } else {
+            None
+        }
     }
 
     /// The rows in which numbers were set, in order. It takes time and memory as there are such
@@ -200,8 +204,9 @@ impl LiveDocs {
     }
 }
 
-/// The number by this name among these.
-fn value_in(values: &[(Name, i64)], name: &Name) -> Option<i64>
+/// The number by this name among numbers whose names rise, if there is one. It takes time as the
+/// logarithm of how many there are.
+pub fn value_in(values: &[(Name, i64)], name: &Name) -> Option<i64>
     requires { names_rise (map (λ number. number.0) values.now) ≡ true }
     ensures { result ≡ value_of name.now values.now }
 {

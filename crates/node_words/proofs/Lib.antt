@@ -1,5 +1,6 @@
 pub mod Forms
 pub mod Both
+pub mod Bounds
 pub mod QueryForms
 pub mod Packing
 pub mod Sizes

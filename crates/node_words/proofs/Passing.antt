@@ -3,8 +3,8 @@ use Rattle.std.proofs.Common.{◌≡◌, ℕ, ◌+◌, ◌<◌, ◌^◌, List, �
 use Rattle.std.proofs.lemmas.List.{append-nil}
 use Rattle.ix_base.specs.QueryBytes.{count_of, query_bytes, queries_bytes, list_bytes, IsQuery, AreQueries, IsQueryList}
 use Rattle.ix_base.specs.Spelling.{be32}
-use Rattle.ix_base.specs.Tree.{Tree, all, term, phrase, bool, Trees, no_trees, tree}
-use Rattle.node_words.specs.Reads.{StandsAtStart, IsPair, pair_bytes, byte_alone, Pair}
+use Rattle.ix_base.specs.Tree.{Tree, all, term, phrase, range, bool, Trees, no_trees, tree}
+use Rattle.node_words.specs.Reads.{StandsAtStart, IsPair, pair_bytes, IsRange, range_bytes, byte_alone, Pair, Range}
 
 -- these queries, and one more after them
 abbrev and_one : Trees → Tree → Trees
@@ -58,6 +58,9 @@ term_passed byte pair bytes mid rest t b p = (term pair.0 pair.1, (p.0, after_by
 
 pub phrase_passed : (byte : ℕ) (pair : Pair) (bytes mid rest : List ℕ) → byte ≡ 2 → bytes ≡ byte_alone byte ++ mid → StandsAtStart IsPair pair_bytes pair mid rest → (q : Tree) × StandsAtStart IsQuery query_bytes q bytes rest
 phrase_passed byte pair bytes mid rest t b p = (phrase pair.0 pair.1, (p.0, after_byte byte 2 bytes mid rest (pair_bytes pair) t b p.1))
+
+pub range_passed : (byte : ℕ) (parts : Range) (bytes mid rest : List ℕ) → byte ≡ 4 → bytes ≡ byte_alone byte ++ mid → StandsAtStart IsRange range_bytes parts mid rest → (q : Tree) × StandsAtStart IsQuery query_bytes q bytes rest
+range_passed byte parts bytes mid rest t b p = (range parts.0 parts.1.0 parts.1.1, (p.0, after_byte byte 4 bytes mid rest (range_bytes parts) t b p.1))
 
 three_lists : (a b c rest : List ℕ) → a ++ (b ++ (c ++ rest)) ≡ (a ++ (b ++ c)) ++ rest
 three_lists a b c rest = simp append_assoc

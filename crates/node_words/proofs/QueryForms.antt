@@ -2,10 +2,11 @@
 use Rattle.std.proofs.Common.{◌≡◌, ℕ, ◌<◌, List, ◌++◌, length, drop, refl, sym, ap, ◌∙◌, append_assoc, arith}
 use Rattle.ix_base.specs.QueryBytes.{count_of, query_bytes, queries_bytes, list_bytes, IsQuery, AreQueries, IsQueryList}
 use Rattle.ix_base.specs.Spelling.{be32, text_bytes, IsText, IsName}
-use Rattle.ix_base.specs.Tree.{Tree, all, term, phrase, bool, Trees, no_trees, tree}
+use Rattle.ix_base.specs.Tree.{Tree, all, term, phrase, range, bool, Trees, no_trees, tree}
 use Rattle.node_words.proofs.Both.{both_one_form}
+use Rattle.node_words.proofs.Bounds.{one_range}
 use Rattle.node_words.proofs.Forms.{OneForm, one_number, one_name, one_text}
-use Rattle.node_words.specs.Reads.{Pair, IsPair, pair_bytes, lists_bytes}
+use Rattle.node_words.specs.Reads.{Pair, IsPair, pair_bytes, Range, lists_bytes}
 
 pub one_pair : OneForm IsPair pair_bytes
 one_pair = both_one_form IsName text_bytes IsText text_bytes one_name one_text
@@ -33,6 +34,9 @@ mutual
   one_query (phrase f t) (phrase g u) x y p q e =
       let s = one_pair (f, t) (g, u) x y p q (ap (drop 1) e) in
       (ap (λ (v : Pair). phrase v.0 v.1) s.0, s.1)
+  one_query (range n l h) (range m k i) x y p q e =
+      let s = one_range (n, (l, h)) (m, (k, i)) x y p q (ap (drop 1) e) in
+      (ap (λ (v : Range). range v.0 v.1.0 v.1.1) s.0, s.1)
   one_query (bool a b c) (bool a' b' c') x y p q e =
       let h : lists_bytes (a, (b, c)) ++ x ≡ lists_bytes (a', (b', c')) ++ y = ap (drop 1) e in
       let k = sym (three a b c x) ∙ h ∙ three a' b' c' y in
@@ -75,4 +79,5 @@ pub query_some : (q : Tree) → 0 < length (query_bytes q)
 query_some all = omega arith
 query_some (term f t) = omega arith
 query_some (phrase f t) = omega arith
+query_some (range n l h) = omega arith
 query_some (bool a b c) = omega arith

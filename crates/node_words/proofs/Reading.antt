@@ -4,13 +4,13 @@ use Rattle.ix_base.specs.EntryLaws.{length-be32}
 use Rattle.ix_base.specs.Query.{tree_of, trees_of}
 use Rattle.ix_base.specs.QueryBytes.{count_of, query_bytes, queries_bytes, list_bytes, IsQuery, AreQueries, IsQueryList}
 use Rattle.ix_base.specs.Spelling.{be32}
-use Rattle.ix_base.specs.Tree.{all, term, phrase, bool, Trees}
+use Rattle.ix_base.specs.Tree.{all, term, phrase, range, bool, Trees}
 use Rattle.ix_base.specs.declared.query.Query.{Query}
 use Rattle.node_words.proofs.Forms.{one_number}
 use Rattle.node_words.proofs.Both.{first_fails, second_fails}
 use Rattle.node_words.proofs.QueryForms.{goes_on, one_list}
 use Rattle.node_words.proofs.Sizes.{queries_bytes-push, count_of-push, AreQueries-push}
-use Rattle.node_words.specs.Reads.{StandsAtStart, FailsAtStart, byte_alone, IsPair, pair_bytes, ThreeLists, AreLists, lists_bytes}
+use Rattle.node_words.specs.Reads.{StandsAtStart, FailsAtStart, byte_alone, IsPair, pair_bytes, IsRange, range_bytes, ThreeLists, AreLists, lists_bytes}
 use Rattle.node_words.specs.declared.fault.ReadError.{ReadError}
 use Rattle.node_words.specs.declared.fault.ReadError.TheVariants.{Memory, Foreign}
 
@@ -20,6 +20,7 @@ first_byte : (bytes : List ℕ) → FailsAtStart (λ b. b < 256) byte_alone byte
 first_byte bytes h all rest is e = h 0 rest (omega arith) e
 first_byte bytes h (term f t) rest is e = h 1 (pair_bytes (f, t) ++ rest) (omega arith) e
 first_byte bytes h (phrase f t) rest is e = h 2 (pair_bytes (f, t) ++ rest) (omega arith) e
+first_byte bytes h (range n l u) rest is e = h 4 (range_bytes (n, (l, u)) ++ rest) (omega arith) e
 first_byte bytes h (bool a b c) rest is e = h 3 (lists_bytes (a, (b, c)) ++ rest) (omega arith) e
 
 pub byte_fails : (e : ReadError) (bytes : List ℕ) → FailsAtStart (λ b. b < 256) byte_alone bytes e → FailsAtStart IsQuery query_bytes bytes e
@@ -30,6 +31,7 @@ after_one : (bytes mid : List ℕ) → bytes ≡ 1 ∷ mid → FailsAtStart IsPa
 after_one bytes mid b h all rest is e = absurd (cc b)
 after_one bytes mid b h (term f t) rest is e = h (f, t) rest is (ap (drop 1) (sym b ∙ e))
 after_one bytes mid b h (phrase f t) rest is e = absurd (cc b)
+after_one bytes mid b h (range n l u) rest is e = absurd (cc b)
 after_one bytes mid b h (bool x y z) rest is e = absurd (cc b)
 
 pub term_fails : (e : ReadError) (bytes mid : List ℕ) (byte : ℕ) → byte ≡ 1 → bytes ≡ byte_alone byte ++ mid → FailsAtStart IsPair pair_bytes mid e → FailsAtStart IsQuery query_bytes bytes e
@@ -40,6 +42,7 @@ after_two : (bytes mid : List ℕ) → bytes ≡ 2 ∷ mid → FailsAtStart IsPa
 after_two bytes mid b h all rest is e = absurd (cc b)
 after_two bytes mid b h (term f t) rest is e = absurd (cc b)
 after_two bytes mid b h (phrase f t) rest is e = h (f, t) rest is (ap (drop 1) (sym b ∙ e))
+after_two bytes mid b h (range n l u) rest is e = absurd (cc b)
 after_two bytes mid b h (bool x y z) rest is e = absurd (cc b)
 
 pub phrase_fails : (e : ReadError) (bytes mid : List ℕ) (byte : ℕ) → byte ≡ 2 → bytes ≡ byte_alone byte ++ mid → FailsAtStart IsPair pair_bytes mid e → FailsAtStart IsQuery query_bytes bytes e
@@ -50,20 +53,33 @@ after_three : (bytes mid : List ℕ) → bytes ≡ 3 ∷ mid → FailsAtStart Ar
 after_three bytes mid b h all rest is e = absurd (cc b)
 after_three bytes mid b h (term f t) rest is e = absurd (cc b)
 after_three bytes mid b h (phrase f t) rest is e = absurd (cc b)
+after_three bytes mid b h (range n l u) rest is e = absurd (cc b)
 after_three bytes mid b h (bool x y z) rest is e = h (x, (y, z)) rest (is.0, (is.1, is.2)) (ap (drop 1) (sym b ∙ e))
 
 pub bool_fails : (e : ReadError) (bytes mid : List ℕ) (byte : ℕ) → byte ≡ 3 → bytes ≡ byte_alone byte ++ mid → FailsAtStart AreLists lists_bytes mid e → FailsAtStart IsQuery query_bytes bytes e
 bool_fails Memory bytes mid byte three b h = tt
 bool_fails Foreign bytes mid byte three b h = after_three bytes mid (b ∙ ap (λ (n : ℕ). n ∷ mid) three) h
 
+after_four : (bytes mid : List ℕ) → bytes ≡ 4 ∷ mid → FailsAtStart IsRange range_bytes mid Foreign → FailsAtStart IsQuery query_bytes bytes Foreign
+after_four bytes mid b h all rest is e = absurd (cc b)
+after_four bytes mid b h (term f t) rest is e = absurd (cc b)
+after_four bytes mid b h (phrase f t) rest is e = absurd (cc b)
+after_four bytes mid b h (range n l u) rest is e = h (n, (l, u)) rest is (ap (drop 1) (sym b ∙ e))
+after_four bytes mid b h (bool x y z) rest is e = absurd (cc b)
+
+pub range_fails : (e : ReadError) (bytes mid : List ℕ) (byte : ℕ) → byte ≡ 4 → bytes ≡ byte_alone byte ++ mid → FailsAtStart IsRange range_bytes mid e → FailsAtStart IsQuery query_bytes bytes e
+range_fails Memory bytes mid byte four b h = tt
+range_fails Foreign bytes mid byte four b h = after_four bytes mid (b ∙ ap (λ (n : ℕ). n ∷ mid) four) h
+
 front-of : (byte tag : ℕ) (mid rest : List ℕ) → byte ∷ mid ≡ tag ∷ rest → byte ≡ tag
 front-of byte tag mid rest e = cc
 
 -- any other first byte
-pub other_fails : (bytes mid : List ℕ) (byte : ℕ) → 4 ≤ byte → bytes ≡ byte_alone byte ++ mid → FailsAtStart IsQuery query_bytes bytes Foreign
+pub other_fails : (bytes mid : List ℕ) (byte : ℕ) → 5 ≤ byte → bytes ≡ byte_alone byte ++ mid → FailsAtStart IsQuery query_bytes bytes Foreign
 other_fails bytes mid byte le b all rest is e = absurd (omega (arith, front-of byte 0 mid rest (sym b ∙ e)))
 other_fails bytes mid byte le b (term f t) rest is e = absurd (omega (arith, front-of byte 1 mid (pair_bytes (f, t) ++ rest) (sym b ∙ e)))
 other_fails bytes mid byte le b (phrase f t) rest is e = absurd (omega (arith, front-of byte 2 mid (pair_bytes (f, t) ++ rest) (sym b ∙ e)))
+other_fails bytes mid byte le b (range n l u) rest is e = absurd (omega (arith, front-of byte 4 mid (range_bytes (n, (l, u)) ++ rest) (sym b ∙ e)))
 other_fails bytes mid byte le b (bool x y z) rest is e = absurd (omega (arith, front-of byte 3 mid (lists_bytes (x, (y, z)) ++ rest) (sym b ∙ e)))
 
 -- ---- a list of queries

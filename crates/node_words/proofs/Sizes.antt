@@ -1,13 +1,13 @@
 -- How many bytes queries have.
-use Rattle.std.proofs.Common.{◌≡◌, ℕ, ◌+◌, ◌^◌, ◌<◌, ◌≤◌, min, List, [], ◌∷◌, ◌++◌, length, take, get_or, refl, sym, subst, zero, suc, ap, ◌∙◌, arith, append_assoc, length-append}
+use Rattle.std.proofs.Common.{◌≡◌, ℕ, ℤ, ◌+◌, ◌^◌, ◌<◌, ◌≤◌, min, List, [], ◌∷◌, ◌++◌, length, take, get_or, refl, sym, subst, zero, suc, ap, ◌∙◌, arith, append_assoc, length-append}
 use Rattle.std.proofs.lemmas.Grind.{common_steps}
 use Rattle.std.proofs.lemmas.List.{append-nil}
-use Rattle.ix_base.specs.EntryLaws.{length-be32, length-text_bytes}
+use Rattle.ix_base.specs.EntryLaws.{length-be32, length-text_bytes, length-signed64}
 use Rattle.ix_base.specs.Query.{tree_of, trees_of}
 use Rattle.ix_base.specs.QueryBytes.{count_of, query_bytes, queries_bytes, list_bytes, IsQuery, AreQueries}
 use Rattle.ix_base.specs.Refusals.{query_size}
-use Rattle.ix_base.specs.Spelling.{be32, text_bytes}
-use Rattle.ix_base.specs.Tree.{Tree, all, term, phrase, bool, Trees, no_trees, tree, tree_count, trees_count}
+use Rattle.ix_base.specs.Spelling.{be32, signed64, text_bytes}
+use Rattle.ix_base.specs.Tree.{Tree, all, term, phrase, range, bool, Trees, no_trees, tree, tree_count, trees_count}
 use Rattle.ix_base.specs.declared.query.Query.{Query}
 
 pub queries_bytes-push : (xs : List Query) (x : Query) → queries_bytes (trees_of (xs ++ x ∷ [])) ≡ queries_bytes (trees_of xs) ++ query_bytes (tree_of x)
@@ -30,6 +30,7 @@ some_byte : (q : Tree) → 1 ≤ length (query_bytes q)
 some_byte all = omega arith
 some_byte (term f t) = omega arith
 some_byte (phrase f t) = omega arith
+some_byte (range n l h) = omega arith
 some_byte (bool a b c) = omega arith
 
 -- each query has a byte at least
@@ -88,6 +89,13 @@ length-term_query f t = ap suc (length-pair f t) ∙ omega arith
 
 pub length-phrase_query : (f t : List ℕ) → length (query_bytes (phrase f t)) ≡ 9 + length f + length t
 length-phrase_query f t = ap suc (length-pair f t) ∙ omega arith
+
+length-bounds : (n : List ℕ) (l h : ℤ) → length (text_bytes n ++ (signed64 l ++ signed64 h)) ≡ 20 + length n
+length-bounds n l h =
+    omega (arith, length-append (text_bytes n) (signed64 l ++ signed64 h), length-append (signed64 l) (signed64 h), length-text_bytes n, length-signed64 l, length-signed64 h)
+
+pub length-range_query : (n : List ℕ) (l h : ℤ) → length (query_bytes (range n l h)) ≡ 21 + length n
+length-range_query n l h = ap suc (length-bounds n l h) ∙ omega arith
 
 pub exact_size : (q : Tree) (size n : ℕ) → length (query_bytes q) ≡ n → size ≡ n → size < 2 ^ 64 → size ≡ query_size q
 exact_size q size n len is lt = omega arith

@@ -9,7 +9,7 @@ use Rattle.ix_base.specs.EntryLaws.{most_bytes}
 use Rattle.ix_base.specs.QueryBytes.{count_of, query_bytes, queries_bytes, list_bytes, IsQuery, AreQueries}
 use Rattle.ix_base.specs.CodecLaws.{AreBytes-drop}
 use Rattle.ix_base.specs.Spelling.{be32, be64, signed64, text_bytes, AreBytes, IsText, IsName}
-use Rattle.ix_base.specs.Tree.{Tree, all, term, phrase, bool, Trees, no_trees, tree}
+use Rattle.ix_base.specs.Tree.{Tree, all, term, phrase, range, bool, Trees, no_trees, tree}
 use Rattle.ix_base.specs.Words.{Spells}
 use Rattle.ix_base.specs.declared.document.Term.{Term}
 use Rattle.node_words.proofs.Packing.{append_fits, be64_fits}
@@ -74,6 +74,7 @@ mutual
   query_fits all is = cons_fits 0 [] (omega arith) nil_fits
   query_fits (term f t) is = cons_fits 1 _ (omega arith) (pair_fits f t is.0 is.1)
   query_fits (phrase f t) is = cons_fits 2 _ (omega arith) (pair_fits f t is.0 is.1)
+  query_fits (range n l h) is = cons_fits 4 _ (omega arith) (append_fits (text_bytes n) (signed64 l ++ signed64 h) (text_fits n is.0.utf8) (append_fits (signed64 l) (signed64 h) (signed64_fits l) (signed64_fits h)))
   query_fits (bool a b c) is =
       cons_fits 3 _ (omega arith) (append_fits (list_bytes a) (list_bytes b ++ list_bytes c) (append_fits (be32 (count_of a)) (queries_bytes a) (be32_fits (count_of a)) (queries_fit a is.0.1))
       (append_fits (list_bytes b) (list_bytes c) (append_fits (be32 (count_of b)) (queries_bytes b) (be32_fits (count_of b)) (queries_fit b is.1.1)) (append_fits (be32 (count_of c)) (queries_bytes c) (be32_fits (count_of c)) (queries_fit c is.2.1))))

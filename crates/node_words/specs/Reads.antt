@@ -10,6 +10,7 @@ use Rattle.node_words.specs.declared.fault.ReadError.{ReadError}
 use Rattle.node_words.specs.declared.fault.ReadError.TheVariants.{Memory, Foreign}
 use Rattle.node_words.specs.declared.fault.WrongForm.{WrongForm}
 use Rattle.node_words.specs.declared.parts.TextPair.{TextPair}
+use Rattle.node_words.specs.declared.parts.RangeParts.{RangeParts}
 use Rattle.node_words.specs.declared.parts.SetParts.{SetParts}
 
 -- The value has a spelling, the bytes begin with it, and these bytes are left.
@@ -93,6 +94,19 @@ pair_in found = (found.name.now, found.text.now)
 
 abbrev pub term_in : TextPair → Term
 term_in found = record { field = found.name.now; bytes = found.text.now }
+
+-- a name and the two bounds of a range
+abbrev pub Range : Type 0
+Range = List ℕ × (ℤ × ℤ)
+
+abbrev pub IsRange : Range → Type 0
+IsRange r = IsName r.0 × (FitsSigned w64 r.1.0 × FitsSigned w64 r.1.1)
+
+abbrev pub range_bytes : Range → List ℕ
+range_bytes r = text_bytes r.0 ++ (signed64 r.1.0 ++ signed64 r.1.1)
+
+abbrev pub range_in : RangeParts → Range
+range_in found = (found.name.now, (found.low, found.high))
 
 -- the fields of an entry that sets a number
 abbrev pub Setting : Type 0

@@ -13,6 +13,14 @@ pub(crate) struct TextPair<'a> {
     pub(crate) text: &'a str,
 }
 
+/// The name and the bounds of a range, where they stand in bytes.
+#[derive(Clone, Copy)]
+pub(crate) struct RangeParts<'a> {
+    pub(crate) name: &'a str,
+    pub(crate) low: i64,
+    pub(crate) high: i64,
+}
+
 /// The fields of an entry that sets a number, where they stand in bytes.
 #[derive(Clone, Copy)]
 pub(crate) struct SetParts<'a> {

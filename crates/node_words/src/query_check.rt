@@ -37,6 +37,10 @@ fn skip_query(reader: &mut Reader<'_>) -> Result<(), WrongForm>
             skip_list(reader)?;
             Ok(())
         }
+        4 => {
+            reader.range()?;
+            Ok(())
+        }
         _ => Err(WrongForm),
     }
 }

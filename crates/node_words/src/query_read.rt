@@ -6,7 +6,7 @@ ghost use Rattle.ix_base.specs.QueryBytes.{query_bytes, list_bytes, IsQuery, IsQ
 ghost use Rattle.node_words.specs.Reads.{ReadsAtStart, ReadsAll};
 
 use crate::fault::ReadError;
-use crate::parts::{phrase_from, term_from};
+use crate::parts::{name_from, phrase_from, term_from};
 use crate::query_check::check_query;
 use crate::reader::Reader;
 use ix_base::{Queries, Query};
@@ -53,6 +53,11 @@ fn read_query(alloc: Global, reader: &mut Reader<'_>) -> Result<Query, ReadError
                 should,
                 must_not,
             })
+        }
+        4 => {
+            let parts = reader.range()?;
+            let name = name_from(alloc, parts.name)?;
+            Ok(Query::Range(name, parts.low, parts.high))
         }
         _ => Err(ReadError::Foreign),
     }

@@ -15,6 +15,7 @@ pub(crate) fn query_size(query: &Query) -> u64
         Query::All => 1,
         Query::Term(term) => pair_size(&term.field, term.bytes.as_str()),
         Query::Phrase(field, text) => pair_size(field, text.as_text().as_str()),
+        Query::Range(name, _, _) => range_size(name),
         Query::Bool {
             must,
             should,
@@ -32,6 +33,13 @@ fn pair_size(field: &Name, text: &str) -> u64
     ensures { result ≡ 9 + length field.now + length text.now }
 {
     9 + field.as_str().len() as u64 + text.len() as u64
+}
+
+/// The number of bytes of a byte, a name and two bounds.
+fn range_size(name: &Name) -> u64
+    ensures { result ≡ 21 + length name.now }
+{
+    21 + name.as_str().len() as u64
 }
 
 /// The number of bytes of a list of queries, or `u64::MAX` where it is more.

@@ -5,7 +5,7 @@ ghost use Rattle.ix_base.specs.Query.{tree_of};
 ghost use Rattle.ix_base.specs.QueryBytes.{query_bytes, list_bytes, IsQuery, IsQueryList};
 
 use crate::write::put_term;
-use ix_base::codec::{put_name, put_text, put_u32};
+use ix_base::codec::{put_i64, put_name, put_text, put_u32};
 use ix_base::{NoMemory, Queries, Query};
 
 /// Appends a query.
@@ -25,6 +25,12 @@ pub(crate) fn put_query(out: &mut Vec<u8>, query: &Query) -> Result<(), NoMemory
             out.push(2)?;
             put_name(out, field)?;
             put_text(out, text.as_text().as_str())?;
+        }
+        Query::Range(name, low, high) => {
+            out.push(4)?;
+            put_name(out, name)?;
+            put_i64(out, *low)?;
+            put_i64(out, *high)?;
         }
         Query::Bool {
             must,

@@ -3,11 +3,11 @@ ghost use Rattle.std.specs.Prelude.{◌≡◌, ◌<◌, ◌^◌, length, IfOk, I
 ghost use Rattle.std.specs.Int.{w64};
 ghost use Rattle.ix_base.specs.Entry.{term_bytes, IsOwnTerm};
 ghost use Rattle.ix_base.specs.Spelling.{be32, signed64, text_bytes, IsText, IsName};
-ghost use Rattle.node_words.specs.Reads.{Finds, byte_alone, pair_in, term_in, IsPair, pair_bytes};
+ghost use Rattle.node_words.specs.Reads.{Finds, byte_alone, pair_in, term_in, range_in, IsPair, IsRange, pair_bytes, range_bytes};
 
 use crate::MOST_TERM_BYTES;
 use crate::fault::WrongForm;
-use crate::parts::TextPair;
+use crate::parts::{RangeParts, TextPair};
 use ix_base::codec;
 use std::marker::Model;
 
@@ -95,6 +95,16 @@ impl<'a> Reader<'a> {
         let name = self.name()?;
         let text = self.text()?;
         Ok(TextPair { name, text })
+    }
+
+    /// A name, and the two bounds of a range after it.
+    pub(crate) fn range(&mut self) -> Result<RangeParts<'a>, WrongForm>
+        ensures { Finds range_in IsRange range_bytes self.old self.new result }
+    {
+        let name = self.name()?;
+        let low = self.signed()?;
+        let high = self.signed()?;
+        Ok(RangeParts { name, low, high })
     }
 
     /// A term that is short enough to be an operation's own.

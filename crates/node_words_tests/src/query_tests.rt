@@ -101,6 +101,8 @@ fn query_by_hand(rt: HostRuntime) {
     let text =
         "0000000400000025 0300000001010000 0001660000000161 0000000000000001 0200000001660000 0003622063000000";
     assert!(rt; words_are_kept(rt.alloc(), text) == Ok(true));
+    let range = "0000000400000016 04000000016effff fffffffffffe0000 0000000000090000";
+    assert!(rt; words_are_kept(rt.alloc(), range) == Ok(true));
 }
 
 /// A query of 1,000 bools, each in the next.

@@ -140,7 +140,7 @@ fn answer_at(alloc: Global, text: &str) -> Result<String, NoMemory> {
 }
 
 /// An entry of each kind, written by hand.
-fn spelled() -> [(&'static str, &'static str); 7] {
+fn spelled() -> [(&'static str, &'static str); 8] {
     [
         ("0000000100000000", "add"),
         (
@@ -156,6 +156,10 @@ fn spelled() -> [(&'static str, &'static str); 7] {
             "query",
         ),
         (
+            "0000000400000016 04000000016effff fffffffffffe0000 0000000000090000",
+            "query",
+        ),
+        (
             "000000050000001a 000000036b657900 0000026131000000 016effffffffffff fffe000000000000",
             "set key a1 n -2",
         ),
@@ -165,14 +169,15 @@ fn spelled() -> [(&'static str, &'static str); 7] {
 }
 
 /// Words that are one step from a spelling.
-fn not_spelled() -> [&'static str; 10] {
+fn not_spelled() -> [&'static str; 11] {
     [
         "",
         "0000000000000000",
         "0000000800000000",
         "0000000100000000 0000000000000000",
         "0000000700000001 0000000000000000",
-        "0000000400000001 0400000000000000",
+        "0000000400000001 0500000000000000",
+        "0000000400000015 04000000006effff fffffffffffe0000 0000000000000000",
         "000000030000000d 000000036b657900",
         "000000030000000d 000000036b657900 0000026131000001",
         "000000030000000e 000000036b657900 0000026131000000",
@@ -272,11 +277,12 @@ fn is_longer(alloc: Global, kind: u8, bytes: &[u8]) -> Result<bool, NoMemory> {
 }
 
 /// The bytes of an entry of each kind that has some.
-fn entries() -> [(u8, &'static str); 5] {
+fn entries() -> [(u8, &'static str); 6] {
     [
         (2, "\0\0\0\x03key\0\0\0\x02a1"),
         (4, "\x01\0\0\0\x01f\0\0\0\x01a"),
         (4, "\x02\0\0\0\x01f\0\0\0\x03b c"),
+        (4, "\x04\0\0\0\x01n\0\0\0\0\0\0\0\x05\0\0\0\0\0\0\0\x09"),
         (4, "\x03\0\0\0\0\0\0\0\x01\0\0\0\0\x01\0"),
         (5, "\0\0\0\x03key\0\0\0\x02a1\0\0\0\x01n\0\0\0\0\0\0\0\x07"),
     ]

@@ -1,5 +1,5 @@
 -- Questions that are written out.
-use Rattle.std.proofs.Common.{◌≡◌, [], ◌∷◌, codes, Ok, Err, refl}
+use Rattle.std.proofs.Common.{◌≡◌, pos, negsuc, [], ◌∷◌, codes, Ok, Err, refl}
 use Rattle.std.specs.Str.{chars, is_utf8}
 use Rattle.std.specs.Char.{encode_utf8}
 use Rattle.serde_json.proofs.OnLiterals.{serde_json_on_literals}
@@ -30,3 +30,19 @@ object_of_an_op = refl
 first_bad_question_counts : questions (codes "\"all\"\n\n[]\n{") ≡ Err (record { line = 3; why = why.Query })
 unfolding questions serde_json_on_literals is_utf8 chars encode_utf8
 first_bad_question_counts = refl
+
+range_question : questions (codes "{\"range\":[\"price\",-2,9]}") ≡ Ok (record { line = 1; query = query.Range (codes "price") (negsuc 1) (pos 9) } ∷ [])
+unfolding questions serde_json_on_literals is_utf8 chars encode_utf8
+range_question = refl
+
+range_without_an_end : questions (codes "{\"range\":[\"price\",5]}") ≡ Err (record { line = 1; why = why.Query })
+unfolding questions serde_json_on_literals is_utf8 chars encode_utf8
+range_without_an_end = refl
+
+bounds_are_whole : questions (codes "{\"range\":[\"price\",5,9.0]}") ≡ Err (record { line = 1; why = why.Query })
+unfolding questions serde_json_on_literals is_utf8 chars encode_utf8
+bounds_are_whole = refl
+
+range_has_a_name : questions (codes "{\"range\":[\"\",5,9]}") ≡ Err (record { line = 1; why = why.Query })
+unfolding questions serde_json_on_literals is_utf8 chars encode_utf8
+range_has_a_name = refl

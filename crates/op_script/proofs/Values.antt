@@ -7,7 +7,7 @@ use Rattle.serde_json.specs.Find.{as_array}
 use Rattle.serde_json.specs.Read.{read}
 use Rattle.serde_json.specs.View.{items_view}
 use Rattle.serde_json.specs.declared.value.Value.{Value}
-use Rattle.op_script.specs.Values.{value_of, pair_in, text_pair}
+use Rattle.op_script.specs.Values.{value_of, pair_in, text_pair, bounds_in}
 
 pub value_of-some : (bytes : List ℕ) (d : Data) → IsUtf8 bytes → read bytes ≡ Some d → value_of bytes ≡ Some d
 value_of-some bytes d text is = rw (is_utf8-from_IsUtf8 bytes text) is
@@ -33,3 +33,11 @@ text_pair-array (number n) = refl
 text_pair-array (string s) = refl
 text_pair-array (array ds) = refl
 text_pair-array (object ms) = refl
+
+-- an array of another length is no range
+pub bounds_in-other : (vs : List Value) → (length vs ≡ 3 → ⊥) → bounds_in (items_view vs) ≡ None
+bounds_in-other [] other = refl
+bounds_in-other (v ∷ []) other = refl
+bounds_in-other (v ∷ w ∷ []) other = refl
+bounds_in-other (v ∷ w ∷ x ∷ []) other = absurd (other refl)
+bounds_in-other (v ∷ w ∷ x ∷ y ∷ vs) other = refl

@@ -2,10 +2,10 @@
 use Rattle.std.specs.Prelude.{ℕ, ℤ, List, [], ◌∷◌, length, nat_lt, Bool, ◌&&◌, if◌then◌else◌, codes, Option, Some, None, option_map, option_and_then}
 use Rattle.std.specs.Option.{option_map_or}
 use Rattle.serde_json.specs.Data.{Data, null, boolean, number, string, array, object, Members, no_members, member}
-use Rattle.serde_json.specs.Find.{get, as_str, as_number, as_i64}
+use Rattle.serde_json.specs.Find.{get, as_str}
 use Rattle.ix_base.specs.Limits.{is_name, names_are_apart}
 use Rattle.ix_base.specs.Documents.{Document}
-use Rattle.op_script.specs.Values.{member_names, names_of, has_only}
+use Rattle.op_script.specs.Values.{member_names, names_of, has_only, whole_of}
 
 abbrev pub named_text : List ℕ → Data → Option (List ℕ)
 named_text name d = if is_name name then as_str d else None
@@ -15,9 +15,8 @@ abbrev pub texts_of : Members → Option (List (List ℕ × List ℕ))
 texts_of no_members = Some []
 texts_of (member name d ms) = option_and_then (λ text. option_map (λ rest. (name, text) ∷ rest) (texts_of ms)) (named_text name d)
 
--- a number that fits an i64
 abbrev pub named_number : List ℕ → Data → Option ℤ
-named_number name d = if is_name name then option_and_then as_i64 (as_number d) else None
+named_number name d = if is_name name then whole_of d else None
 
 -- the numbers of the members by name, where each is a number under a name
 abbrev pub numbers_of : Members → Option (List (List ℕ × ℤ))

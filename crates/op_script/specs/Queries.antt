@@ -1,5 +1,5 @@
 -- Which query a value is.
-use Rattle.std.specs.Prelude.{ℕ, List, [], ◌∷◌, if◌then◌else◌, codes, Option, Some, None, option_map, option_and_then}
+use Rattle.std.specs.Prelude.{ℕ, ℤ, List, [], ◌∷◌, if◌then◌else◌, codes, Option, Some, None, option_map, option_and_then}
 use Rattle.std.specs.Str.{bytes_eq}
 use Rattle.serde_json.specs.Data.{Data, null, boolean, number, string, array, object, Items, no_items, item, Members, no_members, member}
 use Rattle.ix_base.specs.Limits.{is_name}
@@ -7,7 +7,7 @@ use Rattle.ix_base.specs.Query.{tree_of}
 use Rattle.ix_base.specs.Tree.{Trees, no_trees, tree}
 use Rattle.ix_base.specs.declared.query.Query.{Query}
 use Rattle.ix_base.specs.declared.query.Query.TheVariants as query
-use Rattle.op_script.specs.Values.{text_pair, has_only}
+use Rattle.op_script.specs.Values.{text_pair, range_parts, has_only}
 
 -- the first text is the name of the field
 abbrev pub term_by : List ℕ × List ℕ → Option Query
@@ -16,10 +16,15 @@ term_by pair = if is_name pair.0 then Some (query.Term (record { field = pair.0;
 abbrev pub phrase_by : List ℕ × List ℕ → Option Query
 phrase_by pair = if is_name pair.0 then Some (query.Phrase pair.0 pair.1) else None
 
+-- the text is the name of the number, and the two numbers are its bounds
+abbrev pub range_by : List ℕ × (ℤ × ℤ) → Option Query
+range_by parts = if is_name parts.0 then Some (query.Range parts.0 parts.1.0 parts.1.1) else None
+
 -- a query that holds no other
 abbrev pub leaf_query : List ℕ → Data → Option Query
 leaf_query name d = if bytes_eq name (codes "term") then option_and_then term_by (text_pair d)
-    else (if bytes_eq name (codes "phrase") then option_and_then phrase_by (text_pair d) else None)
+    else (if bytes_eq name (codes "phrase") then option_and_then phrase_by (text_pair d)
+    else (if bytes_eq name (codes "range") then option_and_then range_by (range_parts d) else None))
 
 -- the members that a bool query may have
 abbrev pub bool_names : List (List ℕ)

@@ -1,9 +1,9 @@
 -- JSON values and the members of objects.
-use Rattle.std.specs.Prelude.{ℕ, List, [], ◌∷◌, Bool, ◌&&◌, if◌then◌else◌, Option, None, option_map, option_and_then}
+use Rattle.std.specs.Prelude.{ℕ, ℤ, List, [], ◌∷◌, Bool, ◌&&◌, if◌then◌else◌, Option, None, option_map, option_and_then}
 use Rattle.std.specs.List.{list_all}
 use Rattle.std.specs.Str.{is_utf8}
 use Rattle.serde_json.specs.Data.{Data, null, boolean, number, string, array, object, Items, no_items, item, Members, no_members, member}
-use Rattle.serde_json.specs.Find.{as_str}
+use Rattle.serde_json.specs.Find.{as_str, as_array, as_number, as_i64}
 use Rattle.serde_json.specs.Read.{read}
 use Rattle.ix_base.specs.Limits.{is_among}
 
@@ -46,3 +46,18 @@ text_pair (number n) = None
 text_pair (string s) = None
 text_pair (array ds) = pair_in ds
 text_pair (object ms) = None
+
+-- a number that fits an i64
+abbrev pub whole_of : Data → Option ℤ
+whole_of d = option_and_then as_i64 (as_number d)
+
+abbrev pub bounds_in : Items → Option (List ℕ × (ℤ × ℤ))
+bounds_in no_items = None
+bounds_in (item d no_items) = None
+bounds_in (item d (item e no_items)) = None
+bounds_in (item d (item e (item f no_items))) = option_and_then (λ name. option_and_then (λ low. option_map (λ high. (name, (low, high))) (whole_of f)) (whole_of e)) (as_str d)
+bounds_in (item d (item e (item f (item g ds)))) = None
+
+-- the text and the two numbers of an array of a text and two numbers
+abbrev pub range_parts : Data → Option (List ℕ × (ℤ × ℤ))
+range_parts d = option_and_then bounds_in (as_array d)

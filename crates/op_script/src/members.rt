@@ -3,7 +3,7 @@ ghost use Rattle.std.specs.Prelude.{◌≡◌, ◌<◌, true, length, IfOk, IfEr
 ghost use Rattle.std.specs.Str.{IsUtf8};
 ghost use Rattle.serde_json.specs.View.{view};
 ghost use Rattle.ix_base.specs.Limits.{is_among, is_name};
-ghost use Rattle.op_script.specs.Values.{value_of, member_names, has_only, has_exactly, text_pair};
+ghost use Rattle.op_script.specs.Values.{value_of, member_names, has_only, has_exactly, text_pair, range_parts};
 
 use ix_base::{Name, NoMemory, Text};
 use serde_json::Value;
@@ -71,6 +71,21 @@ pub fn text_pair(value: &Value) -> Option<(&str, &str)>
     let first = items[0].as_str()?;
     let second = items[1].as_str()?;
     Some((first, second))
+}
+
+/// The text and the two whole numbers of an array of a text and two numbers that fit an i64.
+pub fn range_parts(value: &Value) -> Option<(&str, i64, i64)>
+    ensures { option_map (λ parts. (parts.0.now, (parts.1, parts.2))) result
+        ≡ range_parts (view value.now) }
+{
+    let items = value.as_array()?;
+    if items.len() != 3 {
+        return None;
+    }
+    let name = items[0].as_str()?;
+    let low = items[1].as_i64()?;
+    let high = items[2].as_i64()?;
+    Some((name, low, high))
 }
 
 /// Whether a text is a name: it has 1 to 255 bytes.

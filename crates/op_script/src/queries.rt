@@ -2,10 +2,10 @@
 ghost use Rattle.std.specs.Prelude.{◌≡◌, true, is_some, Some, IfOk, option_map, option_and_then};
 ghost use Rattle.serde_json.specs.View.{view, members_view, items_view};
 ghost use Rattle.ix_base.specs.Query.{trees_of};
-ghost use Rattle.op_script.specs.Queries.{query_of, member_query, leaf_query, bool_query, queries_at, list_query, queries_of, term_by, phrase_by};
-ghost use Rattle.op_script.specs.Values.{text_pair};
+ghost use Rattle.op_script.specs.Queries.{query_of, member_query, leaf_query, bool_query, queries_at, list_query, queries_of, term_by, phrase_by, range_by};
+ghost use Rattle.op_script.specs.Values.{text_pair, range_parts};
 
-use crate::members::{has_only, text_from, text_pair};
+use crate::members::{has_only, range_parts, text_from, text_pair};
 use ix_base::{Name, NoMemory, PhraseText, Queries, Query, Term};
 use serde_json::{Map, Value};
 use std::alloc::Global;
@@ -136,6 +136,8 @@ fn read_leaf(alloc: Global, name: &str, value: &Value) -> Result<Option<Query>, 
         read_term(alloc, value)
     } else if name == "phrase" {
         read_phrase(alloc, value)
+    } else if name == "range" {
+        read_range(alloc, value)
     } else {
         Ok(None)
     }
@@ -169,4 +171,17 @@ fn read_phrase(alloc: Global, value: &Value) -> Result<Option<Query>, NoMemory>
         Some(text) => Ok(Some(Query::Phrase(field, text))),
         None => Err(NoMemory),
     }
+}
+
+fn read_range(alloc: Global, value: &Value) -> Result<Option<Query>, NoMemory>
+    ensures { IfOk result (λ found. found
+        ≡ option_and_then range_by (range_parts (view value.now))) }
+{
+    let Some((name, low, high)) = range_parts(value) else {
+        return Ok(None);
+    };
+    let Some(name) = Name::new(text_from(alloc, name)?) else {
+        return Ok(None);
+    };
+    Ok(Some(Query::Range(name, low, high)))
 }

@@ -1,10 +1,10 @@
 //! Whether a value is a query. It takes no memory.
 ghost use Rattle.std.specs.Prelude.{◌≡◌, is_some, option_and_then};
 ghost use Rattle.serde_json.specs.View.{view, members_view, items_view};
-ghost use Rattle.op_script.specs.Queries.{query_of, member_query, leaf_query, bool_query, queries_at, list_query, queries_of, term_by};
-ghost use Rattle.op_script.specs.Values.{text_pair};
+ghost use Rattle.op_script.specs.Queries.{query_of, member_query, leaf_query, bool_query, queries_at, list_query, queries_of, term_by, range_by};
+ghost use Rattle.op_script.specs.Values.{text_pair, range_parts};
 
-use crate::members::{has_only, is_name, text_pair};
+use crate::members::{has_only, is_name, range_parts, text_pair};
 use serde_json::{Map, Value};
 
 /// Whether a value is a query.
@@ -89,7 +89,20 @@ fn are_queries(items: &Vec<Value>) -> bool
 fn is_leaf(name: &str, value: &Value) -> bool
     ensures { result ≡ is_some (leaf_query name.now (view value.now)) }
 {
+    if name == "range" {
+        return is_range(value);
+    }
     (name == "term" || name == "phrase") && is_name_first(value)
+}
+
+/// Whether a value is an array of a name and two numbers that fit an i64.
+fn is_range(value: &Value) -> bool
+    ensures { result ≡ is_some (option_and_then range_by (range_parts (view value.now))) }
+{
+    match range_parts(value) {
+        Some((name, _, _)) => is_name(name),
+        None => false,
+    }
 }
 
 /// Whether a value is an array of two texts, the first a name.

@@ -11,6 +11,7 @@ use denote.Ref.{ShrRef}
 use denote.Struct.Field.{row_field}
 use denote.Struct.Tuple.{TupleAt, parts, type_at}
 use Rattle.ix_base.specs.contracts.query.Query as query
+use Rattle.frozen_packet.specs.contracts.updates.Change as change
 use Rattle.frozen_packet.specs.contracts.updates.QueryDelete as query_delete
 use Rattle.frozen_packet.specs.contracts.updates.Updates as updates
 use Rattle.thread_writer.specs.contracts.piece.Piece as piece
@@ -38,8 +39,11 @@ query_send = as_row_send query.the_field (knot.send-Query term.the_field_send na
 query_delete_send : IsSend query_delete.the_row
 query_delete_send = search (sendable, declared_send, query_send) depth 14
 
+change_send : IsSend change.the_row
+change_send = search (sendable, declared_send, variants_send, query_delete_send, setting.the_send) depth 14
+
 updates_send : IsSend updates.the_row
-updates_send = search (sendable, declared_send, deleted_terms.the_send, query_delete_send, setting.the_send, list.the_send) depth 14
+updates_send = search (sendable, declared_send, deleted_terms.the_send, query_delete_send, change_send, list.the_send) depth 14
 
 pub piece_send : IsSend piece.the_row
 piece_send = search (sendable, declared_send, frozen.the_send, updates_send) depth 14

@@ -72,10 +72,12 @@ impl Draws {
     }
 
     fn leaf(&mut self) -> Leaf {
-        match self.below(10) {
+        match self.below(14) {
             0 => Leaf::All,
             1..6 => Leaf::Term(self.term()),
-            _ => Leaf::Phrase(self.below(8)),
+            6..10 => Leaf::Phrase(self.below(8)),
+            10..12 => Leaf::Price(self.value(), self.value()),
+            _ => Leaf::Rank(self.value(), self.value()),
         }
     }
 

@@ -34,11 +34,21 @@ fn has_term(document: &Document, term: Term) -> bool {
     }
 }
 
+/// Whether there is a number, from this value to that one.
+fn is_within(number: Option<i64>, low: i64, high: i64) -> bool {
+    match number {
+        Some(number) => low <= number && number <= high,
+        None => false,
+    }
+}
+
 fn has_leaf(document: &Document, leaf: Leaf) -> bool {
     match leaf {
         Leaf::All => true,
         Leaf::Term(term) => has_term(document, term),
         Leaf::Phrase(phrase) => words_of(document).contains(phrase_sought(phrase)),
+        Leaf::Price(low, high) => is_within(document.price, low, high),
+        Leaf::Rank(low, high) => is_within(document.rank, low, high),
     }
 }
 

@@ -63,12 +63,15 @@ pub enum Term {
     Word(u64),
 }
 
-/// A query that has no query in it. A phrase is named by its place in the table.
+/// A query that has no query in it. A phrase is named by its place in the table. A range is of the
+/// price or of the rank, from a value to another.
 #[derive(Clone, Copy)]
 pub enum Leaf {
     All,
     Term(Term),
     Phrase(u64),
+    Price(i64, i64),
+    Rank(i64, i64),
 }
 
 /// A query: one leaf, or lists of none or two of them.
@@ -181,6 +184,8 @@ fn leaf_text(alloc: Global, leaf: Leaf) -> Result<String, NoMemory> {
             let shown = PHRASES[(phrase % 8) as usize].0;
             format!(in alloc; "{{\"phrase\":[\"body\",\"{shown}\"]}}")?
         }
+        Leaf::Price(low, high) => { format!(in alloc; "{{\"range\":[\"price\",{low},{high}]}}")? }
+        Leaf::Rank(low, high) => { format!(in alloc; "{{\"range\":[\"rank\",{low},{high}]}}")? }
     };
     Ok(text)
 }

@@ -3,6 +3,7 @@ pub mod Documents
 pub mod Found
 pub mod InPostings
 pub mod Joining
+pub mod Ranged
 pub mod Unique
 pub mod Windows
 pub mod NumberWindows

@@ -1,8 +1,9 @@
 -- What an inverted index answers.
-use Rattle.std.specs.Prelude.{◌≡◌, ℕ, ◌+◌, ◌<◌, List, [], ◌∷◌, Bool, true, ◌&&◌, AllPairs}
-use Rattle.std.specs.List.{list_any, list_all}
+use Rattle.std.specs.Prelude.{◌≡◌, ℕ, ℤ, ◌+◌, ◌<◌, List, [], ◌∷◌, Bool, true, ◌&&◌, Option, AllPairs}
+use Rattle.std.specs.List.{list_any, list_all, slice_get}
+use Rattle.std.specs.Option.{option_and_then}
 use Rattle.ix_base.specs.Terms.{Place, terms}
-use Rattle.ix_base.specs.Matches.{holds_term, stands_at}
+use Rattle.ix_base.specs.Matches.{holds_term, stands_at, value_of}
 use Rattle.ix_base.specs.Inversion.{has_number, stands_in_row, rows_where}
 use Rattle.ix_base.specs.Documents.{Document}
 use Rattle.ix_base.specs.declared.document.Term.{Term}
@@ -19,6 +20,10 @@ AreRowsWhere inverts test rows = (docs : List Document) → inverts docs → row
 pub record ArePositions (docs : List Document) (term : Term) (row : ℕ) (positions : List ℕ) : Type 0 where
   pub rise : IsRising positions
   pub exact : (at : ℕ) → has_number positions at ≡ stands_in_row docs term.field term.bytes row at
+
+-- the number by this name that the row's document has; none where there is no such row
+abbrev pub number_at : List Document → ℕ → List ℕ → Option ℤ
+number_at docs row name = option_and_then (λ (doc : Document). value_of name doc.num) (slice_get docs row)
 
 -- a word as a term of its field
 abbrev pub term_of : List ℕ → List ℕ → Term

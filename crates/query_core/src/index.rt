@@ -1,13 +1,11 @@
-//! An inverted index over postings in memory.
-ghost use Rattle.std.specs.Prelude.{◌≡◌, ◌<◌, ◌^◌, length, map, IfOk};
+//! Terms looked for in postings.
+ghost use Rattle.std.specs.Prelude.{IfOk};
 ghost use Rattle.ix_base.specs.Matches.{holds_term};
 ghost use Rattle.ix_base.specs.Inversion.{IsInversion};
 ghost use Rattle.query_core.specs.Answers.{AreRowsWhere, ArePositions};
 
 use crate::finding::{find_from, find_term};
-use crate::inverted::Inverted;
-use analysis::invert;
-use ix_base::{NoMemory, Postings, Row, Term};
+use ix_base::{NoMemory, Postings, Term};
 use std::alloc::Global;
 
 /// The rows that hold a term by the postings, rising: where these are the inversion of documents,
@@ -54,52 +52,4 @@ pub fn places_in(
         Some(i) => entries[i].rows.positions(alloc, row),
         None => Ok(Vec::new(alloc)),
     }
-}
-
-/// Postings of some rows, and how many rows there are.
-#[derive(Drop)]
-pub struct PostingsIndex {
-    pub postings: Postings,
-    pub rows: u32,
-}
-
-impl Inverted for PostingsIndex {
-    ghost use Rattle.std.specs.Prelude.{◌≡◌, length};
-    ghost use Rattle.ix_base.specs.Inversion.{IsInversion};
-
-    ghost inverts = { λ index docs. (index.rows ≡ length docs) × IsInversion docs index.postings };
-
-    fn rows(&self) -> u32 {
-        self.rows
-    }
-
-    fn holding(&self, alloc: Global, term: &Term) -> Result<Vec<u32>, NoMemory> {
-        holding_in(alloc, &self.postings, term)
-    }
-
-    fn holding_from(
-        &self,
-        alloc: Global,
-        term: &Term,
-        place: &mut usize,
-    ) -> Result<Vec<u32>, NoMemory> {
-        holding_from_in(alloc, &self.postings, term, place)
-    }
-
-    fn places(&self, alloc: Global, term: &Term, row: u32) -> Result<Vec<u32>, NoMemory> {
-        places_in(alloc, &self.postings, term, row)
-    }
-}
-
-/// The index of the documents of these rows, of which there are fewer than 2^32: the row at place i
-/// has the number i. It refuses for memory only.
-pub fn index_rows(alloc: Global, rows: &[Row]) -> Result<PostingsIndex, NoMemory>
-    requires { length rows.now < 2 ^ 32 }
-    ensures { IfOk result (λ index. (index.rows ≡ length rows.now)
-        × IsInversion (map (λ row. row.doc) rows.now) index.postings) }
-{
-    Ok(PostingsIndex {
-        postings: invert(alloc, rows)?,
-        rows: rows.len() as u32,
-    })
 }

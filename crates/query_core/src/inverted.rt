@@ -2,9 +2,9 @@
 ghost use Rattle.std.specs.Prelude.{◌≡◌, List, length, IfOk};
 ghost use Rattle.ix_base.specs.Matches.{holds_term};
 ghost use Rattle.ix_base.specs.Documents.{Document};
-ghost use Rattle.query_core.specs.Answers.{AreRowsWhere, ArePositions};
+ghost use Rattle.query_core.specs.Answers.{AreRowsWhere, ArePositions, number_at};
 
-use ix_base::{NoMemory, Term};
+use ix_base::{Name, NoMemory, Term};
 use std::alloc::Global;
 
 /// An inverted index of some documents: row i is the i-th.
@@ -37,4 +37,10 @@ pub trait Inverted {
     fn places(&self, alloc: Global, term: &Term, row: u32) -> Result<Vec<u32>, NoMemory>
         ensures { IfOk result (λ places. (docs : List Document) → inverts self.now docs
             → ArePositions docs term.now row places.items) };
+
+    /// The number by this name that the row's document has: `None` where it has none, or there is no
+    /// such row. It takes no memory.
+    fn number(&self, row: u32, name: &Name) -> Option<i64>
+        ensures { (docs : List Document) → inverts self.now docs
+            → result ≡ number_at docs row name.now };
 }

@@ -1,8 +1,9 @@
-//! Queries answered from an inverted index, after Lucene's term, phrase and boolean queries.
+//! Queries answered from an inverted index, after Lucene's term, phrase and boolean queries, and
+//! ranges of numbers.
 //!
 //! An answer is made of rising lists alone: those of the terms that the query names are
-//! intersected, joined and taken from one another, so its cost grows with them. `All` and a query
-//! that only excludes walk all rows.
+//! intersected, joined and taken from one another, so its cost grows with them. `All`, a query that
+//! only excludes, and a range of numbers walk all rows.
 #![tactic(auto)]
 
 mod finding;
@@ -13,6 +14,6 @@ mod number_search;
 mod phrase;
 mod row_lists;
 
-pub use index::{PostingsIndex, holding_from_in, holding_in, index_rows, places_in};
+pub use index::{holding_from_in, holding_in, places_in};
 pub use inverted::Inverted;
 pub use matching::answer;

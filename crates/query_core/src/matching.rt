@@ -1,14 +1,16 @@
 //! Queries over an inverted index.
-ghost use Rattle.std.specs.Prelude.{◌≡◌, true, filter, IfOk, IfSome, IfNone};
-ghost use Rattle.ix_base.specs.Matches.{matches, all_match, any_matches, is_empty};
+ghost use Rattle.std.specs.Prelude.{◌≡◌, List, true, filter, IfOk, IfSome, IfNone};
+ghost use Rattle.ix_base.specs.Documents.{Document};
+ghost use Rattle.ix_base.specs.Matches.{matches, all_match, any_matches, is_empty, is_within};
 ghost use Rattle.ix_base.specs.Query.{tree_of};
-ghost use Rattle.ix_base.specs.Inversion.{has_number};
+ghost use Rattle.ix_base.specs.Tree.{range};
+ghost use Rattle.ix_base.specs.Inversion.{has_number, at_row};
 ghost use Rattle.query_core.specs.Answers.{AreRowsWhere, IsRising};
 
 use crate::inverted::Inverted;
 use crate::phrase::phrase_rows;
 use crate::row_lists::{below, distinct_below, in_both, in_first};
-use ix_base::{NoMemory, Queries, Query};
+use ix_base::{Name, NoMemory, Queries, Query};
 use std::alloc::Global;
 
 fn is_empty(queries: &Queries) -> bool
@@ -23,6 +25,61 @@ fn all_rows<I: Inverted>(alloc: Global, index: &I) -> Result<Vec<u32>, NoMemory>
     below(alloc, index.rows())
 }
 
+/// Whether there is a number, from the lower bound to the upper one.
+fn is_within(low: &i64, high: &i64, number: Option<i64>) -> bool
+    ensures { result ≡ is_within low.now high.now number }
+{
+    match number {
+        Some(value) => *low <= value && value <= *high,
+        None => false,
+    }
+}
+
+/// Whether the row has a number of this name, from the lower bound to the upper one.
+fn is_row_within<I: Inverted>(index: &I, row: u32, name: &Name, low: &i64, high: &i64) -> bool
+    ensures { (docs : List Document) → I.inverts index.now docs
+        → result ≡ at_row (matches (range name.now low.now high.now)) docs row }
+{
+    is_within(low, high, index.number(row, name))
+}
+
+/// Those of the rows that have a number of this name, from the lower bound to the upper one.
+fn kept_within<I: Inverted>(
+    alloc: Global,
+    index: &I,
+    rows: &[u32],
+    name: &Name,
+    low: &i64,
+    high: &i64,
+) -> Result<Vec<u32>, NoMemory>
+    ensures { IfOk result (λ kept. (docs : List Document) → I.inverts index.now docs
+        → kept.items ≡ filter (at_row (matches (range name.now low.now high.now)) docs) rows.now) }
+{
+    let mut kept = Vec::new(alloc);
+    for row in rows {
+        if is_row_within(index, *row, name, low, high) {
+            kept.push(*row)?;
+        }
+    }
+    Ok(kept)
+}
+
+/// The rows that have a number of this name, from the lower bound to the upper one. It looks at each
+/// row.
+fn range_rows<I: Inverted>(
+    alloc: Global,
+    index: &I,
+    name: &Name,
+    low: &i64,
+    high: &i64,
+) -> Result<Vec<u32>, NoMemory>
+    ensures { let test = matches (range name.now low.now high.now) in
+        IfOk result (λ rows. AreRowsWhere (I.inverts index.now) test rows.items) }
+{
+    let rows = all_rows(alloc, index)?;
+    kept_within(alloc, index, rows.as_slice(), name, low, high)
+}
+
 /// The rows that match a query, rising: those whose documents match, of whichever documents the
 /// index is the inversion. It refuses for memory only.
 #[cycle(answer)]
@@ -34,6 +91,7 @@ pub fn answer<I: Inverted>(alloc: Global, query: &Query, index: &I) -> Result<Ve
         Query::All => all_rows(alloc, index),
         Query::Term(term) => index.holding(alloc, term),
         Query::Phrase(field, text) => phrase_rows(alloc, index, field, text),
+        Query::Range(name, low, high) => range_rows(alloc, index, name, low, high),
         Query::Bool {
             must,
             should,

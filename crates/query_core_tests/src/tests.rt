@@ -1,9 +1,11 @@
-use ix_base::{Document, Fields, Numbers, PhraseText, Queries, Query, Row, Term};
-use query_core::{Inverted, PostingsIndex, answer, index_rows};
+use analysis::invert;
+use ix_base::{Document, Fields, List, Numbers, PhraseText, Queries, Query, Row, Term};
+use query_core::{Inverted, answer};
+use segment_core::Segment;
 use std::alloc::Global;
 use std::fmt::Write;
 use std::test::Fail;
-use test_values::{field_of, name_of, term_of, text_of};
+use test_values::{field_of, name_of, number_of, term_of, text_of};
 
 fn term(alloc: Global, field: &str, bytes: &str) -> Result<Query, Fail> {
     Ok(Query::Term(term_of(alloc, field, bytes)?))
@@ -22,29 +24,35 @@ fn words(alloc: Global, words: &[&str]) -> Result<Queries, Fail> {
     Ok(Queries::from_vec(queries))
 }
 
-fn row_of(alloc: Global, key: &str, body: &str) -> Result<Row, Fail> {
+fn row_of(alloc: Global, key: &str, body: &str, num: Numbers) -> Result<Row, Fail> {
     let text = field_of(alloc, "body", body)?;
     let key = text_of(alloc, key)?;
-    let doc = Document::new(key, text, Fields::none(alloc), Numbers::none(alloc));
+    let doc = Document::new(key, text, Fields::none(alloc), num);
     let doc = doc.ok_or("names aren't apart")?;
     Ok(Row { birth: 1, doc })
 }
 
+/// The index of these rows.
+fn index_of_rows(alloc: Global, rows: Vec<Row>) -> Result<Segment, Fail> {
+    let postings = invert(alloc, rows.as_slice())?;
+    Ok(Segment {
+        id: 1,
+        rows: List::from_vec(rows),
+        postings,
+    })
+}
+
 /// The index of documents with these bodies and the keys `0`, `1` and so on.
-fn index_of(alloc: Global, bodies: &[&str]) -> Result<PostingsIndex, Fail> {
+fn index_of(alloc: Global, bodies: &[&str]) -> Result<Segment, Fail> {
     let mut rows = Vec::new(alloc);
     for body in bodies {
         let key = format!(in alloc; "{}", rows.len())?;
-        rows.push(row_of(alloc, key.as_str(), body)?)?;
+        rows.push(row_of(alloc, key.as_str(), body, Numbers::none(alloc))?)?;
     }
-    if rows.len() < 1 << 32 {
-        Ok(index_rows(alloc, rows.as_slice())?)
-    } else {
-        Err("many")?
-    }
+    index_of_rows(alloc, rows)
 }
 
-fn shown(alloc: Global, index: &PostingsIndex, query: &Query) -> Result<String, Fail> {
+fn shown(alloc: Global, index: &Segment, query: &Query) -> Result<String, Fail> {
     let mut shown = String::new(alloc);
     for row in answer(alloc, query, index)? {
         write!(shown, "{row},")?;
@@ -53,13 +61,13 @@ fn shown(alloc: Global, index: &PostingsIndex, query: &Query) -> Result<String, 
 }
 
 /// Whether a query finds these rows.
-fn finds(alloc: Global, index: &PostingsIndex, query: &Query, want: &str) -> Result<bool, Fail> {
+fn finds(alloc: Global, index: &Segment, query: &Query, want: &str) -> Result<bool, Fail> {
     Ok(shown(alloc, index, query)?.as_str() == want)
 }
 
 fn phrase_finds(
     alloc: Global,
-    index: &PostingsIndex,
+    index: &Segment,
     field: &str,
     text: &str,
     want: &str,
@@ -67,7 +75,7 @@ fn phrase_finds(
     finds(alloc, index, &phrase(alloc, field, text)?, want)
 }
 
-fn term_finds(alloc: Global, index: &PostingsIndex, bytes: &str, want: &str) -> Result<bool, Fail> {
+fn term_finds(alloc: Global, index: &Segment, bytes: &str, want: &str) -> Result<bool, Fail> {
     finds(alloc, index, &term(alloc, "body", bytes)?, want)
 }
 
@@ -105,7 +113,7 @@ fn foldings(rt: HostRuntime) -> Result<(), Fail> {
 /// What the search for a term finds from this place on. The place is moved.
 fn found_from(
     alloc: Global,
-    index: &PostingsIndex,
+    index: &Segment,
     term: &Term,
     place: &mut usize,
 ) -> Result<String, Fail> {
@@ -119,7 +127,7 @@ fn found_from(
 /// What the searches for these terms find, one after another, of which the first begins at `from`.
 fn found_in_turn(
     alloc: Global,
-    index: &PostingsIndex,
+    index: &Segment,
     terms: &[(&str, &str)],
     from: usize,
 ) -> Result<String, Fail> {
@@ -133,7 +141,7 @@ fn found_in_turn(
     Ok(all)
 }
 
-fn colours(alloc: Global) -> Result<PostingsIndex, Fail> {
+fn colours(alloc: Global) -> Result<Segment, Fail> {
     index_of(alloc, ["red", "red blue", "blue", "green"].as_slice())
 }
 
@@ -141,7 +149,7 @@ fn colours(alloc: Global) -> Result<PostingsIndex, Fail> {
 /// find something else than this.
 fn first_lost_from(
     alloc: Global,
-    index: &PostingsIndex,
+    index: &Segment,
     terms: &[(&str, &str)],
     want: &str,
 ) -> Result<Option<usize>, Fail> {
@@ -197,7 +205,7 @@ fn word_at(alloc: Global, at: u32) -> Result<String, Fail> {
 }
 
 /// The index of that many documents, each with its own word.
-fn index_of_words(alloc: Global, count: u32) -> Result<PostingsIndex, Fail> {
+fn index_of_words(alloc: Global, count: u32) -> Result<Segment, Fail> {
     let mut words = Vec::new(alloc);
     for at in 0..count {
         words.push(word_at(alloc, at)?)?;
@@ -211,7 +219,7 @@ fn index_of_words(alloc: Global, count: u32) -> Result<PostingsIndex, Fail> {
 
 /// The first of so many rows that the search for its word, which begins where the one before it
 /// ended, doesn't find alone.
-fn first_lost(alloc: Global, index: &PostingsIndex, count: u32) -> Result<Option<u32>, Fail> {
+fn first_lost(alloc: Global, index: &Segment, count: u32) -> Result<Option<u32>, Fail> {
     let mut place = 0;
     for at in 0..count {
         let term = term_of(alloc, "body", word_at(alloc, at)?.as_str())?;
@@ -251,7 +259,7 @@ fn bool_query(
 /// What words must be there, should be there and must not be there, and which rows are found.
 type Case<'a> = (&'a [&'a str], &'a [&'a str], &'a [&'a str], &'a str);
 
-fn bool_finds(alloc: Global, index: &PostingsIndex, case: Case<'_>) -> Result<bool, Fail> {
+fn bool_finds(alloc: Global, index: &Segment, case: Case<'_>) -> Result<bool, Fail> {
     let (must, should, must_not, want) = case;
     finds(
         alloc,
@@ -281,7 +289,7 @@ fn bool_queries(rt: HostRuntime) -> Result<(), Fail> {
 }
 
 /// The index of documents with these texts, each so many times.
-fn index_of_repeated(alloc: Global, given: &[(&str, usize)]) -> Result<PostingsIndex, Fail> {
+fn index_of_repeated(alloc: Global, given: &[(&str, usize)]) -> Result<Segment, Fail> {
     let mut texts = Vec::new(alloc);
     for (text, times) in given {
         texts.push(text.repeat(alloc, *times)?)?;
@@ -296,7 +304,7 @@ fn index_of_repeated(alloc: Global, given: &[(&str, usize)]) -> Result<PostingsI
 /// Whether the phrase of a text, so many times, finds these rows.
 fn repeated_finds(
     alloc: Global,
-    index: &PostingsIndex,
+    index: &Segment,
     (text, times): (&str, usize),
     want: &str,
 ) -> Result<bool, Fail> {
@@ -357,7 +365,7 @@ fn phrases_of_many_different_words(rt: HostRuntime) -> Result<(), Fail> {
 /// Whether a phrase of two words with so many blanks between them finds these rows.
 fn blanks_find(
     alloc: Global,
-    index: &PostingsIndex,
+    index: &Segment,
     (first, blanks, last): (&str, usize, &str),
     want: &str,
 ) -> Result<bool, Fail> {
@@ -387,7 +395,7 @@ fn times(alloc: Global, word: &str, count: usize) -> Result<Queries, Fail> {
 /// must not.
 fn times_find(
     alloc: Global,
-    index: &PostingsIndex,
+    index: &Segment,
     (must, should, must_not): (usize, usize, usize),
     want: &str,
 ) -> Result<bool, Fail> {
@@ -441,12 +449,7 @@ fn rows_below(alloc: Global, count: u64) -> Result<String, Fail> {
     Ok(rows)
 }
 
-fn should_finds(
-    alloc: Global,
-    index: &PostingsIndex,
-    count: u64,
-    turns: u64,
-) -> Result<bool, Fail> {
+fn should_finds(alloc: Global, index: &Segment, count: u64, turns: u64) -> Result<bool, Fail> {
     let want = rows_below(alloc, count)?;
     finds(
         alloc,
@@ -462,6 +465,44 @@ fn should_of_many_words(rt: HostRuntime) -> Result<(), Fail> {
     let index = index_of_words(rt.alloc(), 2000)?;
     for (count, turns) in [(3, 1), (3, 30), (1500, 1), (1500, 4), (2000, 3)] {
         assert!(rt; should_finds(rt.alloc(), &index, count, turns)?);
+    }
+    Ok(())
+}
+
+/// The index of documents with these values as their `price`, and one with a number of another name.
+fn index_of_prices(alloc: Global, prices: &[i64]) -> Result<Segment, Fail> {
+    let mut rows = Vec::new(alloc);
+    for price in prices {
+        rows.push(row_of(alloc, "a", "red", number_of(alloc, "price", *price)?)?)?;
+    }
+    rows.push(row_of(alloc, "a", "red", number_of(alloc, "rank", 5)?)?)?;
+    index_of_rows(alloc, rows)
+}
+
+fn range_finds(
+    alloc: Global,
+    index: &Segment,
+    (low, high): (i64, i64),
+    want: &str,
+) -> Result<bool, Fail> {
+    let query = Query::Range(name_of(alloc, "price")?, low, high);
+    finds(alloc, index, &query, want)
+}
+
+/// Both bounds are in a range; nothing is in one whose lower bound is above the upper one.
+#[test]
+fn ranges(rt: HostRuntime) -> Result<(), Fail> {
+    let index = index_of_prices(rt.alloc(), &[5, -5, 9, i64::MIN, i64::MAX])?;
+    let cases = [
+        ((5, 9), "0,2,"),
+        ((6, 8), ""),
+        ((6, 5), ""),
+        ((-5, 5), "0,1,"),
+        ((i64::MIN, -6), "3,"),
+        ((i64::MIN, i64::MAX), "0,1,2,3,4,"),
+    ];
+    for (bounds, want) in cases {
+        assert!(rt; range_finds(rt.alloc(), &index, bounds, want)?);
     }
     Ok(())
 }

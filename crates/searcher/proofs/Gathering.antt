@@ -1,5 +1,5 @@
 -- What is gathered in a segment.
-use Rattle.std.proofs.Common.{◌≡◌, ℕ, ◌^◌, Option, Some, None, ◌+◌, ◌<◌, List, [], ◌∷◌, ◌++◌, length, map, get_or, take, refl, sym, ap, ◌∙◌}
+use Rattle.std.proofs.Common.{◌≡◌, ℕ, ◌^◌, Option, Some, None, ◌+◌, ◌<◌, List, [], ◌∷◌, ◌++◌, length, map, get_or, take, refl, sym, ap, subst, ◌∙◌}
 use Rattle.std.specs.List.{filter_map, cons_option}
 use Rattle.std.specs.Option.{option_map}
 use Rattle.std.proofs.lemmas.List.{append-nil, append_assoc, map-append, take_more}
@@ -9,10 +9,12 @@ use Rattle.ix_base.specs.Matches.{matches}
 use Rattle.ix_base.specs.Query.{tree_of}
 use Rattle.ix_base.specs.declared.document.Row.{Row}
 use Rattle.ix_base.specs.declared.query.Query.{Query}
+use Rattle.live_docs.specs.Marks.{Marks}
 use Rattle.live_docs.specs.declared.live_docs.Mark.{Mark}
-use Rattle.row_fates.proofs.Renumbered.{matches_renumbered}
-use Rattle.segment_core.specs.LiveRows.{Lived, IsWhole, live}
+use Rattle.segment_core.specs.LiveRows.{Lived, IsWhole, live, live_rows}
+use Rattle.segment_core.specs.Marking.{documents_now}
 use Rattle.segment_core.specs.Segments.{IsInverted, documents}
+use Rattle.segment_core.specs.declared.segment.Segment.{Segment}
 use Rattle.query_core.specs.Answers.{AreRowsWhere}
 use Rattle.searcher.proofs.Taken.{rows_taken}
 use Rattle.searcher.specs.declared.shown.Found.{Found}
@@ -52,9 +54,22 @@ adds_none start before rows marks numbers i lt is so =
     nothing None e = refl
     nothing (Some row) e = absurd cc
 
-pub found_answered : (query : Query) (s : Lived) (numbers : List ℕ)
-    → AreRowsWhere (λ docs. (docs ≡ documents s.segment.rows) × (length s.segment.rows < 2 ^ 32) × IsInversion docs s.segment.postings) (matches (tree_of query)) numbers
-    → IsWhole s.segment s.live → IsInverted s.segment → found_at s.segment.rows s.live.marks numbers ≡ found_among query (live s)
-found_answered query s numbers are whole inverted =
-    ap (found_at s.segment.rows s.live.marks) (are (documents s.segment.rows) (refl, whole.few, inverted))
-    ∙ ap (map found_of) (rows_taken (matches (tree_of query)) (λ ns doc. matches_renumbered (tree_of query) ns doc) s.segment.rows s.live.marks whole.rows)
+-- the rows that are answered on the numbers that they have now are the live rows that match
+pub found_answered : (query : Query) (s : Lived) (index : Segment) (rows : List Row) (marks : Marks) (numbers : List ℕ) → index ≡ s.segment → rows ≡ s.segment.rows → marks ≡ s.live
+    → AreRowsWhere (λ docs. ((documents rows ≡ documents index.rows) × (length index.rows < 2 ^ 32) × IsInversion (documents rows) index.postings) × (length marks.marks ≡ length rows) × (docs ≡ documents_now rows marks.marks)) (matches (tree_of query)) numbers
+    → IsWhole s.segment s.live → IsInverted s.segment → found_at rows marks.marks numbers ≡ found_among query (live s)
+found_answered query s index rows marks numbers i r m are whole inverted =
+    ap (found_at rows marks.marks) (are (documents_now rows marks.marks) (inverts, long, refl))
+    ∙ ap (map found_of) (rows_taken (matches (tree_of query)) rows marks.marks long)
+    ∙ ap (λ (rs : List Row). found_among query (live_rows rs marks.marks)) r
+    ∙ ap (λ (ms : Marks). found_among query (live_rows s.segment.rows ms.marks)) m
+  where
+    inverts : (documents rows ≡ documents index.rows) × (length index.rows < 2 ^ 32) × IsInversion (documents rows) index.postings
+    inverts = (
+      ap documents (r ∙ ap (λ (g : Segment). g.rows) (sym i)),
+      subst (λ (g : Segment). length g.rows < 2 ^ 32) (sym i) whole.few,
+      subst (λ (g : Segment). IsInversion (documents rows) g.postings) (sym i) (subst (λ (rs : List Row). IsInversion (documents rs) s.segment.postings) (sym r) inverted),
+    )
+
+    long : length marks.marks ≡ length rows
+    long = ap (λ (ms : Marks). length ms.marks) m ∙ (whole.rows ∙ ap length (sym r))

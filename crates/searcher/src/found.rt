@@ -33,7 +33,7 @@ fn add_rows(
     Ok(())
 }
 
-/// Adds what matches in a segment.
+/// Adds what matches in a segment, by the numbers that its rows have now.
 fn add_matching(
     alloc: Global,
     found: &mut Vec<Found>,
@@ -43,10 +43,9 @@ fn add_matching(
     ensures { OnOk result (IsInverted segment.now.segment
         → found.new.items ≡ found.old.items ++ found_among query.now (live segment.now)) }
 {
-    let live = segment.live();
-    let rows = segment.segment();
-    let numbers = answer(alloc, query, rows)?;
-    add_rows(alloc, found, rows.rows.as_slice(), live, numbers.as_slice())
+    let current = segment.current();
+    let numbers = answer(alloc, query, &current)?;
+    add_rows(alloc, found, current.rows, current.live, numbers.as_slice())
 }
 
 /// What matches in segments, one segment after another.

@@ -239,6 +239,40 @@ fn set_numbers_are_shown(rt: HostRuntime) -> Result<(), Fail> {
     Ok(())
 }
 
+/// Whether the range of a number finds this.
+fn range_finds(
+    alloc: Global,
+    searcher: &Searcher,
+    (name, low, high): (&str, i64, i64),
+    wanted: &str,
+) -> Result<bool, Fail> {
+    let query = Query::Range(name_of(alloc, name)?, low, high);
+    finds(alloc, searcher, &query, wanted)
+}
+
+/// A range finds rows by the numbers that were set last, and by their own where none was.
+#[test]
+fn hits_of_ranges(rt: HostRuntime) -> Result<(), Fail> {
+    let alloc = rt.alloc();
+    let cases = [
+        (("pages", 20, 30), "b pages 20;c pages 30;"),
+        (("pages", -40, -40), "d pages -40;"),
+        (("pages", 30, 20), ""),
+        (("copies", -100, 100), ""),
+    ];
+    let searcher = four_rows(alloc)?;
+    for (range, wanted) in cases {
+        assert!(rt; range_finds(alloc, &searcher, range, wanted)?);
+    }
+    let searcher = one_of_two(alloc)?;
+    let row = "d copies 2 pages 41;";
+    for (range, wanted) in [(("pages", -40, -40), ""), (("pages", 41, 41), row)] {
+        assert!(rt; range_finds(alloc, &searcher, range, wanted)?);
+    }
+    assert!(rt; range_finds(alloc, &searcher, ("copies", 2, 2), row)?);
+    Ok(())
+}
+
 /// The name of a number: before `pages` where the number is even, and after it where it is odd.
 fn name_at(alloc: Global, at: u8) -> Result<Name, Fail> {
     let first = if at % 2 == 0 { "a" } else { "z" };

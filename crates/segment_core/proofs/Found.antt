@@ -2,19 +2,17 @@
 use Rattle.std.proofs.Common.{◌≡◌, ◌∙◌, ℕ, zero, suc, ℤ, ◌+◌, ◌<◌, ◌≤◌, List, [], ◌∷◌, ◌++◌, Bool, true, false, cond, map, length, nat_lt, get_or, refl, sym, ap, arith, append_assoc, if◌then◌else◌}
 use Rattle.std.proofs.lemmas.List.{length-append}
 use Rattle.std.proofs.lemmas.Bool.{lt-ltb}
-use Rattle.ix_base.specs.Matches.{matches, holds_term}
-use Rattle.ix_base.specs.Query.{tree_of}
+use Rattle.ix_base.specs.Matches.{holds_term}
 use Rattle.ix_base.specs.Inversion.{rows_where, rows_from}
 use Rattle.ix_base.specs.Documents.{Document}
 use Rattle.ix_base.specs.declared.document.Row.{Row}
 use Rattle.ix_base.specs.declared.document.Term.{Term}
-use Rattle.ix_base.specs.declared.query.Query.{Query}
-use Rattle.ix_base.specs.declared.document.Operation.TheVariants.{DeleteTerm, DeleteQuery, SetNumber}
+use Rattle.ix_base.specs.declared.document.Operation.TheVariants.{DeleteTerm}
 use Rattle.live_docs.specs.declared.live_docs.Mark.{Mark}
 use Rattle.live_docs.specs.Marks.{killed, changed_at}
 use Rattle.row_fates.specs.Fate.{Numbered}
 use Rattle.segment_core.specs.LiveRows.{above}
-use Rattle.segment_core.specs.Marking.{valued_live, marks_touched, marks_after, with_rows, born_before, hit, hits}
+use Rattle.segment_core.specs.Marking.{marks_touched, marks_after, with_rows, born_before, hit, hits}
 use borrow.Author.Tests.{ltb-true}
 
 -- ---- by the rows that were found
@@ -31,7 +29,7 @@ change_at : (f : Mark → Mark) (pre : List Mark) (m : Mark) (rest : List Mark) 
 change_at f [] m rest = refl
 change_at f (x ∷ pre) m rest = ap (λ (ms : List Mark). x ∷ ms) (change_at f pre m rest)
 
-hit_at : (n : ℕ) (f : Mark → Mark) (pre : List Row) (row : Row) (rest : List Row) (mpre : List Mark) (m : Mark) (mrest : List Mark) (k : ℕ) → k ≡ length pre → length mpre ≡ length pre
+pub hit_at : (n : ℕ) (f : Mark → Mark) (pre : List Row) (row : Row) (rest : List Row) (mpre : List Mark) (m : Mark) (mrest : List Mark) (k : ℕ) → k ≡ length pre → length mpre ≡ length pre
     → hit n f (pre ++ row ∷ rest) k (mpre ++ m ∷ mrest) ≡ mpre ++ (if nat_lt row.birth n then f m else m) ∷ mrest
 hit_at n f pre row rest mpre m mrest k at same =
     ap (λ i. cond (born_before n (pre ++ row ∷ rest) i) (changed_at f k (mpre ++ m ∷ mrest)) (mpre ++ m ∷ mrest)) at
@@ -112,7 +110,7 @@ length-hits n f rows (i ∷ found) marks = length-hits n f rows found (hit n f r
 
 -- ---- one update more
 
-taken_more : (low : ℕ) (o : Numbered) (rest : List Numbered) (rows : List Row) (marks after : List Mark) → low < o.0 → after ≡ marks_touched o rows marks
+pub taken_more : (low : ℕ) (o : Numbered) (rest : List Numbered) (rows : List Row) (marks after : List Mark) → low < o.0 → after ≡ marks_touched o rows marks
     → marks_after (above low rest) rows after ≡ marks_after (above low (o ∷ rest)) rows marks
 taken_more low o rest rows marks after lt e =
     ap (marks_after (above low rest) rows) e ∙ sym (ap (λ b. marks_after (cond b (o ∷ above low rest) (above low rest)) rows marks) (lt-ltb low o.0 lt))
@@ -134,20 +132,6 @@ pub term_taken : (low n : ℕ) (t : Term) (rest : List Numbered) (rows : List Ro
 term_taken low n t rest rows found marks lt long is =
     taken_more low (n, DeleteTerm t) rest rows marks (hits n killed rows found marks) lt
     (ap (λ f. hits n killed rows f marks) is ∙ found_where n killed (holds_term t.field t.bytes) rows marks long)
-
-pub query_taken : (low n : ℕ) (q : Query) (rest : List Numbered) (rows : List Row) (found : List ℕ) (marks : List Mark) → low < n → length marks ≡ length rows
-    → found ≡ rows_where (matches (tree_of q)) (map (λ (row : Row). row.doc) rows)
-    → marks_after (above low rest) rows (hits n killed rows found marks) ≡ marks_after (above low ((n, DeleteQuery q) ∷ rest)) rows marks
-query_taken low n q rest rows found marks lt long is =
-    taken_more low (n, DeleteQuery q) rest rows marks (hits n killed rows found marks) lt
-    (ap (λ f. hits n killed rows f marks) is ∙ found_where n killed (matches (tree_of q)) rows marks long)
-
-pub setting_taken : (low n : ℕ) (t : Term) (name : List ℕ) (value : ℤ) (rest : List Numbered) (rows : List Row) (found : List ℕ) (marks : List Mark) → low < n → length marks ≡ length rows
-    → found ≡ rows_where (holds_term t.field t.bytes) (map (λ (row : Row). row.doc) rows)
-    → marks_after (above low rest) rows (hits n (valued_live name value) rows found marks) ≡ marks_after (above low ((n, SetNumber t name value) ∷ rest)) rows marks
-setting_taken low n t name value rest rows found marks lt long is =
-    taken_more low (n, SetNumber t name value) rest rows marks (hits n (valued_live name value) rows found marks) lt
-    (ap (λ f. hits n (valued_live name value) rows f marks) is ∙ found_where n (valued_live name value) (holds_term t.field t.bytes) rows marks long)
 
 -- ---- as the calls tell it
 

@@ -3,5 +3,6 @@ mod SetOver
 mod Marking
 mod Found
 mod Later
+mod FoundNow
 mod BuiltRows
 mod SetLive

@@ -12,9 +12,8 @@ use Rattle.live_docs.specs.declared.live_docs.Mark.{Mark}
 use Rattle.live_docs.specs.Marks.{fresh, killed}
 use Rattle.row_fates.specs.Fate.{Numbered, effect, touched, fate, renumbered}
 use Rattle.row_fates.proofs.Fates.{chosen_twice, same_is}
-use Rattle.row_fates.proofs.Renumbered.{matches_renumbered}
 use Rattle.segment_core.specs.LiveRows.{with_numbers, marked, live_rows, above}
-use Rattle.segment_core.specs.Marking.{valued_live, mark_effect, mark_touched, marks_touched, marks_after}
+use Rattle.segment_core.specs.Marking.{valued_live, now, mark_effect, mark_touched, marks_touched, marks_after}
 use Rattle.segment_core.proofs.SetOver.{set_last}
 
 -- ---- one row and its mark
@@ -41,8 +40,7 @@ effect_follows (DeleteTerm t) row vs = by (holds_term t.field t.bytes row.doc)
     by : (h : Bool) → marked row (if h then killed (alive vs) else alive vs) ≡ cond h None (Some (shown vs row))
     by true = refl
     by false = refl
-effect_follows (DeleteQuery q) row vs =
-    by (matches (tree_of q) row.doc) ∙ ap (λ h. cond h None (Some (shown vs row))) (sym (matches_renumbered (tree_of q) (with_numbers vs row.doc.num) row.doc))
+effect_follows (DeleteQuery q) row vs = by (matches (tree_of q) (now row.doc (alive vs)))
   where
     by : (h : Bool) → marked row (if h then killed (alive vs) else alive vs) ≡ cond h None (Some (shown vs row))
     by true = refl
@@ -66,7 +64,7 @@ dead_stays (DeleteTerm t) row vs = by (holds_term t.field t.bytes row.doc)
     by : (h : Bool) → marked row (if h then killed (dead vs) else dead vs) ≡ None
     by true = refl
     by false = refl
-dead_stays (DeleteQuery q) row vs = by (matches (tree_of q) row.doc)
+dead_stays (DeleteQuery q) row vs = by (matches (tree_of q) (now row.doc (dead vs)))
   where
     by : (h : Bool) → marked row (if h then killed (dead vs) else dead vs) ≡ None
     by true = refl

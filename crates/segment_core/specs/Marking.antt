@@ -9,17 +9,28 @@ use Rattle.ix_base.specs.declared.document.Operation.TheVariants.{Add, Update, D
 use Rattle.live_docs.specs.Marks.{killed, valued, changed_at}
 use Rattle.live_docs.specs.declared.live_docs.Mark.{Mark}
 use Rattle.row_fates.specs.Fate.{Numbered}
+use Rattle.segment_core.specs.LiveRows.{with_numbers}
 
 -- a mark with this number set where its row is live; no number is set in a row that isn't
 abbrev pub valued_live : List ℕ → ℤ → Mark → Mark
 valued_live name value m = if m.live then valued name value m else m
+
+-- a document with the numbers that its row has now
+abbrev pub now : Document → Mark → Document
+now doc m = record doc { num = with_numbers m.values doc.num }
+
+-- the documents of rows with the numbers that these have now
+abbrev pub documents_now : List Row → List Mark → List Document
+documents_now [] marks = []
+documents_now (row ∷ rows) [] = []
+documents_now (row ∷ rows) (m ∷ marks) = now row.doc m ∷ documents_now rows marks
 
 -- what an operation makes of the mark of a row that stands when it comes
 abbrev pub mark_effect : Operation → Document → Mark → Mark
 mark_effect (Add added) doc m = m
 mark_effect (Update term added) doc m = if holds_term term.field term.bytes doc then killed m else m
 mark_effect (DeleteTerm term) doc m = if holds_term term.field term.bytes doc then killed m else m
-mark_effect (DeleteQuery query) doc m = if matches (tree_of query) doc then killed m else m
+mark_effect (DeleteQuery query) doc m = if matches (tree_of query) (now doc m) then killed m else m
 mark_effect (SetNumber term name value) doc m = if holds_term term.field term.bytes doc then valued_live name value m else m
 mark_effect Commit doc m = m
 

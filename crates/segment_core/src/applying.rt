@@ -1,15 +1,19 @@
 //! Updates applied to the rows of a segment. What it costs grows with the updates and with the rows
-//! that they hit, not with updates times rows.
-ghost use Rattle.std.specs.Prelude.{◌≡◌, ◌<◌, map, length, OnOk, IsTrue};
-ghost use Rattle.frozen_packet.specs.Updates.{as_operations, term_delete, query_delete, setting};
+//! that they hit, not with updates times rows. Only a delete by a query with a range looks at each row.
+ghost use Rattle.std.specs.Prelude.{◌≡◌, ◌<◌, map, length, IfOk, OnOk, IsTrue};
+ghost use Rattle.frozen_packet.specs.Updates.{as_operations, term_delete, query_delete, setting, change};
+ghost use Rattle.ix_base.specs.Inversion.{rows_where};
+ghost use Rattle.ix_base.specs.Matches.{matches};
+ghost use Rattle.ix_base.specs.Query.{tree_of};
 ghost use Rattle.live_docs.specs.Marks.{killed, valued, changed_at};
 ghost use Rattle.segment_core.specs.Segments.{documents, IsInverted};
 ghost use Rattle.segment_core.specs.LiveRows.{IsWhole, above, Fated, MarksLater};
-ghost use Rattle.segment_core.specs.Marking.{marks_after, valued_live, born_before, hit, hits};
+ghost use Rattle.segment_core.specs.Marking.{marks_after, marks_touched, documents_now, valued_live, born_before, hit, hits};
 
+use crate::current::Current;
 use crate::segment::Segment;
-use frozen_packet::{DeletedTerms, QueryDelete, Setting, Updates};
-use ix_base::{NoMemory, Row};
+use frozen_packet::{Change, DeletedTerms, QueryDelete, Setting, Updates};
+use ix_base::{NoMemory, Query, Row};
 use live_docs::LiveDocs;
 use query_core::{Inverted, answer};
 use std::alloc::Global;
@@ -148,7 +152,96 @@ fn apply_deletes<I: Inverted>(
     Ok(())
 }
 
-/// Applies the deletes by query that are numbered above `low`.
+/// The rows that match a query by the numbers that they have now.
+fn matching<I: Inverted>(
+    alloc: Global,
+    index: &I,
+    rows: &[Row],
+    query: &Query,
+    live: &LiveDocs,
+) -> Result<Vec<u32>, NoMemory>
+    ensures { let test = matches (tree_of query.now) in
+        IfOk result (λ found. I.inverts index.now (documents rows.now)
+        → length live.now.marks ≡ length rows.now
+        → found.items ≡ rows_where test (documents_now rows.now live.now.marks)) }
+{
+    let current = Current { index, rows, live };
+    answer(alloc, query, &current)
+}
+
+/// Kills those of the rows that match a query now that were born before its number.
+fn delete_matching<I: Inverted>(
+    alloc: Global,
+    index: &I,
+    rows: &[Row],
+    delete: &QueryDelete,
+    live: &mut LiveDocs,
+) -> Result<(), NoMemory>
+    requires { length live.old.marks ≡ length rows.now }
+    ensures applied { OnOk result (live.new.applied ≡ live.old.applied) }
+    ensures long { OnOk result (length live.new.marks ≡ length rows.now) }
+    ensures later { OnOk result (MarksLater live.old.marks live.new.marks) }
+    ensures marks { let marks = marks_touched (query_delete delete.now) rows.now live.old.marks in
+        OnOk result (I.inverts index.now (documents rows.now) → live.new.marks ≡ marks) }
+{
+    let found = matching(alloc, index, rows, &delete.query, live)?;
+    kill_found(rows, live, found.as_slice(), delete.number);
+    Ok(())
+}
+
+/// Sets a number in the live rows that hold the setting's term and were born before it.
+fn set_holding<I: Inverted>(
+    alloc: Global,
+    index: &I,
+    rows: &[Row],
+    update: &Setting,
+    place: &mut usize,
+    live: &mut LiveDocs,
+) -> Result<(), NoMemory>
+    requires { length live.old.marks ≡ length rows.now }
+    ensures applied { OnOk result (live.new.applied ≡ live.old.applied) }
+    ensures long { OnOk result (length live.new.marks ≡ length rows.now) }
+    ensures later { OnOk result (MarksLater live.old.marks live.new.marks) }
+    ensures marks { let marks = marks_touched (setting update.now) rows.now live.old.marks in
+        OnOk result (I.inverts index.now (documents rows.now) → live.new.marks ≡ marks) }
+{
+    let found = index.holding_from(alloc, &update.term, place)?;
+    set_found(alloc, rows, live, found.as_slice(), update)
+}
+
+/// Applies a setting, or a delete by a query with a range.
+fn apply_change<I: Inverted>(
+    alloc: Global,
+    index: &I,
+    rows: &[Row],
+    update: &Change,
+    place: &mut usize,
+    live: &mut LiveDocs,
+) -> Result<(), NoMemory>
+    requires { length live.old.marks ≡ length rows.now }
+    ensures applied { OnOk result (live.new.applied ≡ live.old.applied) }
+    ensures long { OnOk result (length live.new.marks ≡ length rows.now) }
+    ensures later { OnOk result (MarksLater live.old.marks live.new.marks) }
+    ensures marks { let marks = marks_touched (change update.now) rows.now live.old.marks in
+        OnOk result (I.inverts index.now (documents rows.now) → live.new.marks ≡ marks) }
+{
+    match update {
+        Change::Set(setting) => set_holding(alloc, index, rows, setting, place, live),
+        Change::Delete(delete) => delete_matching(alloc, index, rows, delete, live),
+    }
+}
+
+/// The number of an update's operation.
+fn number_of(update: &Change) -> u64
+    ensures { result ≡ (change update.now).0 }
+{
+    match update {
+        Change::Set(setting) => setting.number,
+        Change::Delete(delete) => delete.number,
+    }
+}
+
+/// Applies the deletes by a query without a range that are numbered above `low`.
 fn apply_queries<I: Inverted>(
     alloc: Global,
     index: &I,
@@ -169,18 +262,18 @@ fn apply_queries<I: Inverted>(
         if delete.number <= low {
             continue;
         }
-        let found = answer(alloc, &delete.query, index)?;
-        kill_found(rows, live, found.as_slice(), delete.number);
+        delete_matching(alloc, index, rows, delete, live)?;
     }
     Ok(())
 }
 
-/// Applies the settings that are numbered above `low`, in order.
-fn apply_settings<I: Inverted>(
+/// Applies in order the settings, and the deletes by a query with a range, that are numbered above
+/// `low`.
+fn apply_changes<I: Inverted>(
     alloc: Global,
     index: &I,
     rows: &[Row],
-    settings: &[Setting],
+    updates: &[Change],
     low: u64,
     live: &mut LiveDocs,
 ) -> Result<(), NoMemory>
@@ -188,17 +281,16 @@ fn apply_settings<I: Inverted>(
     ensures applied { OnOk result (live.new.applied ≡ live.old.applied) }
     ensures long { OnOk result (length live.new.marks ≡ length rows.now) }
     ensures later { OnOk result (MarksLater live.old.marks live.new.marks) }
-    ensures marks { let ops = above low (map setting settings.now) in
+    ensures marks { let ops = above low (map change updates.now) in
         let marks = marks_after ops rows.now live.old.marks in
         OnOk result (I.inverts index.now (documents rows.now) → live.new.marks ≡ marks) }
 {
     let mut place = 0;
-    for setting in settings {
-        if setting.number <= low {
+    for update in updates {
+        if number_of(update) <= low {
             continue;
         }
-        let found = index.holding_from(alloc, &setting.term, &mut place)?;
-        set_found(alloc, rows, live, found.as_slice(), setting)?;
+        apply_change(alloc, index, rows, update, &mut place, live)?;
     }
     Ok(())
 }
@@ -222,7 +314,7 @@ fn mark_updates<I: Inverted>(
 {
     apply_deletes(alloc, index, rows, updates.deletes(), low, live)?;
     apply_queries(alloc, index, rows, updates.queries(), low, live)?;
-    apply_settings(alloc, index, rows, updates.settings(), low, live)
+    apply_changes(alloc, index, rows, updates.changes(), low, live)
 }
 
 /// Applies to the segment's live docs the updates that are numbered above `low`: rows die, and

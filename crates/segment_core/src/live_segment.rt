@@ -2,6 +2,7 @@
 ghost use Rattle.std.specs.Prelude.{◌≡◌, length};
 ghost use Rattle.segment_core.specs.LiveRows.{Lived, IsWhole};
 
+use crate::current::Current;
 use crate::segment::Segment;
 use live_docs::LiveDocs;
 use std::marker::Model;
@@ -55,6 +56,20 @@ impl LiveSegment {
         ensures whole { IsWhole self.now.segment self.now.live }
     {
         &self.live
+    }
+
+    /// The index of the rows as they are now, of live rows and of others.
+    pub fn current(&self) -> Current<'_, Segment>
+        ensures index { result.index.now ≡ self.now.segment }
+        ensures rows { result.rows.now ≡ self.now.segment.rows }
+        ensures live { result.live.now ≡ self.now.live }
+        ensures whole { IsWhole self.now.segment self.now.live }
+    {
+        Current {
+            index: &self.segment,
+            rows: self.segment.rows.as_slice(),
+            live: &self.live,
+        }
     }
 
     /// Puts these live docs in place of the old ones; they were made for as many rows. It takes no

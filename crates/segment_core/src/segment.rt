@@ -1,7 +1,23 @@
 //! A segment.
-use ix_base::{List, NoMemory, Postings, Row, Term};
+ghost use Rattle.std.specs.Prelude.{◌≡◌};
+ghost use Rattle.query_core.specs.Answers.{number_at};
+ghost use Rattle.segment_core.specs.Segments.{documents};
+
+use ix_base::{List, Name, NoMemory, Postings, Row, Term};
+use live_docs::value_in;
 use query_core::{Inverted, holding_from_in, holding_in, places_in};
 use std::alloc::Global;
+
+/// The number by this name that a row was stored with: `None` where it has none, or there is no such
+/// row.
+pub(crate) fn own_number(rows: &[Row], row: u32, name: &Name) -> Option<i64>
+    ensures { result ≡ number_at (documents rows.now) row name.now }
+{
+    match rows.get(row as usize) {
+        Some(row) => value_in(row.doc.num.as_slice(), name),
+        None => None,
+    }
+}
 
 /// Rows that don't change, with their postings. Where these are the inversion of the rows, it is an
 /// inverted index of the rows' documents.
@@ -40,5 +56,9 @@ impl Inverted for Segment {
 
     fn places(&self, alloc: Global, term: &Term, row: u32) -> Result<Vec<u32>, NoMemory> {
         places_in(alloc, &self.postings, term, row)
+    }
+
+    fn number(&self, row: u32, name: &Name) -> Option<i64> {
+        own_number(self.rows.as_slice(), row, name)
     }
 }

@@ -119,3 +119,66 @@ fn all_rows_deleted(rt: HostRuntime) -> Result<(), Fail> {
     assert!(rt; !is_built_at(alloc, 8)?);
     Ok(())
 }
+
+/// A change of the number `n` of the row `k2`.
+#[derive(Clone, Copy)]
+enum Step {
+    /// It is set to this value.
+    Set(i64),
+    /// The rows are deleted where it is this value.
+    Delete(i64),
+}
+
+fn entry_of(alloc: Global, step: Step) -> Result<Entry, Fail> {
+    let num = name_of(alloc, "n")?;
+    match step {
+        Step::Set(value) => {
+            let term = term_of(alloc, "key", "k2")?;
+            Ok(Entry::SetNumber { term, num, value })
+        }
+        Step::Delete(value) => Ok(Entry::DeleteQuery(Query::Range(num, value, value))),
+    }
+}
+
+/// These steps, under one number.
+fn updates_of(alloc: Global, number: u64, steps: &[Step]) -> Result<Updates, Fail> {
+    let mut updates = Updates::new(alloc);
+    for step in steps {
+        take_more(&mut updates, number, entry_of(alloc, *step)?)?;
+    }
+    Ok(updates)
+}
+
+/// The segment after these steps.
+fn shown_after(alloc: Global, number: u64, steps: &[Step]) -> Result<String, Fail> {
+    let updates = updates_of(alloc, number, steps)?;
+    match built(alloc, &updates)? {
+        Some(segment) => shown(alloc, &segment),
+        None => Ok(String::new(alloc)),
+    }
+}
+
+/// A delete by a range reads the number that stands when it comes, of rows that were born before it.
+#[test]
+fn ranges_between_settings(rt: HostRuntime) -> Result<(), Fail> {
+    let cases: [(u64, &[Step], &str); 6] = [
+        (8, &[Step::Set(5), Step::Delete(5)], "9 8+0-5+0"),
+        (8, &[Step::Delete(5), Step::Set(5)], "9 8+0+5+0"),
+        (
+            8,
+            &[Step::Set(5), Step::Set(9), Step::Delete(5)],
+            "9 8+0+9+0",
+        ),
+        (
+            8,
+            &[Step::Set(9), Step::Delete(9), Step::Set(5)],
+            "9 8+0-9+0",
+        ),
+        (8, &[Step::Set(-1), Step::Delete(0)], "9 8+0+-1+0"),
+        (5, &[Step::Set(5), Step::Delete(5)], "9 8+0+0+0"),
+    ];
+    for (number, steps, wanted) in cases {
+        assert!(rt; shown_after(rt.alloc(), number, steps)?.as_str() == wanted);
+    }
+    Ok(())
+}

@@ -12,7 +12,7 @@ pub fn show_term(out: &mut String, term: &Term) -> Result<(), Fail> {
 }
 
 /// Appends a query that is nested at most so deep, and fails where it is nested deeper: `all`, a term,
-/// `body~a b` for a phrase, and of a `bool` the queries of each of its three lists, behind `+`, `|` and
+/// `body~a b` for a phrase, `n:1..9` for a range, and of a `bool` the queries of each of its three lists, behind `+`, `|` and
 /// `-`.
 pub fn show_query(out: &mut String, query: &Query, depth: u32) -> Result<(), Fail> {
     match query {
@@ -22,6 +22,10 @@ pub fn show_query(out: &mut String, query: &Query, depth: u32) -> Result<(), Fai
             let field = field.as_str();
             let text = text.as_text().as_str();
             write!(out, "{field}~{text}")?;
+        }
+        Query::Range(name, low, high) => {
+            let name = name.as_str();
+            write!(out, "{name}:{low}..{high}")?;
         }
         Query::Bool {
             must,

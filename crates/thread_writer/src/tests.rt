@@ -6,7 +6,7 @@ ghost use Rattle.thread_writer.specs.Writing.{IsWriter};
 
 use crate::{Piece, ThreadWriter, Told};
 use delete_queue::{DeleteQueue, Linked, Reserve};
-use frozen_packet::Updates;
+use frozen_packet::{Change, Updates};
 use ix_base::{Operation, Query, Term};
 use std::alloc::Global;
 use std::fmt::Write;
@@ -90,8 +90,11 @@ fn show_updates(out: &mut String, updates: &Updates) -> Result<(), Fail> {
     for query in updates.queries() {
         write!(out, " ?{}", query.number)?;
     }
-    for setting in updates.settings() {
-        write!(out, " {}{}", setting.num.as_str(), setting.number)?;
+    for change in updates.changes() {
+        match change {
+            Change::Set(setting) => write!(out, " {}{}", setting.num.as_str(), setting.number)?,
+            Change::Delete(delete) => write!(out, " ?{}", delete.number)?,
+        }
     }
     Ok(())
 }

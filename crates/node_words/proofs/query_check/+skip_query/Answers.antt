@@ -1,9 +1,9 @@
 use Rattle.std.proofs.Common.{refl, arith}
 use Rattle.std.proofs.lemmas.Result.{err_from_is_err_and}
 use Rattle.ix_base.specs.Tree.{no_trees}
-use Rattle.node_words.proofs.Passing.{one_passed, all_passed, term_passed, phrase_passed, bool_passed}
-use Rattle.node_words.proofs.Reading.{byte_fails, term_fails, phrase_fails, bool_fails, must_fails, should_fails, must_not_fails, other_fails, list_fails}
-use Rattle.node_words.specs.Reads.{pair_in}
+use Rattle.node_words.proofs.Passing.{one_passed, all_passed, term_passed, phrase_passed, range_passed, bool_passed}
+use Rattle.node_words.proofs.Reading.{byte_fails, term_fails, phrase_fails, range_fails, bool_fails, must_fails, should_fails, must_not_fails, other_fails, list_fails}
+use Rattle.node_words.specs.Reads.{pair_in, range_in}
 use Rattle.node_words.specs.declared.fault.ReadError.TheVariants.{Foreign}
 use Rattle.node_words.proofs.query_check.+skip_query.Goals as goal
 
@@ -33,6 +33,11 @@ pub skip_query-returns-in_err-pair-in-2 : goal.skip_query-returns-in_err-pair-in
 skip_query-returns-in_err-pair-in-2 t c =
     let p = err_from_is_err_and c.from_residual-in_err-pair-in-2.result c.from_residual-in_err-pair-in-2.ensures.1 in
     rw (p.1) (phrase_fails Foreign c.args.reader.now c.byte.new.self c.in_ok-byte.field-0 c.in-2.is c.in_ok-byte.ensures.1 c.in_err-pair-in-2.ensures)
+
+pub skip_query-returns-in_err-range-in-4 : goal.skip_query-returns-in_err-range-in-4
+skip_query-returns-in_err-range-in-4 t c =
+    let p = err_from_is_err_and c.from_residual-in_err-range-in-4.result c.from_residual-in_err-range-in-4.ensures.1 in
+    rw (p.1) (range_fails Foreign c.args.reader.now c.byte.new.self c.in_ok-byte.field-0 c.in-4.is c.in_ok-byte.ensures.1 c.in_err-range-in-4.ensures)
 
 pub skip_query-returns-in_err-skip_list-in-3 : goal.skip_query-returns-in_err-skip_list-in-3
 skip_query-returns-in_err-skip_list-in-3 t c =
@@ -68,6 +73,9 @@ pub skip_query-returns-in_ok-skip_list-in-3-3 : goal.skip_query-returns-in_ok-sk
 skip_query-returns-in_ok-skip_list-in-3-3 t c =
     bool_passed c.in_ok-byte.field-0 c.args.reader.now c.byte.new.self c.skip_list.new.reader c.skip_list-in-3.new.reader c.skip_list-in-3-2.new.reader c.in-3.is c.in_ok-byte.ensures.1
     c.in_ok-skip_list-in-3.ensures c.in_ok-skip_list-in-3-2.ensures c.in_ok-skip_list-in-3-3.ensures
+
+pub skip_query-returns-in_ok-range-in-4 : goal.skip_query-returns-in_ok-range-in-4
+skip_query-returns-in_ok-range-in-4 t c = range_passed c.in_ok-byte.field-0 (range_in c.in_ok-range-in-4.field-0) c.args.reader.now c.byte.new.self c.range.new.self c.in-4.is c.in_ok-byte.ensures.1 c.in_ok-range-in-4.ensures
 
 pub skip_query-returns-in_default : goal.skip_query-returns-in_default
 skip_query-returns-in_default t c = other_fails c.args.reader.now c.byte.new.self c.in_ok-byte.field-0 (omega arith) c.in_ok-byte.ensures.1

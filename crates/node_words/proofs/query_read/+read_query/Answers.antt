@@ -2,7 +2,7 @@ use Rattle.std.proofs.Common.{ℕ, ◌+◌, ap, ◌∙◌, arith}
 use Rattle.std.proofs.lemmas.Result.{err_from_is_err_and}
 use Rattle.ix_base.specs.Query.{trees_of}
 use Rattle.ix_base.specs.QueryBytes.{queries_bytes}
-use Rattle.node_words.proofs.Reading.{byte_fails, term_fails, phrase_fails, bool_fails, must_fails, should_fails, must_not_fails, other_fails, list_fails, one_read, left_le, count_taken}
+use Rattle.node_words.proofs.Reading.{byte_fails, term_fails, phrase_fails, range_fails, bool_fails, must_fails, should_fails, must_not_fails, other_fails, list_fails, one_read, left_le, count_taken}
 use Rattle.node_words.specs.declared.fault.ReadError.TheVariants.{Foreign}
 use Rattle.node_words.proofs.query_read.+read_query.Goals as goal
 
@@ -38,6 +38,11 @@ pub read_query-returns-in_err-pair-in-2 : goal.read_query-returns-in_err-pair-in
 read_query-returns-in_err-pair-in-2 t c =
     let p = err_from_is_err_and c.from_residual-in_err-pair-in-2.result c.from_residual-in_err-pair-in-2.ensures.1 in
     rw (p.1, p.2) (phrase_fails Foreign c.args.reader.now c.byte.new.self c.in_ok-byte.field-0 c.in-2.is c.in_ok-byte.ensures.1 c.in_err-pair-in-2.ensures)
+
+pub read_query-returns-in_err-parts-in-4 : goal.read_query-returns-in_err-parts-in-4
+read_query-returns-in_err-parts-in-4 t c =
+    let p = err_from_is_err_and c.from_residual-in_err-parts-in-4.result c.from_residual-in_err-parts-in-4.ensures.1 in
+    rw (p.1, p.2) (range_fails Foreign c.args.reader.now c.byte.new.self c.in_ok-byte.field-0 c.in-4.is c.in_ok-byte.ensures.1 c.in_err-parts-in-4.ensures)
 
 pub read_query-returns-in_err-must-in-3 : goal.read_query-returns-in_err-must-in-3
 read_query-returns-in_err-must-in-3 t c =

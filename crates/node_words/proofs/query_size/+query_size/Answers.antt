@@ -2,7 +2,7 @@ use Rattle.std.proofs.Common.{◌+◌, ◌-◌, ◌^◌, ℕ, List, length, ap, 
 use Rattle.ix_base.specs.Query.{tree_of, trees_of}
 use Rattle.ix_base.specs.QueryBytes.{queries_bytes, query_bytes}
 use Rattle.ix_base.specs.Tree.{Trees, trees_count}
-use Rattle.node_words.proofs.Sizes.{part_count_le, list_size-more, length-list_bytes, whole, length-term_query, length-phrase_query, exact_size}
+use Rattle.node_words.proofs.Sizes.{part_count_le, list_size-more, length-list_bytes, whole, length-term_query, length-phrase_query, length-range_query, exact_size}
 use Rattle.ix_base.specs.declared.query.Query.{Query}
 use Rattle.node_words.proofs.query_size.+query_size.Goals as goal
 
@@ -33,3 +33,8 @@ query_size-returns-in-Phrase t c =
     let len = ap (λ (q : Query). length (query_bytes (tree_of q))) c.in-Phrase.is ∙ length-phrase_query c.in-Phrase.field c.in-Phrase.text in
     exact_size (tree_of c.args.query.now) c.pair_size-in-Phrase.result (9 + length c.in-Phrase.field + length c.in-Phrase.text) len
     (c.pair_size-in-Phrase.ensures ∙ ap (λ (b : List ℕ). 9 + length c.in-Phrase.field + length b) (c.as_str-in-Phrase.ensures.bytes ∙ c.as_text.ensures.bytes)) (omega arith)
+
+pub query_size-returns-in-Range : goal.query_size-returns-in-Range
+query_size-returns-in-Range t c =
+    let len = ap (λ (q : Query). length (query_bytes (tree_of q))) c.in-Range.is ∙ length-range_query c.in-Range.name _ _ in
+    exact_size (tree_of c.args.query.now) c.range_size.result (21 + length c.in-Range.name) len c.range_size.ensures (omega arith)

@@ -1,6 +1,6 @@
-use Rattle.segment_core.specs.Segments.{documents}
 use Rattle.std.proofs.Common.{◌≡◌, map, length, drop}
 use Rattle.frozen_packet.specs.Updates.{query_delete}
+use Rattle.segment_core.specs.Segments.{documents}
 use Rattle.segment_core.specs.LiveRows.{above, MarksLater}
 use Rattle.segment_core.specs.Marking.{marks_after}
 use Rattle.segment_core.proofs.applying.apply_queries.Given as goal
