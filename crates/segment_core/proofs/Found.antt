@@ -17,10 +17,6 @@ use borrow.Author.Tests.{ltb-true}
 
 -- ---- by the rows that were found
 
--- a row that passes the test and was born before the number
-abbrev pub where_marked : ℕ → (Document → Bool) → (Mark → Mark) → Row → Mark → Mark
-where_marked n test f row m = if nat_lt row.birth n then (if test row.doc then f m else m) else m
-
 birth_at : (n : ℕ) (pre : List Row) (row : Row) (rest : List Row) → born_before n (pre ++ row ∷ rest) (length pre) ≡ nat_lt row.birth n
 birth_at n [] row rest = refl
 birth_at n (x ∷ pre) row rest = birth_at n pre row rest
@@ -41,49 +37,6 @@ hit_at n f pre row rest mpre m mrest k at same =
     by : (b : Bool) → cond b (mpre ++ f m ∷ mrest) (mpre ++ m ∷ mrest) ≡ mpre ++ (if b then f m else m) ∷ mrest
     by true = refl
     by false = refl
-
-found_from : (n : ℕ) (f : Mark → Mark) (test : Document → Bool) (rest : List Row) (mrest : List Mark) (pre : List Row) (mpre : List Mark) (k : ℕ)
-    → k ≡ length pre → length mpre ≡ length pre → length mrest ≡ length rest
-    → hits n f (pre ++ rest) (rows_from k test (map (λ (row : Row). row.doc) rest)) (mpre ++ mrest) ≡ mpre ++ with_rows (where_marked n test f) rest mrest
-found_from n f test [] mrest pre mpre k at same long = refl
-found_from n f test (row ∷ rest) [] pre mpre k at same long = absurd (omega arith)
-found_from n f test (row ∷ rest) (m ∷ mrest) pre mpre k at same long =
-    by (test row.doc) (λ x. shift x (found_from n f test rest mrest (pre ++ row ∷ []) (mpre ++ x ∷ []) (k + 1) longer (longest x) (omega arith)))
-  where
-    P : List Row
-    P = pre ++ row ∷ rest
-
-    R : List ℕ
-    R = rows_from (k + 1) test (map (λ (row : Row). row.doc) rest)
-
-    W : List Mark
-    W = with_rows (where_marked n test f) rest mrest
-
-    longer : k + 1 ≡ length (pre ++ row ∷ [])
-    longer = let e = length-append pre (row ∷ []) in omega (arith, e)
-
-    longest : (x : Mark) → length (mpre ++ x ∷ []) ≡ length (pre ++ row ∷ [])
-    longest x = let e = length-append pre (row ∷ []) in let d = length-append mpre (x ∷ []) in omega (arith, e, d)
-
-    shift : (x : Mark) → hits n f ((pre ++ row ∷ []) ++ rest) R ((mpre ++ x ∷ []) ++ mrest) ≡ (mpre ++ x ∷ []) ++ W → hits n f P R (mpre ++ x ∷ mrest) ≡ mpre ++ x ∷ W
-    shift x e =
-        ap (λ rows. hits n f rows R (mpre ++ x ∷ mrest)) (sym (append_assoc pre (row ∷ []) rest))
-        ∙ (ap (λ ms. hits n f ((pre ++ row ∷ []) ++ rest) R ms) (sym (append_assoc mpre (x ∷ []) mrest))
-        ∙ (e ∙ append_assoc mpre (x ∷ []) W))
-
-    same_mark : (b : Bool) → cond b m m ≡ m
-    same_mark true = refl
-    same_mark false = refl
-
-    by : (t : Bool) → ((x : Mark) → hits n f P R (mpre ++ x ∷ mrest) ≡ mpre ++ x ∷ W)
-        → hits n f P (if t then k ∷ R else R) (mpre ++ m ∷ mrest) ≡ mpre ++ (if nat_lt row.birth n then (if t then f m else m) else m) ∷ W
-    by true more = ap (hits n f P R) (hit_at n f pre row rest mpre m mrest k at same) ∙ more (if nat_lt row.birth n then f m else m)
-    by false more = more m ∙ ap (λ (x : Mark). mpre ++ x ∷ W) (sym (same_mark (nat_lt row.birth n)))
-
--- the rows that were found by a test are those that pass it
-pub found_where : (n : ℕ) (f : Mark → Mark) (test : Document → Bool) (rows : List Row) (marks : List Mark) → length marks ≡ length rows
-    → hits n f rows (rows_where test (map (λ (row : Row). row.doc) rows)) marks ≡ with_rows (where_marked n test f) rows marks
-found_where n f test rows marks long = found_from n f test rows marks [] [] 0 refl refl long
 
 -- ---- lengths
 
@@ -125,13 +78,6 @@ not_less low n le = by (nat_lt low n) refl
 pub passed_more : (low : ℕ) (o : Numbered) (rest : List Numbered) (rows : List Row) (marks : List Mark) → o.0 ≤ low
     → marks_after (above low rest) rows marks ≡ marks_after (above low (o ∷ rest)) rows marks
 passed_more low o rest rows marks le = sym (ap (λ b. marks_after (cond b (o ∷ above low rest) (above low rest)) rows marks) (not_less low o.0 le))
-
-pub term_taken : (low n : ℕ) (t : Term) (rest : List Numbered) (rows : List Row) (found : List ℕ) (marks : List Mark) → low < n → length marks ≡ length rows
-    → found ≡ rows_where (holds_term t.field t.bytes) (map (λ (row : Row). row.doc) rows)
-    → marks_after (above low rest) rows (hits n killed rows found marks) ≡ marks_after (above low ((n, DeleteTerm t) ∷ rest)) rows marks
-term_taken low n t rest rows found marks lt long is =
-    taken_more low (n, DeleteTerm t) rest rows marks (hits n killed rows found marks) lt
-    (ap (λ f. hits n killed rows f marks) is ∙ found_where n killed (holds_term t.field t.bytes) rows marks long)
 
 -- ---- as the calls tell it
 

@@ -16,13 +16,13 @@ use Rattle.ix_base.specs.declared.document.Term.{Term}
 use Rattle.ix_base.specs.declared.query.Query.{Query}
 use Rattle.ix_base.specs.declared.document.Operation.TheVariants.{DeleteTerm, DeleteQuery, SetNumber}
 use Rattle.live_docs.specs.declared.live_docs.Mark.{Mark}
-use Rattle.live_docs.specs.Marks.{fresh, killed, SetsOne}
-use Rattle.live_docs.proofs.SetValues.{set_numbers_are_a_map}
+use Rattle.live_docs.specs.Marks.{fresh, killed, SetsOne, SetNumbersAreAMap}
 use Rattle.query_core.specs.Answers.{AreRowsWhere, ArePositions, number_at}
 use Rattle.segment_core.specs.Segments.{documents}
-use Rattle.segment_core.specs.LiveRows.{with_numbers}
-use Rattle.segment_core.specs.Marking.{valued_live, now, documents_now, marks_touched, with_rows, born_before, hit, hits}
-use Rattle.segment_core.proofs.Found.{hit_at, found_where}
+use Rattle.row_fates.specs.Fate.{Numbered}
+use Rattle.segment_core.specs.LiveRows.{with_numbers, above}
+use Rattle.segment_core.specs.Marking.{valued_live, now, documents_now, marks_touched, marks_after, with_rows, born_before, hit, hits}
+use Rattle.segment_core.proofs.Found.{hit_at, taken_more}
 
 -- ---- by the rows that were found
 
@@ -68,18 +68,17 @@ found_from n f test (row ∷ rest) (m ∷ mrest) pre mpre k at same long =
     by true more = ap (hits n f P R) (hit_at n f pre row rest mpre m mrest k at same) ∙ more (if nat_lt row.birth n then f m else m)
     by false more = more m ∙ ap (λ (x : Mark). mpre ++ x ∷ W) (sym (same_mark (nat_lt row.birth n)))
 
+-- the rows that were found by a test are those that pass it
+found_now : (n : ℕ) (f : Mark → Mark) (test : Document → Bool) (rows : List Row) (marks : List Mark) → length marks ≡ length rows
+    → hits n f rows (rows_where test (documents_now rows marks)) marks ≡ with_rows (where_now n test f) rows marks
+found_now n f test rows marks long = found_from n f test rows marks [] [] 0 refl refl long
+
 -- the rows that match a query by what they are now are those that its delete touches
 pub query_touched : (n : ℕ) (q : Query) (rows : List Row) (found : List ℕ) (marks : List Mark) → length marks ≡ length rows
     → found ≡ rows_where (matches (tree_of q)) (documents_now rows marks)
     → hits n killed rows found marks ≡ marks_touched (n, DeleteQuery q) rows marks
 query_touched n q rows found marks long is =
-    ap (λ f. hits n killed rows f marks) is ∙ found_from n killed (matches (tree_of q)) rows marks [] [] 0 refl refl long
-
-pub setting_touched : (n : ℕ) (t : Term) (name : List ℕ) (value : ℤ) (rows : List Row) (found : List ℕ) (marks : List Mark) → length marks ≡ length rows
-    → found ≡ rows_where (holds_term t.field t.bytes) (map (λ (row : Row). row.doc) rows)
-    → hits n (valued_live name value) rows found marks ≡ marks_touched (n, SetNumber t name value) rows marks
-setting_touched n t name value rows found marks long is =
-    ap (λ f. hits n (valued_live name value) rows f marks) is ∙ found_where n (valued_live name value) (holds_term t.field t.bytes) rows marks long
+    ap (λ f. hits n killed rows f marks) is ∙ found_now n killed (matches (tree_of q)) rows marks long
 
 -- ---- the index of documents as they are now
 
@@ -100,6 +99,25 @@ same_from test stable k (row ∷ rows) (m ∷ marks) long =
 pub found_still : (test : Document → Bool) → ((doc : Document) (m : Mark) → test (now doc m) ≡ test doc) → (rows : List Row) (marks : List Mark) → length marks ≡ length rows
     → rows_where test (documents rows) ≡ rows_where test (documents_now rows marks)
 found_still test stable rows marks long = sym (same_from test stable 0 rows marks long)
+
+-- the rows that hold a term are those that its delete or its setting touches
+found_holding : (n : ℕ) (f : Mark → Mark) (t : Term) (rows : List Row) (found : List ℕ) (marks : List Mark) → length marks ≡ length rows
+    → found ≡ rows_where (holds_term t.field t.bytes) (documents rows)
+    → hits n f rows found marks ≡ with_rows (where_now n (holds_term t.field t.bytes) f) rows marks
+found_holding n f t rows found marks long is =
+    let test : Document → Bool = holds_term t.field t.bytes in
+    ap (λ l. hits n f rows l marks) (is ∙ found_still test (λ doc m. refl) rows marks long) ∙ found_now n f test rows marks long
+
+pub term_taken : (low n : ℕ) (t : Term) (rest : List Numbered) (rows : List Row) (found : List ℕ) (marks : List Mark) → low < n → length marks ≡ length rows
+    → found ≡ rows_where (holds_term t.field t.bytes) (documents rows)
+    → marks_after (above low rest) rows (hits n killed rows found marks) ≡ marks_after (above low ((n, DeleteTerm t) ∷ rest)) rows marks
+term_taken low n t rest rows found marks lt long is =
+    taken_more low (n, DeleteTerm t) rest rows marks (hits n killed rows found marks) lt (found_holding n killed t rows found marks long is)
+
+pub setting_touched : (n : ℕ) (t : Term) (name : List ℕ) (value : ℤ) (rows : List Row) (found : List ℕ) (marks : List Mark) → length marks ≡ length rows
+    → found ≡ rows_where (holds_term t.field t.bytes) (documents rows)
+    → hits n (valued_live name value) rows found marks ≡ marks_touched (n, SetNumber t name value) rows marks
+setting_touched n t name value rows found marks long is = found_holding n (valued_live name value) t rows found marks long is
 
 -- what is found in an index of documents as they were is found in that of the documents as they are now
 pub found_current : (inverts : List Document → Type 0) (test : Document → Bool) → ((doc : Document) (m : Mark) → test (now doc m) ≡ test doc)
@@ -131,33 +149,33 @@ abbrev pub first_of : Option ℤ → Option ℤ → Option ℤ
 first_of None other = other
 first_of (Some value) other = Some value
 
-set_first : (name : List ℕ) (v : Named) (ns : List Named) → value_of name (with_number v.0 v.1 ns) ≡ cond (bytes_eq v.0 name) (Some v.1) (value_of name ns)
-set_first name v ns = by (bytes_eq v.0 name) refl
+set_first : SetNumbersAreAMap → (name : List ℕ) (v : Named) (ns : List Named) → value_of name (with_number v.0 v.1 ns) ≡ cond (bytes_eq v.0 name) (Some v.1) (value_of name ns)
+set_first law name v ns = by (bytes_eq v.0 name) refl
   where
     is : SetsOne v.0 v.1 ns
-    is = set_numbers_are_a_map v.0 v.1 ns
+    is = law v.0 v.1 ns
 
     by : (b : Bool) → bytes_eq v.0 name ≡ b → value_of name (with_number v.0 v.1 ns) ≡ cond b (Some v.1) (value_of name ns)
     by true e = subst (λ (k : List ℕ). value_of k (with_number v.0 v.1 ns) ≡ Some v.1) ((bytes_eq-Decides v.0 name).0 e) is.set
     by false e = is.others name (λ (h : name ≡ v.0). let t : bytes_eq v.0 name ≡ true = (bytes_eq-Decides v.0 name).1 (sym h) in cc (t, e))
 
 -- a number that was set stands over the row's own
-pub value_over : (name : List ℕ) (values numbers : List Named) → value_of name (with_numbers values numbers) ≡ first_of (value_of name values) (value_of name numbers)
-value_over name [] numbers = refl
-value_over name (v ∷ values) numbers = set_first name v (with_numbers values numbers) ∙ by (bytes_eq v.0 name) (value_over name values numbers)
+value_over : SetNumbersAreAMap → (name : List ℕ) (values numbers : List Named) → value_of name (with_numbers values numbers) ≡ first_of (value_of name values) (value_of name numbers)
+value_over law name [] numbers = refl
+value_over law name (v ∷ values) numbers = set_first law name v (with_numbers values numbers) ∙ by (bytes_eq v.0 name) (value_over law name values numbers)
   where
     by : (b : Bool) → value_of name (with_numbers values numbers) ≡ first_of (value_of name values) (value_of name numbers)
         → cond b (Some v.1) (value_of name (with_numbers values numbers)) ≡ first_of (cond b (Some v.1) (value_of name values)) (value_of name numbers)
     by true more = refl
     by false more = more
 
-pub number_now : (name : List ℕ) (rows : List Row) (marks : List Mark) (row : ℕ) → length marks ≡ length rows
+number_now : SetNumbersAreAMap → (name : List ℕ) (rows : List Row) (marks : List Mark) (row : ℕ) → length marks ≡ length rows
     → number_at (documents_now rows marks) row name ≡ first_of (value_of name (get_or marks row fresh).values) (number_at (documents rows) row name)
-number_now name [] [] row long = refl
-number_now name [] (m ∷ marks) row long = absurd (omega arith)
-number_now name (r ∷ rows) [] row long = absurd (omega arith)
-number_now name (r ∷ rows) (m ∷ marks) zero long = value_over name m.values r.doc.num
-number_now name (r ∷ rows) (m ∷ marks) (suc row) long = number_now name rows marks row (omega arith)
+number_now law name [] [] row long = refl
+number_now law name [] (m ∷ marks) row long = absurd (omega arith)
+number_now law name (r ∷ rows) [] row long = absurd (omega arith)
+number_now law name (r ∷ rows) (m ∷ marks) zero long = value_over law name m.values r.doc.num
+number_now law name (r ∷ rows) (m ∷ marks) (suc row) long = number_now law name rows marks row (omega arith)
 
 pub some_first : (set other : Option ℤ) → is_some set ≡ true → first_of set other ≡ set
 some_first None other e = cc
@@ -168,8 +186,8 @@ none_first None other e = refl
 none_first (Some v) other e = cc
 
 -- the number that was set, if there is one, else the row's own
-pub number_read : (name : List ℕ) (rows : List Row) (marks : List Mark) (row : ℕ) (docs : List Document) (set other : Option ℤ) → length marks ≡ length rows
+pub number_read : SetNumbersAreAMap → (name : List ℕ) (rows : List Row) (marks : List Mark) (row : ℕ) (docs : List Document) (set other : Option ℤ) → length marks ≡ length rows
     → docs ≡ documents_now rows marks → set ≡ value_of name (get_or marks row fresh).values → other ≡ number_at (documents rows) row name
     → first_of set other ≡ number_at docs row name
-number_read name rows marks row docs set other long is e f =
-    sym (ap (λ (ds : List Document). number_at ds row name) is ∙ (number_now name rows marks row long ∙ (λ i. first_of (sym e i) (sym f i))))
+number_read law name rows marks row docs set other long is e f =
+    sym (ap (λ (ds : List Document). number_at ds row name) is ∙ (number_now law name rows marks row long ∙ (λ i. first_of (sym e i) (sym f i))))

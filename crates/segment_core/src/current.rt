@@ -1,7 +1,7 @@
 //! Rows as they are now.
 use crate::segment::own_number;
 use ix_base::{Name, NoMemory, Row, Term};
-use live_docs::LiveDocs;
+use live_docs::{LiveDocs, set_numbers_are_a_map};
 use query_core::Inverted;
 use std::alloc::Global;
 
@@ -46,6 +46,7 @@ impl<'a, I: Inverted> Inverted for Current<'a, I> {
 
     /// The number that was set in the row last, else the one that it was stored with.
     fn number(&self, row: u32, name: &Name) -> Option<i64> {
+        set_numbers_are_a_map();
         let set = self.live.value(row, name);
         if set.is_some() {
             return set;

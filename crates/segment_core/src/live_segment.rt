@@ -6,7 +6,6 @@ use crate::current::Current;
 use crate::segment::Segment;
 use live_docs::LiveDocs;
 use std::marker::Model;
-use std::mem;
 
 /// A segment, and which of its rows are live. It has fewer than 2^32 rows, and its live docs were
 /// made for as many rows as it has.
@@ -79,14 +78,5 @@ impl LiveSegment {
         ensures { self.new ≡ record self.old { live = live } }
     {
         self.live = live;
-    }
-
-    /// The same, and returns the old live docs.
-    pub fn replace_live(&mut self, live: LiveDocs) -> LiveDocs
-        requires { length live.marks ≡ length self.old.segment.rows }
-        ensures new { self.new ≡ record self.old { live = live } }
-        ensures old { result ≡ self.old.live }
-    {
-        mem::replace(&mut self.live, live)
     }
 }

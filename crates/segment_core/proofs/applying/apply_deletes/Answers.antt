@@ -10,7 +10,8 @@ use Rattle.frozen_packet.specs.Updates.{term_delete}
 use Rattle.live_docs.specs.Marks.{Marks, killed}
 use Rattle.segment_core.specs.LiveRows.{above, MarksLater}
 use Rattle.segment_core.specs.Marking.{marks_after}
-use Rattle.segment_core.proofs.Found.{length-hits, term_taken}
+use Rattle.segment_core.proofs.Found.{length-hits}
+use Rattle.segment_core.proofs.FoundNow.{term_taken}
 use Rattle.segment_core.proofs.Later.{marks_self, marks_then, hits_later, later_killed}
 use Rattle.segment_core.proofs.applying.apply_deletes.Goals as goal
 

@@ -21,7 +21,7 @@ returns-clause-later g c =
     let s = c.args.update.now in
     on_ok_weaker c.set_found.result
     (λ (e : c.set_found.new.live ≡ record c.args.live.now { marks = hits s.number (valued_live s.num s.value) c.args.rows.now c.as_slice.result.now c.args.live.now.marks }).
-    subst (λ (m : Marks). MarksLater c.args.live.now.marks m.marks) (sym e) (hits_later s.number (valued_live s.num s.value) (later_valued_live s.num s.value) c.args.rows.now c.as_slice.result.now c.args.live.now.marks))
+    subst (λ (m : Marks). MarksLater c.args.live.now.marks m.marks) (sym e) (hits_later s.number (valued_live s.num s.value) (later_valued s.num s.value) c.args.rows.now c.as_slice.result.now c.args.live.now.marks))
     c.set_found.ensures
 
 pub returns-clause-marks : goal.returns-clause-marks
