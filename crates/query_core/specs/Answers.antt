@@ -4,7 +4,7 @@ use Rattle.std.specs.List.{list_any, list_all, slice_get}
 use Rattle.std.specs.Option.{option_and_then}
 use Rattle.ix_base.specs.Terms.{Place, terms}
 use Rattle.ix_base.specs.Matches.{holds_term, stands_at, value_of}
-use Rattle.ix_base.specs.Inversion.{has_number, stands_in_row, rows_where}
+use Rattle.ix_base.specs.Inversion.{at_row, has_number, stands_in_row, rows_where}
 use Rattle.ix_base.specs.Documents.{Document}
 use Rattle.ix_base.specs.declared.document.Term.{Term}
 
@@ -24,6 +24,11 @@ pub record ArePositions (docs : List Document) (term : Term) (row : ℕ) (positi
 -- the number by this name that the row's document has; none where there is no such row
 abbrev pub number_at : List Document → ℕ → List ℕ → Option ℤ
 number_at docs row name = option_and_then (λ (doc : Document). value_of name doc.num) (slice_get docs row)
+
+-- Rows that rise, among which all are whose documents pass the test, of whichever documents these are.
+abbrev pub AreCandidates : (List Document → Type 0) → (Document → Bool) → List ℕ → Type 0
+AreCandidates inverts test rows = IsRising rows
+    × ((docs : List Document) → inverts docs → (r : ℕ) → at_row test docs r ≡ true → has_number rows r ≡ true)
 
 -- a word as a term of its field
 abbrev pub term_of : List ℕ → List ℕ → Term

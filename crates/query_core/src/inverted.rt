@@ -1,8 +1,9 @@
 //! Inverted indexes.
-ghost use Rattle.std.specs.Prelude.{◌≡◌, List, length, IfOk};
-ghost use Rattle.ix_base.specs.Matches.{holds_term};
+ghost use Rattle.std.specs.Prelude.{◌≡◌, List, length, IfOk, IfSome};
+ghost use Rattle.ix_base.specs.Matches.{matches, holds_term};
+ghost use Rattle.ix_base.specs.Tree.{range};
 ghost use Rattle.ix_base.specs.Documents.{Document};
-ghost use Rattle.query_core.specs.Answers.{AreRowsWhere, ArePositions, number_at};
+ghost use Rattle.query_core.specs.Answers.{AreRowsWhere, ArePositions, AreCandidates, number_at};
 
 use ix_base::{Name, NoMemory, Term};
 use std::alloc::Global;
@@ -43,4 +44,16 @@ pub trait Inverted {
     fn number(&self, row: u32, name: &Name) -> Option<i64>
         ensures { (docs : List Document) → inverts self.now docs
             → result ≡ number_at docs row name.now };
+
+    /// Rows, rising, among which all are that have a number of this name, from the lower bound to the
+    /// upper one: `None` where only a look at each row tells. It refuses for memory only.
+    fn candidates(
+        &self,
+        alloc: Global,
+        name: &Name,
+        low: &i64,
+        high: &i64,
+    ) -> Result<Option<Vec<u32>>, NoMemory>
+        ensures { IfOk result (λ rows. IfSome rows (λ found. AreCandidates (inverts self.now)
+            (matches (range name.now low.now high.now)) found.items)) };
 }

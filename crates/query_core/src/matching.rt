@@ -64,8 +64,8 @@ fn kept_within<I: Inverted>(
     Ok(kept)
 }
 
-/// The rows that have a number of this name, from the lower bound to the upper one. It looks at each
-/// row.
+/// The rows that have a number of this name, from the lower bound to the upper one. It looks at the
+/// index's candidates for it, where it has some, and else at each row.
 fn range_rows<I: Inverted>(
     alloc: Global,
     index: &I,
@@ -76,8 +76,13 @@ fn range_rows<I: Inverted>(
     ensures { let test = matches (range name.now low.now high.now) in
         IfOk result (λ rows. AreRowsWhere (I.inverts index.now) test rows.items) }
 {
-    let rows = all_rows(alloc, index)?;
-    kept_within(alloc, index, rows.as_slice(), name, low, high)
+    match index.candidates(alloc, name, low, high)? {
+        Some(rows) => kept_within(alloc, index, rows.as_slice(), name, low, high),
+        None => {
+            let rows = all_rows(alloc, index)?;
+            kept_within(alloc, index, rows.as_slice(), name, low, high)
+        }
+    }
 }
 
 /// The rows that match a query, rising: those whose documents match, of whichever documents the
