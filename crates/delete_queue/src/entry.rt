@@ -8,6 +8,7 @@ ghost use Rattle.delete_queue.specs.Log.{entries_of};
 
 use crate::link::number_of_entry;
 use crate::log::QueueLog;
+use queue_rule::kind_of;
 
 impl QueueLog {
     /// How many entries the log has, an entry that closed the queue included.
@@ -50,6 +51,10 @@ impl QueueLog {
         let (begin, end) = self.bounds(i);
         let words = &self.words[begin..end];
         let head = words[0];
-        (number_of_entry(self.base, i + 1, head), head >> 32, words)
+        (
+            number_of_entry(self.base, i + 1, head),
+            kind_of(head),
+            words,
+        )
     }
 }

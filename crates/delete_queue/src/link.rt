@@ -3,7 +3,7 @@ ghost use Rattle.std.specs.Prelude.{◌≡◌, ℕ, ◌+◌, ◌-◌, ◌*◌, �
 ghost use Rattle.ix_base.specs.Words.{IsEntryWords, head_kind};
 ghost use Rattle.queue_rule.specs.Lists.{Starts};
 ghost use Rattle.queue_rule.specs.Chain.{filled, own};
-ghost use Rattle.queue_rule.specs.Views.{with_draft, knows};
+ghost use Rattle.queue_rule.specs.Views.{with_draft, draft_start, knows};
 ghost use Rattle.queue_rule.specs.Told.{SawOpen};
 ghost use Rattle.delete_queue.specs.Seats.{IsSeatOf, the_view, own_of, seen_of, used_of, left_of, number_at, last_of, SawClosed, Grows, Links, FindsClosed};
 ghost use Rattle.delete_queue.specs.Answers.{IsOperation, IfTurn, IfAt, IfClosed, IfFull, FullExactly, closing_words};
@@ -11,13 +11,7 @@ ghost use Rattle.delete_queue.specs.Linking.{Follows, GoesOn, Came, HasRoom, Put
 
 use crate::queue::DeleteQueue;
 use crate::seat::{Closing, Linked, Seat};
-
-/// Whether an entry with this head closes the queue.
-fn is_closing(head: u64) -> bool
-    ensures { MatchBool result (6 ≤ head_kind head) (head_kind head < 6) }
-{
-    head >> 32 >= 6
-}
+use queue_rule::{FIRST_CLOSING_KIND, TURN_KIND, closes, kind_of, stretch_start, words_left};
 
 /// The sequence number of the entry at a place, from 1. A turn has that of the entry before it.
 pub(crate) fn number_of_entry(base: u64, place: u64, head: u64) -> u64
@@ -25,7 +19,7 @@ pub(crate) fn number_of_entry(base: u64, place: u64, head: u64) -> u64
     requires turn { 7 ≤ head_kind head → 0 < place }
     ensures { result ≡ number_at base place head }
 {
-    if head >> 32 == 7 {
+    if kind_of(head) == TURN_KIND {
         base + place - 1
     } else {
         base + place
@@ -37,8 +31,8 @@ fn closing_head(closing: Closing) -> u64
     ensures { result ∷ [] ≡ closing_words closing }
 {
     match closing {
-        Closing::Commit => 6 << 32,
-        Closing::Turn => 7 << 32,
+        Closing::Commit => FIRST_CLOSING_KIND << 32,
+        Closing::Turn => TURN_KIND << 32,
     }
 }
 
@@ -58,7 +52,15 @@ impl DeleteQueue {
         ensures { MatchBool result (SawClosed (the_view seat.now)) (SawOpen (the_view seat.now)
             × (used_of seat.now ≤ 16640)) }
     {
-        is_closing(seat.progress.head)
+        closes(seat.progress.head)
+    }
+
+    // The address behind the seat's own entries, where its draft begins.
+    fn draft_start(&self, seat: &Seat) -> u64
+        requires { IsSeatOf self.now seat.now }
+        ensures { result ≡ draft_start (the_view seat.now) }
+    {
+        stretch_start(seat.progress.number) + seat.progress.used
     }
 
     // Writes a next word 0 and then the words as the seat's draft, after its own entries.
@@ -68,7 +70,7 @@ impl DeleteQueue {
         ensures seat { IsSeatOf self.now seat.new }
         ensures view { the_view seat.new ≡ with_draft (the_view seat.old) (0 ∷ words.now) }
     {
-        let draft_start = (16642 * seat.progress.number + 1 + seat.progress.used) as usize;
+        let draft_start = self.draft_start(seat) as usize;
         self.store_draft(&mut seat.inner, draft_start, 0);
         for i in 0..words.len() {
             self.store_draft(&mut seat.inner, draft_start + 1 + i, words[i]);
@@ -111,7 +113,7 @@ impl DeleteQueue {
             (FindsClosed seat.old seat.new) }
     {
         self.lay(seat, words);
-        let draft_start = 16642 * seat.progress.number + 1 + seat.progress.used;
+        let draft_start = self.draft_start(seat);
         loop {
             if self.saw_close(seat) {
                 return false;
@@ -145,7 +147,7 @@ impl DeleteQueue {
         ensures unchanged { IfFull result (seat.new ≡ seat.old) }
     {
         let need = words.len() as u64 + 1;
-        let left = (16642 - seat.progress.used).saturating_sub(2);
+        let left = words_left(seat.progress.used);
         if need > left {
             return Linked::Full { need, left };
         }

@@ -11,7 +11,7 @@ use crate::reserve::{Reserve, grow};
 use crate::seat::{Progress, Seat};
 use atomic_table::{Seat as TableSeat, Table};
 use ix_base::NoMemory;
-use queue_rule::View;
+use queue_rule::{View, stretch_start};
 use std::alloc::Global;
 
 // A table for so many seats, and its first seat.
@@ -25,7 +25,7 @@ fn new_table(
     ensures queue { IfOk result (λ r. (base_of r.0 ≡ base) × (seats_of r.0 ≡ seats)) }
     ensures seat { IfOk result (λ r. IsLiveOf r.0 r.1 × (view r.1 ≡ newcomer seats)) }
 {
-    let count = (16642 * seats + 1) as usize;
+    let count = stretch_start(seats) as usize;
     grow(alloc, &mut reserve.zeros, count)?;
     let (table, seat) = Table::of_words(alloc, &reserve.zeros[..count], &seats)?;
     let queue = DeleteQueue {

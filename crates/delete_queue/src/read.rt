@@ -7,6 +7,7 @@ ghost use Rattle.delete_queue.specs.Answers.{FindsNext, FindsEnd, IfEntry, IfEnd
 use crate::link::number_of_entry;
 use crate::queue::DeleteQueue;
 use crate::seat::{Found, Look, Place, Seat};
+use queue_rule::{kind_of, words_of};
 
 // What the head of the entry at a place says of it.
 fn found_at(base: u64, place: Place, head: u64) -> Found
@@ -19,8 +20,8 @@ fn found_at(base: u64, place: Place, head: u64) -> Found
     Found {
         place,
         number: number_of_entry(base, place.at, head),
-        kind: head >> 32,
-        words: (head % (1 << 32) + 7) / 8 + 1,
+        kind: kind_of(head),
+        words: words_of(head),
     }
 }
 

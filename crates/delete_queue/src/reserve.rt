@@ -5,6 +5,7 @@ ghost use Rattle.delete_queue.specs.Copying.{HasSpace};
 use crate::copy::Room;
 use crate::log::QueueLog;
 use ix_base::NoMemory;
+use queue_rule::STRETCH_WORDS;
 use std::alloc::Global;
 use std::marker::Model;
 use std::mem;
@@ -49,12 +50,13 @@ impl Reserve {
         ensures empty { IfOk result (λ r. (r.ends.items ≡ []) × (r.words.items ≡ [])) }
         ensures space { IfOk result (λ r. HasSpace r seats) }
     {
-        let count = seats as usize;
+        let count = (STRETCH_WORDS * seats) as usize;
         let ends = mem::replace(&mut self.ends, Vec::new(alloc));
         let words = mem::replace(&mut self.words, Vec::new(alloc));
         Ok(Room {
-            ends: emptied(alloc, ends, 8321 * count)?,
-            words: emptied(alloc, words, 16642 * count)?,
+            // An entry takes two words at least: its next word and its head.
+            ends: emptied(alloc, ends, count / 2)?,
+            words: emptied(alloc, words, count)?,
         })
     }
 }

@@ -160,13 +160,18 @@ fn take_step(alloc: Global, updates: &mut Updates, value: Option<i64>) -> Result
     updates.take(8, step(alloc, value)?)
 }
 
-/// The values that are set, and 0 for each delete, once these steps were gathered.
-fn gathered(alloc: Global, steps: &[Option<i64>]) -> Result<Vec<i64>, NoMemory> {
+/// What is left of these steps once they were gathered.
+fn gathered(alloc: Global, steps: &[Option<i64>]) -> Result<Updates, NoMemory> {
     let mut updates = Updates::new(alloc);
     for value in steps {
         take_step(alloc, &mut updates, *value)?;
     }
     updates.gather(alloc)?;
+    Ok(updates)
+}
+
+/// The values that are set, and 0 for each delete.
+fn values_of(alloc: Global, updates: &Updates) -> Result<Vec<i64>, NoMemory> {
     let mut left = Vec::new(alloc);
     for change in updates.changes() {
         left.push(match change {
@@ -190,7 +195,10 @@ fn gathered_between_ranges(rt: HostRuntime) {
         Some(4),
         Some(5),
     ];
-    let Ok(left) = gathered(rt.alloc(), &steps) else {
+    let Ok(updates) = gathered(rt.alloc(), &steps) else {
+        panic!(rt; "memory");
+    };
+    let Ok(left) = values_of(rt.alloc(), &updates) else {
         panic!(rt; "memory");
     };
     assert!(rt; left.as_slice() == [2, 0, 3, 0, 0, 5].as_slice());

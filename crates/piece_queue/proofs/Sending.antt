@@ -8,7 +8,7 @@ use denote.Param.{arg, param}
 use denote.Param.Send.{AllSend, IsSend, IsSync, arg_send, param_send, sendable, shr_send}
 use denote.Param.SendFields.{declared_sync, FieldsHave, as_row_send, declared_send, variants_send}
 use denote.Ref.{ShrRef}
-use denote.Struct.Field.{row_field}
+use denote.Struct.Field.{row_field, i64-field}
 use denote.Struct.Tuple.{TupleAt, parts, type_at}
 use Rattle.ix_base.specs.contracts.query.Query as query
 use Rattle.frozen_packet.specs.contracts.updates.Change as change
@@ -32,9 +32,12 @@ use Rattle.std.proofs.Crossing.{frees}
 use Rattle.std.proofs.alloc.Global.TheSendSync as global
 use Rattle.std.proofs.vec.Vec.TheSendSync as vec
 
+number_send : IsSend i64-field.row
+number_send = search sendable
+
 query_send : IsSend query.the_row
-query_send = as_row_send query.the_field (knot.send-Query term.the_field_send name.the_send phrase.the_send
-    (knot.send-Queries (λ R s. vec.the_send R _ _ s global.the_send frees) term.the_send name.the_send phrase.the_send))
+query_send = as_row_send query.the_field (knot.send-Query term.the_field_send name.the_send phrase.the_send number_send
+    (knot.send-Queries (λ R s. vec.the_send R _ _ s global.the_send frees) term.the_send name.the_send phrase.the_send number_send))
 
 query_delete_send : IsSend query_delete.the_row
 query_delete_send = search (sendable, declared_send, query_send) depth 14

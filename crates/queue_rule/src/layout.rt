@@ -11,6 +11,8 @@ pub const CLOSING_WORDS: u64 = 2;
 pub const MOST_SEATS: u64 = 32;
 /// The kinds from this one on close the queue: 6 is a commit, 7 a turn.
 pub const FIRST_CLOSING_KIND: u64 = 6;
+/// The kind of a turn, which has no sequence number of its own.
+pub const TURN_KIND: u64 = 7;
 
 /// The address of the first word of a seat's stretch; seat numbers count from 0. For a count of
 /// seats it is also how many words their table has: word 0, and one stretch for each.

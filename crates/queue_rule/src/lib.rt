@@ -35,8 +35,8 @@ mod view;
 
 pub use law::steps_keep_the_rule;
 pub use layout::{
-    CLOSING_WORDS, FIRST_CLOSING_KIND, MOST_SEATS, STRETCH_WORDS, closes, kind_of, stretch_start,
-    words_left, words_of,
+    CLOSING_WORDS, FIRST_CLOSING_KIND, MOST_SEATS, STRETCH_WORDS, TURN_KIND, closes, kind_of,
+    stretch_start, words_left, words_of,
 };
 pub use rule::{LinkDraft, LoadLinked, LoadNext, QueueRule, SeatNumbers, StoreDraft};
 pub use view::{Known, Loaded, Old, Own, View};
