@@ -16,4 +16,5 @@ mod row_lists;
 
 pub use index::{holding_from_in, holding_in, places_in};
 pub use inverted::Inverted;
-pub use matching::answer;
+pub use matching::{answer, is_within};
+pub use row_lists::distinct;

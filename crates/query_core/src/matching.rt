@@ -26,7 +26,7 @@ fn all_rows<I: Inverted>(alloc: Global, index: &I) -> Result<Vec<u32>, NoMemory>
 }
 
 /// Whether there is a number, from the lower bound to the upper one.
-fn is_within(low: &i64, high: &i64, number: Option<i64>) -> bool
+pub fn is_within(low: &i64, high: &i64, number: Option<i64>) -> bool
     ensures { result ≡ is_within low.now high.now number }
 {
     match number {

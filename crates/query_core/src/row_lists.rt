@@ -60,7 +60,7 @@ pub fn followed(
 }
 
 /// Each of the numbers once, rising. It sorts them.
-fn distinct(mut numbers: Vec<u32>) -> Result<Vec<u32>, NoMemory>
+pub fn distinct(mut numbers: Vec<u32>) -> Result<Vec<u32>, NoMemory>
     ensures rise { IfOk result (λ kept. IsRising kept.items) }
     ensures same { IfOk result (λ kept. (x : ℕ)
         → has_number kept.items x ≡ has_number numbers.items x) }

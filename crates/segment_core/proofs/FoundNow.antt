@@ -122,9 +122,9 @@ setting_touched n t name value rows found marks long is = found_holding n (value
 -- what is found in an index of documents as they were is found in that of the documents as they are now
 pub found_current : (inverts : List Document → Type 0) (test : Document → Bool) → ((doc : Document) (m : Mark) → test (now doc m) ≡ test doc)
     → (rows : List Row) (marks : List Mark) (found : List ℕ) → AreRowsWhere inverts test found
-    → AreRowsWhere (λ docs. inverts (documents rows) × (length marks ≡ length rows) × (docs ≡ documents_now rows marks)) test found
-found_current inverts test stable rows marks found are docs h =
-    are (documents rows) h.0 ∙ (found_still test stable rows marks h.1 ∙ ap (rows_where test) (sym h.2))
+    → (docs : List Document) → inverts (documents rows) → length marks ≡ length rows → docs ≡ documents_now rows marks → found ≡ rows_where test docs
+found_current inverts test stable rows marks found are docs inverted long is =
+    are (documents rows) inverted ∙ (found_still test stable rows marks long ∙ ap (rows_where test) (sym is))
 
 at_still : (test : Document → Bool) → ((doc : Document) (m : Mark) → test (now doc m) ≡ test doc) → (rows : List Row) (marks : List Mark) (r : ℕ) → length marks ≡ length rows
     → at_row test (documents rows) r ≡ at_row test (documents_now rows marks) r
@@ -136,13 +136,13 @@ at_still test stable (row ∷ rows) (m ∷ marks) (suc r) long = at_still test s
 -- a term stands where it stood
 pub places_current : (inverts : List Document → Type 0) (term : Term) (row : ℕ) (rows : List Row) (marks : List Mark) (positions : List ℕ)
     → ((docs : List Document) → inverts docs → ArePositions docs term row positions)
-    → (docs : List Document) → inverts (documents rows) × (length marks ≡ length rows) × (docs ≡ documents_now rows marks) → ArePositions docs term row positions
-places_current inverts term row rows marks positions are docs h =
-    let a = are (documents rows) h.0 in
+    → (docs : List Document) → inverts (documents rows) → length marks ≡ length rows → docs ≡ documents_now rows marks → ArePositions docs term row positions
+places_current inverts term row rows marks positions are docs inverted long is =
+    let a = are (documents rows) inverted in
     record {
       rise = a.rise;
-      exact = λ at. a.exact at ∙ (at_still (λ doc. stands_at (terms doc) term.field term.bytes at) (λ doc m. refl) rows marks row h.1
-          ∙ ap (λ (ds : List Document). at_row (λ doc. stands_at (terms doc) term.field term.bytes at) ds row) (sym h.2));
+      exact = λ at. a.exact at ∙ (at_still (λ doc. stands_at (terms doc) term.field term.bytes at) (λ doc m. refl) rows marks row long
+          ∙ ap (λ (ds : List Document). at_row (λ doc. stands_at (terms doc) term.field term.bytes at) ds row) (sym is));
     }
 
 abbrev pub first_of : Option ℤ → Option ℤ → Option ℤ
@@ -169,7 +169,7 @@ value_over law name (v ∷ values) numbers = set_first law name v (with_numbers 
     by true more = refl
     by false more = more
 
-number_now : SetNumbersAreAMap → (name : List ℕ) (rows : List Row) (marks : List Mark) (row : ℕ) → length marks ≡ length rows
+pub number_now : SetNumbersAreAMap → (name : List ℕ) (rows : List Row) (marks : List Mark) (row : ℕ) → length marks ≡ length rows
     → number_at (documents_now rows marks) row name ≡ first_of (value_of name (get_or marks row fresh).values) (number_at (documents rows) row name)
 number_now law name [] [] row long = refl
 number_now law name [] (m ∷ marks) row long = absurd (omega arith)

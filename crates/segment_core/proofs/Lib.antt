@@ -4,5 +4,6 @@ mod Marking
 mod Found
 mod Later
 mod FoundNow
+mod Candidates
 mod BuiltRows
 mod SetLive

@@ -3,3 +3,4 @@ pub mod LiveRows
 pub mod Births
 pub mod Marking
 pub mod LiveLaws
+pub mod Columns

@@ -1,15 +1,18 @@
 //! Updates applied to the rows of a segment. What it costs grows with the updates and with the rows
-//! that they hit, not with updates times rows. Only a delete by a query with a range looks at each row.
-ghost use Rattle.std.specs.Prelude.{◌≡◌, ◌<◌, map, length, IfOk, OnOk, IsTrue};
+//! that they hit, not with updates times rows. Only the first delete by a range of a name looks at
+//! each row.
+ghost use Rattle.std.specs.Prelude.{◌≡◌, ◌<◌, map, length, IfOk, IfSome, OnOk, IsTrue};
 ghost use Rattle.frozen_packet.specs.Updates.{as_operations, term_delete, query_delete, setting, change};
 ghost use Rattle.ix_base.specs.Inversion.{rows_where};
 ghost use Rattle.ix_base.specs.Matches.{matches};
 ghost use Rattle.ix_base.specs.Query.{tree_of};
 ghost use Rattle.live_docs.specs.Marks.{killed, valued, changed_at};
+ghost use Rattle.segment_core.specs.Columns.{AreColumnsOf};
 ghost use Rattle.segment_core.specs.Segments.{documents, IsInverted};
 ghost use Rattle.segment_core.specs.LiveRows.{IsWhole, above, Fated, MarksLater};
 ghost use Rattle.segment_core.specs.Marking.{marks_after, marks_touched, documents_now, valued_live, born_before, hit, hits};
 
+use crate::columns::Columns;
 use crate::current::Current;
 use crate::segment::Segment;
 use frozen_packet::{Change, DeletedTerms, QueryDelete, Setting, Updates};
@@ -159,13 +162,20 @@ fn matching<I: Inverted>(
     rows: &[Row],
     query: &Query,
     live: &LiveDocs,
+    columns: Option<&Columns>,
 ) -> Result<Vec<u32>, NoMemory>
+    requires { IfSome columns (λ c. AreColumnsOf rows.now c.now) }
     ensures { let test = matches (tree_of query.now) in
         IfOk result (λ found. I.inverts index.now (documents rows.now)
         → length live.now.marks ≡ length rows.now
         → found.items ≡ rows_where test (documents_now rows.now live.now.marks)) }
 {
-    let current = Current { index, rows, live };
+    let current = Current {
+        index,
+        rows,
+        live,
+        columns,
+    };
     answer(alloc, query, &current)
 }
 
@@ -176,15 +186,17 @@ fn delete_matching<I: Inverted>(
     rows: &[Row],
     delete: &QueryDelete,
     live: &mut LiveDocs,
+    columns: Option<&Columns>,
 ) -> Result<(), NoMemory>
-    requires { length live.old.marks ≡ length rows.now }
+    requires marks { length live.old.marks ≡ length rows.now }
+    requires columns { IfSome columns (λ c. AreColumnsOf rows.now c.now) }
     ensures applied { OnOk result (live.new.applied ≡ live.old.applied) }
     ensures long { OnOk result (length live.new.marks ≡ length rows.now) }
     ensures later { OnOk result (MarksLater live.old.marks live.new.marks) }
     ensures marks { let marks = marks_touched (query_delete delete.now) rows.now live.old.marks in
         OnOk result (I.inverts index.now (documents rows.now) → live.new.marks ≡ marks) }
 {
-    let found = matching(alloc, index, rows, &delete.query, live)?;
+    let found = matching(alloc, index, rows, &delete.query, live, columns)?;
     kill_found(rows, live, found.as_slice(), delete.number);
     Ok(())
 }
@@ -209,6 +221,29 @@ fn set_holding<I: Inverted>(
     set_found(alloc, rows, live, found.as_slice(), update)
 }
 
+/// Kills those of the rows that match a query with ranges now that were born before its number. The
+/// columns of its ranges' names are made, where they aren't there.
+fn delete_in_ranges<I: Inverted>(
+    alloc: Global,
+    index: &I,
+    rows: &[Row],
+    delete: &QueryDelete,
+    live: &mut LiveDocs,
+    columns: &mut Columns,
+) -> Result<(), NoMemory>
+    requires marks { length live.old.marks ≡ length rows.now }
+    requires columns { AreColumnsOf rows.now columns.old }
+    ensures applied { OnOk result (live.new.applied ≡ live.old.applied) }
+    ensures long { OnOk result (length live.new.marks ≡ length rows.now) }
+    ensures later { OnOk result (MarksLater live.old.marks live.new.marks) }
+    ensures columns { AreColumnsOf rows.now columns.new }
+    ensures marks { let marks = marks_touched (query_delete delete.now) rows.now live.old.marks in
+        OnOk result (I.inverts index.now (documents rows.now) → live.new.marks ≡ marks) }
+{
+    columns.prepare(alloc, rows, &delete.query)?;
+    delete_matching(alloc, index, rows, delete, live, Some(columns))
+}
+
 /// Applies a setting, or a delete by a query with a range.
 fn apply_change<I: Inverted>(
     alloc: Global,
@@ -217,17 +252,20 @@ fn apply_change<I: Inverted>(
     update: &Change,
     place: &mut usize,
     live: &mut LiveDocs,
+    columns: &mut Columns,
 ) -> Result<(), NoMemory>
-    requires { length live.old.marks ≡ length rows.now }
+    requires marks { length live.old.marks ≡ length rows.now }
+    requires columns { AreColumnsOf rows.now columns.old }
     ensures applied { OnOk result (live.new.applied ≡ live.old.applied) }
     ensures long { OnOk result (length live.new.marks ≡ length rows.now) }
     ensures later { OnOk result (MarksLater live.old.marks live.new.marks) }
+    ensures columns { AreColumnsOf rows.now columns.new }
     ensures marks { let marks = marks_touched (change update.now) rows.now live.old.marks in
         OnOk result (I.inverts index.now (documents rows.now) → live.new.marks ≡ marks) }
 {
     match update {
         Change::Set(setting) => set_holding(alloc, index, rows, setting, place, live),
-        Change::Delete(delete) => delete_matching(alloc, index, rows, delete, live),
+        Change::Delete(delete) => delete_in_ranges(alloc, index, rows, delete, live, columns),
     }
 }
 
@@ -262,7 +300,7 @@ fn apply_queries<I: Inverted>(
         if delete.number <= low {
             continue;
         }
-        delete_matching(alloc, index, rows, delete, live)?;
+        delete_matching(alloc, index, rows, delete, live, None)?;
     }
     Ok(())
 }
@@ -286,11 +324,12 @@ fn apply_changes<I: Inverted>(
         OnOk result (I.inverts index.now (documents rows.now) → live.new.marks ≡ marks) }
 {
     let mut place = 0;
+    let mut columns = Columns::new(alloc);
     for update in updates {
         if number_of(update) <= low {
             continue;
         }
-        apply_change(alloc, index, rows, update, &mut place, live)?;
+        apply_change(alloc, index, rows, update, &mut place, live, &mut columns)?;
     }
     Ok(())
 }

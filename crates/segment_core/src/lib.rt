@@ -5,12 +5,15 @@
 
 mod applying;
 mod building;
+mod column;
+mod columns;
 mod current;
 mod live_segment;
 mod segment;
 
 pub use applying::apply_updates;
 pub use building::build;
+pub use columns::Columns;
 pub use current::Current;
 pub use live_segment::LiveSegment;
 pub use segment::Segment;

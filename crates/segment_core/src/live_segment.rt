@@ -1,10 +1,14 @@
 //! Segments with live docs.
-ghost use Rattle.std.specs.Prelude.{◌≡◌, length};
+ghost use Rattle.std.specs.Prelude.{◌≡◌, length, IfSome};
+ghost use Rattle.segment_core.specs.Columns.{AreColumnsOf};
 ghost use Rattle.segment_core.specs.LiveRows.{Lived, IsWhole};
 
+use crate::columns::Columns;
 use crate::current::Current;
 use crate::segment::Segment;
+use ix_base::{NoMemory, Query};
 use live_docs::LiveDocs;
+use std::alloc::Global;
 use std::marker::Model;
 
 /// A segment, and which of its rows are live. It has fewer than 2^32 rows, and its live docs were
@@ -13,16 +17,19 @@ use std::marker::Model;
 pub struct LiveSegment {
     segment: Segment,
     live: LiveDocs,
+    /// Columns of its rows' numbers, once a range was prepared.
+    columns: Option<Columns>,
 }
 
 impl Model for LiveSegment {
+    ghost use Rattle.segment_core.specs.Columns.{HasColumnsOf};
     ghost use Rattle.segment_core.specs.LiveRows.{Lived, IsWhole};
 
     ghost Value = { Lived };
 
     ghost view = { λ s. record { segment = s.segment; live = s.live } };
 
-    ghost invariant = { λ s. IsWhole s.segment s.live };
+    ghost invariant = { λ s. IsWhole s.segment s.live × HasColumnsOf s.segment.rows s.columns };
 }
 
 impl LiveSegment {
@@ -31,7 +38,11 @@ impl LiveSegment {
         requires { IsWhole segment live }
         ensures { result ≡ record { segment = segment; live = live } }
     {
-        LiveSegment { segment, live }
+        LiveSegment {
+            segment,
+            live,
+            columns: None,
+        }
     }
 
     /// The rows and their postings, of live rows and of others.
@@ -45,7 +56,7 @@ impl LiveSegment {
     pub fn into_segment(self) -> Segment
         ensures { result ≡ self.segment }
     {
-        let LiveSegment { segment, live: _ } = self;
+        let LiveSegment { segment, .. } = self;
         segment
     }
 
@@ -57,17 +68,31 @@ impl LiveSegment {
         &self.live
     }
 
+    /// Makes ready for a query with ranges: for each name of which it has one, the rows' own numbers are
+    /// gathered, once for all queries to come. The segment is as before, whatever is returned.
+    pub fn prepare(&mut self, alloc: Global, query: &Query) -> Result<(), NoMemory>
+        ensures { self.new ≡ self.old }
+    {
+        if !query.has_range() {
+            return Ok(());
+        }
+        let columns = self.columns.get_or_insert_with(|| Columns::new(alloc));
+        columns.prepare(alloc, self.segment.rows.as_slice(), query)
+    }
+
     /// The index of the rows as they are now, of live rows and of others.
     pub fn current(&self) -> Current<'_, Segment>
         ensures index { result.index.now ≡ self.now.segment }
         ensures rows { result.rows.now ≡ self.now.segment.rows }
         ensures live { result.live.now ≡ self.now.live }
         ensures whole { IsWhole self.now.segment self.now.live }
+        ensures columns { IfSome result.columns (λ c. AreColumnsOf self.now.segment.rows c.now) }
     {
         Current {
             index: &self.segment,
             rows: self.segment.rows.as_slice(),
             live: &self.live,
+            columns: self.columns.as_ref(),
         }
     }
 

@@ -61,4 +61,15 @@ impl Inverted for Segment {
     fn number(&self, row: u32, name: &Name) -> Option<i64> {
         own_number(self.rows.as_slice(), row, name)
     }
+
+    /// A segment itself tells none.
+    fn candidates(
+        &self,
+        _alloc: Global,
+        _name: &Name,
+        _low: &i64,
+        _high: &i64,
+    ) -> Result<Option<Vec<u32>>, NoMemory> {
+        Ok(None)
+    }
 }

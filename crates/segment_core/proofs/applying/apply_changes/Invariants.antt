@@ -1,6 +1,7 @@
 use Rattle.std.proofs.Common.{◌≡◌, map, length, drop}
 use Rattle.frozen_packet.specs.Updates.{change}
 use Rattle.segment_core.specs.Segments.{documents}
+use Rattle.segment_core.specs.Columns.{AreColumnsOf}
 use Rattle.segment_core.specs.LiveRows.{above, MarksLater}
 use Rattle.segment_core.specs.Marking.{marks_after}
 use Rattle.segment_core.proofs.applying.apply_changes.Given as goal
@@ -11,4 +12,5 @@ invariant-loop-update g l = record {
   long : length l.live.marks ≡ length l.rows;
   applied : l.live.applied ≡ l.fn.live.applied;
   later : MarksLater l.fn.live.marks l.live.marks;
+  columns : AreColumnsOf l.rows l.columns;
 }

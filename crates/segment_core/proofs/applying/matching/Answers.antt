@@ -12,4 +12,4 @@ returns g c =
     let rows = c.args.rows.now in
     let marks = c.args.live.now.marks in
     IfOk-weaker c.answer.result _ (λ found. g.I.Inverted.inverts c.args.index.now (documents rows) → length marks ≡ length rows → found.items ≡ rows_where (matches (tree_of c.args.query.now)) (documents_now rows marks))
-    (λ found h inverts long. h (documents_now rows marks) (inverts, long, refl)) c.answer.ensures
+    (λ found h inverts long. h (documents_now rows marks) (inverts, long, refl, c.requires)) c.answer.ensures

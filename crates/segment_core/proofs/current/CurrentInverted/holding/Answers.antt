@@ -1,10 +1,7 @@
-use Rattle.std.proofs.Common.{◌≡◌, List, Bool, length, Vec, refl}
+use Rattle.std.proofs.Common.{List, Bool, refl}
 use Rattle.std.proofs.lemmas.Result.{IfOk-weaker}
 use Rattle.ix_base.specs.Documents.{Document}
 use Rattle.ix_base.specs.Matches.{holds_term}
-use Rattle.query_core.specs.Answers.{AreRowsWhere}
-use Rattle.segment_core.specs.Segments.{documents}
-use Rattle.segment_core.specs.Marking.{documents_now}
 use Rattle.segment_core.proofs.FoundNow.{found_current}
 use Rattle.segment_core.proofs.current.CurrentInverted.holding.Goals as goal
 
@@ -14,5 +11,4 @@ returns g c =
     let marks = c.args.self.now.live.now.marks in
     let inverts : List Document → Type 0 = g.I.Inverted.inverts c.args.self.now.index.now in
     let test : Document → Bool = holds_term c.args.term.now.field c.args.term.now.bytes in
-    IfOk-weaker c.holding.result _ (λ found. AreRowsWhere (λ docs. inverts (documents rows) × (length marks ≡ length rows) × (docs ≡ documents_now rows marks)) test found.items)
-    (λ found h. found_current inverts test (λ doc m. refl) rows marks found.items h) c.holding.ensures
+    IfOk-weaker c.holding.result _ _ (λ found h docs i. found_current inverts test (λ doc m. refl) rows marks found.items h docs i.0 i.1 i.2) c.holding.ensures
