@@ -8,7 +8,7 @@ use denote.Param.{arg, param}
 use denote.Param.Send.{AllSend, IsSend, IsSync, arg_send, param_send, sendable, shr_send}
 use denote.Param.SendFields.{FieldsHave, as_row_send, declared_send, variants_send}
 use denote.Ref.{ShrRef}
-use denote.Struct.Field.{row_field}
+use denote.Struct.Field.{row_field, i64-field}
 use denote.Struct.Tuple.{TupleAt, parts, type_at}
 use Rattle.delete_queue.specs.contracts.queue.DeleteQueue as queue
 use Rattle.thread_writer.specs.contracts.writer.ThreadWriter as thread_writer
@@ -34,9 +34,12 @@ use Rattle.std.proofs.vec.Vec.TheSendSync as vec
 use Rattle.worker_tasks.proofs.task.Reply.TheSendSync as reply
 use Rattle.round_work.proofs.worked.Stop.TheSendSync as stop
 
+number_send : IsSend i64-field.row
+number_send = search sendable
+
 query_send : IsSend query.the_row
-query_send = as_row_send query.the_field (knot.send-Query term.the_field_send name.the_send phrase.the_send
-    (knot.send-Queries (λ R s. vec.the_send R _ _ s global.the_send frees) term.the_send name.the_send phrase.the_send))
+query_send = as_row_send query.the_field (knot.send-Query term.the_field_send name.the_send phrase.the_send number_send
+    (knot.send-Queries (λ R s. vec.the_send R _ _ s global.the_send frees) term.the_send name.the_send phrase.the_send number_send))
 
 operation_send : IsSend operation.the_row
 operation_send = search (sendable, variants_send, document.the_send, term.the_send, query_send, name.the_send) depth 14
