@@ -82,14 +82,16 @@ fn reopen<S: Store>(
 /// The text of a search line, whose commit this is.
 fn found_text(
     alloc: Global,
-    commit: &SearchedCommit,
+    commit: &mut SearchedCommit,
     query: &Query,
     line: u32,
 ) -> Result<Vec<u8>, NoMemory>
-    ensures { (rows : List Row) → Searches commit.now.searcher.segments rows
+    ensures text { (rows : List Row) → Searches commit.old.searcher.segments rows
         → IfOk result (λ text.
-        text.items ≡ text_line (search_value commit.now.number (hits query.now rows) line)) }
+        text.items ≡ text_line (search_value commit.old.number (hits query.now rows) line)) }
+    ensures same { commit.new ≡ commit.old }
 {
+    commit.searcher.prepare(alloc, query)?;
     let found = commit.searcher.hits(alloc, query)?;
     search_text(alloc, commit.number, found.as_slice(), line)
 }

@@ -16,11 +16,25 @@ use ix_base::{Hit, List, NoMemory, Query};
 use ix_outside::Store;
 use segment_core::LiveSegment;
 use std::alloc::Global;
+use std::mem;
 
 /// The segments of a commit, to be searched any number of times.
 #[derive(Drop)]
 pub struct Searcher {
     pub segments: List<LiveSegment>,
+}
+
+fn prepare_all(
+    alloc: Global,
+    segments: &mut [LiveSegment],
+    query: &Query,
+) -> Result<(), NoMemory>
+    ensures { segments.new ≡ segments.old }
+{
+    for at in 0..segments.len() {
+        segments[at].prepare(alloc, query)?;
+    }
+    Ok(())
 }
 
 impl Searcher {
@@ -88,6 +102,21 @@ impl Searcher {
             }),
             Err(fault) => Err(fault),
         }
+    }
+
+    /// Makes ready for a query with ranges: the numbers of the rows are gathered, by each name of which
+    /// it has one, and serve all queries to come. Without this a range looks at each row. The searcher
+    /// finds the same as before, whatever is returned.
+    pub fn prepare(&mut self, alloc: Global, query: &Query) -> Result<(), NoMemory>
+        ensures { self.new ≡ self.old }
+    {
+        if !query.has_range() {
+            return Ok(());
+        }
+        let mut segments = mem::replace(&mut self.segments, List::new(alloc)).into_vec();
+        let prepared = prepare_all(alloc, segments.as_mut_slice(), query);
+        self.segments = List::from_vec(segments);
+        prepared
     }
 
     /// What matches a query, in order of birth: of each such row its key and its numbers. Where each

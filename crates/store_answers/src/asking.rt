@@ -25,12 +25,14 @@ use std::alloc::Global;
 fn answer(
     alloc: Global,
     commit: u64,
-    searcher: &Searcher,
+    searcher: &mut Searcher,
     question: &Question,
 ) -> Result<Vec<u8>, NoMemory>
-    ensures { (rows : List Row) → Searches searcher.now.segments rows
+    ensures text { (rows : List Row) → Searches searcher.old.segments rows
         → IfOk result (λ text. text.items ≡ answer_text commit rows question.now) }
+    ensures same { searcher.new ≡ searcher.old }
 {
+    searcher.prepare(alloc, &question.query)?;
     let found = searcher.hits(alloc, &question.query)?;
     search_text(alloc, commit, found.as_slice(), question.line)
 }
@@ -39,10 +41,10 @@ fn answer(
 fn answers(
     alloc: Global,
     commit: u64,
-    searcher: &Searcher,
+    searcher: &mut Searcher,
     questions: &[Question],
 ) -> Result<Vec<u8>, NoMemory>
-    ensures { (rows : List Row) → Searches searcher.now.segments rows
+    ensures { (rows : List Row) → Searches searcher.old.segments rows
         → IfOk result (λ text. text.items ≡ answers_text commit rows questions.now) }
 {
     let mut text = Vec::new(alloc);
@@ -79,10 +81,10 @@ fn answers_from<S: Store>(
 {
     match read_commit(alloc, store, commit) {
         Ok(opened) => {
-            let searcher = Searcher {
+            let mut searcher = Searcher {
                 segments: opened.segments,
             };
-            match answers(alloc, commit, &searcher, questions) {
+            match answers(alloc, commit, &mut searcher, questions) {
                 Ok(text) => Ok(text),
                 Err(NoMemory) => Err(OpenFault::NoMemory),
             }

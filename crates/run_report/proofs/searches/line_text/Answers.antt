@@ -2,6 +2,7 @@ use Rattle.std.proofs.Common.{ℕ, refl, sym, subst}
 use Rattle.searcher.specs.Searching.{Searches}
 use Rattle.std.proofs.lemmas.Result.{IfOk-weaker}
 use Rattle.run_report.specs.declared.outcome.Answer.{Answer}
+use Rattle.run_report.specs.declared.searches.SearchedCommit.{SearchedCommit}
 use Rattle.run_report.specs.Searching.{AnswerHolds, AnswerReads}
 use Rattle.run_report.proofs.Found.{not_search, same_text, searched_text}
 use Rattle.run_report.proofs.searches.line_text.Goals as goal
@@ -16,8 +17,9 @@ returns-in-Ok-clause-text g c = λ files rows_of told same none holds.
     same_text _ c.found_text.result _ c.or_no_memory.ensures.ok
     (IfOk-weaker c.found_text.result _ _ (λ text is. (
       searched_text rows_of c.args.outcome.now _ _ _ _ text.items c.in-Searched.is c.in-Ok.ensures.number refl is,
-      subst (λ (n : ℕ). Searches c.reopen.new.commit.searcher.segments (rows_of n)) (sym c.in-Ok.ensures.number) rows,
-    )) (c.found_text.ensures (rows_of c.in-Searched.number) rows))
+      subst (λ (k : SearchedCommit). Searches k.searcher.segments (rows_of k.number)) (sym c.found_text.ensures.same)
+      (subst (λ (n : ℕ). Searches c.reopen.new.commit.searcher.segments (rows_of n)) (sym c.in-Ok.ensures.number) rows),
+    )) (c.found_text.ensures.text (rows_of c.in-Searched.number) rows))
 
 pub returns-clause-text : goal.returns-clause-text
 returns-clause-text g c = λ files rows_of told same none holds.
