@@ -24,11 +24,7 @@ pub struct Searcher {
     pub segments: List<LiveSegment>,
 }
 
-fn prepare_all(
-    alloc: Global,
-    segments: &mut [LiveSegment],
-    query: &Query,
-) -> Result<(), NoMemory>
+fn prepare_all(alloc: Global, segments: &mut [LiveSegment], query: &Query) -> Result<(), NoMemory>
     ensures { segments.new ≡ segments.old }
 {
     for at in 0..segments.len() {

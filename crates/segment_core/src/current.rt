@@ -52,7 +52,7 @@ fn candidates_of(
     ensures rise { IfOk result (λ found. IfSome found (λ found. IsRising found.items)) }
     ensures all { length column.now.numbers < 2 ^ 32 → IfOk result (λ found. IfSome found (λ found. (row : ℕ)
         → has_number found.items row ≡ (has_number (within_from 0 low.now high.now column.now.numbers) row
-            || has_number (numbered_rows live.now.marks) row))) }
+        || has_number (numbered_rows live.now.marks) row))) }
 {
     let set = live.numbered_rows(alloc)?;
     if set.len() > rows as usize / ROWS_FOR_EACH_SET {

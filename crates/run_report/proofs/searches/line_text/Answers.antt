@@ -18,7 +18,7 @@ returns-in-Ok-clause-text g c = λ files rows_of told same none holds.
     (IfOk-weaker c.found_text.result _ _ (λ text is. (
       searched_text rows_of c.args.outcome.now _ _ _ _ text.items c.in-Searched.is c.in-Ok.ensures.number refl is,
       subst (λ (k : SearchedCommit). Searches k.searcher.segments (rows_of k.number)) (sym c.found_text.ensures.same)
-      (subst (λ (n : ℕ). Searches c.reopen.new.commit.searcher.segments (rows_of n)) (sym c.in-Ok.ensures.number) rows),
+          (subst (λ (n : ℕ). Searches c.reopen.new.commit.searcher.segments (rows_of n)) (sym c.in-Ok.ensures.number) rows),
     )) (c.found_text.ensures.text (rows_of c.in-Searched.number) rows))
 
 pub returns-clause-text : goal.returns-clause-text

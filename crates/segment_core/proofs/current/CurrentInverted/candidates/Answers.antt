@@ -28,13 +28,16 @@ returns-in-Some g c =
     let high : ℤ = c.args.high.now in
     let numbers : List (Option ℤ) = c.in-Some.column.now.numbers in
     both_some c.candidates_of.result (length numbers < 2 ^ 32) _ _ _
-    (λ found rise all. (rise, λ docs i r matched.
-        let is : numbers ≡ numbers_of name rows = c.in-Some.ensures rows i.3 in
-        let long : length numbers ≡ length rows = ap length is ∙ length-map rows (λ (row : Row). value_of name row.doc.num) in
-        let now : length docs ≡ length (documents rows) = ap length i.2 ∙ length-documents_now rows marks i.1 in
-        let few : length (documents rows) ≡ length rows = length-map rows (λ (row : Row). row.doc) in
-        let counted : c.rows.result ≡ length docs = c.rows.ensures docs i in
-        all (omega (arith, c.rows.type_inv)) r
-        ∙ (ap (λ (ns : List (Option ℤ)). has_number (within_from 0 low high ns) r || has_number (numbered_rows marks) r) is
-        ∙ candidate c.set_numbers_are_a_map.ensures name low high rows marks docs r i.1 i.2 matched)))
+    (λ found rise all. (
+      rise,
+      λ docs i r matched.
+          let is : numbers ≡ numbers_of name rows = c.in-Some.ensures rows i.3 in
+          let long : length numbers ≡ length rows = ap length is ∙ length-map rows (λ (row : Row). value_of name row.doc.num) in
+          let now : length docs ≡ length (documents rows) = ap length i.2 ∙ length-documents_now rows marks i.1 in
+          let few : length (documents rows) ≡ length rows = length-map rows (λ (row : Row). row.doc) in
+          let counted : c.rows.result ≡ length docs = c.rows.ensures docs i in
+          all (omega (arith, c.rows.type_inv)) r
+          ∙ (ap (λ (ns : List (Option ℤ)). has_number (within_from 0 low high ns) r || has_number (numbered_rows marks) r) is
+          ∙ candidate c.set_numbers_are_a_map.ensures name low high rows marks docs r i.1 i.2 matched),
+    ))
     c.candidates_of.ensures.rise c.candidates_of.ensures.all
