@@ -1,8 +1,6 @@
 -- Rows that may have a number in a range: by the numbers that they were stored with, or since numbers were set in them.
-use Rattle.std.proofs.Common.{◌≡◌, ◌∙◌, ℕ, zero, suc, ℤ, ◌+◌, ◌<◌, ◌≤◌, List, [], ◌∷◌, ◌++◌, Bool, true, false, ◌||◌, ◌==◌, cond, length, map, get_or, Option, Some, None, refl, sym, ap, subst, arith, if◌then◌else◌}
-use Rattle.std.specs.List.{list_any}
+use Rattle.std.proofs.Common.{◌≡◌, ◌∙◌, ℕ, zero, suc, ℤ, ◌+◌, List, [], ◌∷◌, Bool, true, false, ◌||◌, ◌==◌, length, get_or, Option, refl, sym, ap, subst, arith, if◌then◌else◌}
 use Rattle.std.proofs.lemmas.Bool.{eq-eqb}
-use Rattle.std.proofs.lemmas.List.Folds.{list_any-append}
 use Rattle.ix_base.specs.Matches.{matches, is_within, value_of}
 use Rattle.ix_base.specs.Tree.{range}
 use Rattle.ix_base.specs.Inversion.{at_row, has_number}
@@ -84,7 +82,3 @@ candidate law name low high rows marks docs r long is matched =
 
     here : is_within low high (first_of (value_of name (get_or marks r fresh).values) (number_at (documents rows) r name)) ≡ true
     here = ap (is_within low high) (sym now_at) ∙ (within_at name low high docs r ∙ matched)
-
--- of two lists joined
-pub has_joined : (xs ys both : List ℕ) (n : ℕ) → both ≡ xs ++ ys → has_number both n ≡ (has_number xs n || has_number ys n)
-has_joined xs ys both n e = ap (λ (l : List ℕ). has_number l n) e ∙ list_any-append (λ y. y == n) xs ys

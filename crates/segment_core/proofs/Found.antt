@@ -1,15 +1,9 @@
 -- The rows that were found by an update, and their marks.
-use Rattle.std.proofs.Common.{◌≡◌, ◌∙◌, ℕ, zero, suc, ℤ, ◌+◌, ◌<◌, ◌≤◌, List, [], ◌∷◌, ◌++◌, Bool, true, false, cond, map, length, nat_lt, get_or, refl, sym, ap, arith, append_assoc, if◌then◌else◌}
-use Rattle.std.proofs.lemmas.List.{length-append}
+use Rattle.std.proofs.Common.{◌≡◌, ◌∙◌, ℕ, zero, suc, ◌<◌, ◌≤◌, List, [], ◌∷◌, ◌++◌, Bool, true, false, cond, length, nat_lt, get_or, refl, sym, ap, arith, if◌then◌else◌}
 use Rattle.std.proofs.lemmas.Bool.{lt-ltb}
-use Rattle.ix_base.specs.Matches.{holds_term}
-use Rattle.ix_base.specs.Inversion.{rows_where, rows_from}
-use Rattle.ix_base.specs.Documents.{Document}
 use Rattle.ix_base.specs.declared.document.Row.{Row}
-use Rattle.ix_base.specs.declared.document.Term.{Term}
-use Rattle.ix_base.specs.declared.document.Operation.TheVariants.{DeleteTerm}
 use Rattle.live_docs.specs.declared.live_docs.Mark.{Mark}
-use Rattle.live_docs.specs.Marks.{killed, changed_at}
+use Rattle.live_docs.specs.Marks.{changed_at}
 use Rattle.row_fates.specs.Fate.{Numbered}
 use Rattle.segment_core.specs.LiveRows.{above}
 use Rattle.segment_core.specs.Marking.{marks_touched, marks_after, with_rows, born_before, hit, hits}

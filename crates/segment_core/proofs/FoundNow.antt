@@ -1,7 +1,5 @@
 -- Rows found by what their documents are now.
-use Rattle.std.proofs.Common.{◌≡◌, ◌∙◌, ℕ, zero, suc, ℤ, ◌+◌, ◌<◌, ◌≤◌, List, [], ◌∷◌, ◌++◌, Bool, true, false, cond, map, length, nat_lt, get_or, Option, Some, None, is_some, refl, sym, ap, subst, arith, append_assoc, if◌then◌else◌}
-use Rattle.std.specs.List.{slice_get}
-use Rattle.std.specs.Option.{option_and_then}
+use Rattle.std.proofs.Common.{◌≡◌, ◌∙◌, ℕ, zero, suc, ℤ, ◌+◌, ◌<◌, List, [], ◌∷◌, ◌++◌, Bool, true, false, cond, length, nat_lt, get_or, Option, Some, None, is_some, refl, sym, ap, subst, arith, append_assoc, if◌then◌else◌}
 use Rattle.std.specs.Str.{bytes_eq}
 use Rattle.std.proofs.lemmas.List.{length-append}
 use Rattle.std.proofs.lemmas.Slice.Eq.{bytes_eq-Decides}
@@ -21,7 +19,7 @@ use Rattle.query_core.specs.Answers.{AreRowsWhere, ArePositions, number_at}
 use Rattle.segment_core.specs.Segments.{documents}
 use Rattle.row_fates.specs.Fate.{Numbered}
 use Rattle.segment_core.specs.LiveRows.{with_numbers, above}
-use Rattle.segment_core.specs.Marking.{valued_live, now, documents_now, marks_touched, marks_after, with_rows, born_before, hit, hits}
+use Rattle.segment_core.specs.Marking.{valued_live, now, documents_now, marks_touched, marks_after, with_rows, hits}
 use Rattle.segment_core.proofs.Found.{hit_at, taken_more}
 
 -- ---- by the rows that were found

@@ -1,4 +1,4 @@
-use Rattle.std.proofs.Common.{◌≡◌, ◌≤◌, ◌++◌, drop, length}
+use Rattle.std.proofs.Common.{◌≡◌, ◌++◌, drop}
 use Rattle.segment_core.specs.Columns.{within_from}
 use Rattle.segment_core.proofs.column.Column.rows_within.Given as goal
 

@@ -1,13 +1,11 @@
 use Rattle.std.proofs.Common.{◌≡◌, ◌∙◌, ◌<◌, ◌^◌, ◌||◌, ℕ, ℤ, List, Option, Some, None, Result, Ok, Err, IfOk, IfSome, length, ap, arith}
 use Rattle.std.proofs.lemmas.List.{length-map}
-use Rattle.ix_base.specs.Documents.{Document}
 use Rattle.ix_base.specs.Inversion.{has_number}
 use Rattle.ix_base.specs.Matches.{value_of}
 use Rattle.ix_base.specs.declared.document.Row.{Row}
 use Rattle.live_docs.specs.Marks.{numbered_rows}
 use Rattle.live_docs.specs.declared.live_docs.Mark.{Mark}
 use Rattle.segment_core.specs.Columns.{numbers_of, within_from}
-use Rattle.segment_core.specs.Marking.{documents_now}
 use Rattle.segment_core.specs.Segments.{documents}
 use Rattle.segment_core.proofs.FoundNow.{length-documents_now}
 use Rattle.segment_core.proofs.Candidates.{candidate}

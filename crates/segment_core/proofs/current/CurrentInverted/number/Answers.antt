@@ -1,4 +1,4 @@
-use Rattle.std.proofs.Common.{◌≡◌, ◌∙◌, ℤ, Option, refl, sym}
+use Rattle.std.proofs.Common.{◌∙◌, ℤ, Option, refl, sym}
 use Rattle.query_core.specs.Answers.{number_at}
 use Rattle.segment_core.specs.Segments.{documents}
 use Rattle.segment_core.proofs.FoundNow.{some_first, none_first, number_read}
