@@ -144,73 +144,96 @@ pub(crate) fn shown(alloc: Global, index: &Published) -> Result<String, Fail> {
     Ok(out)
 }
 
-/// A round of three pieces: of the second no row is live at its cut, and the row of the third is
-/// deleted by an operation after its cut. Then a round without a piece.
-#[test]
-fn two_rounds(rt: HostRuntime) -> Result<(), Fail> {
-    use Act::*;
-    let alloc = rt.alloc();
-    let mut index = fresh(alloc, 0);
-    let first = Given {
+/// The index after a round of these pieces, whose packet has these entries and goes up to this number.
+fn after_round<R: Threads + Sync>(
+    rt: &R,
+    alloc: Global,
+    index: &mut Published,
+    given: &[Given],
+    entries: Entries,
+    upto: u64,
+) -> Result<String, Fail> {
+    let pieces = pieces_of(alloc, given)?;
+    do_round(rt, alloc, index, pieces, entries, upto)?;
+    shown(alloc, index)
+}
+
+/// Of the second piece no row is live at its cut, and the row of the third is deleted by an operation
+/// after its cut.
+const THREE_PIECES: [Given; 3] = [
+    Given {
         rows: &[(1, "a"), (3, "b")],
-        entries: &[(2, Set(7), "a")],
+        entries: &[(2, Act::Set(7), "a")],
         cut: 3,
-    };
-    let second = Given {
+    },
+    Given {
         rows: &[(4, "c")],
-        entries: &[(5, Delete, "c")],
+        entries: &[(5, Act::Delete, "c")],
         cut: 5,
-    };
-    let third = Given {
+    },
+    Given {
         rows: &[(6, "d")],
         entries: &[],
         cut: 6,
-    };
-    let entries = [
-        (2, Set(7), "a"),
-        (5, Delete, "c"),
-        (7, Delete, "d"),
-        (8, Set(4), "b"),
-    ];
-    let pieces = pieces_of(alloc, &[first, second, third])?;
-    do_round(&rt, alloc, &mut index, pieces, &entries, 9)?;
-    let after = "9 3; 1:2@9 a1=7 b3=4; 2:1@9";
-    assert!(rt; shown(alloc, &index)?.as_str() == after);
-    let none = pieces_of(alloc, &[])?;
-    do_round(&rt, alloc, &mut index, none, &[(10, Delete, "a")], 10)?;
-    let after = "10 3; 1:2@10 b3=4; 2:1@10";
-    assert!(rt; shown(alloc, &index)?.as_str() == after);
+    },
+];
+
+/// What the packet of the three pieces does.
+const OF_THREE: [(u64, Act, &str); 4] = [
+    (2, Act::Set(7), "a"),
+    (5, Act::Delete, "c"),
+    (7, Act::Delete, "d"),
+    (8, Act::Set(4), "b"),
+];
+
+/// A round of three pieces. Then a round without a piece.
+#[test]
+fn two_rounds(rt: HostRuntime) -> Result<(), Fail> {
+    let alloc = rt.alloc();
+    let mut index = fresh(alloc, 0);
+    let first = after_round(&rt, alloc, &mut index, &THREE_PIECES, &OF_THREE, 9)?;
+    assert!(rt; first.as_str() == "9 3; 1:2@9 a1=7 b3=4; 2:1@9");
+    let entries = [(10, Act::Delete, "a")];
+    let second = after_round(&rt, alloc, &mut index, &[], &entries, 10)?;
+    assert!(rt; second.as_str() == "10 3; 1:2@10 b3=4; 2:1@10");
     Ok(())
 }
 
-/// Last pieces, with no operations in them: their cut is before the round's first number. Of the
-/// first the row that was born before a delete is gone. The second has no row, and takes no id. The
-/// row of the third is deleted by the packet: it is a segment without a live row.
-#[test]
-fn last_pieces(rt: HostRuntime) -> Result<(), Fail> {
-    use Act::*;
-    let alloc = rt.alloc();
-    let mut index = fresh(alloc, 4);
-    let first = Given {
+/// Pieces with no operations in them. Of the first the row that was born before a delete is gone. The
+/// second has no row, and takes no id. The row of the third is deleted by the packet: it is a segment
+/// without a live row.
+const LAST_PIECES: [Given; 3] = [
+    Given {
         rows: &[(5, "a"), (7, "a"), (9, "b")],
         entries: &[],
         cut: 4,
-    };
-    let second = Given {
+    },
+    Given {
         rows: &[],
         entries: &[],
         cut: 4,
-    };
-    let third = Given {
+    },
+    Given {
         rows: &[(8, "c")],
         entries: &[],
         cut: 4,
-    };
-    let entries = [(6, Delete, "a"), (10, Set(3), "b"), (11, Delete, "c")];
-    let pieces = pieces_of(alloc, &[first, second, third])?;
-    do_round(&rt, alloc, &mut index, pieces, &entries, 11)?;
-    let after = "11 3; 1:3@11 a7 b9=3; 2:1@11";
-    assert!(rt; shown(alloc, &index)?.as_str() == after);
+    },
+];
+
+/// What the packet of the last pieces does.
+const OF_LAST: [(u64, Act, &str); 3] = [
+    (6, Act::Delete, "a"),
+    (10, Act::Set(3), "b"),
+    (11, Act::Delete, "c"),
+];
+
+/// Last pieces, whose cut is before the round's first number.
+#[test]
+fn last_pieces(rt: HostRuntime) -> Result<(), Fail> {
+    let alloc = rt.alloc();
+    let mut index = fresh(alloc, 4);
+    let told = after_round(&rt, alloc, &mut index, &LAST_PIECES, &OF_LAST, 11)?;
+    assert!(rt; told.as_str() == "11 3; 1:3@11 a7 b9=3; 2:1@11");
     Ok(())
 }
 
@@ -230,6 +253,16 @@ fn many_of(alloc: Global) -> Result<Vec<Piece>, Fail>
     Ok(pieces)
 }
 
+/// The number up to which operations are in the index, the next id, how many segments there are, and
+/// the counts of their live rows, one or the other.
+fn sizes(index: &Published) -> (u64, u64, usize, u32) {
+    let mut counts = 0;
+    for segment in index.segments.as_slice() {
+        counts |= segment.live().live_count();
+    }
+    (index.upto, index.next_id, index.segments.len(), counts)
+}
+
 /// Of half of the pieces no row is live, and they take no id.
 #[test]
 fn many_pieces(rt: HostRuntime) -> Result<(), Fail> {
@@ -238,11 +271,6 @@ fn many_pieces(rt: HostRuntime) -> Result<(), Fail> {
     let pieces = many_of(alloc)?;
     let entries = [(1001, Act::Delete, "a")];
     do_round(&rt, alloc, &mut index, pieces, &entries, 2000)?;
-    assert!(rt; (index.upto, index.next_id) == (2000, 1001));
-    let mut counts = 0;
-    for segment in index.segments.as_slice() {
-        counts |= segment.live().live_count();
-    }
-    assert!(rt; (index.segments.len(), counts) == (1000, 1));
+    assert!(rt; sizes(&index) == (2000, 1001, 1000, 1));
     Ok(())
 }

@@ -234,49 +234,64 @@ pub(crate) fn with_commits(
     Ok(told)
 }
 
-/// The history of a new writer with these buffers and this merge factor, and then the rows of each of
-/// these commits.
-pub(crate) fn story<R: Threads + Sync>(
+/// The history of a new writer: how many documents its buffers hold, its merge factor, its steps, and
+/// the commits whose rows are shown. What is told of all that.
+#[derive(Clone, Copy)]
+pub(crate) struct Story {
+    pub buffer: u32,
+    pub merge: u32,
+    pub steps: &'static [Step<'static>],
+    pub commits: &'static [u64],
+    pub told: &'static str,
+}
+
+/// What comes of the steps, and then the rows of each of the commits.
+fn told_of<R: Threads + Sync>(rt: &R, alloc: Global, story: &Story) -> Result<String, Fail> {
+    let (buffer, merge) = (story.buffer, story.merge);
+    if buffer == 0 || buffer > 65536 || merge < 2 || merge > 64 {
+        Err("other limits")?;
+    }
+    let mut writer = IndexWriter::none(alloc, MemoryStore::new(alloc), buffer, merge);
+    let told = history(rt, alloc, &mut writer, story.steps)?;
+    with_commits(alloc, told, writer.into_store(), story.commits)
+}
+
+/// Whether a story is told as it should be.
+pub(crate) fn is_right<R: Threads + Sync>(
     rt: &R,
     alloc: Global,
-    buffer: u32,
-    merge: u32,
-    steps: &[Step<'_>],
-    commits: &[u64],
-) -> Result<String, Fail>
-    requires buffer { (1 ≤ buffer) × (buffer ≤ 65536) }
-    requires merge { (2 ≤ merge) × (merge ≤ 64) }
-{
-    let mut writer = IndexWriter::none(alloc, MemoryStore::new(alloc), buffer, merge);
-    let told = history(rt, alloc, &mut writer, steps)?;
-    with_commits(alloc, told, writer.into_store(), commits)
+    story: &Story,
+) -> Result<bool, Fail> {
+    Ok(told_of(rt, alloc, story)?.as_str() == story.told)
 }
 
 /// Two writers, deletes across them, and a commit; then a round that isn't closed, and one whose
 /// commit has the rows of all three. The buffers hold two documents each.
-#[test]
-fn three_rounds(rt: HostRuntime) -> Result<(), Fail> {
-    use Act::*;
-    let steps = [
+const THREE_ROUNDS: Story = Story {
+    buffer: 2,
+    merge: 8,
+    steps: &[
         Step::Round(&[
-            (0, Add, "a"),
-            (1, Add, "b"),
-            (1, Delete, "a"),
-            (0, Add, "c"),
-            (0, Add, "d"),
-            (1, Commit, ""),
-            (0, Add, "e"),
+            (0, Act::Add, "a"),
+            (1, Act::Add, "b"),
+            (1, Act::Delete, "a"),
+            (0, Act::Add, "c"),
+            (0, Act::Add, "d"),
+            (1, Act::Commit, ""),
+            (0, Act::Add, "e"),
         ]),
         Step::Commit,
-        Step::Round(&[(1, Add, "f"), (0, Delete, "d")]),
-        Step::Round(&[(0, Delete, "f"), (1, Commit, "")]),
+        Step::Round(&[(1, Act::Add, "f"), (0, Act::Delete, "d")]),
+        Step::Round(&[(0, Act::Delete, "f"), (1, Act::Commit, "")]),
         Step::Commit,
-    ];
-    let told = story(&rt, rt.alloc(), 2, 8, &steps, &[6, 10])?;
-    assert!(rt;
-        told.as_str()
-            == "committed 6, 6 pending; 3 rows in 6; ran; committed 10, 10 pending; 2 rows in 10; 10, last commit 10, next id 5 / 4: 1 c4 2 d5 3 b2 / 5: 1 c4 3 b2"
-    );
+    ],
+    commits: &[6, 10],
+    told: "committed 6, 6 pending; 3 rows in 6; ran; committed 10, 10 pending; 2 rows in 10; 10, last commit 10, next id 5 / 4: 1 c4 2 d5 3 b2 / 5: 1 c4 3 b2",
+};
+
+#[test]
+fn rounds_and_commits(rt: HostRuntime) -> Result<(), Fail> {
+    assert!(rt; is_right(&rt, rt.alloc(), &THREE_ROUNDS)?);
     Ok(())
 }
 
@@ -388,18 +403,25 @@ fn fill(alloc: Global, parts: &mut RoundParts, count: u64) -> Result<bool, Fail>
     Ok(right)
 }
 
+/// Fills the first writer's part of the queue by 4,159 deletes. Returns whether each has its number,
+/// and both writers are told of the end of the round then.
+fn fills_up(alloc: Global, parts: &mut RoundParts) -> Result<bool, Fail>
+    requires { (base : ℕ) × IsUnderWay base parts.old }
+    ensures { OnOk result ((base : ℕ) → IsUnderWay base parts.old → IsUnderWay base parts.new) }
+{
+    let filled = fill(alloc, parts, 4159)?;
+    let first = told(alloc, parts, (0, Act::Delete, "abcdef"))?;
+    let second = told(alloc, parts, (1, Act::Add, "a"))?;
+    Ok(filled && first == Answer::Closed && second == Answer::Closed)
+}
+
 /// A writer whose part of the queue is full ends the round by a turn, without a number.
 #[test]
 fn turned(rt: HostRuntime) -> Result<(), Fail> {
-    use Act::*;
     let alloc = rt.alloc();
     let mut writer = IndexWriter::none(alloc, MemoryStore::new(alloc), 2, 8);
     let mut parts = begun(alloc, &mut writer, 2)?;
-    assert!(rt; fill(alloc, &mut parts, 4159)?);
-    let told_first = told(alloc, &mut parts, (0, Delete, "abcdef"))?;
-    assert!(rt; told_first == Answer::Closed);
-    let told_second = told(alloc, &mut parts, (1, Add, "a"))?;
-    assert!(rt; told_second == Answer::Closed);
+    assert!(rt; fills_up(alloc, &mut parts)?);
     let end = ended(&rt, &mut writer, parts)?;
     assert!(rt; end == RoundEnd::Turned);
     assert!(rt; (writer.upto(), writer.next_id()) == (4159, 1));

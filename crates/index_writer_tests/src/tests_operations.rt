@@ -1,7 +1,8 @@
 //! A round with operations of each kind, against what was worked out by hand.
 ghost use Rattle.std.specs.Prelude.{◌≤◌};
 
-use crate::script_lines::{Act, Line, Script};
+use crate::script_lines::Act::{Add, Commit, Delete, DeleteOthers, Set, Update};
+use crate::script_lines::{Line, Script};
 use crate::tests::{Step, history, shown};
 use index_writer::IndexWriter;
 use ix_memory::MemoryStore;
@@ -19,7 +20,6 @@ fn rows_after<R: Threads + Sync>(
 ) -> Result<String, Fail>
     requires { (1 ≤ buffer) × (buffer ≤ 65536) }
 {
-    use Act::*;
     let mut writer = IndexWriter::none(alloc, MemoryStore::new(alloc), buffer, 8);
     let steps = [
         Step::Round(&[(0, Add, "x"), (1, Commit, "")]),
@@ -41,39 +41,36 @@ fn rows_after<R: Threads + Sync>(
 /// Large buffers are given off only at the end. With buffers of two documents, the first pieces end
 /// at 9 (a4, b8), 8 (b5, a7) and 13 (c9, c11, no longer live), and the last ones have b13 and c17,
 /// and c14, which dies: it takes an id, and is in no commit.
-fn operations() -> [Line<'static>; 17] {
-    use Act::*;
-    [
-        (1, Delete, "a"),
-        (0, Add, "a"),
-        (1, Add, "b"),
-        (0, Set(5), "a"),
-        (1, Add, "a"),
-        (0, Update, "b"),
-        (1, Add, "c"),
-        (0, Delete, "c"),
-        (1, Add, "c"),
-        (0, DeleteOthers, "a"),
-        (0, Add, "b"),
-        (1, Add, "c"),
-        (0, Set(6), "a"),
-        (1, Set(7), "c"),
-        (0, Update, "c"),
-        (1, Set(8), "b"),
-        (1, Commit, ""),
-    ]
-}
+const OPERATIONS: [Line; 17] = [
+    (1, Delete, "a"),
+    (0, Add, "a"),
+    (1, Add, "b"),
+    (0, Set(5), "a"),
+    (1, Add, "a"),
+    (0, Update, "b"),
+    (1, Add, "c"),
+    (0, Delete, "c"),
+    (1, Add, "c"),
+    (0, DeleteOthers, "a"),
+    (0, Add, "b"),
+    (1, Add, "c"),
+    (0, Set(6), "a"),
+    (1, Set(7), "c"),
+    (0, Update, "c"),
+    (1, Set(8), "b"),
+    (1, Commit, ""),
+];
 
 #[test]
 fn operations_of_each_kind(rt: HostRuntime) -> Result<(), Fail> {
-    let rows = rows_after(&rt, rt.alloc(), 8, &operations())?;
+    let rows = rows_after(&rt, rt.alloc(), 8, &OPERATIONS)?;
     assert!(rt; rows.as_str() == "4: 2 a4=6 b13=8 c17 3 a7=6");
     Ok(())
 }
 
 #[test]
 fn operations_with_small_buffers(rt: HostRuntime) -> Result<(), Fail> {
-    let rows = rows_after(&rt, rt.alloc(), 2, &operations())?;
+    let rows = rows_after(&rt, rt.alloc(), 2, &OPERATIONS)?;
     assert!(rt; rows.as_str() == "6: 2 a4=6 3 b13=8 c17 4 a7=6");
     Ok(())
 }

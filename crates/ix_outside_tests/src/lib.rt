@@ -12,6 +12,10 @@ mod odd_outside;
 #[cfg(test)]
 mod opened;
 #[cfg(test)]
+mod order_tests;
+#[cfg(test)]
 mod recorded_system;
+#[cfg(test)]
+mod script;
 #[cfg(test)]
 mod tests;

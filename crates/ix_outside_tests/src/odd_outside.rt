@@ -1,9 +1,6 @@
-//! Readers, writers and a directory of tests, that fail where the system's seldom do.
-use std::alloc::{Allocator, Global};
-use std::fs::{File, Metadata, OpenOptions};
+//! Readers and writers of tests, that fail where the system's seldom do.
 use std::io;
 use std::io::{Error, ErrorKind, Read, Write};
-use std::rt::Files;
 
 /// Gives one byte a call, the call's number as a digit. Each first call of three is interrupted, and
 /// the fifth fails.
@@ -84,81 +81,5 @@ impl Write for OddWriter<'_> {
             return Err(Error::from(ErrorKind::Other));
         }
         Ok(())
-    }
-}
-
-/// The system, but that each directory has the entries of these names, each ended by a NUL. Of those
-/// that end in a digit 2 is a directory, 3 a symbolic link, 4 gone meanwhile, 7 may not be looked at,
-/// and others are files.
-#[derive(Clone, Drop)]
-pub struct OddDirectory<'a> {
-    system: HostRuntime,
-    names: &'a [u8],
-}
-
-impl<'a> OddDirectory<'a> {
-    /// The system with these names in each directory.
-    pub fn new(system: HostRuntime, names: &'a [u8]) -> Self {
-        OddDirectory { system, names }
-    }
-}
-
-impl Alloc for OddDirectory<'_> {
-    type A = Global;
-
-    fn alloc(&self) -> Global {
-        self.system.alloc()
-    }
-}
-
-impl<'a> Files for OddDirectory<'a> {
-    type File = File;
-
-    type Dir = &'a [u8];
-
-    fn open_file(&self, how: &OpenOptions, path: &str) -> io::Result<File> {
-        self.system.open_file(how, path)
-    }
-
-    fn open_dir(&self, _path: &str) -> io::Result<&'a [u8]> {
-        Ok(self.names)
-    }
-
-    fn metadata(&self, path: &str) -> io::Result<Metadata> {
-        self.system.metadata(path)
-    }
-
-    fn symlink_metadata(&self, path: &str) -> io::Result<Metadata> {
-        match path.as_bytes().last() {
-            Some(b'2') => Ok(Metadata::of_dir()),
-            Some(b'3') => Ok(Metadata::of_symlink(1)),
-            Some(b'4') => Err(Error::from(ErrorKind::NotFound)),
-            Some(b'7') => Err(Error::from(ErrorKind::PermissionDenied)),
-            _ => Ok(Metadata::of_file(0)),
-        }
-    }
-
-    fn copy(&self, from: &str, to: &str) -> io::Result<u64> {
-        self.system.copy(from, to)
-    }
-
-    fn rename(&self, from: &str, to: &str) -> io::Result<()> {
-        self.system.rename(from, to)
-    }
-
-    fn remove_file(&self, path: &str) -> io::Result<()> {
-        self.system.remove_file(path)
-    }
-
-    fn create_dir(&self, path: &str) -> io::Result<()> {
-        self.system.create_dir(path)
-    }
-
-    fn remove_dir(&self, path: &str) -> io::Result<()> {
-        self.system.remove_dir(path)
-    }
-
-    fn remove_dir_all<B: Allocator>(&self, alloc: B, path: &str) -> io::Result<()> {
-        self.system.remove_dir_all(alloc, path)
     }
 }

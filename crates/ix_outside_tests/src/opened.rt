@@ -13,6 +13,16 @@ pub fn make_directory(rt: &HostRuntime, path: &str) -> bool {
     fs::create_dir(rt, path).is_ok()
 }
 
+/// Whether the directory at this path is removed, with all that is in it.
+pub fn remove(rt: &HostRuntime, path: &str) -> bool {
+    fs::remove_dir_all(rt, path).is_ok()
+}
+
+/// Whether there is nothing at this path.
+pub fn is_gone(rt: &HostRuntime, path: &str) -> bool {
+    matches!(fs::exists(rt, path), Ok(false))
+}
+
 /// The store of the directory at this path.
 pub fn store_at(rt: &HostRuntime, path: &str) -> Option<DirStore<HostRuntime>> {
     let path = String::from_str(rt.alloc(), path).ok()?;
@@ -41,22 +51,12 @@ pub fn reader_at<'a>(
     Some(DirStore::read_only(system, path))
 }
 
-/// Whether the journal has these lines, which it forgets.
-pub fn recorded(rt: &HostRuntime, journal: &Journal, want: &str) -> bool {
-    journal.take_lines(rt.alloc()).as_str() == want
-}
-
 /// Whether the file has these bytes.
 pub fn has<S: Store>(alloc: Global, store: &mut S, name: FileName, want: &[u8]) -> bool {
     match store.read(alloc, name) {
         Ok(Some(bytes)) => bytes.as_slice() == want,
         _ => false,
     }
-}
-
-/// Whether there is no such file.
-pub fn lacks<S: Store>(alloc: Global, store: &mut S, name: FileName) -> bool {
-    matches!(store.read(alloc, name), Ok(None))
 }
 
 /// Whether the store writes the file and syncs it.

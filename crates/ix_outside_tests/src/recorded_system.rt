@@ -1,4 +1,5 @@
-//! The system of tests, which writes down what is asked of it, and fails where it is told to.
+//! The system of tests, which writes down what is asked of it, fails where it is told to, and may have
+//! other entries in its directories than there are.
 use ix_outside::LockFile;
 use std::alloc::{AllocError, Allocator, Global};
 use std::cell::{Cell, RefCell};
@@ -18,6 +19,8 @@ pub struct Journal {
     kind: Cell<ErrorKind>,
     /// How long an open file says that it is: 0 says the truth.
     length: Cell<u64>,
+    /// The entries that each directory says it has: `None` says the truth.
+    entries: Cell<Option<&'static [u8]>>,
 }
 
 impl Journal {
@@ -28,6 +31,7 @@ impl Journal {
             failing: Cell::new(""),
             kind: Cell::new(ErrorKind::Other),
             length: Cell::new(0),
+            entries: Cell::new(None),
         }
     }
 
@@ -41,6 +45,13 @@ impl Journal {
     /// From now on an open file says that it is so long.
     pub fn tell_length(&self, length: u64) {
         self.length.set(length);
+    }
+
+    /// From now on each directory says that it has entries of these names, each ended by a NUL. Of those
+    /// that end in a digit 2 is a directory, 3 a symbolic link, 4 gone meanwhile, 7 may not be looked at,
+    /// and others are files.
+    pub fn tell_entries(&self, entries: &'static [u8]) {
+        self.entries.set(Some(entries));
     }
 
     /// The lines so far, which it forgets.
@@ -78,6 +89,51 @@ fn last_name(path: &str) -> &str {
     match path.rsplit_once('/') {
         Some((_, name)) => name,
         None => path,
+    }
+}
+
+/// What an entry of this path is, where directories say what they have.
+fn kind_of(path: &str) -> io::Result<Metadata> {
+    match path.as_bytes().last() {
+        Some(b'2') => Ok(Metadata::of_dir()),
+        Some(b'3') => Ok(Metadata::of_symlink(1)),
+        Some(b'4') => Err(Error::from(ErrorKind::NotFound)),
+        Some(b'7') => Err(Error::from(ErrorKind::PermissionDenied)),
+        _ => Ok(Metadata::of_file(0)),
+    }
+}
+
+/// The entries of a directory.
+#[derive(Drop)]
+pub enum Entries {
+    /// Those that there are.
+    Real(<HostRuntime as Files>::Dir),
+    /// Those that it says it has.
+    Told(Told),
+}
+
+/// Names, each ended by a NUL, and how many of their bytes were read.
+#[derive(Drop)]
+pub struct Told {
+    names: Vec<u8>,
+    count: usize,
+}
+
+impl Told {
+    fn read(&mut self, buffer: &mut [u8]) -> io::Result<usize> {
+        let mut rest = self.names.as_slice().get(self.count..).unwrap_or(b"");
+        let count = rest.read(buffer)?;
+        self.count = self.count.saturating_add(count);
+        Ok(count)
+    }
+}
+
+impl Read for Entries {
+    fn read(&mut self, buffer: &mut [u8]) -> io::Result<usize> {
+        match self {
+            Entries::Real(entries) => entries.read(buffer),
+            Entries::Told(told) => told.read(buffer),
+        }
     }
 }
 
@@ -189,7 +245,7 @@ impl Alloc for RecordedSystem<'_> {
 impl<'a> Files for RecordedSystem<'a> {
     type File = RecordedFile<'a>;
 
-    type Dir = <HostRuntime as Files>::Dir;
+    type Dir = Entries;
 
     fn open_file(&self, how: &OpenOptions, path: &str) -> io::Result<RecordedFile<'a>> {
         let verb = if how.asks_create_new() {
@@ -208,8 +264,14 @@ impl<'a> Files for RecordedSystem<'a> {
         })
     }
 
-    fn open_dir(&self, path: &str) -> io::Result<<HostRuntime as Files>::Dir> {
-        self.system.open_dir(path)
+    fn open_dir(&self, path: &str) -> io::Result<Entries> {
+        let Some(names) = self.journal.entries.get() else {
+            return Ok(Entries::Real(self.system.open_dir(path)?));
+        };
+        Ok(Entries::Told(Told {
+            names: names.to_vec(self.system.alloc())?,
+            count: 0,
+        }))
     }
 
     fn metadata(&self, path: &str) -> io::Result<Metadata> {
@@ -218,7 +280,10 @@ impl<'a> Files for RecordedSystem<'a> {
 
     fn symlink_metadata(&self, path: &str) -> io::Result<Metadata> {
         self.journal.pass("look", last_name(path))?;
-        self.system.symlink_metadata(path)
+        match self.journal.entries.get() {
+            Some(_) => kind_of(path),
+            None => self.system.symlink_metadata(path),
+        }
     }
 
     fn copy(&self, from: &str, to: &str) -> io::Result<u64> {

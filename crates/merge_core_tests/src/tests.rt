@@ -1,5 +1,5 @@
 //! Segments picked, worked out by hand.
-ghost use Rattle.std.specs.Prelude.{◌≡◌, ◌<◌, ◌≤◌, length, IfOk};
+ghost use Rattle.std.specs.Prelude.{◌≡◌, ◌<◌, length, IfOk};
 ghost use Rattle.segment_core.specs.LiveRows.{CanBuild};
 
 use analysis::invert;
@@ -37,11 +37,12 @@ pub(crate) fn segment_of(alloc: Global, id: u64, births: &[u64]) -> Result<LiveS
     }
 }
 
-/// The ids that are picked.
-fn picked(alloc: Global, segments: &[LiveSegment], count: u32) -> Result<String, Fail>
-    requires { count ≤ 64 }
-{
+/// The ids of so many segments that are picked, where there may be a merge of so many.
+fn picked(alloc: Global, segments: &[LiveSegment], count: u32) -> Result<String, Fail> {
     let mut out = String::new(alloc);
+    if count > 64 {
+        Err("too many")?;
+    }
     match pick(alloc, segments, count)? {
         Some(ids) => {
             for id in &ids {
@@ -53,19 +54,28 @@ fn picked(alloc: Global, segments: &[LiveSegment], count: u32) -> Result<String,
     Ok(out)
 }
 
+/// The ids of segments, and the births of their rows.
+const SEGMENTS: [(u64, &[u64]); 4] = [
+    (1, &[1, 2, 3]),
+    (2, &[4, 5]),
+    (3, &[6, 7]),
+    (4, &[8]),
+];
+
+fn four_segments(alloc: Global) -> Result<Vec<LiveSegment>, Fail> {
+    let mut segments = Vec::new(alloc);
+    for (id, births) in SEGMENTS {
+        segments.push(segment_of(alloc, id, births)?)?;
+    }
+    Ok(segments)
+}
+
 /// The fewest live rows first, ties by smaller id.
 #[test]
 fn smallest_segments(rt: HostRuntime) -> Result<(), Fail> {
-    let alloc = rt.alloc();
-    let mut segments = Vec::new(alloc);
-    segments.push(segment_of(alloc, 1, &[1, 2, 3])?)?;
-    segments.push(segment_of(alloc, 2, &[4, 5])?)?;
-    segments.push(segment_of(alloc, 3, &[6, 7])?)?;
-    segments.push(segment_of(alloc, 4, &[8])?)?;
-    let all = segments.as_slice();
-    assert!(rt; picked(alloc, all, 2)?.as_str() == "4,2,");
-    assert!(rt; picked(alloc, all, 3)?.as_str() == "4,2,3,");
-    assert!(rt; picked(alloc, all, 4)?.as_str() == "4,2,3,1,");
-    assert!(rt; picked(alloc, all, 5)?.as_str() == "none");
+    let segments = four_segments(rt.alloc())?;
+    for (count, wanted) in [(2, "4,2,"), (3, "4,2,3,"), (4, "4,2,3,1,"), (5, "none")] {
+        assert!(rt; picked(rt.alloc(), segments.as_slice(), count)?.as_str() == wanted);
+    }
     Ok(())
 }

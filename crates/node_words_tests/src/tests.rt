@@ -140,54 +140,50 @@ fn answer_at(alloc: Global, text: &str) -> Result<String, NoMemory> {
 }
 
 /// An entry of each kind, written by hand.
-fn spelled() -> [(&'static str, &'static str); 8] {
-    [
-        ("0000000100000000", "add"),
-        (
-            "000000020000000d 000000036b657900 0000026131000000",
-            "update key a1",
-        ),
-        (
-            "000000030000000d 000000036b657900 0000026131000000",
-            "delete key a1",
-        ),
-        (
-            "0000000400000025 0300000001010000 0001660000000161 0000000000000001 0200000001660000 0003622063000000",
-            "query",
-        ),
-        (
-            "0000000400000016 04000000016effff fffffffffffe0000 0000000000090000",
-            "query",
-        ),
-        (
-            "000000050000001a 000000036b657900 0000026131000000 016effffffffffff fffe000000000000",
-            "set key a1 n -2",
-        ),
-        ("0000000600000000", "commit"),
-        ("0000000700000000", "turn"),
-    ]
-}
+const SPELLED: [(&str, &str); 8] = [
+    ("0000000100000000", "add"),
+    (
+        "000000020000000d 000000036b657900 0000026131000000",
+        "update key a1",
+    ),
+    (
+        "000000030000000d 000000036b657900 0000026131000000",
+        "delete key a1",
+    ),
+    (
+        "0000000400000025 0300000001010000 0001660000000161 0000000000000001 0200000001660000 0003622063000000",
+        "query",
+    ),
+    (
+        "0000000400000016 04000000016effff fffffffffffe0000 0000000000090000",
+        "query",
+    ),
+    (
+        "000000050000001a 000000036b657900 0000026131000000 016effffffffffff fffe000000000000",
+        "set key a1 n -2",
+    ),
+    ("0000000600000000", "commit"),
+    ("0000000700000000", "turn"),
+];
 
 /// Words that are one step from a spelling.
-fn not_spelled() -> [&'static str; 11] {
-    [
-        "",
-        "0000000000000000",
-        "0000000800000000",
-        "0000000100000000 0000000000000000",
-        "0000000700000001 0000000000000000",
-        "0000000400000001 0500000000000000",
-        "0000000400000015 04000000006effff fffffffffffe0000 0000000000000000",
-        "000000030000000d 000000036b657900",
-        "000000030000000d 000000036b657900 0000026131000001",
-        "000000030000000e 000000036b657900 0000026131000000",
-        "000000030000000d 00000003ff657900 0000026131000000",
-    ]
-}
+const NOT_SPELLED: [&str; 11] = [
+    "",
+    "0000000000000000",
+    "0000000800000000",
+    "0000000100000000 0000000000000000",
+    "0000000700000001 0000000000000000",
+    "0000000400000001 0500000000000000",
+    "0000000400000015 04000000006effff fffffffffffe0000 0000000000000000",
+    "000000030000000d 000000036b657900",
+    "000000030000000d 000000036b657900 0000026131000001",
+    "000000030000000e 000000036b657900 0000026131000000",
+    "000000030000000d 00000003ff657900 0000026131000000",
+];
 
 #[test]
 fn words_by_hand(rt: HostRuntime) {
-    for (text, want) in spelled() {
+    for (text, want) in SPELLED {
         let Ok(found) = answer_at(rt.alloc(), text) else {
             panic!(rt; "memory");
         };
@@ -197,7 +193,7 @@ fn words_by_hand(rt: HostRuntime) {
 
 #[test]
 fn no_words_by_hand(rt: HostRuntime) {
-    for text in not_spelled() {
+    for text in NOT_SPELLED {
         let Ok(found) = answer_at(rt.alloc(), text) else {
             panic!(rt; "memory");
         };
@@ -277,21 +273,19 @@ fn is_longer(alloc: Global, kind: u8, bytes: &[u8]) -> Result<bool, NoMemory> {
 }
 
 /// The bytes of an entry of each kind that has some.
-fn entries() -> [(u8, &'static str); 6] {
-    [
-        (2, "\0\0\0\x03key\0\0\0\x02a1"),
-        (4, "\x01\0\0\0\x01f\0\0\0\x01a"),
-        (4, "\x02\0\0\0\x01f\0\0\0\x03b c"),
-        (4, "\x04\0\0\0\x01n\0\0\0\0\0\0\0\x05\0\0\0\0\0\0\0\x09"),
-        (4, "\x03\0\0\0\0\0\0\0\x01\0\0\0\0\x01\0"),
-        (5, "\0\0\0\x03key\0\0\0\x02a1\0\0\0\x01n\0\0\0\0\0\0\0\x07"),
-    ]
-}
+const ENTRIES: [(u8, &str); 6] = [
+    (2, "\0\0\0\x03key\0\0\0\x02a1"),
+    (4, "\x01\0\0\0\x01f\0\0\0\x01a"),
+    (4, "\x02\0\0\0\x01f\0\0\0\x03b c"),
+    (4, "\x04\0\0\0\x01n\0\0\0\0\0\0\0\x05\0\0\0\0\0\0\0\x09"),
+    (4, "\x03\0\0\0\0\0\0\0\x01\0\0\0\0\x01\0"),
+    (5, "\0\0\0\x03key\0\0\0\x02a1\0\0\0\x01n\0\0\0\0\0\0\0\x07"),
+];
 
 /// Each cut of an entry's bytes is foreign, and so is a byte more.
 #[test]
 fn foreign_cuts(rt: HostRuntime) {
-    for (kind, text) in entries() {
+    for (kind, text) in ENTRIES {
         assert!(rt; is_no_sooner(rt.alloc(), kind, text.as_bytes()) == Ok(true));
         assert!(rt; is_longer(rt.alloc(), kind, text.as_bytes()) == Ok(false));
     }
@@ -318,24 +312,22 @@ fn is_read(alloc: Global, kind: u8, name: u32, text: u32) -> Result<bool, NoMemo
 }
 
 /// Terms and phrases by the bytes of the name and of the text, at their limits.
-fn limits() -> [(u8, u32, u32, bool); 10] {
-    [
-        (3, 1, 0, true),
-        (3, 0, 1, false),
-        (3, 255, 32766, true),
-        (3, 256, 1, false),
-        (3, 1, 32767, false),
-        (4, 255, 32767, true),
-        (4, 0, 1, false),
-        (4, 256, 1, false),
-        (4, 4, 131_059, true),
-        (4, 4, 131_060, false),
-    ]
-}
+const LIMITS: [(u8, u32, u32, bool); 10] = [
+    (3, 1, 0, true),
+    (3, 0, 1, false),
+    (3, 255, 32766, true),
+    (3, 256, 1, false),
+    (3, 1, 32767, false),
+    (4, 255, 32767, true),
+    (4, 0, 1, false),
+    (4, 256, 1, false),
+    (4, 4, 131_059, true),
+    (4, 4, 131_060, false),
+];
 
 #[test]
 fn read_limits(rt: HostRuntime) {
-    for (kind, name, text, want) in limits() {
+    for (kind, name, text, want) in LIMITS {
         assert!(rt; is_read(rt.alloc(), kind, name, text) == Ok(want));
     }
 }

@@ -182,9 +182,29 @@ fn summary_of(alloc: Global, numbers: &[i64]) -> Result<Summary, Fail> {
     Ok(Summary::of_run(2, 12, hits.as_slice()))
 }
 
+/// Numbers, and the sum that is told of them: 0 below 0, and the largest number above that.
+const SUMS: [(&[i64], u64); 6] = [
+    (&[], 0),
+    (&[7, -3], 4),
+    (&[-1], 0),
+    (&[i64::MAX, i64::MAX, 1], u64::MAX),
+    (&[i64::MAX, i64::MAX, 2], u64::MAX),
+    (
+        &[i64::MAX, i64::MAX, i64::MAX, i64::MIN, i64::MIN],
+        9_223_372_036_854_775_805,
+    ),
+];
+
+#[test]
+fn sums_of_runs(rt: HostRuntime) -> Result<(), Fail> {
+    for (numbers, wanted) in SUMS {
+        assert!(rt; summary_of(rt.alloc(), numbers)?.sum == wanted);
+    }
+    Ok(())
+}
+
 #[test]
 fn summaries_of_runs(rt: HostRuntime) -> Result<(), Fail> {
-    let alloc = rt.alloc();
     let seven = [1264, 2189, 3881, 703, 2876, 927, 510];
     let wanted = Summary {
         commits: 2,
@@ -192,16 +212,8 @@ fn summaries_of_runs(rt: HostRuntime) -> Result<(), Fail> {
         lines: 12,
         sum: 12_350,
     };
-    assert!(rt; summary_of(alloc, &seven)? == wanted);
+    assert!(rt; summary_of(rt.alloc(), &seven)? == wanted);
     assert!(rt; Summary::of_run(3, 5, &[]).docs == 0);
-    assert!(rt; summary_of(alloc, &[])?.sum == 0);
-    assert!(rt; summary_of(alloc, &[7, -3])?.sum == 4);
-    assert!(rt; summary_of(alloc, &[-1])?.sum == 0);
-    let most = i64::MAX;
-    assert!(rt; summary_of(alloc, &[most, most, 1])?.sum == u64::MAX);
-    assert!(rt; summary_of(alloc, &[most, most, 2])?.sum == u64::MAX);
-    let many = summary_of(alloc, &[most, most, most, i64::MIN, i64::MIN])?;
-    assert!(rt; many.sum == 9_223_372_036_854_775_805);
     Ok(())
 }
 

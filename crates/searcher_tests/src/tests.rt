@@ -138,15 +138,17 @@ fn hits_come_by_birth_over_both_segments(rt: HostRuntime) -> Result<(), Fail> {
     Ok(())
 }
 
+/// Terms, and what is found.
+const TERMS: [((&str, &str), &str); 3] = [
+    (("body", "red"), "a pages 10;c pages 30;d pages -40;"),
+    (("key", "d"), "d pages -40;"),
+    (("body", "white"), ""),
+];
+
 #[test]
 fn hits_of_terms(rt: HostRuntime) -> Result<(), Fail> {
     let searcher = four_rows(rt.alloc())?;
-    let cases = [
-        (("body", "red"), "a pages 10;c pages 30;d pages -40;"),
-        (("key", "d"), "d pages -40;"),
-        (("body", "white"), ""),
-    ];
-    for (term, wanted) in cases {
+    for (term, wanted) in TERMS {
         assert!(rt; term_finds(rt.alloc(), &searcher, term, wanted)?);
     }
     Ok(())
@@ -250,26 +252,38 @@ fn range_finds(
     finds(alloc, searcher, &query, wanted)
 }
 
-/// A range finds rows by the numbers that were set last, and by their own where none was.
+/// Ranges of numbers that the rows have of their own, and what is found.
+const RANGES: [((&str, i64, i64), &str); 4] = [
+    (("pages", 20, 30), "b pages 20;c pages 30;"),
+    (("pages", -40, -40), "d pages -40;"),
+    (("pages", 30, 20), ""),
+    (("copies", -100, 100), ""),
+];
+
+/// A range finds rows by their own numbers where none was set.
 #[test]
 fn hits_of_ranges(rt: HostRuntime) -> Result<(), Fail> {
-    let alloc = rt.alloc();
-    let cases = [
-        (("pages", 20, 30), "b pages 20;c pages 30;"),
-        (("pages", -40, -40), "d pages -40;"),
-        (("pages", 30, 20), ""),
-        (("copies", -100, 100), ""),
-    ];
-    let searcher = four_rows(alloc)?;
-    for (range, wanted) in cases {
-        assert!(rt; range_finds(alloc, &searcher, range, wanted)?);
+    let searcher = four_rows(rt.alloc())?;
+    for (range, wanted) in RANGES {
+        assert!(rt; range_finds(rt.alloc(), &searcher, range, wanted)?);
     }
-    let searcher = one_of_two(alloc)?;
-    let row = "d copies 2 pages 41;";
-    for (range, wanted) in [(("pages", -40, -40), ""), (("pages", 41, 41), row)] {
-        assert!(rt; range_finds(alloc, &searcher, range, wanted)?);
+    Ok(())
+}
+
+/// Ranges of numbers that were set, and what is found.
+const RANGES_OF_SET: [((&str, i64, i64), &str); 3] = [
+    (("pages", -40, -40), ""),
+    (("pages", 41, 41), "d copies 2 pages 41;"),
+    (("copies", 2, 2), "d copies 2 pages 41;"),
+];
+
+/// A range finds rows by the numbers that were set last.
+#[test]
+fn hits_of_ranges_of_set_numbers(rt: HostRuntime) -> Result<(), Fail> {
+    let searcher = one_of_two(rt.alloc())?;
+    for (range, wanted) in RANGES_OF_SET {
+        assert!(rt; range_finds(rt.alloc(), &searcher, range, wanted)?);
     }
-    assert!(rt; range_finds(alloc, &searcher, ("copies", 2, 2), row)?);
     Ok(())
 }
 
