@@ -4,7 +4,7 @@ use Rattle.std.specs.List.{filter_map, cons_option}
 use Rattle.std.specs.Option.{option_map}
 use Rattle.std.proofs.lemmas.List.{append-nil, append_assoc, map-append, take_more}
 use Rattle.std.proofs.lemmas.List.Elements.{filter_map-append}
-use Rattle.ix_base.specs.Inversion.{IsInversion}
+use Rattle.ix_base.specs.Inversion.{IsInversion, rows_where}
 use Rattle.ix_base.specs.Matches.{matches}
 use Rattle.ix_base.specs.Query.{tree_of}
 use Rattle.ix_base.specs.declared.document.Row.{Row}
@@ -15,7 +15,6 @@ use Rattle.segment_core.specs.LiveRows.{Lived, IsWhole, live, live_rows}
 use Rattle.segment_core.specs.Marking.{documents_now}
 use Rattle.segment_core.specs.Segments.{IsInverted, documents}
 use Rattle.segment_core.specs.declared.segment.Segment.{Segment}
-use Rattle.query_core.specs.Answers.{AreRowsWhere}
 use Rattle.searcher.proofs.Taken.{rows_taken}
 use Rattle.searcher.specs.declared.shown.Found.{Found}
 use Rattle.searcher.specs.Finding.{found_of, found_among, found_at, live_at}
@@ -56,10 +55,10 @@ adds_none start before rows marks numbers i lt is so =
 
 -- the rows that are answered on the numbers that they have now are the live rows that match
 pub found_answered : (query : Query) (s : Lived) (index : Segment) (rows : List Row) (marks : Marks) (numbers : List ℕ) → index ≡ s.segment → rows ≡ s.segment.rows → marks ≡ s.live
-    → AreRowsWhere (λ docs. ((documents rows ≡ documents index.rows) × (length index.rows < 2 ^ 32) × IsInversion (documents rows) index.postings) × (length marks.marks ≡ length rows) × (docs ≡ documents_now rows marks.marks)) (matches (tree_of query)) numbers
+    → ((documents rows ≡ documents index.rows) × (length index.rows < 2 ^ 32) × IsInversion (documents rows) index.postings → length marks.marks ≡ length rows → numbers ≡ rows_where (matches (tree_of query)) (documents_now rows marks.marks))
     → IsWhole s.segment s.live → IsInverted s.segment → found_at rows marks.marks numbers ≡ found_among query (live s)
 found_answered query s index rows marks numbers i r m are whole inverted =
-    ap (found_at rows marks.marks) (are (documents_now rows marks.marks) (inverts, long, refl))
+    ap (found_at rows marks.marks) (are inverts long)
     ∙ ap (map found_of) (rows_taken (matches (tree_of query)) rows marks.marks long)
     ∙ ap (λ (rs : List Row). found_among query (live_rows rs marks.marks)) r
     ∙ ap (λ (ms : Marks). found_among query (live_rows s.segment.rows ms.marks)) m
