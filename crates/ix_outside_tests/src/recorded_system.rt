@@ -1,5 +1,7 @@
 //! The system of tests, which writes down what is asked of it, fails where it is told to, and may have
 //! other entries in its directories than there are.
+ghost use Rattle.std.specs.Prelude.{◌≤◌, length, IfOk};
+
 use ix_outside::LockFile;
 use std::alloc::{AllocError, Allocator, Global};
 use std::cell::{Cell, RefCell};
@@ -120,7 +122,9 @@ pub struct Told {
 }
 
 impl Told {
-    fn read(&mut self, buffer: &mut [u8]) -> io::Result<usize> {
+    fn read(&mut self, buffer: &mut [u8]) -> io::Result<usize>
+        ensures { IfOk result (λ count. count ≤ length buffer.new) }
+    {
         let mut rest = self.names.as_slice().get(self.count..).unwrap_or(b"");
         let count = rest.read(buffer)?;
         self.count = self.count.saturating_add(count);
