@@ -43,11 +43,7 @@ fn steady_reads(rt: HostRuntime) {
     let Ok(mut source) = steady_source(rt.alloc()) else {
         panic!(rt; "memory");
     };
-    for wanted in [
-        (Ok(4), *b"abcd"),
-        (Ok(1), *b"e\0\0\0"),
-        (Ok(0), [0u8; 4]),
-    ] {
+    for wanted in [(Ok(4), *b"abcd"), (Ok(1), *b"e\0\0\0"), (Ok(0), [0u8; 4])] {
         assert!(rt; one_read(&mut source) == wanted);
     }
     assert!(rt; source.faults() == 0);

@@ -55,12 +55,7 @@ fn picked(alloc: Global, segments: &[LiveSegment], count: u32) -> Result<String,
 }
 
 /// The ids of segments, and the births of their rows.
-const SEGMENTS: [(u64, &[u64]); 4] = [
-    (1, &[1, 2, 3]),
-    (2, &[4, 5]),
-    (3, &[6, 7]),
-    (4, &[8]),
-];
+const SEGMENTS: [(u64, &[u64]); 4] = [(1, &[1, 2, 3]), (2, &[4, 5]), (3, &[6, 7]), (4, &[8])];
 
 fn four_segments(alloc: Global) -> Result<Vec<LiveSegment>, Fail> {
     let mut segments = Vec::new(alloc);
