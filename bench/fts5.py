@@ -6,8 +6,8 @@ usage: fts5.py DATABASE run < SCRIPT
 
 It knows the documents and queries of the benchmark: one text, `body`, the exact texts `kind` and `tag`, the number
 `n`. Documents are rows of a table with an index on each column that is looked for; their words are in FTS5, under
-the same row numbers. An index on `n` is made for the first query of a range. A commit is SQLite's. Searches and questions print {"hits":[KEY, ..]}, and a script at its
-end {"docs":D}, the rows that are there, if it has a line.
+the same row numbers. An index on `n` is made for the first query of a range. A commit is SQLite's. Searches and
+questions print {"hits":[KEY, ..]}, and a script at its end {"docs":D}, the rows that are there, if it has a line.
 """
 import json
 import sqlite3

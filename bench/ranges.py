@@ -36,16 +36,24 @@ def key_deletes(rows, count):
 
 
 def searches(rows, count):
-    """So many searches for a range."""
+    """So many searches for a range, and a commit, which tells how many documents there are."""
     for number in picked(rows, count):
         yield {"c": 0, "op": "search", "query": range_of(number)}
+    yield {"c": 0, "op": "commit"}
+
+
+def questions(rows, count):
+    """So many questions for a range, by a later process."""
+    for number in picked(rows, count):
+        yield range_of(number)
 
 
 def among_terms(rows, count):
-    """So many searches for a range among the documents of a key."""
+    """So many searches for a range among the documents of a key, and a commit."""
     for number in picked(rows, count):
         must = [{"term": ["key", f"k{number}"]}, range_of(number)]
         yield {"c": 0, "op": "search", "query": {"bool": {"must": must}}}
+    yield {"c": 0, "op": "commit"}
 
 
 def prepared(first, count):
@@ -61,6 +69,7 @@ def phases(quick):
     yield Phase(f"ranges: {count} deletes", rows, Run(ALONE, (deletes, rows, count)), before, fts5=True)
     yield Phase(f"ranges: {count} deletes by key", rows, Run(ALONE, (key_deletes, rows, count)), before, fts5=True)
     yield Phase(f"ranges: {count} searches", rows, Run(ALONE, (searches, rows, count)), before, fts5=True)
+    yield Phase(f"ranges: {count} questions", rows, Run(("ask",), (questions, rows, count)), before, fts5=True)
     yield Phase(f"ranges: {count} searches among terms", rows, Run(ALONE, (among_terms, rows, count)), before, fts5=True)
 
 
