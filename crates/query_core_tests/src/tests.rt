@@ -34,6 +34,9 @@ fn row_of(alloc: Global, key: &str, body: &str, num: Numbers) -> Result<Row, Fai
 
 /// The index of these rows.
 fn index_of_rows(alloc: Global, rows: Vec<Row>) -> Result<Segment, Fail> {
+    if rows.len() >= 1 << 32 {
+        Err("many")?;
+    }
     let postings = invert(alloc, rows.as_slice())?;
     Ok(Segment {
         id: 1,
