@@ -1,6 +1,6 @@
 //! Slices of a small queue, and of one with thousands of entries. What the updates then are is
 //! worked out by hand.
-ghost use Rattle.std.specs.Prelude.{◌≤◌, ◌^◌, [], ◌∷◌, IfOk, IfSome};
+ghost use Rattle.std.specs.Prelude.{◌≤◌, [], ◌∷◌, IfOk};
 ghost use Rattle.delete_queue.specs.Answers.{IsOperation};
 ghost use Rattle.delete_queue.specs.Seats.{IsSeatOf, Extends, Learns};
 ghost use Rattle.delete_slice.specs.Laws.{IsInGrammar};
@@ -27,24 +27,13 @@ fn set_to_seven() -> [u64; 5]
     ]
 }
 
-/// A queue whose first entry gets the number base + 1, with its one seat.
-fn one_seat(alloc: Global, base: u64) -> Result<(DeleteQueue, Seat), Fail>
-    requires { base ≤ 2 ^ 62 }
-    ensures { IfOk result (λ r. IsSeatOf r.0 r.1) }
-{
-    let (queue, mut seats) = new_queue(alloc, base, 1)?;
-    let seat = seats.pop().ok_or("a seat")?;
-    Ok((queue, seat))
-}
-
-/// Shows the updates that took a slice by a seat.
-fn put_by_seat(
-    out: &mut String,
+/// The updates that took a slice by a seat, as `shown` shows them.
+fn by_seat(
     alloc: Global,
     queue: &DeleteQueue,
     seat: &mut Seat,
     slice: Slice,
-) -> Result<(), NoMemory>
+) -> Result<String, NoMemory>
     requires seat { IsSeatOf queue.now seat.old }
     requires slice { IsSliceOf seat.old slice }
     ensures seat { IsSeatOf queue.now seat.new }
@@ -52,19 +41,20 @@ fn put_by_seat(
 {
     let mut updates = Updates::new(alloc);
     slice.apply(alloc, queue, seat, &mut updates)?;
-    show(out, &updates)
+    shown(alloc, &updates)
 }
 
-/// Shows the updates that took a slice by the log, if it is one of the log.
-fn put_by_log(out: &mut String, alloc: Global, log: &QueueLog, slice: Slice) -> Result<(), NoMemory>
-    requires { IsInGrammar log.now }
+/// The updates that took a slice by the log, as `shown` shows them. It must end inside the log.
+fn by_log(alloc: Global, log: &QueueLog, slice: Slice) -> Result<String, NoMemory>
+    requires grammar { IsInGrammar log.now }
+    requires order { slice.from.at ≤ slice.to.at }
 {
     let mut updates = Updates::new(alloc);
-    if slice.from.at > slice.to.at || slice.to.at > log.len() {
+    if slice.to.at > log.len() {
         return Err(NoMemory);
     }
     slice.apply_log(alloc, log, &mut updates)?;
-    show(out, &updates)
+    shown(alloc, &updates)
 }
 
 /// The log of a queue with one seat.
@@ -80,27 +70,26 @@ fn log_of(alloc: Global, queue: DeleteQueue, seat: Seat) -> Result<QueueLog, NoM
     }
 }
 
-/// A line of each deleted term with its number, and then each setting's value with its number.
-fn show(out: &mut String, updates: &Updates) -> Result<(), NoMemory> {
+/// Each deleted term with its number, then each setting's value with its number.
+fn shown(alloc: Global, updates: &Updates) -> Result<String, NoMemory> {
+    let mut shown = String::new(alloc);
     for (key, number) in updates.deletes().as_map() {
-        out.push_str(key.term().bytes.as_str())?;
-        out.push((b'0' + (*number % 10) as u8) as char)?;
+        shown.push_str(key.term().bytes.as_str())?;
+        shown.push((b'0' + (*number % 10) as u8) as char)?;
     }
     for change in updates.changes() {
         if let Change::Set(setting) = change {
-            out.push_str(setting.num.as_str())?;
-            out.push((b'0' + (setting.number % 10) as u8) as char)?;
+            shown.push_str(setting.num.as_str())?;
+            shown.push((b'0' + (setting.number % 10) as u8) as char)?;
         }
     }
-    out.push('\n')?;
-    Ok(())
+    Ok(shown)
 }
 
 /// Links an add, a delete and a set, numbered 4 to 6.
 fn link_three(queue: &DeleteQueue, seat: &mut Seat) -> bool
     requires { IsSeatOf queue.now seat.old }
-    ensures seat { IsSeatOf queue.now seat.new }
-    ensures extends { Extends seat.old seat.new }
+    ensures { IsSeatOf queue.now seat.new }
 {
     let added = queue.link(seat, &add());
     let deleted = queue.link(seat, &delete_of_five());
@@ -120,83 +109,34 @@ fn link_more(queue: &DeleteQueue, seat: &mut Seat) -> bool
     set == Linked::At(7) && first == Linked::At(8) && second == Linked::At(9)
 }
 
-/// The first three entries of a queue, the next three, and all six.
-#[derive(Clone, Copy)]
-struct Parts {
-    first: Slice,
-    rest: Slice,
-    whole: Slice,
-}
-
-/// Links six entries to a new queue, numbered 4 to 9. The slices end where they are to.
-fn parts_of(queue: &DeleteQueue, seat: &mut Seat) -> Option<Parts>
-    requires { IsSeatOf queue.now seat.old }
-    ensures seat { IsSeatOf queue.now seat.new }
-    ensures first { IfSome result (λ parts. IsSliceOf seat.new parts.first) }
-    ensures rest { IfSome result (λ parts. IsSliceOf seat.new parts.rest) }
-    ensures whole { IfSome result (λ parts. IsSliceOf seat.new parts.whole) }
-{
-    let mut first = Slice::start(seat);
-    let three = link_three(queue, seat);
-    first.advance(queue, seat);
-    let mut rest = Slice::start(seat);
-    let more = link_more(queue, seat);
-    rest.advance(queue, seat);
-    let ends = (first.from.at, first.to.at, rest.from.at, rest.to.at);
-    if !three || !more || ends != (0, 3, 3, 6) {
-        return None;
-    }
+/// A queue's entries in two slices, and in one. Of two sets of the same number the last is kept.
+#[test]
+fn slices_of_a_queue(rt: HostRuntime) -> Result<(), Fail> {
+    let alloc = rt.alloc();
+    let (queue, mut seats) = new_queue(alloc, 3, 1)?;
+    let mut seat = seats.pop().ok_or("a seat")?;
+    let mut first = Slice::start(&seat);
+    assert!(rt; link_three(&queue, &mut seat));
+    first.advance(&queue, &mut seat);
+    let mut rest = Slice::start(&seat);
+    assert!(rt; link_more(&queue, &mut seat));
+    rest.advance(&queue, &mut seat);
+    assert!(rt; (first.from.at, first.to.at, rest.from.at, rest.to.at) == (0, 3, 3, 6));
     let whole = Slice {
         from: first.from,
         to: rest.to,
     };
-    Some(Parts { first, rest, whole })
-}
-
-/// The updates that took the three slices by a seat, a line each.
-fn told_by_seat(
-    alloc: Global,
-    queue: &DeleteQueue,
-    seat: &mut Seat,
-    parts: Parts,
-) -> Result<String, NoMemory>
-    requires seat { IsSeatOf queue.now seat.old }
-    requires first { IsSliceOf seat.old parts.first }
-    requires rest { IsSliceOf seat.old parts.rest }
-    requires whole { IsSliceOf seat.old parts.whole }
-    ensures { IsSeatOf queue.now seat.new }
-{
-    let mut told = String::new(alloc);
-    put_by_seat(&mut told, alloc, queue, seat, parts.first)?;
-    put_by_seat(&mut told, alloc, queue, seat, parts.rest)?;
-    put_by_seat(&mut told, alloc, queue, seat, parts.whole)?;
-    Ok(told)
-}
-
-/// The updates that took the three slices by the log, a line each.
-fn told_by_log(alloc: Global, log: &QueueLog, parts: Parts) -> Result<String, NoMemory>
-    requires { IsInGrammar log.now }
-{
-    let mut told = String::new(alloc);
-    put_by_log(&mut told, alloc, log, parts.first)?;
-    put_by_log(&mut told, alloc, log, parts.rest)?;
-    put_by_log(&mut told, alloc, log, parts.whole)?;
-    Ok(told)
-}
-
-/// What the updates of the three slices are. Of two sets of the same number the last is kept.
-const UPDATES: &str = "abcde5n6\nabcde9abcdef8n7\nabcde9abcdef8n7\n";
-
-/// A queue's entries in two slices, and in one.
-#[test]
-fn slices_of_a_queue(rt: HostRuntime) -> Result<(), Fail> {
-    let alloc = rt.alloc();
-    let (queue, mut seat) = one_seat(alloc, 3)?;
-    let parts = parts_of(&queue, &mut seat).ok_or("other numbers")?;
-    assert!(rt; told_by_seat(alloc, &queue, &mut seat, parts)?.as_str() == UPDATES);
+    let of_first = by_seat(alloc, &queue, &mut seat, first)?;
+    let of_rest = by_seat(alloc, &queue, &mut seat, rest)?;
+    let of_whole = by_seat(alloc, &queue, &mut seat, whole)?;
+    assert!(rt; of_first.as_str() == "abcde5n6");
+    assert!(rt; of_rest.as_str() == "abcde9abcdef8n7");
+    assert!(rt; of_whole.as_str() == "abcde9abcdef8n7");
     let log = log_of(alloc, queue, seat)?;
     assert!(rt; log.len() == 6);
-    assert!(rt; told_by_log(alloc, &log, parts)?.as_str() == UPDATES);
+    assert!(rt; by_log(alloc, &log, first)?.as_str() == "abcde5n6");
+    assert!(rt; by_log(alloc, &log, rest)?.as_str() == "abcde9abcdef8n7");
+    assert!(rt; by_log(alloc, &log, whole)?.as_str() == "abcde9abcdef8n7");
     Ok(())
 }
 
@@ -256,64 +196,24 @@ fn numbers_in(alloc: Global, updates: &Updates) -> Result<Vec<u64>, NoMemory> {
     Ok(numbers)
 }
 
-/// The slice of 4,000 new deletes of a new queue, if each has its number and the slice ends where it is
-/// to.
-fn thousands(queue: &DeleteQueue, seat: &mut Seat) -> Option<Slice>
-    requires { IsSeatOf queue.now seat.old }
-    ensures seat { IsSeatOf queue.now seat.new }
-    ensures slice { IfSome result (IsSliceOf seat.new) }
-{
-    let mut slice = Slice::start(seat);
-    let linked = link_thousands(queue, seat);
-    slice.advance(queue, seat);
-    if linked && (slice.from.at, slice.to.at) == (0, 4000) {
-        Some(slice)
-    } else {
-        None
-    }
-}
-
-/// The same of 100 more.
-fn hundred_more(queue: &DeleteQueue, seat: &mut Seat) -> Option<Slice>
-    requires { IsSeatOf queue.now seat.old }
-    ensures seat { IsSeatOf queue.now seat.new }
-    ensures slice { IfSome result (IsSliceOf seat.new) }
-{
-    let mut slice = Slice::start(seat);
-    let linked = link_fives(queue, seat, 4001, 4100);
-    slice.advance(queue, seat);
-    if linked && (slice.from.at, slice.to.at) == (4000, 4100) {
-        Some(slice)
-    } else {
-        None
-    }
-}
-
-/// Whether the updates that took a slice have these numbers.
-fn has_numbers(
-    alloc: Global,
-    queue: &DeleteQueue,
-    seat: &mut Seat,
-    slice: Slice,
-    want: &[u64],
-) -> Result<bool, NoMemory>
-    requires seat { IsSeatOf queue.now seat.old }
-    requires slice { IsSliceOf seat.old slice }
-    ensures { IsSeatOf queue.now seat.new }
-{
-    let numbers = numbers_by_seat(alloc, queue, seat, slice)?;
-    Ok(numbers.as_slice() == want)
-}
-
 /// A slice of 4,000 deletes, and one that begins at its end and has only what came after.
 #[test]
 fn slices_of_thousands(rt: HostRuntime) -> Result<(), Fail> {
     let alloc = rt.alloc();
-    let (queue, mut seat) = one_seat(alloc, 0)?;
-    let first = thousands(&queue, &mut seat).ok_or("other numbers")?;
-    assert!(rt; has_numbers(alloc, &queue, &mut seat, first, &[4000, 3001])?);
-    let rest = hundred_more(&queue, &mut seat).ok_or("other numbers")?;
+    let (queue, mut seats) = new_queue(alloc, 0, 1)?;
+    let mut seat = seats.pop().ok_or("a seat")?;
+    let mut first = Slice::start(&seat);
+    assert!(rt; link_thousands(&queue, &mut seat));
+    first.advance(&queue, &mut seat);
+    assert!(rt; (first.from.at, first.to.at) == (0, 4000));
+    let numbers = numbers_by_seat(alloc, &queue, &mut seat, first)?;
+    assert!(rt; numbers.as_slice() == [4000, 3001].as_slice());
+    let mut rest = Slice::start(&seat);
     assert!(rt; rest.from == first.to);
-    assert!(rt; has_numbers(alloc, &queue, &mut seat, rest, &[4100])?);
+    assert!(rt; link_fives(&queue, &mut seat, 4001, 4100));
+    rest.advance(&queue, &mut seat);
+    assert!(rt; (rest.from.at, rest.to.at) == (4000, 4100));
+    let numbers = numbers_by_seat(alloc, &queue, &mut seat, rest)?;
+    assert!(rt; numbers.as_slice() == [4100].as_slice());
     Ok(())
 }
