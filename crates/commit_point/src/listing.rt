@@ -39,7 +39,7 @@ fn commits_among(alloc: Global, names: &[FileName]) -> Result<BTreeSet<u64>, NoM
 }
 
 /// The numbers of the commits among these names, rising.
-pub fn rising_numbers(alloc: Global, names: &[FileName]) -> Result<List<u64>, NoMemory>
+fn rising_numbers(alloc: Global, names: &[FileName]) -> Result<List<u64>, NoMemory>
     ensures commits { IfOk result (λ numbers. (s : ℕ)
         → Contains numbers s ↔ Contains names.now (Commit s)) }
     ensures rise { IfOk result (λ numbers. AllPairs ◌<◌ numbers) }

@@ -1,6 +1,6 @@
 -- The commit files that are read, and what is planned after them.
 use Rattle.std.proofs.Common.{◌≡◌, ◌∙◌, ◌⊎◌, inl, inr, ℕ, ◌+◌, ◌-◌, ◌<◌, List, [], ◌∷◌, ◌++◌, length, get_or, map, take, drop, Option, Some, None, Result, Ok, Err, refl, sym, ap, subst}
-use Rattle.std.specs.Prelude.{◌↔◌, AllPairs, Contains, IfErr, IfOk, IsSome}
+use Rattle.std.specs.Prelude.{AllPairs, Contains, IfErr}
 use Rattle.std.specs.List.{AllZip, flat_map}
 use Rattle.std.proofs.lemmas.List.{flat_map_more, take_more}
 use Rattle.ix_base.specs.declared.damaged.Damaged.{Damaged}
@@ -12,20 +12,14 @@ use Rattle.commit_point.specs.declared.heads.Head.{Head}
 use Rattle.commit_point.specs.Holds.{HasHead}
 use Rattle.commit_point.specs.Reading.{head_from}
 use Rattle.commit_point.specs.SegmentLaws.{head_reads}
-use Rattle.commit_pruning.specs.Choosing.{IsPlan, earlier, entries_of, latest, unlisted}
+use Rattle.commit_pruning.specs.Choosing.{AreNumbers, IsPlan, earlier, entries_of, latest, unlisted}
 use Rattle.commit_pruning.specs.Pruning.{AreWhole, BreaksStaying, IsBrokenCommit, IsOutside}
 use Rattle.commit_pruning.specs.declared.fault.PruningFault.{PruningFault}
 use Rattle.commit_pruning.specs.declared.fault.PruningFault.TheVariants as pruning
-use Rattle.commit_pruning.proofs.Latest.{AreCommits, latest_stays}
+use Rattle.commit_pruning.proofs.Latest.{latest_stays}
 
 pub same_files : (told : Option Files) (files seen : Files) → told ≡ Some files → Was told seen → files ≡ seen
 same_files told files seen is was = subst (λ (o : Option Files). Was o seen) is was
-
-pub head_there : (told : Option Files) (s : ℕ) (r : Result Head PruningFault) → IfOk r (λ head. (files : Files) × Was told files × HasHead files s head)
-    → (files : Files) → told ≡ Some files → IfOk r (HasHead files s)
-head_there told s (Err fault) found files is = tt
-head_there told s (Ok head) found files is =
-    subst (λ (f : Files). HasHead f s head) (sym (same_files told files found.0 is found.1)) found.2
 
 -- ---- one commit file after another
 
@@ -50,36 +44,29 @@ one_more files numbers i head entries both lt are has is = (
 
 -- ---- the plan
 
-commits_of : (files : Files) (names : List FileName) (numbers : List ℕ) → Lists files names → ((s : ℕ) → Contains numbers s ↔ Contains names (Commit s))
-    → (s : ℕ) → Contains numbers s ↔ IsSome (files (Commit s))
-commits_of files names numbers lists same s =
-    ((λ c. (lists.each (Commit s)).0 ((same s).0 c)), (λ there. (same s).1 ((lists.each (Commit s)).1 there)))
-
 pub planned : (keep : ℕ) (files : Files) (names gone rest : List FileName) (numbers : List ℕ) (entries : List HeadSegment)
-    → Lists files names → AllPairs ◌<◌ numbers → ((s : ℕ) → Contains numbers s ↔ Contains names (Commit s)) → AreEntries files (latest keep numbers) entries
+    → Lists files names → AllPairs ◌<◌ numbers → AreNumbers files numbers → AreEntries files (latest keep numbers) entries
     → gone ≡ map Commit (earlier keep numbers) → rest ≡ unlisted entries names → IsPlan keep files gone rest
-planned keep files names gone rest numbers entries lists rise same are gone_are rest_are = record {
+planned keep files names gone rest numbers entries lists rise all are gone_are rest_are = record {
   names = names;
   names_are = lists;
   numbers = numbers;
   rise = rise;
-  commits = commits_of files names numbers lists same;
+  commits = all;
   heads = are.0;
   heads_are = are.1;
   gone_are = gone_are;
   rest_are = rest_are ∙ ap (λ (es : List HeadSegment). unlisted es names) are.2;
 }
 
-pub breaks_staying : (keep : ℕ) (files : Files) (told : Option Files) (names : List FileName) (numbers : List ℕ) (damaged : Damaged) → told ≡ Some files
-    → Lists files names → AllPairs ◌<◌ numbers → ((s : ℕ) → Contains numbers s ↔ Contains names (Commit s))
+pub breaks_staying : (keep : ℕ) (files : Files) (told : Option Files) (numbers : List ℕ) (damaged : Damaged) → told ≡ Some files
+    → AllPairs ◌<◌ numbers → AreNumbers files numbers
     → ((s : ℕ) × Contains (latest keep numbers) s × IsBrokenCommit told s damaged) → BreaksStaying keep files damaged
-breaks_staying keep files told names numbers damaged is lists rise same broken =
-    let of : AreCommits files numbers = record { rise = rise; each = commits_of files names numbers lists same } in
-    record {
-      number = broken.0;
-      stays = latest_stays keep files numbers of broken.0 broken.1;
-      broken = subst (λ (f : Files). head_from f broken.0 ≡ Err damaged) (sym (same_files told files broken.2.0 is broken.2.1)) broken.2.2;
-    }
+breaks_staying keep files told numbers damaged is rise all broken = record {
+  number = broken.0;
+  stays = latest_stays keep files numbers (record { rise = rise; each = all }) broken.0 broken.1;
+  broken = subst (λ (f : Files). head_from f broken.0 ≡ Err damaged) (sym (same_files told files broken.2.0 is broken.2.1)) broken.2.2;
+}
 
 -- ---- what is said of refusals
 

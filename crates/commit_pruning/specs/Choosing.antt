@@ -42,6 +42,10 @@ latest keep numbers = drop (length numbers - keep) numbers
 abbrev pub entries_of : List Head → List HeadSegment
 entries_of heads = flat_map (λ (h : Head). h.segments) heads
 
+-- the numbers are those of the commits
+abbrev pub AreNumbers : Files → List ℕ → Type 0
+AreNumbers files numbers = (s : ℕ) → Contains numbers s ↔ IsSome (files (Commit s))
+
 -- What is deleted where so many commits are kept: the commit files of the earlier ones, and then the files that none of
 -- the others lists.
 pub record IsPlan (keep : ℕ) (files : Files) (gone rest : List FileName) : Type 0 where
@@ -49,7 +53,7 @@ pub record IsPlan (keep : ℕ) (files : Files) (gone rest : List FileName) : Typ
   pub names_are : Lists files names
   pub numbers : List ℕ
   pub rise : AllPairs ◌<◌ numbers
-  pub commits : (s : ℕ) → Contains numbers s ↔ IsSome (files (Commit s))
+  pub commits : AreNumbers files numbers
   pub heads : List Head
   pub heads_are : AllZip (HasHead files) (latest keep numbers) heads
   pub gone_are : gone ≡ map Commit (earlier keep numbers)

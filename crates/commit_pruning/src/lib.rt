@@ -9,6 +9,7 @@ mod fault;
 mod named;
 mod planning;
 mod pruning;
+mod reading;
 
 pub use fault::PruningFault;
 pub use pruning::prune;

@@ -33,7 +33,9 @@ impl Ord for Version {
     ghost matches_eq = { Prim.search (comparing, rules) };
 
     fn cmp(&self, other: &Version) -> Ordering {
-        self.id.cmp(&other.id).then(self.written.cmp(&other.written))
+        self.id
+            .cmp(&other.id)
+            .then(self.written.cmp(&other.written))
     }
 }
 
@@ -68,17 +70,37 @@ fn add_version(versions: &mut BTreeSet<Version>, entry: &HeadSegment) -> Result<
     Ok(())
 }
 
+/// The ids that entries name.
+fn ids_of(alloc: Global, entries: &[HeadSegment]) -> Result<BTreeSet<u64>, NoMemory>
+    ensures { IfOk result (λ ids. (id : ℕ) → contains nat_cmp ids id ≡ has_id entries.now id) }
+{
+    let mut ids = BTreeSet::new(alloc);
+    for entry in entries {
+        ids.insert(entry.id)?;
+    }
+    Ok(ids)
+}
+
+/// The versions that entries name.
+fn versions_of(alloc: Global, entries: &[HeadSegment]) -> Result<BTreeSet<Version>, NoMemory>
+    ensures { IfOk result (λ versions. (id v : ℕ)
+        → contains by_version versions (record { id = id; written = v })
+        ≡ has_written entries.now id v) }
+{
+    let mut versions = BTreeSet::new(alloc);
+    for entry in entries {
+        add_version(&mut versions, entry)?;
+    }
+    Ok(versions)
+}
+
 impl Named {
     /// The segments that these entries name.
     pub fn of(alloc: Global, entries: &[HeadSegment]) -> Result<Named, NoMemory>
         ensures { IfOk result (IsNamed entries.now) }
     {
-        let mut ids = BTreeSet::new(alloc);
-        let mut versions = BTreeSet::new(alloc);
-        for entry in entries {
-            ids.insert(entry.id)?;
-            add_version(&mut versions, entry)?;
-        }
+        let ids = ids_of(alloc, entries)?;
+        let versions = versions_of(alloc, entries)?;
         Ok(Named { ids, versions })
     }
 

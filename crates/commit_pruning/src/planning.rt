@@ -1,5 +1,5 @@
 //! Which commits are given up, and which files are deleted with them.
-ghost use Rattle.std.specs.Prelude.{◌≡◌, ◌≤◌, ℕ, List as ListOf, Contains, Some, Err, IfOk, map};
+ghost use Rattle.std.specs.Prelude.{◌≡◌, ◌<◌, ◌≤◌, ℕ, List as ListOf, AllPairs, Contains, Some, Err, IfOk, map};
 ghost use Rattle.std.specs.List.{AllZip};
 ghost use Rattle.ix_base.specs.declared.damaged.Damaged.{Damaged};
 ghost use Rattle.ix_base.specs.declared.file_name.FileName.TheVariants.{Commit};
@@ -8,12 +8,13 @@ ghost use Rattle.ix_outside.specs.Disk.{told_files};
 ghost use Rattle.ix_outside.specs.Files.{Files, Lists};
 ghost use Rattle.commit_point.specs.Holds.{HasHead};
 ghost use Rattle.commit_point.specs.declared.heads.Head.{Head};
-ghost use Rattle.commit_pruning.specs.Choosing.{IsPlan, entries_of};
+ghost use Rattle.commit_pruning.specs.Choosing.{AreNumbers, IsPlan, entries_of};
 ghost use Rattle.commit_pruning.specs.Pruning.{BreaksStaying, IsBrokenCommit};
 
 use crate::choosing::unlisted;
 use crate::fault::PruningFault;
-use commit_point::{Head, HeadSegment, OpenFault, listed_head, rising_numbers};
+use crate::reading::head_of;
+use commit_point::{HeadSegment, list_commits};
 use ix_base::{FileName, List, NoMemory};
 use ix_outside::{Store, StoreFault};
 use std::alloc::Global;
@@ -24,26 +25,6 @@ use std::alloc::Global;
 pub(crate) struct Plan {
     pub gone: List<FileName>,
     pub rest: List<FileName>,
-}
-
-/// What the commit file of this number says, which a list has shown. One that is gone since then is
-/// damaged at 0.
-fn head_of<S: Store>(alloc: Global, store: &mut S, number: u64) -> Result<Head, PruningFault>
-    ensures found { (files : Files) → told_files (S.disk store.old) ≡ Some files
-        → IfOk result (HasHead files number) }
-    ensures damaged { (damaged : Damaged) → result ≡ Err (PruningFault.Damaged damaged)
-        → IsBrokenCommit (told_files (S.disk store.old)) number damaged }
-    ensures reads { S.disk store.new ≡ S.disk store.old }
-    ensures later { S.fault_count store.old ≤ S.fault_count store.new }
-    ensures failed { result ≡ Err PruningFault.Store
-        → Rose (S.fault_count store.old) (S.fault_count store.new) }
-{
-    match listed_head(alloc, store, number) {
-        Ok(head) => Ok(head),
-        Err(OpenFault::Damaged(damaged)) => Err(PruningFault::Damaged(damaged)),
-        Err(OpenFault::Store) => Err(PruningFault::Store),
-        Err(OpenFault::NoSuch { number: _ } | OpenFault::NoMemory) => Err(PruningFault::NoMemory),
-    }
 }
 
 /// The segments that the commit files of these numbers name.
@@ -84,27 +65,28 @@ fn commit_names(alloc: Global, numbers: &[u64]) -> Result<Vec<FileName>, NoMemor
     Ok(names)
 }
 
-/// What is to be deleted of the files with these names.
+/// What is to be deleted of the files with these names, where these are the numbers of all commits.
 fn plan_for<S: Store>(
     alloc: Global,
     store: &mut S,
     keep: u32,
+    numbers: &[u64],
     names: &[FileName],
 ) -> Result<Plan, PruningFault>
+    requires { AllPairs ◌<◌ numbers.now }
     ensures plan { (files : Files) → told_files (S.disk store.old) ≡ Some files
-        → Lists files names.now → IfOk result (λ plan. IsPlan keep files plan.gone plan.rest) }
+        → Lists files names.now → AreNumbers files numbers.now
+        → IfOk result (λ plan. IsPlan keep files plan.gone plan.rest) }
     ensures damaged { (damaged : Damaged) → result ≡ Err (PruningFault.Damaged damaged)
         → (s : ℕ) × IsBrokenCommit (told_files (S.disk store.old)) s damaged }
     ensures staying { (files : Files) (damaged : Damaged)
-        → told_files (S.disk store.old) ≡ Some files → Lists files names.now
+        → told_files (S.disk store.old) ≡ Some files → AreNumbers files numbers.now
         → result ≡ Err (PruningFault.Damaged damaged) → BreaksStaying keep files damaged }
     ensures reads { S.disk store.new ≡ S.disk store.old }
     ensures later { S.fault_count store.old ≤ S.fault_count store.new }
     ensures failed { result ≡ Err PruningFault.Store
         → Rose (S.fault_count store.old) (S.fault_count store.new) }
 {
-    let numbers = rising_numbers(alloc, names)?;
-    let numbers = numbers.as_slice();
     let (earlier, latest) = numbers.split_at(numbers.len().saturating_sub(keep as usize));
     let entries = entries_of(alloc, store, latest)?;
     let gone = commit_names(alloc, earlier)?;
@@ -113,6 +95,34 @@ fn plan_for<S: Store>(
         gone: List::from_vec(gone),
         rest: List::from_vec(rest),
     })
+}
+
+/// What is to be deleted where these are the numbers of all commits, and so many of them are kept.
+fn plan_of<S: Store>(
+    alloc: Global,
+    store: &mut S,
+    keep: u32,
+    numbers: &[u64],
+) -> Result<Plan, PruningFault>
+    requires { AllPairs ◌<◌ numbers.now }
+    ensures plan { (files : Files) → told_files (S.disk store.old) ≡ Some files
+        → AreNumbers files numbers.now
+        → IfOk result (λ plan. IsPlan keep files plan.gone plan.rest) }
+    ensures damaged { (damaged : Damaged) → result ≡ Err (PruningFault.Damaged damaged)
+        → (s : ℕ) × IsBrokenCommit (told_files (S.disk store.old)) s damaged }
+    ensures staying { (files : Files) (damaged : Damaged)
+        → told_files (S.disk store.old) ≡ Some files → AreNumbers files numbers.now
+        → result ≡ Err (PruningFault.Damaged damaged) → BreaksStaying keep files damaged }
+    ensures reads { S.disk store.new ≡ S.disk store.old }
+    ensures later { S.fault_count store.old ≤ S.fault_count store.new }
+    ensures failed { result ≡ Err PruningFault.Store
+        → Rose (S.fault_count store.old) (S.fault_count store.new) }
+{
+    match store.list(alloc) {
+        Ok(names) => plan_for(alloc, store, keep, numbers, names.as_slice()),
+        Err(StoreFault::Failed) => Err(PruningFault::Store),
+        Err(StoreFault::NoMemory) => Err(PruningFault::NoMemory),
+    }
 }
 
 /// What is to be deleted where so many commits are kept. The commit files of those that stay are
@@ -134,8 +144,8 @@ pub(crate) fn make_plan<S: Store>(
     ensures failed { result ≡ Err PruningFault.Store
         → Rose (S.fault_count store.old) (S.fault_count store.new) }
 {
-    match store.list(alloc) {
-        Ok(names) => plan_for(alloc, store, keep, names.as_slice()),
+    match list_commits(alloc, store) {
+        Ok(numbers) => plan_of(alloc, store, keep, numbers.as_slice()),
         Err(StoreFault::Failed) => Err(PruningFault::Store),
         Err(StoreFault::NoMemory) => Err(PruningFault::NoMemory),
     }

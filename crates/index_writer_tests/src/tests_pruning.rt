@@ -80,13 +80,13 @@ fn commits_are_opened(rt: HostRuntime) -> Result<(), Fail> {
     Ok(())
 }
 
-/// A writer whose store fails in a prune is closed then. Ten calls open the commit, and the third of the
+/// A writer whose store fails in a prune is closed then. Ten calls open the commit, and the fourth of the
 /// prune is the first delete.
 #[test]
 fn closed_after_a_failed_prune(rt: HostRuntime) -> Result<(), Fail> {
     let alloc = rt.alloc();
     let store = three_commits(&rt, alloc)?.into_store();
-    let mut writer = opened_on(alloc, store.failing(vec![in alloc; 13u64]?), 7)?;
+    let mut writer = opened_on(alloc, store.failing(vec![in alloc; 14u64]?), 7)?;
     assert!(rt; writer.prune(1) == Err(PruneFault::Store));
     assert!(rt; writer.is_closed());
     assert!(rt; writer.prune(1) == Err(PruneFault::Closed));
