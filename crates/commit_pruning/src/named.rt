@@ -56,6 +56,15 @@ pub(crate) struct Named {
     versions: BTreeSet<Version>,
 }
 
+/// Adds the id that an entry names.
+fn add_id(ids: &mut BTreeSet<u64>, entry: &HeadSegment) -> Result<(), NoMemory>
+    ensures { OnOk result ((id : ℕ) → contains nat_cmp ids.new id
+        ≡ (contains nat_cmp ids.old id || (entry.now.id == id))) }
+{
+    ids.insert(entry.id)?;
+    Ok(())
+}
+
 /// Adds the version that an entry names.
 fn add_version(versions: &mut BTreeSet<Version>, entry: &HeadSegment) -> Result<(), NoMemory>
     ensures { OnOk result ((id v : ℕ)
@@ -76,7 +85,7 @@ fn ids_of(alloc: Global, entries: &[HeadSegment]) -> Result<BTreeSet<u64>, NoMem
 {
     let mut ids = BTreeSet::new(alloc);
     for entry in entries {
-        ids.insert(entry.id)?;
+        add_id(&mut ids, entry)?;
     }
     Ok(ids)
 }

@@ -22,7 +22,7 @@ returns-clause-plan g c files told lists all =
 pub returns-in_err-entries-clause-staying : goal.returns-in_err-entries-clause-staying
 returns-in_err-entries-clause-staying g c files damaged told all is =
     let back : c.split_at.result.1.now ≡ latest c.args.keep c.args.numbers.now = search rules in
-    let p = err_from_is_err_and c.from_residual-in_err-entries.result c.from_residual-in_err-entries.ensures.1 in
+    let p = err_from_is_err_and c.from_residual.result c.from_residual.ensures.1 in
     let same : c.in_err-entries.field-0.0 ≡ Damaged damaged = cc in
     let broken = c.in_err-entries.ensures.damaged damaged (ap Err same) in
     breaks_staying c.args.keep files (told_files (g.S.Store.disk c.args.store.now)) c.args.numbers.now damaged told c.requires all
