@@ -1,10 +1,10 @@
 -- The words of a phrase, and lists of positions that follow one another.
-use Rattle.std.proofs.Common.{◌≡◌, ℕ, zero, suc, ◌+◌, ◌<◌, List, [], ◌∷◌, ◌++◌, Bool, true, false, ◌&&◌, cond, length, get_or, take, drop, slice_get, Some, Contains, refl, sym, ap, ◌∙◌, subst, arith}
+use Rattle.std.proofs.Common.{◌≡◌, ℕ, zero, suc, ◌+◌, ◌<◌, List, [], ◌∷◌, ◌++◌, Bool, true, false, ◌&&◌, ◌||◌, cond, nat_lt, drop-cons, length, get_or, take, drop, slice_get, Some, Contains, refl, sym, ap, ◌∙◌, subst, arith}
 use Rattle.std.specs.List.{All, AllZip, list_any, filter}
 use Rattle.std.specs.Ordering.{eq_by_cmp}
 use Rattle.std.specs.Cmp.{Equal-is}
 use Rattle.std.proofs.Math.Bool.{and-true, and_assoc}
-use Rattle.std.proofs.lemmas.Bool.{and_parts}
+use Rattle.std.proofs.lemmas.Bool.{and_parts, lt-ltb}
 use Rattle.std.proofs.lemmas.List.{get_or_append_left, map-append, length-append, length-take, length-map, take_more, take-append-drop}
 use Rattle.std.proofs.lemmas.List.Elements.{All-weaker, All-push, All-head, All-tail, All-append, Contains-append_left, Contains-push}
 use Rattle.std.proofs.lemmas.Option.{get_or_from_slice_get}
@@ -115,18 +115,45 @@ follow_none all i at h =
     ap (λ (l : List (List ℕ)). follow_from l at) (sym (take-append-drop i all)) ∙ follow-append (take i all) (drop i all) at ∙ ap (λ (b : Bool). b && follow_from (drop i all) (at + length (take i all))) h
 
 -- one more list
-pub follow_next : (all : List (List ℕ)) (i : ℕ) (starts places kept : List ℕ) → i < length all → get_or all i [] ≡ places
-    → ((at : ℕ) → has_number starts at ≡ follow_from (take i all) at) → kept ≡ filter (λ x. has_number places (x + i)) starts
-    → (at : ℕ) → has_number kept at ≡ follow_from (take (i + 1) all) at
-follow_next all i starts places kept in' is h k at =
+pub follow_more : (all : List (List ℕ)) (i at : ℕ) (places : List ℕ) → i < length all → get_or all i [] ≡ places
+    → follow_from (take (i + 1) all) at ≡ (follow_from (take i all) at && has_number places (at + i))
+follow_more all i at places in' is =
     let long : length (take i all) ≡ i = omega (arith, length-take i all) in
-    let here : has_number places (at + i) ≡ (has_number (get_or all i []) (at + length (take i all)) && true) =
-    sym (and-true (has_number places (at + i))) ∙ ap (λ (l : List ℕ). has_number l (at + i) && true) (sym is) ∙ ap (λ (n : ℕ). has_number (get_or all i []) (at + n) && true) (sym long) in
-    ap (λ (l : List ℕ). has_number l at) k
-    ∙ has_filter (λ x. has_number places (x + i)) starts at
-    ∙ (λ n. h at n && here n)
-    ∙ sym (follow-append (take i all) (get_or all i [] ∷ []) at)
-    ∙ ap (λ (l : List (List ℕ)). follow_from l at) (sym (take_more all i [] in'))
+    ap (λ (l : List (List ℕ)). follow_from l at) (take_more all i [] in')
+    ∙ follow-append (take i all) (get_or all i [] ∷ []) at
+    ∙ ap (λ (n : ℕ). follow_from (take i all) at && (has_number (get_or all i []) (at + n) && true)) long
+    ∙ ap (λ (l : List ℕ). follow_from (take i all) at && (has_number l (at + i) && true)) is
+    ∙ ap (λ (b : Bool). follow_from (take i all) at && b) (and-true (has_number places (at + i)))
+
+-- ---- a run of lists
+
+both_same : (b c : Bool) → (b && (b && c)) ≡ (b && c)
+both_same true c = refl
+both_same false c = refl
+
+-- whether some number passes is whether any is left of those that do
+some_left : (f : ℕ → Bool) (xs : List ℕ) → list_any f xs ≡ nat_lt 0 (length (filter f xs))
+some_left f [] = refl
+some_left f (x ∷ xs) = by (f x) (some_left f xs)
+  where
+    by : (b : Bool) → list_any f xs ≡ nat_lt 0 (length (filter f xs)) → (b || list_any f xs) ≡ nat_lt 0 (length (cond b (x ∷ filter f xs) (filter f xs)))
+    by true more = sym (lt-ltb 0 (suc (length (filter f xs))) (omega arith))
+    by false more = more
+
+pub run_starts : (lists : List (List ℕ)) (order : List ℕ) (at : ℕ) → 0 < length order
+    → has_number (filter (follow_from (in_turn [] lists order)) (get_or lists (get_or order 0 0) [])) at ≡ follow_from (in_turn [] lists order) at
+run_starts lists [] at lt = absurd (omega arith)
+run_starts lists (o ∷ order) at lt =
+    has_filter (follow_from (in_turn [] lists (o ∷ order))) (get_or lists o []) at
+    ∙ both_same (has_number (get_or lists o []) at) (follow_from (in_turn [] lists order) (at + 1))
+
+pub any_start : (lists : List (List ℕ)) (order : List ℕ)
+    → list_any (follow_from (in_turn [] lists order)) (get_or lists (get_or order 0 0) []) ≡ nat_lt 0 (length (filter (follow_from (in_turn [] lists order)) (get_or lists (get_or order 0 0) [])))
+any_start lists order = some_left (follow_from (in_turn [] lists order)) (get_or lists (get_or order 0 0) [])
+
+-- the next number, which passes or doesn't
+pub any_next : (f : ℕ → Bool) (xs : List ℕ) (i : ℕ) → i < length xs → list_any f (drop i xs) ≡ (f (get_or xs i 0) || list_any f (drop (i + 1) xs))
+any_next f xs i lt = ap (list_any f) (drop-cons xs i 0 lt) ∙ ap (λ (n : ℕ). f (get_or xs i 0) || list_any f (drop n xs)) (let e : suc i ≡ i + 1 = omega arith in e)
 
 -- where a row's positions of the different terms follow one another, the words stand
 module _ (docs : List Document) (row : ℕ) (different : List Term) (lists : List (List ℕ)) (each : AllZip (λ t xs. ArePositions docs t row xs) different lists) (d : Term) where

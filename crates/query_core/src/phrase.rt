@@ -1,10 +1,10 @@
 //! Phrases.
 //!
 //! What a phrase finds is made of the lists of its different words: each is taken from the index
-//! once for its rows, and once in each row for its positions. A search ends as soon as no row, or no
-//! position, is left.
-ghost use Rattle.std.specs.Prelude.{◌≡◌, ◌<◌, ℕ, List, [], All, map, length, IfOk};
-ghost use Rattle.std.specs.List.{AllZip};
+//! once for its rows, and once in each row for its positions. A search for rows ends as soon as none
+//! is left, and one within a row at the first position where the phrase stands.
+ghost use Rattle.std.specs.Prelude.{◌≡◌, ◌<◌, List, [], All, map, length, slice_index, slice_index_or, IfOk};
+ghost use Rattle.std.specs.List.{AllZip, list_any};
 ghost use Rattle.ix_base.specs.Terms.{terms, folded_words};
 ghost use Rattle.ix_base.specs.Matches.{phrase_stands};
 ghost use Rattle.ix_base.specs.Inversion.{has_number, at_row};
@@ -13,7 +13,8 @@ ghost use Rattle.query_core.specs.Answers.{AreRowsWhere, ArePositions, IsRising,
 ghost use Rattle.query_core.specs.Phrases.{AreWords, lists_of, in_turn, follow_from};
 
 use crate::inverted::Inverted;
-use crate::row_lists::{followed, in_both};
+use crate::number_search::has_from;
+use crate::row_lists::in_both;
 use analysis::{TermKey, phrase_terms};
 use indexmap::IndexSet;
 use ix_base::{Name, NoMemory, PhraseText, Term};
@@ -83,23 +84,41 @@ fn positions_in<I: Inverted>(
     Ok(lists)
 }
 
-/// The positions from which lists of positions, in this order, have one after another.
-fn starts(alloc: Global, lists: &[Vec<u32>], order: &[usize]) -> Result<Vec<u32>, NoMemory>
+/// Whether lists of positions, in this order, have one after another from this position on. Each
+/// list is searched from where its last search ended.
+fn follow_from(lists: &[Vec<u32>], order: &[usize], at: u32, ends: &mut [usize]) -> bool
+    requires within { All (λ i. i < length lists.now) order.now }
+    requires ends { length ends.old ≡ length order.now }
+    ensures follow { All IsRising (lists_of lists.now)
+        → result ≡ follow_from (in_turn [] (lists_of lists.now) order.now) at }
+    ensures ends { length ends.new ≡ length order.now }
+{
+    for i in 0..order.len() {
+        let places = lists[order[i]].as_slice();
+        if !has_from(places, u64::from(at) + i as u64, &mut ends[i]) {
+            return false;
+        }
+    }
+    true
+}
+
+/// Whether lists of positions, in this order, have one after another. It ends at the first position
+/// of the first list from which they have.
+fn have_run(alloc: Global, lists: &[Vec<u32>], order: &[usize]) -> Result<bool, NoMemory>
     requires some { 0 < length order.now }
     requires within { All (λ i. i < length lists.now) order.now }
-    ensures { IfOk result (λ starts. All IsRising (lists_of lists.now) → (at : ℕ)
-        → has_number starts.items at
-        ≡ follow_from (in_turn [] (lists_of lists.now) order.now) at) }
+    ensures { IfOk result (λ found. All IsRising (lists_of lists.now) → found ≡ list_any
+        (follow_from (in_turn [] (lists_of lists.now) order.now))
+        (slice_index_or (lists_of lists.now) (slice_index order.now 0) [])) }
 {
-    let mut starts = lists[order[0]].as_slice().to_vec(alloc)?;
-    for i in 1..order.len() {
-        if starts.is_empty() {
-            return Ok(starts);
+    let mut ends = Vec::new(alloc);
+    ends.resize(order.len(), 0)?;
+    for at in &lists[order[0]] {
+        if follow_from(lists, order, *at, ends.as_mut_slice()) {
+            return Ok(true);
         }
-        let places = &lists[order[i]];
-        starts = followed(alloc, starts.as_slice(), places.as_slice(), i as u64)?;
     }
-    Ok(starts)
+    Ok(false)
 }
 
 /// Whether the words stand in a row one after another.
@@ -116,8 +135,7 @@ fn stands<I: Inverted>(
         → found ≡ at_row (terms_stand list) docs row) }
 {
     let lists = positions_in(alloc, index, words.terms.as_slice(), row)?;
-    let starts = starts(alloc, lists.as_slice(), words.order.as_slice())?;
-    Ok(starts.len() > 0)
+    have_run(alloc, lists.as_slice(), words.order.as_slice())
 }
 
 /// The rows in which the words stand one after another.

@@ -38,27 +38,6 @@ pub fn in_first(alloc: Global, numbers: &[u32], others: &[u32]) -> Result<Vec<u3
     Ok(kept)
 }
 
-/// The numbers from which the others are this far.
-pub fn followed(
-    alloc: Global,
-    numbers: &[u32],
-    others: &[u32],
-    distance: u64,
-) -> Result<Vec<u32>, NoMemory>
-    requires { distance < 2 ^ 63 }
-    ensures { IfOk result (λ kept. IsRising others.now
-        → kept.items ≡ filter (λ x. has_number others.now (x + distance)) numbers.now) }
-{
-    let mut kept = Vec::new(alloc);
-    let mut place = 0;
-    for number in numbers {
-        if has_from(others, u64::from(*number) + distance, &mut place) {
-            kept.push(*number)?;
-        }
-    }
-    Ok(kept)
-}
-
 /// Each of the numbers once, rising. It sorts them.
 pub fn distinct(mut numbers: Vec<u32>) -> Result<Vec<u32>, NoMemory>
     ensures rise { IfOk result (λ kept. IsRising kept.items) }

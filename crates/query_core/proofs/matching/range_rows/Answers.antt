@@ -1,10 +1,10 @@
-use Rattle.std.proofs.Common.{◌≡◌, ◌∙◌, ℕ, Bool, List, Option, Some, None, IfSome, Vec, Global, sym, ap, subst}
+use Rattle.std.proofs.Common.{◌∙◌, Bool, List, IfSome, ap, subst}
 use Rattle.std.specs.List.{filter}
 use Rattle.std.proofs.lemmas.Result.{IfOk-weaker}
 use Rattle.ix_base.specs.Documents.{Document}
 use Rattle.ix_base.specs.Matches.{matches}
 use Rattle.ix_base.specs.Tree.{range}
-use Rattle.ix_base.specs.Inversion.{at_row, rows_where}
+use Rattle.ix_base.specs.Inversion.{at_row}
 use Rattle.query_core.specs.Answers.{AreRowsWhere, AreCandidates}
 use Rattle.query_core.proofs.Ranged.{of_candidates, of_all}
 use Rattle.query_core.proofs.matching.range_rows.Goals as goal
