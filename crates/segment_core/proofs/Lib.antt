@@ -5,5 +5,6 @@ mod Found
 mod Later
 mod FoundNow
 mod Candidates
+mod Halving
 mod BuiltRows
 mod SetLive

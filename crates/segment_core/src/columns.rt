@@ -1,14 +1,14 @@
 //! The columns of a segment's numbers that were asked for.
 ghost use Rattle.std.specs.Prelude.{◌≡◌, List as ListOf, IfSome};
 ghost use Rattle.ix_base.specs.declared.document.Row.{Row};
-ghost use Rattle.segment_core.specs.Columns.{numbers_of, AreColumnsOf};
+ghost use Rattle.segment_core.specs.Columns.{IsColumnOf, AreColumnsOf};
 
 use crate::column::Column;
 use ix_base::{List, Name, NoMemory, Queries, Query, Row};
 use std::alloc::Global;
 
 /// What the rows of one segment were stored with as numbers, by those names that were asked for. It
-/// is made once for many ranges: a range then looks at no row but those that it finds.
+/// is made once for many ranges: a range then looks at no rows but those that it finds.
 #[derive(Drop)]
 pub struct Columns {
     list: List<Column>,
@@ -26,8 +26,9 @@ impl Columns {
 
     /// The column of this name, if it is there.
     pub(crate) fn of_name(&self, name: &Name) -> Option<&Column>
-        ensures { (rows : ListOf Row) → AreColumnsOf rows self.now
-            → IfSome result (λ column. column.now.numbers ≡ numbers_of name.now rows) }
+        ensures name { IfSome result (λ column. column.now.name ≡ name.now) }
+        ensures numbers { (rows : ListOf Row) → AreColumnsOf rows self.now
+            → IfSome result (λ column. IsColumnOf rows column.now) }
     {
         for column in self.list.as_slice() {
             if column.name.as_str() == name.as_str() {

@@ -4,7 +4,7 @@ ghost use Rattle.ix_base.specs.Inversion.{has_number};
 ghost use Rattle.live_docs.specs.Marks.{numbered_rows};
 ghost use Rattle.query_core.specs.Answers.{IsRising};
 ghost use Rattle.ix_base.specs.declared.document.Row.{Row};
-ghost use Rattle.segment_core.specs.Columns.{numbers_of, within_from, AreColumnsOf};
+ghost use Rattle.segment_core.specs.Columns.{numbers_of, within_from, IsColumnOf, AreColumnsOf};
 
 use crate::column::Column;
 use crate::columns::Columns;
@@ -30,8 +30,9 @@ pub struct Current<'a, I: Inverted> {
 
 /// The column of this name, if it is among those that there are.
 fn column_of<'a>(columns: Option<&'a Columns>, name: &Name) -> Option<&'a Column>
-    ensures { (rows : List Row) → IfSome columns.entry (λ c. AreColumnsOf rows c.now)
-        → IfSome result (λ column. column.now.numbers ≡ numbers_of name.now rows) }
+    ensures name { IfSome result (λ column. column.now.name ≡ name.now) }
+    ensures numbers { (rows : List Row) → IfSome columns.entry (λ c. AreColumnsOf rows c.now)
+        → IfSome result (λ column. IsColumnOf rows column.now) }
 {
     match columns {
         Some(columns) => columns.of_name(name),
@@ -50,8 +51,9 @@ fn candidates_of(
     high: &i64,
 ) -> Result<Option<Vec<u32>>, NoMemory>
     ensures rise { IfOk result (λ found. IfSome found (λ found. IsRising found.items)) }
-    ensures all { length column.now.numbers < 2 ^ 32 → IfOk result (λ found. IfSome found (λ found. (row : ℕ)
-        → has_number found.items row ≡ (has_number (within_from 0 low.now high.now column.now.numbers) row
+    ensures all { (stored : List Row) → IsColumnOf stored column.now → length stored < 2 ^ 32
+        → IfOk result (λ found. IfSome found (λ found. (row : ℕ) → has_number found.items row
+        ≡ (has_number (within_from 0 low.now high.now (numbers_of column.now.name stored)) row
         || has_number (numbered_rows live.now.marks) row))) }
 {
     let set = live.numbered_rows(alloc)?;

@@ -76,7 +76,7 @@ impl LiveSegment {
         if !query.has_range() {
             return Ok(());
         }
-        let columns = self.columns.get_or_insert_with(|| Columns::new(alloc));
+        let columns = self.columns.get_or_insert(Columns::new(alloc));
         columns.prepare(alloc, self.segment.rows.as_slice(), query)
     }
 

@@ -1,11 +1,10 @@
 use Rattle.std.proofs.Common.{◌≡◌, ◌∙◌, ◌<◌, ◌^◌, ◌||◌, ℕ, ℤ, List, Option, Some, None, Result, Ok, Err, IfOk, IfSome, length, ap, arith}
 use Rattle.std.proofs.lemmas.List.{length-map}
 use Rattle.ix_base.specs.Inversion.{has_number}
-use Rattle.ix_base.specs.Matches.{value_of}
 use Rattle.ix_base.specs.declared.document.Row.{Row}
 use Rattle.live_docs.specs.Marks.{numbered_rows}
 use Rattle.live_docs.specs.declared.live_docs.Mark.{Mark}
-use Rattle.segment_core.specs.Columns.{numbers_of, within_from}
+use Rattle.segment_core.specs.Columns.{numbers_of, within_from, IsColumnOf}
 use Rattle.segment_core.specs.Segments.{documents}
 use Rattle.segment_core.proofs.FoundNow.{length-documents_now}
 use Rattle.segment_core.proofs.Candidates.{candidate}
@@ -24,18 +23,16 @@ returns-in-Some g c =
     let name : List ℕ = c.args.name.now in
     let low : ℤ = c.args.low.now in
     let high : ℤ = c.args.high.now in
-    let numbers : List (Option ℤ) = c.in-Some.column.now.numbers in
-    both_some c.candidates_of.result (length numbers < 2 ^ 32) _ _ _
+    let column = c.in-Some.column.now in
+    both_some c.candidates_of.result (IsColumnOf rows column × (length rows < 2 ^ 32)) _ _ _
     (λ found rise all. (
       rise,
       λ docs i r matched.
-          let is : numbers ≡ numbers_of name rows = c.in-Some.ensures rows i.3 in
-          let long : length numbers ≡ length rows = ap length is ∙ length-map rows (λ (row : Row). value_of name row.doc.num) in
           let now : length docs ≡ length (documents rows) = ap length i.2 ∙ length-documents_now rows marks i.1 in
           let few : length (documents rows) ≡ length rows = length-map rows (λ (row : Row). row.doc) in
           let counted : c.rows.result ≡ length docs = c.rows.ensures docs i in
-          all (omega (arith, c.rows.type_inv)) r
-          ∙ (ap (λ (ns : List (Option ℤ)). has_number (within_from 0 low high ns) r || has_number (numbered_rows marks) r) is
+          all (c.in-Some.ensures.numbers rows i.3, omega (arith, c.rows.type_inv)) r
+          ∙ (ap (λ (n : List ℕ). has_number (within_from 0 low high (numbers_of n rows)) r || has_number (numbered_rows marks) r) c.in-Some.ensures.name
           ∙ candidate c.set_numbers_are_a_map.ensures name low high rows marks docs r i.1 i.2 matched),
     ))
-    c.candidates_of.ensures.rise c.candidates_of.ensures.all
+    c.candidates_of.ensures.rise (λ l. c.candidates_of.ensures.all rows l.0 l.1)
