@@ -6,5 +6,6 @@ mod Committing
 mod LettingGo
 mod MergedState
 mod Following
+mod Standing
 mod Opened
 mod Turned

@@ -6,3 +6,4 @@ pub mod Merging
 pub mod Laws
 pub mod Working
 pub mod Pace
+pub mod Standing

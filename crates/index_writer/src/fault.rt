@@ -2,6 +2,7 @@
 ghost use Rattle.std.specs.Prelude.{◌≡◌};
 
 use crate::round::RoundParts;
+use ix_base::Damaged;
 
 /// Why a call of the writer did not succeed.
 #[derive(Clone, Copy, Debug, PartialEq, Eq)]
@@ -22,6 +23,19 @@ impl From<ix_base::NoMemory> for WriterFault {
     fn from(_error: ix_base::NoMemory) -> WriterFault {
         WriterFault::NoMemory
     }
+}
+
+/// Why old commits were not given up, or not all of them.
+#[derive(Clone, Copy, Debug, PartialEq, Eq)]
+pub enum PruneFault {
+    /// The store failed, and its count of faults rose. The writer is closed.
+    Store,
+    /// The writer is closed. Nothing changed.
+    Closed,
+    /// The commit file of a commit that stays is not in the grammar, or absent. Nothing was deleted.
+    Damaged(Damaged),
+    /// Out of memory. Some files may be deleted, and the writer goes on.
+    NoMemory,
 }
 
 /// A round that was not ended.

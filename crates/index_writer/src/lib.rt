@@ -13,13 +13,14 @@ mod fault;
 mod laws;
 mod merging;
 mod pace;
+mod pruning;
 mod round;
 mod state;
 mod writer;
 
-pub use fault::{EndRefused, OpenRefused, WriterFault};
+pub use fault::{EndRefused, OpenRefused, PruneFault, WriterFault};
 pub use flush_control::MergeTurn;
-pub use laws::{commits_go_on, commits_hold, opened_go_on};
+pub use laws::{commits_go_on, commits_hold, opened_go_on, pruned_go_on, segments_stand};
 pub use round::{CommitInfo, Round, RoundEnd, RoundParts};
 pub use state::State;
 pub use writer::IndexWriter;

@@ -12,6 +12,8 @@ mod tests_merging;
 #[cfg(test)]
 mod tests_operations;
 #[cfg(test)]
+mod tests_pruning;
+#[cfg(test)]
 mod tests_reopened;
 #[cfg(test)]
 mod tests_steps;

@@ -105,7 +105,7 @@ fn merge_begun_afresh(rt: HostRuntime) -> Result<(), Fail> {
 }
 
 /// A writer on the commit of this number.
-fn opened_on(
+pub(crate) fn opened_on(
     alloc: Global,
     store: MemoryStore,
     number: u64,

@@ -6,12 +6,12 @@ ghost use Rattle.ix_base.specs.declared.document.Row.{Row};
 ghost use Rattle.ix_outside.specs.Causes.{Rose};
 ghost use Rattle.ix_outside.specs.Disk.{told_files};
 ghost use Rattle.ix_outside.specs.Files.{Files};
-ghost use Rattle.commit_point.specs.Holds.{Holds, HoldsInverted};
+ghost use Rattle.commit_point.specs.Holds.{HasSegments, Holds, HoldsInverted};
 ghost use Rattle.commit_point.specs.Loading.{IsOutside, TellsNone};
 ghost use Rattle.searcher.specs.Searching.{Searches, IsDamagedIn};
 
 use crate::found::{found_in, hits_by_birth};
-use commit_point::{OpenFault, open_commit, read_commit};
+use commit_point::{OpenFault, Opened, open_commit, read_commit};
 use ix_base::{Hit, List, NoMemory, Query};
 use ix_outside::Store;
 use segment_core::LiveSegment;
@@ -43,6 +43,20 @@ impl Searcher {
         }
     }
 
+    /// The searcher of a commit that was read. It takes no memory.
+    pub fn of(opened: Opened) -> Searcher
+        // Where files spell these segments, and hold these rows, they are searched.
+        ensures rows { (files : Files) (number : ℕ) (next : ℕ) (rows : List Row)
+            → HoldsInverted files number next rows
+            → HasSegments files number opened.next_id opened.entries opened.segments
+            → Searches result.segments rows }
+        ensures segments { result.segments ≡ opened.segments }
+    {
+        Searcher {
+            segments: opened.segments,
+        }
+    }
+
     /// Opens the commit of this number. It returns `NoSuch` exactly where the store's list lacks the
     /// number. The store is as before, whatever is returned.
     pub fn open<S: Store>(alloc: Global, store: &mut S, number: u64) -> Result<Searcher, OpenFault>
@@ -63,9 +77,7 @@ impl Searcher {
             → Rose (S.fault_count store.old) (S.fault_count store.new) }
     {
         match open_commit(alloc, store, number) {
-            Ok(opened) => Ok(Searcher {
-                segments: opened.segments,
-            }),
+            Ok(opened) => Ok(Searcher::of(opened)),
             Err(fault) => Err(fault),
         }
     }
@@ -93,9 +105,7 @@ impl Searcher {
             → Rose (S.fault_count store.old) (S.fault_count store.new) }
     {
         match read_commit(alloc, store, number) {
-            Ok(opened) => Ok(Searcher {
-                segments: opened.segments,
-            }),
+            Ok(opened) => Ok(Searcher::of(opened)),
             Err(fault) => Err(fault),
         }
     }

@@ -1,0 +1,5 @@
+pub mod Pruning
+pub mod Deleting
+pub mod Choosing
+pub mod ListedLaws
+pub mod Naming
