@@ -1,15 +1,14 @@
 -- What becomes of the files, and of what a crash leaves, where a plan is carried out.
-use Rattle.std.proofs.Common.{◌≡◌, ◌∙◌, ◌⊎◌, inl, inr, ℕ, List, [], ◌∷◌, length, map, Option, Some, None, Result, Ok, Err, refl, sym, ap, subst}
+use Rattle.std.proofs.Common.{◌≡◌, ◌∙◌, ◌⊎◌, inl, inr, ℕ, List, [], length, Option, Some, None, Result, Ok, Err, refl, sym, ap, subst}
 use Rattle.std.specs.Prelude.{IfErr, IfOk, IsSome, OnOk}
 use Rattle.std.proofs.lemmas.List.{length-map}
 use Rattle.ix_base.specs.declared.damaged.Damaged.{Damaged}
 use Rattle.ix_base.specs.declared.file_name.FileName.{FileName}
 use Rattle.ix_base.specs.declared.file_name.FileName.TheVariants.{Commit}
 use Rattle.ix_outside.specs.Calls.{LeavesOnly, OnlyLeaves}
-use Rattle.ix_outside.specs.Crash.{IsImage, MayHold, MayLeave}
+use Rattle.ix_outside.specs.Crash.{IsImage, MayHold}
 use Rattle.ix_outside.specs.CrashLaws.{IsRead, extends_stops, images_follow, last_is_now, left_by_stops, reads_follow}
 use Rattle.ix_outside.specs.Disk.{Disk, Stops, Told, files, taken, told_files}
-use Rattle.ix_outside.specs.DiskLaws.{told_same}
 use Rattle.ix_outside.specs.Files.{Files}
 use Rattle.commit_point.specs.Holds.{AreKept, IsAmong}
 use Rattle.commit_pruning.specs.Choosing.{IsPlan, earlier}

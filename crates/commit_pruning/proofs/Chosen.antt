@@ -1,11 +1,11 @@
 -- Which files are deleted.
-use Rattle.std.proofs.Common.{◌≡◌, ◌≢◌, ◌∙◌, ◌⊎◌, inl, inr, ℕ, zero, suc, ◌<◌, List, [], ◌∷◌, ◌++◌, Bool, true, false, not, cond, ◌&&◌, ◌==◌, Option, Some, None, IsSome, get_or, length, map, refl, sym, ap, subst, arith}
-use Rattle.std.specs.Prelude.{◌↔◌, AllPairs, Contains}
-use Rattle.std.specs.List.{AllZip, filter, flat_map, list_any}
+use Rattle.std.proofs.Common.{◌≡◌, ◌∙◌, ◌⊎◌, inl, inr, ℕ, zero, suc, ◌<◌, List, [], ◌∷◌, Bool, true, false, not, cond, Option, Some, None, IsSome, get_or, length, map, refl, sym, ap, subst, arith}
+use Rattle.std.specs.Prelude.{Contains}
+use Rattle.std.specs.List.{AllZip, filter}
 use Rattle.std.proofs.lemmas.List.Elements.{Contains-append_cases, Contains-append_left, Contains-append_right}
 use Rattle.ix_base.specs.declared.file_name.FileName.{FileName}
-use Rattle.ix_base.specs.declared.file_name.FileName.TheVariants.{Commit, Pending, Rows, Posts, Live, Values}
-use Rattle.ix_outside.specs.Files.{Files, Lists as ListsNames}
+use Rattle.ix_base.specs.declared.file_name.FileName.TheVariants.{Commit}
+use Rattle.ix_outside.specs.Files.{Files}
 use Rattle.commit_point.specs.declared.heads.HeadSegment.{HeadSegment}
 use Rattle.commit_point.specs.declared.heads.Head.{Head}
 use Rattle.commit_point.specs.Holds.{HasHead, IsAmong, IsFileOf, Lists, names_of}
@@ -15,7 +15,7 @@ use Rattle.commit_pruning.specs.Choosing.{IsPlan, earlier, entries_of, is_listed
 use Rattle.commit_pruning.specs.ListedLaws.{listed_by, own_listed}
 use Rattle.commit_pruning.specs.Pruning.{IsPruned, Stays}
 use Rattle.commit_pruning.proofs.Deletes.{among_or_not}
-use Rattle.commit_pruning.proofs.Latest.{AreCommits, are_given_up, earlier_given_up, earlier_is_there, is_earlier, is_latest, latest_stays}
+use Rattle.commit_pruning.proofs.Latest.{AreCommits, are_given_up, earlier_given_up, earlier_is_there, is_latest, latest_stays}
 use Rattle.commit_pruning.proofs.Pruned.{CanPrune, Loses, not_gone, same_number}
 
 -- ---- lists

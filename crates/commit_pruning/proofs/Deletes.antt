@@ -1,9 +1,9 @@
 -- Files that are deleted one by one.
-use Rattle.std.specs.Prelude.{◌≡◌, ◌≢◌, ◌⊎◌, ℕ, zero, suc, List, [], ◌∷◌, ◌++◌, map, take, None, true, false, Bool, refl}
-use Rattle.std.proofs.Common.{inl, inr, subst, sym, ap, ◌∙◌}
+use Rattle.std.specs.Prelude.{◌≡◌, ◌≢◌, ◌⊎◌, List, [], ◌∷◌, ◌++◌, map, None, true, false, Bool, refl}
+use Rattle.std.proofs.Common.{inl, inr, subst, ap, ◌∙◌}
 use Rattle.std.specs.List.{AllByRecursion}
 use Rattle.ix_base.specs.declared.file_name.FileName.{FileName}
-use Rattle.ix_outside.specs.Files.{Files, Removes}
+use Rattle.ix_outside.specs.Files.{Files}
 use Rattle.ix_outside.specs.Images.{MayHaveRemoved}
 use Rattle.ix_outside.specs.declared.step.Step.{Step}
 use Rattle.ix_outside.specs.declared.step.Step.TheVariants.{Deleted, HalfDeleted}

@@ -4,8 +4,8 @@ use Rattle.std.proofs.Common.{inl, inr, subst, sym, ap, ◌∙◌}
 use Rattle.std.specs.List.{AllByRecursion}
 use Rattle.std.proofs.lemmas.List.{append-nil}
 use Rattle.ix_base.specs.declared.file_name.FileName.{FileName}
-use Rattle.ix_base.specs.declared.file_name.FileName.TheVariants.{Commit, Pending, Rows, Posts, Live, Values}
-use Rattle.ix_outside.specs.Files.{Files, Removes}
+use Rattle.ix_base.specs.declared.file_name.FileName.TheVariants.{Commit}
+use Rattle.ix_outside.specs.Files.{Files}
 use Rattle.ix_outside.specs.Images.{MayHaveRemoved}
 use Rattle.ix_outside.specs.declared.step.Step.{Step}
 use Rattle.ix_outside.specs.declared.step.Step.TheVariants.{Deleted, Settled}
@@ -13,9 +13,9 @@ use Rattle.ix_outside.specs.Disk.{Disk, files, is_unsynced, taken, Stops}
 use Rattle.ix_outside.specs.CrashLaws.{FollowsSteps}
 use Rattle.ix_outside.specs.DiskLaws.{taken_then}
 use Rattle.commit_point.specs.declared.heads.HeadSegment.{HeadSegment}
-use Rattle.commit_point.specs.Holds.{AreKept, IsAmong, IsFileOf, KeepsCommits, Lists, names_of}
+use Rattle.commit_point.specs.Holds.{AreKept, IsAmong, IsFileOf, KeepsCommits, names_of}
 use Rattle.commit_pruning.specs.Pruning.{IsWholeAs}
-use Rattle.commit_pruning.specs.Deleting.{Pauses, delete_steps, prune_steps}
+use Rattle.commit_pruning.specs.Deleting.{Pauses, prune_steps}
 use Rattle.commit_pruning.proofs.Deletes.{same_or_apart, among_or_not, deleted, deleting, stays_none, are_none, others_stay, are_synced}
 
 -- ---- what is deleted, by lists of names
