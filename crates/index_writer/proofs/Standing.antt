@@ -1,5 +1,5 @@
 -- Whose files the writer's segments stand in.
-use Rattle.std.proofs.Common.{◌≡◌, ◌∙◌, ◌⊎◌, inl, inr, ℕ, suc, ◌+◌, ◌<◌, ◌≤◌, cond, Bool, true, false, List, [], ◌∷◌, ◌++◌, Option, Some, None, length, refl, sym, ap, subst, arith}
+use Rattle.std.proofs.Common.{◌≡◌, ◌∙◌, ◌⊎◌, inl, inr, ℕ, suc, ◌<◌, ◌≤◌, cond, Bool, true, false, List, [], ◌∷◌, Option, Some, None, length, refl, sym, subst, arith}
 use Rattle.std.specs.Prelude.{AllPairs, Contains, IsSome}
 use Rattle.std.specs.List.{AllByRecursion}
 use Rattle.std.proofs.lemmas.List.Elements.{Contains-append_left, Contains-append_right}
@@ -12,7 +12,6 @@ use Rattle.ix_outside.specs.Disk.{Disk}
 use Rattle.ix_outside.specs.Files.{Files}
 use Rattle.segment_core.specs.LiveRows.{Lived}
 use Rattle.commit_point.specs.declared.heads.HeadSegment.{HeadSegment}
-use Rattle.commit_point.specs.declared.open.Opened.{Opened}
 use Rattle.commit_point.specs.declared.written.Written.{Written}
 use Rattle.commit_point.specs.Holds.{AreKept, HasSegment, HasSegments, HaveSegments, IsAmong, IsFileOf, Lists, head_of, names_of}
 use Rattle.commit_point.specs.KeptLaws.{lists_there}
@@ -21,10 +20,9 @@ use Rattle.commit_pruning.specs.Choosing.{has_id, has_written, is_listed}
 use Rattle.commit_pruning.specs.ListedLaws.{listed_by, own_listed}
 use Rattle.commit_pruning.specs.Pruning.{IsWholeAs, MayBePruned, Stays}
 use Rattle.index_writer.specs.declared.state.State.{State}
-use Rattle.index_writer.specs.Laws.{CanBegin}
-use Rattle.index_writer.specs.Ready.{IsStored, opened_on, written_of}
+use Rattle.index_writer.specs.Ready.{IsStored, written_of}
 use Rattle.index_writer.specs.Standing.{CommitsStand, OpenedStand, PrunedGoOn, StandingStays, StandsOnLast}
-use Rattle.index_writer.specs.Storing.{Commits, GoesOn, on_commit, own_written, renewed}
+use Rattle.index_writer.specs.Storing.{GoesOn, renewed}
 use Rattle.index_writer.proofs.Following.{opened_go_on}
 
 -- ---- the files of some entries
