@@ -68,8 +68,9 @@ def phases(quick):
     before = tuple(Run(ALONE, (prepared, first, each)) for first in range(0, rows, each))
     yield Phase(f"ranges: {count} deletes", rows, Run(ALONE, (deletes, rows, count)), before, fts5=True)
     yield Phase(f"ranges: {count} deletes by key", rows, Run(ALONE, (key_deletes, rows, count)), before, fts5=True)
-    yield Phase(f"ranges: {count} searches", rows, Run(ALONE, (searches, rows, count)), before, fts5=True)
-    yield Phase(f"ranges: {count} questions", rows, Run(("ask",), (questions, rows, count)), before, fts5=True)
+    for one in (1, count):
+        yield Phase(f"ranges: {one} searches", rows, Run(ALONE, (searches, rows, one)), before, fts5=True)
+        yield Phase(f"ranges: {one} questions", rows, Run(("ask",), (questions, rows, one)), before, fts5=True)
     yield Phase(f"ranges: {count} searches among terms", rows, Run(ALONE, (among_terms, rows, count)), before, fts5=True)
 
 
