@@ -9,8 +9,9 @@ use std::test::*;
 /// Whether a commit has all of its files, the first of which is its commit file; `None` where it has
 /// its commit file and not all others.
 fn is_there(names: &[FileName], files: &[FileName]) -> Option<bool> {
-    if !names.contains(&files[0]) {
-        return Some(false);
+    match files.first() {
+        Some(commit) if names.contains(commit) => {}
+        _ => return Some(false),
     }
     for file in files {
         if !names.contains(file) {
