@@ -4,7 +4,7 @@
 #![tactic(auto)]
 
 use crate::program::{ProgramEnd, run_program};
-use ix_outside::{ReadSource, WriteSink};
+use ix_outside::{AtOnce, ReadSource, WriteSink};
 use std::rt::Env;
 use std::{env, io};
 
@@ -66,7 +66,7 @@ pub use call::{Ended, top};
 fn main(rt: HostRuntime) -> ProgramEnd {
     let mut input = ReadSource::new(rt.stdin());
     let mut out = WriteSink::new(rt.stdout());
-    run_program(&rt, words_of(&rt), &mut input, &mut out)
+    run_program(&rt, AtOnce::new(&rt), words_of(&rt), &mut input, &mut out)
 }
 
 /// The words of the command line, without the program's own name.

@@ -8,7 +8,7 @@ ghost use Rattle.index_run.specs.Causes.{IsOneOf};
 ghost use Rattle.index_run.specs.Commands.{IsBad, command_of};
 
 use crate::call::top;
-use ix_outside::{DirStore, EmptyGate, LockFile, Sink, Source};
+use ix_outside::{DirStore, EmptyGate, LockFile, Sink, Source, SyncFiles};
 use std::io;
 use std::io::{Eprint, ErrorKind};
 use std::process::{ExitCode, Termination};
@@ -36,13 +36,20 @@ impl Termination for ProgramEnd {
     }
 }
 
-/// Does what the words of the command line say, over these streams. Where the words can't be read
-/// nothing is read or written.
+/// Does what the words of the command line say, over these streams. Files are put on the disk as
+/// `syncs` does it. Where the words can't be read nothing is read or written.
 pub fn run_program<
     R: Files + Threads + Wait + Sync + AllocGlobal + Clone + Drop,
+    W: SyncFiles<R::File>,
     I: Source,
     O: Sink,
->(rt: &R, words: io::Result<Vec<String>>, input: &mut I, out: &mut O) -> ProgramEnd
+>(
+    rt: &R,
+    syncs: W,
+    words: io::Result<Vec<String>>,
+    input: &mut I,
+    out: &mut O,
+) -> ProgramEnd
 where
     R::File: LockFile,
     ensures words { IfOk words (λ all. (first : String GlobalOf) (rest : List (String GlobalOf))
@@ -50,7 +57,7 @@ where
         → IsOneOf result.status (2 ∷ 4 ∷ [])) }
 {
     let status = match words {
-        Ok(words) => status_of(rt, words, input, out),
+        Ok(words) => status_of(rt, syncs, words, input, out),
         Err(error) if error.kind() == ErrorKind::OutOfMemory => NO_MEMORY,
         Err(_) => NO_COMMAND,
     };
@@ -59,8 +66,14 @@ where
 
 /// Does what the words say: the first one names the directory, and the others are the command. Without
 /// a first word nothing is read or written.
-fn status_of<R: Files + Threads + Wait + Sync + AllocGlobal + Clone + Drop, I: Source, O: Sink>(
+fn status_of<
+    R: Files + Threads + Wait + Sync + AllocGlobal + Clone + Drop,
+    W: SyncFiles<R::File>,
+    I: Source,
+    O: Sink,
+>(
     rt: &R,
+    syncs: W,
     mut words: Vec<String>,
     input: &mut I,
     out: &mut O,
@@ -75,13 +88,19 @@ where
         return NO_COMMAND;
     }
     let directory = words.remove(0);
-    status_over(rt, directory, words.as_slice(), input, out)
+    status_over(rt, syncs, directory, words.as_slice(), input, out)
 }
 
 /// Calls `top` over the directory, and returns its status. The directory is locked from the first look
 /// at it to the end, but for a command that only reads it.
-fn status_over<R: Files + Threads + Wait + Sync + AllocGlobal + Clone + Drop, I: Source, O: Sink>(
+fn status_over<
+    R: Files + Threads + Wait + Sync + AllocGlobal + Clone + Drop,
+    W: SyncFiles<R::File>,
+    I: Source,
+    O: Sink,
+>(
     rt: &R,
+    syncs: W,
     directory: String,
     words: &[String],
     input: &mut I,
@@ -98,9 +117,9 @@ where
         return NO_MEMORY;
     };
     let store = if only_reads(words) {
-        DirStore::read_only(runtime, directory)
+        DirStore::read_only(runtime, syncs, directory)
     } else {
-        DirStore::new(runtime, directory)
+        DirStore::new(runtime, syncs, directory)
     };
     let ended = top(rt, rt.alloc(), words, input, out, store, &EmptyGate);
     ended.status

@@ -2,7 +2,7 @@
 use crate::program::run_program;
 use crate::tests::ADD_A1;
 use ix_memory::{MemorySink, MemorySource};
-use ix_outside::{DirStore, LockFile, Store};
+use ix_outside::{DirStore, InTurn, LockFile, Store};
 use std::alloc::Global;
 use std::io::{Eprint, Error, ErrorKind};
 use std::process::{ExitCode, Termination};
@@ -79,7 +79,7 @@ where
         return false;
     };
     let mut source = MemorySource::new(alloc, input);
-    let end = run_program(rt, words, &mut source, &mut sink);
+    let end = run_program(rt, InTurn, words, &mut source, &mut sink);
     end.report(rt) == ExitCode::from(status) && sink.into_bytes().as_slice() == written.as_bytes()
 }
 
@@ -122,7 +122,7 @@ fn a_directory_that_another_run_uses(rt: HostRuntime) {
         )
     );
     let path = String::from_str(rt.alloc(), "index_run_locked").expect(&rt, "memory");
-    let mut other = DirStore::new(rt.clone().expect(&rt, "memory"), path);
+    let mut other = DirStore::new(rt.clone().expect(&rt, "memory"), InTurn, path);
     assert!(rt; other.list(rt.alloc()).is_ok());
     let cases: [(&str, &[u8], u8, &str); 6] = [
         ("index_run_locked rum", b"", 2, NO_WORDS),

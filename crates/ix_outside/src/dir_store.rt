@@ -7,6 +7,7 @@ use crate::directory::{Directory, fits};
 use crate::fault_count::FaultCount;
 use crate::lock::{Access, LockFile};
 use crate::store::{Store, StoreFault};
+use crate::written::SyncFiles;
 use ix_base::FileName;
 use std::alloc::Global;
 use std::io;
@@ -27,6 +28,9 @@ use std::rt::Files;
 /// - A write makes a new file, and removes the entry that had the name, which mustn't be a directory.
 /// - A file is kept open from its write to its sync, so that the sync sees an error of a late write.
 ///   Where 64 files are open already, or memory runs out, the write syncs the file itself.
+/// - A sync puts all files that are open on the disk, by the way that it was given (`AtOnce`: at the same time), and
+///   a later sync of one of them finds it there. So files that are written one after another, and then
+///   synced one after another, wait for the disk together.
 /// - A sync puts the file's entry on the disk too: it syncs the directory where a file was made or
 ///   renamed since the directory was last synced, or nobody knows.
 /// - The first sync of the directory syncs its parent too, so that the directory's own entry is on the
@@ -41,33 +45,33 @@ use std::rt::Files;
 /// of memory. A file of more than 2,147,483,648 bytes that is to be read or written is a fault too,
 /// and such a write changes nothing. So are an entry whose name isn't UTF-8 and a missing directory.
 #[derive(Drop)]
-pub struct DirStore<R: Files> {
-    directory: Directory<R>,
+pub struct DirStore<R: Files, W> {
+    directory: Directory<R, W>,
     faults: FaultCount,
 }
 
-impl<R: Files + AllocGlobal + Clone + Drop> DirStore<R>
+impl<R: Files + AllocGlobal + Clone + Drop, W: SyncFiles<R::File>> DirStore<R, W>
 where
     R::File: LockFile,
 {
     /// The store of the directory at this path, without a fault yet. It doesn't look at the directory,
     /// takes no memory, and locks the directory at its first call.
-    pub fn new(runtime: R, path: String) -> Self
+    pub fn new(runtime: R, syncs: W, path: String) -> Self
         ensures faults { result.faults.count ≡ 0 }
     {
         DirStore {
-            directory: Directory::new(runtime, path, Access::Unlocked),
+            directory: Directory::new(runtime, syncs, path, Access::Unlocked),
             faults: FaultCount::new(),
         }
     }
 
     /// The store of the directory at this path, whose files it only reads, without a fault yet. It
     /// doesn't look at the directory, takes no memory, and never takes the lock.
-    pub fn read_only(runtime: R, path: String) -> Self
+    pub fn read_only(runtime: R, syncs: W, path: String) -> Self
         ensures faults { result.faults.count ≡ 0 }
     {
         DirStore {
-            directory: Directory::new(runtime, path, Access::OnlyReading),
+            directory: Directory::new(runtime, syncs, path, Access::OnlyReading),
             faults: FaultCount::new(),
         }
     }
@@ -112,7 +116,7 @@ fn failed(faults: &mut FaultCount) -> StoreFault
     StoreFault::Failed
 }
 
-impl<R: Files + AllocGlobal + Clone + Drop> Store for DirStore<R>
+impl<R: Files + AllocGlobal + Clone + Drop, W: SyncFiles<R::File>> Store for DirStore<R, W>
 where
     R::File: LockFile,
 {

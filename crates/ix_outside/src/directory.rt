@@ -1,14 +1,14 @@
 //! A directory of the system, whose files are opened, written, synced and renamed.
-ghost use Rattle.std.specs.Prelude.{◌≡◌, ◌≤◌, ◌↔◌, ◌++◌, codes, string_bytes, vec_len, All, IfOk, IfSome, IsErr, IsTrue, OnErr, OnOk};
+ghost use Rattle.std.specs.Prelude.{◌≡◌, ◌<◌, ◌≤◌, ◌↔◌, length, ◌++◌, codes, string_bytes, vec_len, All, IfOk, IfSome, IsErr, IsTrue, OnErr, OnOk};
 ghost use Rattle.std.specs.Io.{StartsWith};
 ghost use Rattle.ix_base.specs.FileNames.{IsFileName, name_text};
 ghost use Rattle.ix_outside.specs.Listing.{Takes};
 ghost use Rattle.ix_outside.specs.Locks.{IsLocked, LacksLock, OnlyReads};
 
 use crate::lock::{Access, LockFile};
+use crate::written::{SyncFiles, Written};
 use ix_base::{FileName, NoMemory};
 use std::alloc::Global;
-use std::collections::BTreeMap;
 use std::fs::{DirEntry, File, OpenFile};
 use std::io::{Error, ErrorKind, Read, Write};
 use std::rt::Files;
@@ -22,12 +22,14 @@ const MOST_OPEN: usize = 64;
 
 /// A directory, and the files in it that were written and not yet synced.
 #[derive(Drop)]
-pub struct Directory<R: Files> {
+pub struct Directory<R: Files, W> {
     runtime: R,
+    /// How the files that are open are put on the disk.
+    syncs: W,
     path: String,
     access: Access<R::File>,
-    /// The files that were written and not yet synced.
-    open: BTreeMap<FileName, R::File>,
+    /// The files that were written and not yet synced by their names, each name once.
+    open: Vec<Written<R::File>>,
     /// Whether a file may have been made or renamed since the directory was last synced.
     has_new_entries: bool,
     /// Whether the directory's own entry was brought to the disk, as far as this process may.
@@ -36,17 +38,18 @@ pub struct Directory<R: Files> {
     sync_failed: bool,
 }
 
-impl<R: Files + AllocGlobal + Clone + Drop> Directory<R>
+impl<R: Files + AllocGlobal + Clone + Drop, W: SyncFiles<R::File>> Directory<R, W>
 where
     R::File: LockFile,
 {
     /// The directory at this path, of which nothing is known yet. It takes no memory.
-    pub fn new(runtime: R, path: String, access: Access<R::File>) -> Self
+    pub fn new(runtime: R, syncs: W, path: String, access: Access<R::File>) -> Self
         ensures { result.access ≡ access }
     {
-        let open = BTreeMap::new(runtime.alloc());
+        let open = Vec::new(runtime.alloc());
         Directory {
             runtime,
+            syncs,
             path,
             access,
             open,
@@ -158,7 +161,7 @@ where
         ensures reads { OnlyReads self.old.access → IsErr result }
     {
         self.enter_to_change()?;
-        self.open.remove(&name);
+        self.close(name);
         self.has_new_entries = true;
         let mut file = self.make_file(path)?;
         file.write_all(bytes)?;
@@ -176,33 +179,73 @@ where
         }
     }
 
-    /// Keeps the file open until it is synced, or syncs it at once where it can't be kept.
+    /// Keeps the file open until it is synced by its name, or syncs it at once where it can't be kept.
     fn keep_open(&mut self, name: FileName, file: R::File) -> io::Result<()>
         ensures access { self.new.access ≡ self.old.access }
     {
         if self.open.len() >= MOST_OPEN {
             return self.sync_opened(&file);
         }
-        match self.open.insert(name, file) {
-            Ok(_) => Ok(()),
-            Err(failed) => self.sync_opened(&failed.value.1),
+        let is_synced = false;
+        match self.open.push(Written {
+            name,
+            file,
+            is_synced,
+        }) {
+            Ok(()) => Ok(()),
+            Err(failed) => self.sync_opened(&failed.value.file),
         }
     }
 
+    /// Where the file stands among those that are open, if it does.
+    fn place_of(&self, name: FileName) -> Option<usize>
+        ensures { IfSome result (λ place. place < length self.now.open.items) }
+    {
+        self.open.iter().position(|file| file.name == name)
+    }
+
+    /// Closes the file, if it is open.
+    fn close(&mut self, name: FileName)
+        ensures access { self.new.access ≡ self.old.access }
+    {
+        if let Some(place) = self.place_of(name) {
+            self.open.remove(place);
+        }
+    }
+
+    /// Puts all files that are open on the disk, at the same time, unless an earlier sync failed.
+    fn sync_open_files(&mut self) -> io::Result<()>
+        ensures later { IsTrue self.old.sync_failed → IsErr result }
+        ensures failed { OnErr result (IsTrue self.new.sync_failed) }
+        ensures access { self.new.access ≡ self.old.access }
+    {
+        if self.sync_failed || !self.syncs.sync_files(self.open.as_slice()) {
+            self.sync_failed = true;
+            return Err(Error::from(ErrorKind::Other));
+        }
+        for file in &mut self.open {
+            file.is_synced = true;
+        }
+        Ok(())
+    }
+
     /// Syncs the file, and the directory where it may have a new entry that isn't on the disk. It comes
-    /// with its path and that of the directory's parent.
+    /// with its path and that of the directory's parent. All files that are open are put on the disk with
+    /// it, so that the syncs of a row of files are made at the same time.
     pub fn sync_file(&mut self, name: FileName, path: &str, parent: &str) -> io::Result<()>
         ensures locked { OnOk result (IsLocked self.new.access) }
         ensures reads { OnlyReads self.old.access → IsErr result }
     {
         self.enter_to_change()?;
-        let file = match self.open.remove(&name) {
-            Some(file) => file,
-            None => self
+        if self.place_of(name).is_some() {
+            self.sync_open_files()?;
+            self.close(name);
+        } else {
+            let file = self
                 .open_file(path)?
-                .ok_or(Error::from(ErrorKind::NotFound))?,
-        };
-        self.sync_opened(&file)?;
+                .ok_or(Error::from(ErrorKind::NotFound))?;
+            self.sync_opened(&file)?;
+        }
         if self.has_new_entries {
             self.sync_directory(parent)
         } else {
@@ -265,11 +308,11 @@ where
         }
         self.has_new_entries = true;
         fs::rename(&self.runtime, from.1, to.1)?;
-        self.open.remove(&to.0);
-        match self.open.remove(&from.0) {
-            Some(file) => self.keep_open(to.0, file),
-            None => Ok(()),
+        self.close(to.0);
+        if let Some(place) = self.place_of(from.0) {
+            self.open[place].name = to.0;
         }
+        Ok(())
     }
 
     /// Removes the file, where there is one.
@@ -281,7 +324,7 @@ where
         if !self.is_file(path)? {
             return Ok(());
         }
-        self.open.remove(&name);
+        self.close(name);
         fs::remove_file(&self.runtime, path)
     }
 }

@@ -14,6 +14,7 @@ mod source;
 mod step;
 mod store;
 mod streams;
+mod written;
 
 pub use dir_store::DirStore;
 pub use gate::{EmptyGate, Gate};
@@ -23,3 +24,4 @@ pub use source::{Failed, Source};
 pub use step::Step;
 pub use store::{Store, StoreFault};
 pub use streams::{ReadSource, WriteSink};
+pub use written::{AtOnce, InTurn, SyncFiles, Written};

@@ -3,7 +3,7 @@ ghost use Rattle.ix_base.specs.FileNames.{IsFileName};
 
 use crate::recorded_system::{Journal, RecordedSystem};
 use ix_base::FileName;
-use ix_outside::{DirStore, Store};
+use ix_outside::{DirStore, InTurn, Store};
 use std::alloc::Global;
 use std::fs;
 
@@ -24,9 +24,9 @@ pub fn is_gone(rt: &HostRuntime, path: &str) -> bool {
 }
 
 /// The store of the directory at this path.
-pub fn store_at(rt: &HostRuntime, path: &str) -> Option<DirStore<HostRuntime>> {
+pub fn store_at(rt: &HostRuntime, path: &str) -> Option<DirStore<HostRuntime, InTurn>> {
     let path = String::from_str(rt.alloc(), path).ok()?;
-    Some(DirStore::new(rt.clone().ok()?, path))
+    Some(DirStore::new(rt.clone().ok()?, InTurn, path))
 }
 
 /// The store of the directory at this path, with what it asks of the system in the journal.
@@ -34,10 +34,10 @@ pub fn recorded_at<'a>(
     rt: &HostRuntime,
     path: &str,
     journal: &'a Journal,
-) -> Option<DirStore<RecordedSystem<'a>>> {
+) -> Option<DirStore<RecordedSystem<'a>, InTurn>> {
     let path = String::from_str(rt.alloc(), path).ok()?;
     let system = RecordedSystem::new(rt.clone().ok()?, journal);
-    Some(DirStore::new(system, path))
+    Some(DirStore::new(system, InTurn, path))
 }
 
 /// The same, but a store that only reads.
@@ -45,10 +45,10 @@ pub fn reader_at<'a>(
     rt: &HostRuntime,
     path: &str,
     journal: &'a Journal,
-) -> Option<DirStore<RecordedSystem<'a>>> {
+) -> Option<DirStore<RecordedSystem<'a>, InTurn>> {
     let path = String::from_str(rt.alloc(), path).ok()?;
     let system = RecordedSystem::new(rt.clone().ok()?, journal);
-    Some(DirStore::read_only(system, path))
+    Some(DirStore::read_only(system, InTurn, path))
 }
 
 /// Whether the file has these bytes.

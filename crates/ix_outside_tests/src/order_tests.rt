@@ -66,6 +66,46 @@ fn what_is_asked_of_the_system_in_which_order(rt: HostRuntime) {
     assert!(rt; remove(&rt, path));
 }
 
+/// Two files that are put on the disk together, and a third one.
+const TOGETHER: &str = "\
+write seg_1.row one: ok
+  open ix_outside_together
+  lock ix_outside_together
+  make seg_1.row
+  write seg_1.row
+write seg_1.pst two: ok
+  make seg_1.pst
+  write seg_1.pst
+sync seg_1.pst: ok
+  sync seg_1.row
+  sync seg_1.pst
+  open ix_outside_together
+  sync ix_outside_together
+  open ..
+  sync ..
+write seg_2.row six: ok
+  make seg_2.row
+  write seg_2.row
+sync seg_1.row: ok
+  sync seg_2.row
+  open ix_outside_together
+  sync ix_outside_together
+sync seg_2.row: ok
+faults: 0
+";
+
+#[test]
+fn files_that_are_open_are_synced_together(rt: HostRuntime) {
+    let path = "ix_outside_together";
+    assert!(rt; make_directory(&rt, path));
+    let journal = Journal::new(rt.alloc());
+    let Some(mut store) = recorded_at(&rt, path, &journal) else {
+        panic!(rt; "memory");
+    };
+    assert!(rt; asks(rt.alloc(), &mut store, &journal, TOGETHER));
+    assert!(rt; remove(&rt, path));
+}
+
 /// A write of one more file.
 const SYNCED: &str = "\
 write seg_65.row x: ok
