@@ -52,9 +52,14 @@ impl<'a, R: Threads + Sync> AtOnce<'a, R> {
 
 impl<R: Threads + Sync> SyncFiles<File> for AtOnce<'_, R> {
     fn sync_files(&self, files: &[Written<File>]) -> bool {
-        files
-            .par_iter()
-            .with_min_len(1)
-            .all(self.rt, |file: &Written<File>| -> bool { file.sync() })
+        sync_at_once(self.rt, files)
     }
+}
+
+/// Syncs the files in threads of this runtime, and returns whether all succeeded.
+fn sync_at_once<R: Threads + Sync>(rt: &R, files: &[Written<File>]) -> bool {
+    files
+        .par_iter()
+        .with_min_len(1)
+        .all(rt, |file: &Written<File>| -> bool { file.sync() })
 }
