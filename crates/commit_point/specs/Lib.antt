@@ -8,7 +8,6 @@ pub mod StepLaws
 pub mod KeptLaws
 pub mod Encoding
 pub mod Settling
-pub mod HeadLaws
 pub mod Laws
 pub mod Publishing
 pub mod PublishLaws

@@ -6,7 +6,7 @@ ghost use Rattle.commit_point.specs.Writing.{CanWrite, WrittenUpTo};
 
 use crate::tests_files::{Bytes, small};
 use commit_point::{CommitRefused, Head, Written, write_commit};
-use ix_base::{Document, FileName, List, Name, Postings, Row, Spots, Term, TermPostings, Text};
+use ix_base::{Fields, Document, FileName, List, Name, Postings, Row, Spots, Term, TermPostings, Text};
 use ix_memory::{FuseStore, SteadyStore};
 use ix_outside::Store;
 use live_docs::LiveDocs;
@@ -115,7 +115,9 @@ fn write_one<S: Store>(
     requires written { WrittenUpTo number written }
 {
     let segments = slice::from_ref(&segment);
-    write_commit(alloc, store, number, 2, segments, slice::from_ref(&written))
+    let none = Fields::none(alloc);
+    let written = slice::from_ref(&written);
+    write_commit(alloc, store, number, 2, &none, segments, written)
 }
 
 /// Writes a commit of two segments, of which the second is new.
@@ -135,7 +137,8 @@ fn write_two<S: Store>(
 {
     let segments = [kept, fresh];
     let written = [was, None];
-    write_commit(alloc, store, number, 3, &segments, &written)
+    let none = Fields::none(alloc);
+    write_commit(alloc, store, number, 3, &none, &segments, &written)
 }
 
 /// The commit 2 of one new segment of one row.

@@ -194,7 +194,7 @@ pub same_below : (s : State) → IsReady s → (old new : Files)
 same_below s ready old new same = λ name other. same name (elsewhere s ready name other)
 
 pub commits : (s new : State) (files now : Files) → IsReady s → new ≡ on_commit s
-    → commit.Commits s.published.upto s.published.next_id s.published.segments s.written files now → Commits s new files now
+    → commit.Commits s.published.upto s.published.next_id [] s.published.segments s.written files now → Commits s new files now
 commits s new files now ready is made = record {
   made = made;
   stands = λ stored.

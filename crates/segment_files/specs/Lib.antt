@@ -7,3 +7,4 @@ pub mod Placing
 pub mod Rising
 pub mod PostLaws
 pub mod Sizes
+pub mod Pairs

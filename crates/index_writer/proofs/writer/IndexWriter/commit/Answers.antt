@@ -1,4 +1,4 @@
-use Rattle.std.proofs.Common.{◌∙◌, List, Option, length, refl, sym, ap, subst, inl, arith}
+use Rattle.std.proofs.Common.{◌∙◌, List, [], Option, length, refl, sym, ap, subst, inl, arith}
 use Rattle.std.specs.Prelude.{IsSome}
 use Rattle.ix_base.specs.declared.file_name.FileName.TheVariants.{Commit}
 use Rattle.ix_outside.specs.CallLaws.{leaves_none}
@@ -73,7 +73,7 @@ pub returns-in-Err-clause-left : goal.returns-in-Err-clause-left
 returns-in-Err-clause-left g c room =
     let s = c.args.self.now.state in
     at_state
-    (λ (gs : List Lived) (ws : List (Option Written)). Changes (commit.MayCommit s.published.upto s.published.next_id gs ws)
+    (λ (gs : List Lived) (ws : List (Option Written)). Changes (commit.MayCommit s.published.upto s.published.next_id [] gs ws)
     (told_files (g.S.Store.disk c.args.self.now.store)) (told_files (g.S.Store.disk c.write_commit.new.store))) _ _ s
     c.as_slice-segments.ensures c.as_slice-written.ensures (c.in-Err.ensures.left room)
 
@@ -103,8 +103,8 @@ returns-in-Ok-clause-made g c room =
     let before = told_files (g.S.Store.disk c.args.self.now.store) in
     let after = told_files (g.S.Store.disk c.write_commit.new.store) in
     let on = is_on _ _ c.in_ok-renewed.renewed s new c.as_slice-segments.ensures c.as_slice-written.ensures c.in_ok-renewed.ensures c.go_on.ensures in
-    let made = at_state (λ (gs : List Lived) (ws : List (Option Written)). Changes (commit.Commits s.published.upto s.published.next_id gs ws) before after) _ _ s c.as_slice-segments.ensures c.as_slice-written.ensures (c.in-Ok.ensures.ok room) in
-    onto (commit.Commits s.published.upto s.published.next_id s.published.segments s.written) (Commits s new) before after
+    let made = at_state (λ (gs : List Lived) (ws : List (Option Written)). Changes (commit.Commits s.published.upto s.published.next_id [] gs ws) before after) _ _ s c.as_slice-segments.ensures c.as_slice-written.ensures (c.in-Ok.ensures.ok room) in
+    onto (commit.Commits s.published.upto s.published.next_id [] s.published.segments s.written) (Commits s new) before after
     (λ files now. commits s new files now (c.requires.sound c.if-self.false) on) made
 
 pub returns-in-Ok-clause-acknowledged : goal.returns-in-Ok-clause-acknowledged
@@ -116,7 +116,7 @@ returns-in-Ok-clause-acknowledged g c room image holds =
       before.0,
       before.1,
       commits s new before.0 image (c.requires.sound c.if-self.false) on
-          (at_state (λ (gs : List Lived) (ws : List (Option Written)). commit.Commits s.published.upto s.published.next_id gs ws before.0 image) _ _ s
+          (at_state (λ (gs : List Lived) (ws : List (Option Written)). commit.Commits s.published.upto s.published.next_id [] gs ws before.0 image) _ _ s
           c.as_slice-segments.ensures c.as_slice-written.ensures before.2),
     )
 
