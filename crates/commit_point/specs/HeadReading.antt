@@ -1,11 +1,12 @@
 -- A commit file that is read is the one that was written, and what was written is read again.
-use Rattle.std.proofs.Common.{◌≡◌, ℕ, ◌+◌, ◌^◌, ◌<◌, ◌≤◌, Bool, eqb, leb, ltb, List, [], ◌∷◌, ◌++◌, length, Result, Ok, Err, refl, sym, ap, subst, ◌∙◌, append_assoc, arith}
+use Rattle.std.proofs.Common.{◌≡◌, ℕ, ◌+◌, ◌^◌, ◌<◌, ◌≤◌, Bool, false, eqb, leb, ltb, List, [], ◌∷◌, ◌++◌, length, Result, Ok, Err, refl, sym, ap, subst, ◌∙◌, append_assoc, arith}
 use Rattle.std.specs.Prelude.{◌&&◌, IfOk}
 use Rattle.std.specs.Cmp.Derive.{both_true}
 use Rattle.std.specs.Int.{w32, w64}
 use Rattle.std.specs.List.{flat_map, AllByRecursion}
+use Rattle.std.specs.Str.{bytes_eq}
 use Rattle.std.proofs.lemmas.Bool.{and_parts, eqb-true, eq-eqb, leb-true, le-leb, ltb-true, lt-ltb}
-use Rattle.std.proofs.lemmas.List.{append-nil}
+use Rattle.std.proofs.lemmas.List.{append-nil, take_at}
 use Rattle.ix_base.specs.declared.file_name.FileName.{FileName}
 use Rattle.commit_point.specs.declared.heads.HeadSegment.{HeadSegment}
 use Rattle.commit_point.specs.declared.heads.Head.{Head}
@@ -19,7 +20,7 @@ use Rattle.segment_files.proofs.PairLaws.{pairs_again, pairs_take}
 use Rattle.commit_point.specs.Spelling.{entry, commit_file, first_mark, mark_of, second_mark, tail_of}
 use Rattle.commit_point.specs.Fits.{IdsRise, EntryFits, HeadFits}
 use Rattle.ix_base.specs.Codec.{◌>>=◌, number_at, items_at}
-use Rattle.ix_base.specs.CodecLaws.{take_at, bind_ok, ok_is, Takes, Takes-then, u64_takes, u64_again}
+use Rattle.ix_base.specs.CodecLaws.{bind_ok, ok_is, Takes, Takes-then, u64_takes, u64_again}
 use Rattle.ix_base.specs.Spelling.{be32, be64, AreBytes}
 use Rattle.ix_base.specs.FileReading.{number_where, mark_at, ended, placed, GivesFile}
 use Rattle.ix_base.specs.FileLaws.{u32_where_takes, u32_where_again, u64_where_takes, u64_where_again, mark_takes, mark_again, ended_ok, placed_ok}
@@ -86,24 +87,37 @@ next_test x = leb 1 x && leb x (2 ^ 62)
 
 -- ---- the form
 
+first_eight : length first_mark ≡ 8
+unfolding first_mark
+first_eight = refl
+
+second_eight : length second_mark ≡ 8
+unfolding second_mark
+second_eight = refl
+
+marks_differ : bytes_eq first_mark second_mark ≡ false
+unfolding first_mark second_mark
+marks_differ = refl
+
+marked_takes : (bytes : List ℕ) (r : Result (List ℕ) ℕ) (x : CommitFormat × List ℕ) → AreBytes bytes → mark_at second_mark bytes ≡ r → marked_or r bytes ≡ Ok x → Takes bytes (mark_of x.0) x.1
+marked_takes bytes (Ok rest) x fits marked is =
+    subst (λ (y : CommitFormat × List ℕ). Takes bytes (mark_of y.0) y.1) (ok_is (Second, rest) x is) (mark_takes second_mark bytes rest second_eight fits marked)
+marked_takes bytes (Err left) x fits marked is =
+    let a = bind_ok (mark_at first_mark bytes) (λ rest. Ok (First, rest)) x is in
+    subst (λ (y : CommitFormat × List ℕ). Takes bytes (mark_of y.0) y.1) (ok_is (First, a.0) x a.2) (mark_takes first_mark bytes a.0 first_eight fits a.1)
+
 format_takes : (bytes : List ℕ) (x : CommitFormat × List ℕ) → AreBytes bytes → format_at bytes ≡ Ok x → Takes bytes (mark_of x.0) x.1
-unfolding format_at first_mark second_mark
-format_takes bytes x fits e = by (mark_at second_mark bytes) refl e
-  where
-    by : (r : Result (List ℕ) ℕ) → mark_at second_mark bytes ≡ r → marked_or r bytes ≡ Ok x → Takes bytes (mark_of x.0) x.1
-    by (Ok rest) marked is = subst (λ (y : CommitFormat × List ℕ). Takes bytes (mark_of y.0) y.1) (ok_is (Second, rest) x is) (mark_takes second_mark bytes rest refl fits marked)
-    by (Err left) marked is =
-        let a = bind_ok (mark_at first_mark bytes) (λ rest. Ok (First, rest)) x is in
-        subst (λ (y : CommitFormat × List ℕ). Takes bytes (mark_of y.0) y.1) (ok_is (First, a.0) x a.2) (mark_takes first_mark bytes a.0 refl fits a.1)
+unfolding format_at
+format_takes bytes x fits e = marked_takes bytes (mark_at second_mark bytes) x fits refl e
 
 not_second : (rest : List ℕ) → mark_at second_mark (first_mark ++ rest) ≡ Err (length (first_mark ++ rest))
-unfolding mark_at first_mark second_mark
-not_second rest = rw (take_at first_mark rest 8 refl) refl
+unfolding mark_at
+not_second rest = rw (take_at first_mark rest 8 first_eight, marks_differ) refl
 
 format_again : (format : CommitFormat) (rest : List ℕ) → format_at (mark_of format ++ rest) ≡ Ok (format, rest)
-unfolding format_at first_mark second_mark
-format_again First rest = rw (not_second rest, mark_again first_mark rest refl) refl
-format_again Second rest = rw (mark_again second_mark rest refl) refl
+unfolding format_at
+format_again First rest = rw (not_second rest, mark_again first_mark rest first_eight) refl
+format_again Second rest = rw (mark_again second_mark rest second_eight) refl
 
 -- ---- the pairs
 

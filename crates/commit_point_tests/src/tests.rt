@@ -1,7 +1,7 @@
 //! Commit files alone.
 use crate::tests_files::{COMMIT, COMMIT_FIELDS};
 use commit_point::{CommitFormat, Head, HeadSegment, decode_commit, encode_commit};
-use ix_base::{Fields, FileFault, List, Name, Text};
+use ix_base::{Fields, FileFault, List};
 use std::alloc::Global;
 use std::test::*;
 
@@ -140,15 +140,21 @@ const WITH_PAIRS: [u8; 66] = [
 /// Where the fields of that file begin.
 const PAIR_FIELDS: [u64; 10] = [0, 8, 16, 24, 32, 40, 44, 51, 56, 61];
 
-fn name(alloc: Global, text: &str) -> Result<Name, Fail> {
-    Ok(Name::new(Text::copy_of(alloc, text)?).ok_or("a name")?)
+/// The pairs of that file.
+pub(crate) fn with_pairs(alloc: Global) -> Option<Fields> {
+    match decode_commit(alloc, &WITH_PAIRS[..65], 2) {
+        Ok(head) => Some(head.pairs),
+        Err(_) => None,
+    }
 }
 
 #[test]
 fn pairs_are_spelled_and_read(rt: HostRuntime) -> Result<(), Fail> {
     let alloc = rt.alloc();
     let bytes = &WITH_PAIRS[..65];
-    let head = decode_commit(alloc, bytes, 2).ok().ok_or("the bytes are a commit file")?;
+    let head = decode_commit(alloc, bytes, 2)
+        .ok()
+        .ok_or("the bytes are a commit file")?;
     assert!(rt; head.format == CommitFormat::Second);
     let pairs = head.pairs.as_slice();
     assert!(rt; pairs.len() == 2);

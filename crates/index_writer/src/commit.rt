@@ -99,7 +99,15 @@ impl<S: Store> IndexWriter<S> {
         let renewed = renewed(alloc, number, segments, written)?;
         let next_id = self.state.published.next_id;
         let none = Fields::none(alloc);
-        match write_commit(alloc, &mut self.store, number, next_id, &none, segments, written) {
+        match write_commit(
+            alloc,
+            &mut self.store,
+            number,
+            next_id,
+            &none,
+            segments,
+            written,
+        ) {
             Ok(head) => {
                 self.state.go_on(renewed);
                 Ok(CommitInfo {
