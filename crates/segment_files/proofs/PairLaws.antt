@@ -1,13 +1,13 @@
 -- Pairs of a name and a text that are read are those that were written, and what was written is read again.
-use Rattle.std.proofs.Common.{◌≡◌, ℕ, ◌^◌, ◌<◌, true, List, ◌++◌, length, Option, Some, None, Ok, refl, sym, ap, subst, ◌∙◌, append_assoc, arith}
+use Rattle.std.proofs.Common.{◌≡◌, ℕ, true, List, ◌++◌, length, Option, None, Ok, refl, sym, ap, subst, ◌∙◌, append_assoc, arith}
 use Rattle.std.specs.Int.{w32}
-use Rattle.std.specs.List.{flat_map, AllByRecursion}
+use Rattle.std.specs.List.{flat_map}
 use Rattle.ix_base.specs.Limits.{names_rise}
 use Rattle.ix_base.specs.Codec.{◌>>=◌, number_at, text_at, items_at}
 use Rattle.ix_base.specs.CodecLaws.{bind_ok, ok_is, Takes, Takes-then, u32_takes, u32_again, text_takes, text_again}
 use Rattle.ix_base.specs.FileReading.{name_where}
 use Rattle.ix_base.specs.FileLaws.{name_where_takes, name_where_again}
-use Rattle.ix_base.specs.ItemLaws.{AllGood, TakesItem, GivesItem, items_take, items_again, items_have, good_onto, good_each, good_both}
+use Rattle.ix_base.specs.ItemLaws.{TakesItem, GivesItem, items_take, items_again, items_have, good_onto, good_each, good_both}
 use Rattle.ix_base.specs.Spelling.{be32, text_bytes, AreBytes}
 use Rattle.segment_files.specs.Fields.{comes_after}
 use Rattle.segment_files.specs.Fits.{FieldFits, PairsFit}
