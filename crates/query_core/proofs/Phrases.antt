@@ -151,10 +151,6 @@ pub any_start : (lists : List (List ℕ)) (order : List ℕ)
     → list_any (follow_from (in_turn [] lists order)) (get_or lists (get_or order 0 0) []) ≡ nat_lt 0 (length (filter (follow_from (in_turn [] lists order)) (get_or lists (get_or order 0 0) [])))
 any_start lists order = some_left (follow_from (in_turn [] lists order)) (get_or lists (get_or order 0 0) [])
 
--- the next number, which passes or doesn't
-pub any_next : (f : ℕ → Bool) (xs : List ℕ) (i : ℕ) → i < length xs → list_any f (drop i xs) ≡ (f (get_or xs i 0) || list_any f (drop (i + 1) xs))
-any_next f xs i lt = ap (list_any f) (drop-cons xs i 0 lt) ∙ ap (λ (n : ℕ). f (get_or xs i 0) || list_any f (drop n xs)) (let e : suc i ≡ i + 1 = omega arith in e)
-
 -- where a row's positions of the different terms follow one another, the words stand
 module _ (docs : List Document) (row : ℕ) (different : List Term) (lists : List (List ℕ)) (each : AllZip (λ t xs. ArePositions docs t row xs) different lists) (d : Term) where
   here : (i at : ℕ) → i < length different → has_number (get_or lists i []) at ≡ at_row (λ doc. stands_at (terms doc) (get_or different i d).field (get_or different i d).bytes at) docs row

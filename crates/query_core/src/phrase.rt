@@ -85,17 +85,17 @@ fn positions_in<I: Inverted>(
 }
 
 /// Whether lists of positions, in this order, have one after another from this position on. Each
-/// list is searched from where its last search ended.
+/// list is searched from where its last search ended, whichever of its word's places that was for.
 fn follow_from(lists: &[Vec<u32>], order: &[usize], at: u32, ends: &mut [usize]) -> bool
     requires within { All (λ i. i < length lists.now) order.now }
-    requires ends { length ends.old ≡ length order.now }
+    requires ends { length ends.old ≡ length lists.now }
     ensures follow { All IsRising (lists_of lists.now)
         → result ≡ follow_from (in_turn [] (lists_of lists.now) order.now) at }
-    ensures ends { length ends.new ≡ length order.now }
+    ensures ends { length ends.new ≡ length lists.now }
 {
     for i in 0..order.len() {
         let places = lists[order[i]].as_slice();
-        if !has_from(places, u64::from(at) + i as u64, &mut ends[i]) {
+        if !has_from(places, u64::from(at) + i as u64, &mut ends[order[i]]) {
             return false;
         }
     }
@@ -112,7 +112,7 @@ fn have_run(alloc: Global, lists: &[Vec<u32>], order: &[usize]) -> Result<bool, 
         (slice_index_or (lists_of lists.now) (slice_index order.now 0) [])) }
 {
     let mut ends = Vec::new(alloc);
-    ends.resize(order.len(), 0)?;
+    ends.resize(lists.len(), 0)?;
     for at in &lists[order[0]] {
         if follow_from(lists, order, *at, ends.as_mut_slice()) {
             return Ok(true);

@@ -35,7 +35,7 @@ loop-i-preserved c =
     let i = c.loop-i.i in
     let places = c.index-lists-order.result in
     record {
-      ends = length-set c.loop-i.ends i c.has_from.new.place ∙ c.loop-i.invariant.ends;
+      ends = length-set c.loop-i.ends (get_or order i 0) c.has_from.new.place ∙ c.loop-i.invariant.ends;
       follow = λ rise.
           let next = next_list lists order i c.args.at places (c.requires.within i 0 c.loop-i-test.true) c.loop-i-test.true c.index-lists-order.is rise in
           let has = sym (c.has_from.ensures (subst IsRising (sym c.as_slice-places.ensures.value) next.0) ∙ (λ n. has_number (c.as_slice-places.ensures.value n) (c.from.ensures n + i))) ∙ c.if-not-has_from.false in
