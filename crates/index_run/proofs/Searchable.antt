@@ -1,5 +1,5 @@
 -- After the lines are done, the commit of each search line can be read back.
-use Rattle.std.proofs.Common.{◌≡◌, ◌⊎◌, inl, inr, ◌∙◌, ℕ, ◌-◌, ◌≤◌, List, [], ◌∷◌, length, take, refl, sym, ap, subst}
+use Rattle.std.proofs.Common.{◌≡◌, ◌⊎◌, inl, inr, ◌∙◌, ℕ, ◌+◌, ◌-◌, ◌≤◌, List, [], ◌∷◌, length, take, refl, sym, ap, subst}
 use Rattle.std.proofs.Common.{arith}
 use Rattle.std.specs.Prelude.{Contains}
 use Rattle.std.specs.List.{AllByRecursion}
@@ -20,7 +20,11 @@ use Rattle.run_report.specs.Searching.{AnswerHolds, AnswerReads, CanRead, CanSea
 use Rattle.run_log.specs.CommitLaws.{commits_rise, each_at, rises_above}
 use Rattle.run_log.specs.Headline.{CanRun, Given, HasAll, HasNoCommit, Interleaves, IsIn, IsNewCommit, commit_numbers, operations}
 use Rattle.commit_point.specs.KeptLaws.{inverted_there}
+use Rattle.flush_control.specs.Published.{StandsFor}
+use Rattle.index_writer.specs.declared.state.State.{State}
+use Rattle.searcher.specs.Searching.{Searches}
 use Rattle.index_run.specs.Damage.{IsAsked}
+use Rattle.index_run.specs.Doing.{IsOnGiven, IsWriterOn}
 use Rattle.index_run.specs.Outcomes.{AsksBy, IsAskedBy, rows_of}
 use Rattle.index_run.specs.OutcomeLaws.{asked_commit, rows_of-is}
 
@@ -122,6 +126,38 @@ can_search g log lines new outcomes can numbering rise has asked = record {
       ])
       (holds_other new (rows_of g.base g.rows log)) asked);
 }
+
+-- ---- what the writer has in memory
+
+-- the writer's segments, searched, are the rows by its number
+abbrev pub SearchesAt : State → (ℕ → List Row) → Type 0
+SearchesAt w by = Searches w.published.segments (by w.published.upto)
+
+-- they are the log's rows
+pub searches_last : (g : Given) (first : State) (log : List Line) (w : State) → CanRun g → IsOnGiven g first
+    → IsWriterOn first log w → SearchesAt w (rows_of g.base g.rows log)
+searches_last g first log w can on writer =
+    subst (λ (rows : List Row). Searches w.published.segments rows) (sym rows_are) (record {
+      number = w.published.upto;
+      rows_are = stands.rows_are;
+      inverted = stands.inverted;
+    })
+  where
+    end : w.published.upto ≡ g.base + length log
+    end = let is = writer.upto in let number = on.number in omega (arith, is, number)
+
+    stands : StandsFor w.published (after g.rows g.base (operations log))
+    stands =
+        subst (λ (n : ℕ). StandsFor w.published (after g.rows n (operations log))) on.number (writer.rows g.rows on.rows)
+
+    count : w.published.upto - g.base ≡ length log
+    count = omega (arith, end)
+
+    rows_are : rows_of g.base g.rows log w.published.upto ≡ after g.rows g.base (operations log)
+    rows_are =
+        rows_of-is g.base g.rows log w.published.upto (no_rows g can) (omega (arith, end))
+        ∙ ap (λ (n : ℕ). after g.rows g.base (operations (take n log))) count
+        ∙ ap (λ (ls : List Line). after g.rows g.base (operations ls)) (take-length log)
 
 -- what is searched can be read, also where little is known of the store
 pub can_read : (g : Given) (log lines : List Line) (new : Files) (outcomes : List Outcome) → Interleaves lines log

@@ -23,6 +23,8 @@ use ix_outside::{Gate, Store};
 use made_runs::made_runs;
 use op_script::Line;
 use report_text::Fault;
+use run_report::SearchedCommit;
+use searcher::Searcher;
 use std::alloc::Global;
 use std::sync::Wait;
 use std::thread::Threads;
@@ -101,11 +103,13 @@ pub fn do_script<R: Threads + Wait + Sync, S: Store, G: Gate>(
     };
     let base = writer.upto();
     let Ran { writer, came } = do_lines(rt, alloc, gate, writer, options.threads, lines);
-    let upto = writer.upto();
-    let mut store = writer.into_store();
+    let number = writer.upto();
+    let (mut store, segments) = writer.into_parts();
+    let searcher = Searcher { segments };
+    let loaded = SearchedCommit { number, searcher };
     match came {
         Ok(outcomes) => Done {
-            text: text_of(alloc, &mut store, form, base, upto, outcomes.as_slice()),
+            text: text_of(alloc, &mut store, form, base, loaded, outcomes.as_slice()),
             store,
         },
         Err(fault) => Done {

@@ -13,14 +13,14 @@ ghost use Rattle.report_text.specs.Summaries.{summary_of};
 ghost use Rattle.run_report.specs.Searching.{CanRead, CanSearch, ReadsCommit, SearchesDamaged};
 ghost use Rattle.run_report.specs.Texts.{texts};
 ghost use Rattle.run_report.specs.declared.outcome.Outcome.{Outcome};
-ghost use Rattle.searcher.specs.Searching.{IsDamagedIn};
+ghost use Rattle.searcher.specs.Searching.{IsDamagedIn, Searches};
 ghost use Rattle.index_run.specs.Telling.{CanTell, TellsDamaged, is_committed};
 
 use crate::stop::Stop;
 use ix_base::NoMemory;
 use ix_outside::Store;
 use report_text::{Fault, Summary, summary_text};
-use run_report::{Answer, Outcome, report};
+use run_report::{Answer, Outcome, SearchedCommit, report};
 use std::alloc::Global;
 use store_answers::own_hits;
 
@@ -33,29 +33,30 @@ pub enum Form {
     Summary,
 }
 
-/// The text of this form, of a run from the commit `base` whose last number is `upto`, and in which
-/// this became of the lines. A summary asks for a commit of that number.
+/// The text of this form, of a run from the commit `base` in which this became of the lines. What is
+/// in memory, under the run's last number, answers the report's searches in a commit of that number. A
+/// summary asks the store for that commit.
 pub fn text_of<S: Store>(
     alloc: Global,
     store: &mut S,
     form: Form,
     base: u64,
-    upto: u64,
+    loaded: SearchedCommit,
     outcomes: &[Outcome],
 ) -> Result<Vec<u8>, Stop>
-    requires order { base ≤ upto }
+    requires order { base ≤ loaded.number }
     ensures report { (files : Files) (rows_of : ℕ → List Row) → form ≡ Form.Report
         → told_files (S.disk store.old) ≡ Some files → CanSearch files rows_of outcomes.now
-        → IfOk result (λ bytes. bytes.items ≡ texts rows_of outcomes.now) }
+        → Searches loaded.searcher.segments (rows_of loaded.number) → IfOk result (λ bytes. bytes.items ≡ texts rows_of outcomes.now) }
     ensures summary { (files : Files) (next : ℕ) (rows : List Row) → form ≡ Form.Summary
-        → told_files (S.disk store.old) ≡ Some files → HoldsInverted files upto next rows
+        → told_files (S.disk store.old) ≡ Some files → HoldsInverted files loaded.number next rows
         → IfOk result (λ bytes. bytes.items ≡ text_line (summary_value (summary_of
-        (count_by is_committed outcomes.now) (upto - base) (map hit_of (born_after base rows))))) }
+        (count_by is_committed outcomes.now) (loaded.number - base) (map hit_of (born_after base rows))))) }
     ensures whole { (files : Files) → told_files (S.disk store.old) ≡ Some files
-        → CanTell form upto files outcomes.now
+        → CanTell form loaded.number files outcomes.now
         → IfErr result (λ stop. (stop ≡ Stop.Fault Fault.Store) ⊎ (stop ≡ Stop.NoMemory)) }
     ensures damaged { (damaged : Damaged) → result ≡ Err (Stop.Fault (Fault.Damaged damaged))
-        → TellsDamaged form upto outcomes.now (told_files (S.disk store.old)) damaged }
+        → TellsDamaged form loaded.number outcomes.now (told_files (S.disk store.old)) damaged }
     ensures reads { S.disk store.new ≡ S.disk store.old }
     ensures later { S.fault_count store.old ≤ S.fault_count store.new }
     ensures failed { result ≡ Err (Stop.Fault Fault.Store)
@@ -64,16 +65,25 @@ pub fn text_of<S: Store>(
         ⊎ ((damaged : Damaged) × (stop ≡ Stop.Fault (Fault.Damaged damaged))))) }
 {
     match form {
-        Form::Report => report_of(alloc, store, outcomes),
-        Form::Summary => summary(alloc, store, base, upto, outcomes),
+        Form::Report => report_of(alloc, store, loaded, outcomes),
+        Form::Summary => {
+            let upto = loaded.number;
+            drop(loaded);
+            summary(alloc, store, base, upto, outcomes)
+        }
     }
 }
 
 /// The report of what became of the lines, or why the run stops.
-fn report_of<S: Store>(alloc: Global, store: &mut S, outcomes: &[Outcome]) -> Result<Vec<u8>, Stop>
+fn report_of<S: Store>(
+    alloc: Global,
+    store: &mut S,
+    loaded: SearchedCommit,
+    outcomes: &[Outcome],
+) -> Result<Vec<u8>, Stop>
     ensures text { (files : Files) (rows_of : ℕ → List Row)
         → told_files (S.disk store.old) ≡ Some files → CanSearch files rows_of outcomes.now
-        → IfOk result (λ bytes. bytes.items ≡ texts rows_of outcomes.now) }
+        → Searches loaded.searcher.segments (rows_of loaded.number) → IfOk result (λ bytes. bytes.items ≡ texts rows_of outcomes.now) }
     ensures whole { (files : Files) → told_files (S.disk store.old) ≡ Some files
         → CanRead files outcomes.now
         → IfErr result (λ stop. (stop ≡ Stop.Fault Fault.Store) ⊎ (stop ≡ Stop.NoMemory)) }
@@ -87,7 +97,7 @@ fn report_of<S: Store>(alloc: Global, store: &mut S, outcomes: &[Outcome]) -> Re
     ensures others { IfErr result (λ stop. (stop ≡ Stop.Fault Fault.Store) ⊎ ((stop ≡ Stop.NoMemory)
         ⊎ ((damaged : Damaged) × (stop ≡ Stop.Fault (Fault.Damaged damaged))))) }
 {
-    match report(alloc, store, outcomes) {
+    match report(alloc, store, loaded, outcomes) {
         Ok(text) => Ok(text),
         Err(fault) => Err(Stop::from(fault)),
     }

@@ -163,6 +163,16 @@ impl<S> IndexWriter<S> {
         let IndexWriter { store, .. } = self;
         store
     }
+
+    /// Ends the writer and gives back its store and its segments, with all operations up to `upto`.
+    /// These are the last commit's where nothing came since. A merge that runs is dropped.
+    pub fn into_parts(self) -> (S, List<LiveSegment>)
+        ensures store { result.0 ≡ self.store }
+        ensures segments { result.1 ≡ self.state.published.segments }
+    {
+        let IndexWriter { store, state, .. } = self;
+        (store, state.published.segments)
+    }
 }
 
 /// What is on the store of the segments of a commit: their live docs, as they were written last.

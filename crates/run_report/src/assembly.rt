@@ -10,6 +10,7 @@ ghost use Rattle.run_report.specs.declared.outcome.Outcome.{Outcome};
 ghost use Rattle.run_report.specs.Texts.{outcome_text, texts};
 ghost use Rattle.run_report.specs.Searching.{CanRead, CanSearch, SearchesDamaged, IsReadFault};
 ghost use Rattle.commit_point.specs.Loading.{IsOutside};
+ghost use Rattle.searcher.specs.Searching.{Searches};
 ghost use Rattle.run_report.specs.Assembling.{IsOrderOf};
 
 use crate::outcome::{Answer, Outcome};
@@ -18,10 +19,10 @@ use commit_point::OpenFault;
 use ix_base::NoMemory;
 use ix_outside::Store;
 use std::alloc::Global;
+use std::cmp::Reverse;
 
-/// A line by the commit that it searches, and then by its place, so that a commit that several
-/// lines search is opened once.
-#[derive(Clone, Copy, Debug, PartialEq, Eq, PartialOrd, Ord)]
+/// A line by the commit that it searches, and by its place.
+#[derive(Clone, Copy, Debug, PartialEq, Eq)]
 pub struct Turn {
     pub commit: u64,
     pub at: usize,
@@ -35,7 +36,8 @@ fn searched_commit(outcome: &Outcome) -> u64 {
     }
 }
 
-/// The lines by the commits that they search.
+/// The lines by the commits that they search, the last commit first, so that one that several lines
+/// search is opened once.
 fn turns_of(alloc: Global, outcomes: &[Outcome]) -> Result<Vec<Turn>, NoMemory>
     ensures { IfOk result (λ turns. IsOrderOf (length outcomes.now) turns.items) }
 {
@@ -44,7 +46,7 @@ fn turns_of(alloc: Global, outcomes: &[Outcome]) -> Result<Vec<Turn>, NoMemory>
         let commit = searched_commit(&outcomes[at]);
         turns.push(Turn { commit, at })?;
     }
-    turns.sort_unstable();
+    turns.sort_unstable_by_key(|turn| Reverse(turn.commit));
     Ok(turns)
 }
 
@@ -59,17 +61,29 @@ fn empty_texts(alloc: Global, count: usize) -> Result<Vec<Vec<u8>>, NoMemory>
     Ok(texts)
 }
 
+/// The commit that is in memory, where the line of the first turn searches it. Else it is let go.
+fn if_wanted(alloc: Global, loaded: SearchedCommit, turns: &[Turn]) -> SearchedCommit
+    ensures { (rows_of : ℕ → List Row) → Searches loaded.searcher.segments (rows_of loaded.number)
+        → rows_of 0 ≡ [] → Searches result.searcher.segments (rows_of result.number) }
+{
+    match turns.first() {
+        Some(turn) if turn.commit == loaded.number => loaded,
+        _ => SearchedCommit::none(alloc),
+    }
+}
+
 /// The texts of the lines, made in these turns.
 fn texts_in_turn<S: Store>(
     alloc: Global,
     store: &mut S,
+    loaded: SearchedCommit,
     outcomes: &[Outcome],
     turns: &[Turn],
 ) -> Result<Vec<Vec<u8>>, OpenFault>
     requires { IsOrderOf (length outcomes.now) turns.now }
     ensures texts { (files : Files) (rows_of : ℕ → List Row)
         → told_files (S.disk store.old) ≡ Some files → CanSearch files rows_of outcomes.now
-        → IfOk result (λ made.
+        → Searches loaded.searcher.segments (rows_of loaded.number) → IfOk result (λ made.
         map (λ text. text.items) made.items ≡ map (outcome_text rows_of) outcomes.now) }
     ensures whole { (files : Files) → told_files (S.disk store.old) ≡ Some files
         → CanRead files outcomes.now → IfErr result IsOutside }
@@ -82,7 +96,7 @@ fn texts_in_turn<S: Store>(
         → Rose (S.fault_count store.old) (S.fault_count store.new) }
     ensures others { IfErr result IsReadFault }
 {
-    let mut commit = SearchedCommit::none(alloc);
+    let mut commit = if_wanted(alloc, loaded, turns);
     let mut made = match empty_texts(alloc, outcomes.len()) {
         Ok(made) => made,
         Err(NoMemory) => return Err(OpenFault::NoMemory),
@@ -108,19 +122,21 @@ fn joined(alloc: Global, made: &[Vec<u8>]) -> Result<Vec<u8>, NoMemory>
     Ok(bytes)
 }
 
-/// The whole report, for a script with these outcomes. Search lines read their commits from the
-/// store, which is as before, whatever is answered.
+/// The whole report, for a script with these outcomes. Search lines are answered from the commit that
+/// is in memory, where it is theirs; the others read their commits from the store, one after another.
+/// The store is as before, whatever is answered.
 ///
 /// `Store` comes only where the store's count of faults rose; `Damaged` names the first broken place
 /// of a commit that a search line asks for. `NoSuch` never comes.
 pub fn report<S: Store>(
     alloc: Global,
     store: &mut S,
+    loaded: SearchedCommit,
     outcomes: &[Outcome],
 ) -> Result<Vec<u8>, OpenFault>
     ensures text { (files : Files) (rows_of : ℕ → List Row)
         → told_files (S.disk store.old) ≡ Some files → CanSearch files rows_of outcomes.now
-        → IfOk result (λ bytes. bytes.items ≡ texts rows_of outcomes.now) }
+        → Searches loaded.searcher.segments (rows_of loaded.number) → IfOk result (λ bytes. bytes.items ≡ texts rows_of outcomes.now) }
     ensures whole { (files : Files) → told_files (S.disk store.old) ≡ Some files
         → CanRead files outcomes.now → IfErr result IsOutside }
     ensures damaged { (damaged : Damaged) → result ≡ Err (OpenFault.Damaged damaged)
@@ -136,7 +152,7 @@ pub fn report<S: Store>(
         Ok(turns) => turns,
         Err(NoMemory) => return Err(OpenFault::NoMemory),
     };
-    match texts_in_turn(alloc, store, outcomes, turns.as_slice()) {
+    match texts_in_turn(alloc, store, loaded, outcomes, turns.as_slice()) {
         Ok(made) => match joined(alloc, made.as_slice()) {
             Ok(bytes) => Ok(bytes),
             Err(NoMemory) => Err(OpenFault::NoMemory),

@@ -1,5 +1,6 @@
 //! The report of a run: one text for each line of the script, made from what became of the lines.
-//! Search lines are answered from what the store holds of their commits, each of which is read once.
+//! Search lines are answered from a commit that is in memory, or from what the store holds of theirs;
+//! each of these is read once.
 #![tactic(auto)]
 
 mod assembly;
@@ -8,3 +9,4 @@ mod searches;
 
 pub use assembly::report;
 pub use outcome::{Answer, Outcome};
+pub use searches::SearchedCommit;

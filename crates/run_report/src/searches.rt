@@ -20,7 +20,7 @@ use report_text::{commit_text, refused_text, search_text, write_text};
 use searcher::Searcher;
 use std::alloc::Global;
 
-/// A commit that is being searched. Without a commit its number is 0, and it has no row.
+/// A commit that is in memory, to be searched. Without a commit its number is 0, and it has no row.
 #[derive(Drop)]
 pub struct SearchedCommit {
     pub number: u64,
@@ -40,7 +40,8 @@ impl SearchedCommit {
     }
 }
 
-/// Brings up the commit of this number, unless it is the one that is searched already.
+/// Brings up the commit of this number, unless it is the one that is searched already. That is let go
+/// first, so that never more than one is in memory.
 fn reopen<S: Store>(
     alloc: Global,
     store: &mut S,
@@ -66,8 +67,8 @@ fn reopen<S: Store>(
     if commit.number == number {
         return Ok(());
     }
+    *commit = SearchedCommit::none(alloc);
     if number == 0 {
-        *commit = SearchedCommit::none(alloc);
         return Ok(());
     }
     match Searcher::open_listed(alloc, store, number) {

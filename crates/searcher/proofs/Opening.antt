@@ -1,28 +1,19 @@
 -- What is read of a commit can be searched.
-use Rattle.std.proofs.Common.{◌≡◌, ◌∙◌, ℕ, List, [], ◌∷◌, ap, subst, sym}
-use Rattle.std.specs.List.{AllByRecursion}
+use Rattle.std.proofs.Common.{◌≡◌, ◌∙◌, ℕ, List, ap, subst, sym}
 use Rattle.ix_base.specs.declared.document.Row.{Row}
 use Rattle.ix_outside.specs.Files.{Files}
-use Rattle.segment_core.specs.LiveRows.{Lived, IsWhole}
+use Rattle.segment_core.specs.LiveRows.{Lived}
 use Rattle.commit_point.specs.declared.heads.HeadSegment.{HeadSegment}
 use Rattle.commit_point.specs.declared.open.Opened.{Opened}
-use Rattle.commit_point.specs.Holds.{HasSegments, HaveSegments, HoldsInverted}
+use Rattle.commit_point.specs.Holds.{HasSegments, HoldsInverted}
 use Rattle.commit_point.specs.SegmentLaws.{one_segments}
 use Rattle.searcher.specs.Searching.{Searches}
-
-whole_each : (files : Files) (s : ℕ) (entries : List HeadSegment) (segments : List Lived) → HaveSegments files s entries segments
-    → AllByRecursion (λ (g : Lived). IsWhole g.segment g.live) segments
-whole_each files s [] [] h = tt
-whole_each files s (e ∷ es) (g ∷ gs) h = (h.0.whole, whole_each files s es gs h.1)
-whole_each files s [] (g ∷ gs) h = absurd h
-whole_each files s (e ∷ es) [] h = absurd h
 
 -- the segments that the files hold, searched
 searches_held : (files : Files) (s next : ℕ) (rows : List Row) (holds : HoldsInverted files s next rows) → Searches holds.holds.segments rows
 searches_held files s next rows holds = record {
   number = s;
   rows_are = holds.holds.rows_are;
-  whole = whole_each files s holds.holds.entries holds.holds.segments holds.holds.spelled.each;
   inverted = holds.inverted;
 }
 

@@ -1,10 +1,9 @@
 -- What a search has of a commit.
 use Rattle.std.specs.Prelude.{◌≡◌, ℕ, List, Option, Err}
-use Rattle.std.specs.List.{AllByRecursion}
 use Rattle.ix_base.specs.declared.damaged.Damaged.{Damaged}
 use Rattle.ix_base.specs.declared.document.Row.{Row}
 use Rattle.ix_outside.specs.Files.{Files, Was}
-use Rattle.segment_core.specs.LiveRows.{Lived, IsWhole}
+use Rattle.segment_core.specs.LiveRows.{Lived}
 use Rattle.commit_point.specs.Holds.{AreRowsOf, AreInverted}
 use Rattle.commit_point.specs.Reading.{reading}
 
@@ -12,7 +11,6 @@ use Rattle.commit_point.specs.Reading.{reading}
 pub record Searches (segments : List Lived) (rows : List Row) : Type 0 where
   pub number : ℕ
   pub rows_are : AreRowsOf number segments rows
-  pub whole : AllByRecursion (λ (g : Lived). IsWhole g.segment g.live) segments
   pub inverted : AreInverted segments
 
 -- the commit of this number is first broken at this place

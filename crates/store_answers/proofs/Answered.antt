@@ -1,11 +1,10 @@
 -- What is answered from a commit that was read, or said where it is damaged.
-use Rattle.std.proofs.Common.{◌≡◌, ◌⊎◌, inl, inr, ℕ, List, [], ◌∷◌, Option, Some, Err, refl, sym, subst}
-use Rattle.std.specs.List.{AllByRecursion}
+use Rattle.std.proofs.Common.{◌≡◌, ◌⊎◌, inl, inr, ℕ, List, Option, Some, Err, refl, sym, subst}
 use Rattle.ix_base.specs.declared.damaged.Damaged.{Damaged}
 use Rattle.ix_base.specs.declared.document.Row.{Row}
 use Rattle.ix_outside.specs.Files.{Files, Was}
-use Rattle.segment_core.specs.LiveRows.{IsWhole, Lived}
-use Rattle.commit_point.specs.Holds.{HasSegments, HaveSegments, HoldsInverted}
+use Rattle.segment_core.specs.LiveRows.{Lived}
+use Rattle.commit_point.specs.Holds.{HasSegments, HoldsInverted}
 use Rattle.commit_point.specs.Loading.{IsOutside}
 use Rattle.commit_point.specs.Reading.{reading}
 use Rattle.commit_point.specs.SegmentLaws.{has_reads}
@@ -18,19 +17,12 @@ use Rattle.store_answers.proofs.Told.{same_files}
 
 -- ---- a commit that was read
 
-whole_each : (files : Files) (s : ℕ) (entries : List HeadSegment) (segments : List Lived) → HaveSegments files s entries segments → AllByRecursion (λ (g : Lived). IsWhole g.segment g.live) segments
-whole_each files s [] [] h = tt
-whole_each files s (e ∷ es) (g ∷ gs) h = (h.0.whole, whole_each files s es gs h.1)
-whole_each files s [] (g ∷ gs) h = absurd h
-whole_each files s (e ∷ es) [] h = absurd h
-
 -- it can be searched
 pub searches_read : (files : Files) (s next : ℕ) (rows : List Row) (holds : HoldsInverted files s next rows) (opened : Opened)
     → opened ≡ record { number = s; next_id = next; entries = holds.holds.entries; segments = holds.holds.segments } → Searches opened.segments rows
 searches_read files s next rows holds opened is = subst (λ (o : Opened). Searches o.segments rows) (sym is) (record {
   number = s;
   rows_are = holds.holds.rows_are;
-  whole = whole_each files s holds.holds.entries holds.holds.segments holds.holds.spelled.each;
   inverted = holds.inverted;
 })
 

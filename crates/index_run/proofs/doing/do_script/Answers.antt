@@ -32,8 +32,8 @@ returns-in-Err-came-clause-stops g c = λ given same told can.
     let still = told_still start began given.files c.in-Ok.ensures.reads told in
     let on = c.in-Ok.ensures.given given told can in
     same_disks (Stops given) start began _
-    (g.S.Store.disk c.into_store-store.result) c.in-Ok.ensures.reads
-    (ap (λ s. g.S.Store.disk s) c.into_store-store.ensures)
+    (g.S.Store.disk c.into_parts.result.0) c.in-Ok.ensures.reads
+    (ap (λ s. g.S.Store.disk s) c.into_parts.ensures.store)
     (cut_stops given _ c.args.lines _ same can still on (on_fault _ _ c.in-Err-came.is c.do_lines-writer.ensures.cut))
 
 pub returns-in-Err-came-clause-kept : goal.returns-in-Err-came-clause-kept
@@ -43,8 +43,8 @@ returns-in-Err-came-clause-kept g c = λ given told can.
     let still = told_still start began given.files c.in-Ok.ensures.reads told in
     let on = c.in-Ok.ensures.given given told can in
     same_disks (Keeps given) start began _
-    (g.S.Store.disk c.into_store-store.result) c.in-Ok.ensures.reads
-    (ap (λ s. g.S.Store.disk s) c.into_store-store.ensures)
+    (g.S.Store.disk c.into_parts.result.0) c.in-Ok.ensures.reads
+    (ap (λ s. g.S.Store.disk s) c.into_parts.ensures.store)
     (cut_keeps given _ c.args.lines _ still on (on_fault _ _ c.in-Err-came.is c.do_lines-writer.ensures.cut))
 
 -- the lines were done, and the store is the writer's
@@ -52,10 +52,10 @@ over : (g : given.Over) (c : goal.After-drop-outcomes g) → IsOver (record {
   workers = c.args.options.threads;
   first = c.in-Ok.writer.state;
   start = g.S.Store.disk c.in-Ok.writer.store;
-}) c.args.lines c.as_slice.result.now c.do_lines-writer.result.writer.state (g.S.Store.disk c.into_store-store.result)
+}) c.args.lines c.as_slice.result.now c.do_lines-writer.result.writer.state (g.S.Store.disk c.into_parts.result.0)
 over g c =
     over_same _ c.args.lines c.in-Ok-came.outcomes.items c.as_slice.result.now _ _ _ c.as_slice.ensures.value
-    (ap (λ s. g.S.Store.disk s) c.into_store-store.ensures) (on_ok _ _ _ c.in-Ok-came.is c.do_lines-writer.ensures.over)
+    (ap (λ s. g.S.Store.disk s) c.into_parts.ensures.store) (on_ok _ _ _ c.in-Ok-came.is c.do_lines-writer.ensures.over)
 
 pub returns-in-Ok-came-clause-done : goal.returns-in-Ok-came-clause-done
 returns-in-Ok-came-clause-done g c = λ given same told can.
@@ -64,10 +64,10 @@ returns-in-Ok-came-clause-done g c = λ given same told can.
     let still = told_still start began given.files c.in-Ok.ensures.reads told in
     let on = c.in-Ok.ensures.given given told can in
     same_disks (λ a b. IfOk c.text_of.result (λ text. Runs given (form_text c.args.form given) (λ told. text.items ≡ told) a b)) start began
-    (g.S.Store.disk c.into_store-store.result) (g.S.Store.disk c.text_of.new.store) c.in-Ok.ensures.reads
+    (g.S.Store.disk c.into_parts.result.0) (g.S.Store.disk c.text_of.new.store) c.in-Ok.ensures.reads
     c.text_of.ensures.reads
-    (told_by c.made_runs.ensures given _ c.args.form c.args.lines c.as_slice.result.now _ _ c.upto-base.result c.upto-upto.result c.text_of.result same
-    c.requires.lines.rise c.requires.made can still on (over g c) c.upto-base.ensures c.upto-upto.ensures
+    (told_by c.made_runs.ensures given _ c.args.form c.args.lines c.as_slice.result.now _ _ c.upto-base.result c.upto-number.result c.text_of.result same
+    c.requires.lines.rise c.requires.made can still on (over g c) c.upto-base.ensures c.upto-number.ensures
     c.text_of.ensures.report c.text_of.ensures.summary)
 
 pub returns-in-Ok-came-clause-stops : goal.returns-in-Ok-came-clause-stops
@@ -76,7 +76,7 @@ returns-in-Ok-came-clause-stops g c = λ given same told can.
     let began = g.S.Store.disk c.in-Ok.writer.store in
     let still = told_still start began given.files c.in-Ok.ensures.reads told in
     let on = c.in-Ok.ensures.given given told can in
-    same_disks (Stops given) start began (g.S.Store.disk c.into_store-store.result)
+    same_disks (Stops given) start began (g.S.Store.disk c.into_parts.result.0)
     (g.S.Store.disk c.text_of.new.store) c.in-Ok.ensures.reads c.text_of.ensures.reads
     (over_stops given _ c.args.lines c.as_slice.result.now _ _ same can still on (over g c))
 
@@ -86,7 +86,7 @@ returns-in-Ok-came-clause-kept g c = λ given told can.
     let began = g.S.Store.disk c.in-Ok.writer.store in
     let still = told_still start began given.files c.in-Ok.ensures.reads told in
     let on = c.in-Ok.ensures.given given told can in
-    same_disks (Keeps given) start began (g.S.Store.disk c.into_store-store.result)
+    same_disks (Keeps given) start began (g.S.Store.disk c.into_parts.result.0)
     (g.S.Store.disk c.text_of.new.store) c.in-Ok.ensures.reads c.text_of.ensures.reads
     (over_keeps given _ c.args.lines c.as_slice.result.now _ _ still on (over g c))
 
@@ -94,19 +94,19 @@ pub returns-in-Ok-came-clause-whole : goal.returns-in-Ok-came-clause-whole
 returns-in-Ok-came-clause-whole g c = λ given told last can.
     let began = g.S.Store.disk c.in-Ok.writer.store in
     let still = told_still (g.S.Store.disk c.args.store) began given.files c.in-Ok.ensures.reads told in
-    whole_in c.made_runs.ensures given _ c.args.form c.args.lines c.as_slice.result.now _ _ c.upto-upto.result c.text_of.result c.requires.lines.rise
-    c.requires.made can.0 still (c.in-Ok.ensures.on given told last can.0) c.upto-upto.ensures (over g c) c.text_of.ensures.whole
+    whole_in c.made_runs.ensures given _ c.args.form c.args.lines c.as_slice.result.now _ _ c.upto-number.result c.text_of.result c.requires.lines.rise
+    c.requires.made can.0 still (c.in-Ok.ensures.on given told last can.0) c.upto-number.ensures (over g c) c.text_of.ensures.whole
 
 -- where the text met what is damaged the store tells nothing
 none_told : (g : given.Over) (c : goal.After-drop-outcomes g) (damaged : Damaged)
     → c.text_of.result ≡ Err (stop.Fault (fault.Damaged damaged))
-    → (g.S.Store.disk c.args.store ≡ None) × (g.S.Store.disk c.into_store-store.result ≡ None)
+    → (g.S.Store.disk c.args.store ≡ None) × (g.S.Store.disk c.into_parts.result.0 ≡ None)
 none_told g c damaged is =
     let before = c.in-Ok.ensures.reads in
-    let none = untold c.made_runs.ensures _ c.args.form c.args.lines c.as_slice.result.now _ _ c.upto-upto.result c.text_of.result damaged
+    let none = untold c.made_runs.ensures _ c.args.form c.args.lines c.as_slice.result.now _ _ c.upto-number.result c.text_of.result damaged
     c.requires.lines.rise c.requires.made (λ f told. c.in-Ok.ensures.begins f (sym (ap told_files before) ∙ told))
     (λ given told last on. c.in-Ok.ensures.on given (sym (ap told_files before) ∙ told) last on)
-    c.upto-upto.ensures (over g c) c.text_of.ensures.whole is in
+    c.upto-number.ensures (over g c) c.text_of.ensures.whole is in
     (sym before ∙ none.0, none.1)
 
 pub returns-in-Ok-came-clause-damaged : goal.returns-in-Ok-came-clause-damaged
@@ -114,8 +114,8 @@ returns-in-Ok-came-clause-damaged g c = λ damaged is.
     let none = none_told g c damaged is in
     subst (λ (told : Option Files). ReadsDamaged c.args.form c.args.lines (told_files (g.S.Store.disk c.args.store)) told damaged)
     (sym (ap told_files c.text_of.ensures.reads))
-    (damaged_in c.made_runs.ensures _ c.args.form c.args.lines c.as_slice.result.now _ _ _ c.upto-base.result c.upto-upto.result damaged
-    c.requires.made c.in-Ok.ensures.last c.upto-upto.ensures (over g c) (ap told_files none.0, ap told_files none.1)
+    (damaged_in c.made_runs.ensures _ c.args.form c.args.lines c.as_slice.result.now _ _ _ c.upto-base.result c.upto-number.result damaged
+    c.requires.made c.in-Ok.ensures.last c.upto-number.ensures (over g c) (ap told_files none.0, ap told_files none.1)
     (c.text_of.ensures.damaged damaged is))
 
 pub returns-in-Ok-came-clause-same : goal.returns-in-Ok-came-clause-same
@@ -137,11 +137,11 @@ returns-in-Err-clause-steps g c = goes_still (λ step older. MakesCommits step) 
 pub returns-in-Err-came-clause-steps : goal.returns-in-Err-came-clause-steps
 returns-in-Err-came-clause-steps g c =
     same_disks (Told OnlyCommits) (g.S.Store.disk c.args.store) (g.S.Store.disk c.in-Ok.writer.store)
-    _ (g.S.Store.disk c.into_store-store.result) c.in-Ok.ensures.reads
-    (ap (λ s. g.S.Store.disk s) c.into_store-store.ensures) (on_fault _ _ c.in-Err-came.is c.do_lines-writer.ensures.cut).only
+    _ (g.S.Store.disk c.into_parts.result.0) c.in-Ok.ensures.reads
+    (ap (λ s. g.S.Store.disk s) c.into_parts.ensures.store) (on_fault _ _ c.in-Err-came.is c.do_lines-writer.ensures.cut).only
 
 pub returns-in-Ok-came-clause-steps : goal.returns-in-Ok-came-clause-steps
 returns-in-Ok-came-clause-steps g c =
     same_disks (Told OnlyCommits) (g.S.Store.disk c.args.store) (g.S.Store.disk c.in-Ok.writer.store)
-    (g.S.Store.disk c.into_store-store.result) (g.S.Store.disk c.text_of.new.store) c.in-Ok.ensures.reads
+    (g.S.Store.disk c.into_parts.result.0) (g.S.Store.disk c.text_of.new.store) c.in-Ok.ensures.reads
     c.text_of.ensures.reads (over g c).disk.only

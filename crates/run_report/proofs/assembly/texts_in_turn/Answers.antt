@@ -7,6 +7,7 @@ use Rattle.ix_base.specs.declared.document.Row.{Row}
 use Rattle.ix_outside.specs.Files.{Files}
 use Rattle.run_report.specs.declared.outcome.Outcome.{Outcome}
 use Rattle.run_report.specs.declared.assembly.Turn.{Turn}
+use Rattle.searcher.specs.Searching.{Searches}
 use Rattle.run_report.specs.Searching.{AnswerHolds, AnswerReads, CanRead, CanSearch, SearchesDamaged}
 use Rattle.run_report.proofs.Filled.{FilledAt, filled_more, all_filled, turn_in_range, get_or_any}
 use Rattle.run_report.proofs.assembly.texts_in_turn.Goals as goal
@@ -36,15 +37,16 @@ loop-turn-preserved g c =
     let made = c.loop-turn.made.items in
     let text = c.in-Ok-line_text.text in
     let lt = turn_in_range (length outcomes) turns i some c.requires c.loop-turn-test.true in
-    let done = λ (files : Files) (rows_of : ℕ → List Row) (told : told_files (g.S.Store.disk c.args.store.now) ≡ Some files) (can : CanSearch files rows_of outcomes).
-    c.in-Ok-line_text.ensures.text files rows_of ((ap told_files inv.reads) ∙ told) (inv.rows_are files rows_of told can) can.none (holds_at files rows_of outcomes at c.index-outcomes-turn.result lt c.index-outcomes-turn.is can) in
+    let done = λ (files : Files) (rows_of : ℕ → List Row) (told : told_files (g.S.Store.disk c.args.store.now) ≡ Some files) (can : CanSearch files rows_of outcomes)
+        (found : Searches c.args.loaded.searcher.segments (rows_of c.args.loaded.number)).
+    c.in-Ok-line_text.ensures.text files rows_of ((ap told_files inv.reads) ∙ told) (inv.rows_are files rows_of told can found) can.none (holds_at files rows_of outcomes at c.index-outcomes-turn.result lt c.index-outcomes-turn.is can) in
     record {
       count = length-set made at text ∙ inv.count;
-      rows_are = λ files rows_of told can. (done files rows_of told can).1;
-      filled = λ files rows_of told can.
+      rows_are = λ files rows_of told can found. (done files rows_of told can found).1;
+      filled = λ files rows_of told can found.
           subst (λ (texts : List (List ℕ)). (k : ℕ) (d : Turn) → k < i + 1 → FilledAt rows_of outcomes texts (get_or turns k d).at) (sym (map-set (λ (v : Vec ℕ Global). v.items) made at text))
           (filled_more rows_of outcomes (map (λ (v : Vec ℕ Global). v.items) made) turns i at text.items c.index-outcomes-turn.result (length_items made ∙ inv.count) lt
-          (λ d. ap (λ (turn : Turn). turn.at) (get_or_any turns i d some c.loop-turn-test.true)) c.index-outcomes-turn.is (done files rows_of told can).0 (inv.filled files rows_of told can));
+          (λ d. ap (λ (turn : Turn). turn.at) (get_or_any turns i d some c.loop-turn-test.true)) c.index-outcomes-turn.is (done files rows_of told can found).0 (inv.filled files rows_of told can found));
       reads = c.line_text.ensures.reads ∙ inv.reads;
       later = omega (arith, inv.later, c.line_text.ensures.later);
     }
@@ -60,9 +62,9 @@ returns-in-Err-line_text-clause-whole g c = λ files told can.
     c.in-Err-line_text.ensures.whole files ((ap told_files c.loop-turn.invariant.reads) ∙ told) (reads_at files c.args.outcomes.now _ c.index-outcomes-turn.result lt c.index-outcomes-turn.is can)
 
 pub returns-clause-texts : goal.returns-clause-texts
-returns-clause-texts g c = λ files rows_of told can.
+returns-clause-texts g c = λ files rows_of told can found.
     all_filled rows_of c.args.outcomes.now _ c.args.turns.now (length_items c.loop-turn.made.items ∙ c.loop-turn.invariant.count) c.requires
-    (λ k d lt. c.loop-turn.invariant.filled files rows_of told can k d (omega (arith, lt, c.loop-turn-test.false)))
+    (λ k d lt. c.loop-turn.invariant.filled files rows_of told can found k d (omega (arith, lt, c.loop-turn-test.false)))
 
 pub returns-in-Err-line_text-clause-damaged : goal.returns-in-Err-line_text-clause-damaged
 returns-in-Err-line_text-clause-damaged g c = λ damaged is.

@@ -13,9 +13,10 @@ invariant-loop-turn g l =
     let start = told_files (g.S.Store.disk l.fn.store) in
     record {
       count : length l.made.items ≡ length l.outcomes;
-      rows_are : (files : Files) (rows_of : ℕ → List Row) → start ≡ Some files → CanSearch files rows_of l.outcomes → Searches l.commit.searcher.segments (rows_of l.commit.number);
+      rows_are : (files : Files) (rows_of : ℕ → List Row) → start ≡ Some files → CanSearch files rows_of l.outcomes
+          → Searches l.fn.loaded.searcher.segments (rows_of l.fn.loaded.number) → Searches l.commit.searcher.segments (rows_of l.commit.number);
       filled : (files : Files) (rows_of : ℕ → List Row) → start ≡ Some files → CanSearch files rows_of l.outcomes
-          → (k : ℕ) (d : Turn) → k < l.turn-index → FilledAt rows_of l.outcomes (map (λ text. text.items) l.made.items) (get_or l.turns k d).at;
+          → Searches l.fn.loaded.searcher.segments (rows_of l.fn.loaded.number) → (k : ℕ) (d : Turn) → k < l.turn-index → FilledAt rows_of l.outcomes (map (λ text. text.items) l.made.items) (get_or l.turns k d).at;
       reads : g.S.Store.disk l.store ≡ g.S.Store.disk l.fn.store;
       later : g.S.Store.fault_count l.fn.store ≤ g.S.Store.fault_count l.store;
     }
