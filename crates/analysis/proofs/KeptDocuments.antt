@@ -4,7 +4,7 @@ use Rattle.std.proofs.lemmas.Bool.{eq-eqb, eqb-true, ne_eqb}
 use Rattle.std.proofs.lemmas.List.{take_more, map_push, length-map, length-take}
 use Rattle.ix_base.specs.Documents.{Document}
 use Rattle.ix_base.specs.Inversion.{stands_in_row}
-use Rattle.ix_base.specs.GroupedLaws.{or_false}
+use Rattle.ix_base.proofs.GroupedLaws.{or_false}
 use Rattle.ix_base.specs.Matches.{stands_at}
 use Rattle.ix_base.specs.Terms.{terms}
 use Rattle.ix_base.specs.declared.document.Row.{Row}

@@ -15,7 +15,7 @@ use Rattle.ix_base.specs.declared.file_name.FileName.{FileName}
 use Rattle.ix_base.specs.declared.file_name.FileName.TheVariants.{Commit}
 use Rattle.ix_outside.specs.Files.{Files, Lists}
 use Rattle.commit_point.specs.Loading.{names_commit}
-use Rattle.commit_point.specs.BirthLaws.{or_right}
+use Rattle.commit_point.proofs.BirthLaws.{or_right}
 
 by_bool : {A : Type 0} (b : Bool) → (b ≡ true → A) → (b ≡ false → A) → A
 by_bool true yes_ no_ = yes_ refl

@@ -5,7 +5,7 @@ use Rattle.std.proofs.Math.ListN.{length-append}
 use Rattle.std.proofs.lemmas.Bool.{lt-ltb}
 use Rattle.std.proofs.lemmas.List.{drop_more}
 use Rattle.live_docs.specs.Marks.{count_live}
-use Rattle.segment_core.specs.LiveLaws.{live_counted}
+use Rattle.segment_core.proofs.LiveLaws.{live_counted}
 use Rattle.segment_core.specs.LiveRows.{Lived, IsWhole, live, all_live}
 use Rattle.commit_point.specs.Writing.{is_alive, listed}
 

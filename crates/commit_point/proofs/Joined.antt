@@ -4,7 +4,7 @@ use Rattle.std.specs.Prelude.{IfErr}
 use Rattle.ix_outside.specs.declared.store.StoreFault.{StoreFault}
 use Rattle.ix_outside.specs.declared.step.Step.{Step}
 use Rattle.ix_outside.specs.Disk.{Disk, taken, Stops, DoesOn, Told}
-use Rattle.ix_outside.specs.DiskLaws.{does_then, stops_early, stops_late, taken_then, told_then, told_onto}
+use Rattle.ix_outside.proofs.DiskLaws.{does_then, stops_early, stops_late, taken_then, told_then, told_onto}
 use Rattle.commit_point.specs.declared.fault.CommitRefused.{CommitRefused}
 use Rattle.commit_point.specs.Publishing.{Refuses}
 

@@ -13,3 +13,12 @@ pub mod Loading
 pub mod LiveReads
 pub mod Opening
 pub mod Telling
+pub mod BirthLaws
+pub mod HeadLaws
+pub mod HeadReading
+pub mod KeptLaws
+pub mod Laws
+pub mod PublishLaws
+pub mod RowsLaws
+pub mod SegmentLaws
+pub mod StepLaws

@@ -5,7 +5,7 @@ use Rattle.std.proofs.lemmas.Grind.{take_at_read, flat_map-append}
 use Rattle.std.proofs.lemmas.List.{take-append-drop, append-nil}
 use Rattle.ix_base.specs.declared.document.Row.{Row}
 use Rattle.live_docs.specs.Marks.{count_live}
-use Rattle.segment_core.specs.LiveLaws.{live_counted}
+use Rattle.segment_core.proofs.LiveLaws.{live_counted}
 use Rattle.segment_core.specs.LiveRows.{Lived, IsWhole, live, all_live}
 
 pub next_taken : {X : Type 0} (xs : List X) (i : ℕ) (x : X) → i < length xs → x ≡ get_or xs i x → take (i + 1) xs ≡ take i xs ++ x ∷ []

@@ -3,7 +3,7 @@ use Rattle.std.proofs.Common.{◌≡◌, ℕ, Bool, List, length, Option, sym, a
 use Rattle.ix_outside.specs.Files.{Files}
 use Rattle.live_docs.specs.Marks.{Marks}
 use Rattle.live_files.specs.LiveFits.{ValuesFit}
-use Rattle.live_files.specs.LiveMarkLaws.{bits_back, values_back}
+use Rattle.live_files.proofs.LiveMarkLaws.{bits_back, values_back}
 use Rattle.live_files.specs.LiveMarks.{marks_of}
 use Rattle.live_files.specs.LiveSpelling.{SetValue, live_bits, values_of}
 use Rattle.commit_point.specs.declared.heads.HeadSegment.{HeadSegment}

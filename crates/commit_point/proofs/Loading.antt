@@ -15,7 +15,7 @@ use Rattle.commit_point.specs.Fits.{IdsRise, EntryFits, HeadFits}
 use Rattle.commit_point.specs.Holds.{HaveSegments}
 use Rattle.commit_point.specs.Loading.{Unknown, AreRead, BreakAt}
 use Rattle.commit_point.specs.Reading.{segment_from, segments_from, has_birth}
-use Rattle.commit_point.specs.SegmentLaws.{entry_short}
+use Rattle.commit_point.proofs.SegmentLaws.{entry_short}
 use Rattle.commit_point.specs.SegmentReads.{SegmentBroken, SegmentRead}
 use Rattle.commit_point.proofs.Segments.{SeenSegment, sees_all, BrokenThere, breaks_there, have_push, have_kept, has_push, unknown_push, segments_break, all_congr}
 

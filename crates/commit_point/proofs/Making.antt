@@ -7,11 +7,11 @@ use Rattle.ix_base.specs.declared.file_name.FileName.TheVariants.{Commit, Pendin
 use Rattle.ix_outside.specs.Files.{Files, Changes}
 use Rattle.ix_outside.specs.Images.{IsDurable, Follows, Reaches}
 use Rattle.ix_outside.specs.Disk.{Disk, Told, Stops, taken, files, told_files, with_at}
-use Rattle.ix_outside.specs.DiskLaws.{taken_then, stops_done, told_onto, told_same}
+use Rattle.ix_outside.proofs.DiskLaws.{taken_then, stops_done, told_onto, told_same}
 use Rattle.ix_outside.specs.Crash.{IsImage, MayHold}
-use Rattle.ix_outside.specs.CrashLaws.{IsRead, images_follow, reads_follow, with_at-same, moved-to}
+use Rattle.ix_outside.proofs.CrashLaws.{IsRead, images_follow, reads_follow, with_at-same, moved-to}
 use Rattle.ix_outside.specs.Calls.{LeavesOnly}
-use Rattle.ix_outside.specs.CallLaws.{leaves_none, leaves_steps}
+use Rattle.ix_outside.proofs.CallLaws.{leaves_none, leaves_steps}
 use Rattle.ix_outside.specs.declared.step.Step.{Step}
 use Rattle.ix_outside.specs.declared.step.Step.TheVariants.{Wrote, Synced, Renamed}
 use Rattle.ix_outside.specs.declared.store.StoreFault.TheVariants.{NoMemory}
@@ -19,7 +19,7 @@ use Rattle.segment_core.specs.LiveRows.{Lived}
 use Rattle.commit_point.specs.declared.written.Written.{Written}
 use Rattle.commit_point.specs.declared.fault.CommitRefused.{CommitRefused}
 use Rattle.commit_point.specs.Publishing.{File, puts, puts_all, publishes, AreThere, MayPublish, CanPublish, Refuses}
-use Rattle.commit_point.specs.PublishLaws.{publish_stops, publish_early, image_of_publish, reads_of_publish, reads_of_stop}
+use Rattle.commit_point.proofs.PublishLaws.{publish_stops, publish_early, image_of_publish, reads_of_publish, reads_of_stop}
 use Rattle.commit_point.specs.Spelling.{commit_file}
 use Rattle.commit_point.specs.Writing.{Commits, MayCommit, SameElsewhere, IsOldId, commit_steps, commit_files, new_head}
 use Rattle.commit_point.proofs.Made.{AreNew, made_of, may_of}

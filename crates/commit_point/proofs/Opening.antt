@@ -18,8 +18,8 @@ use Rattle.commit_point.specs.Fits.{EntryFits, HeadFits}
 use Rattle.commit_point.specs.Holds.{HasHead, HasSegments, HaveSegments, head_of}
 use Rattle.commit_point.specs.Loading.{IsBroken, IsOutside, AreRead, BreakAt}
 use Rattle.commit_point.specs.Reading.{head_in, head_from, segments_from, reading}
-use Rattle.commit_point.specs.BirthLaws.{differ_of}
-use Rattle.commit_point.specs.SegmentLaws.{head_reads, segments_read, has_reads, one_segments}
+use Rattle.commit_point.proofs.BirthLaws.{differ_of}
+use Rattle.commit_point.proofs.SegmentLaws.{head_reads, segments_read, has_reads, one_segments}
 use Rattle.commit_point.proofs.Segments.{Seen, sees, some_files, each_rises}
 
 -- files that the head was read from

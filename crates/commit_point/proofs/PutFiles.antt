@@ -7,7 +7,7 @@ use Rattle.ix_outside.specs.declared.step.Step.{Step}
 use Rattle.ix_outside.specs.declared.store.StoreFault.{StoreFault}
 use Rattle.ix_outside.specs.declared.store.StoreFault.TheVariants.{Failed, NoMemory}
 use Rattle.ix_outside.specs.Disk.{Disk, taken, Failing, Stops, TakesOn, Told}
-use Rattle.ix_outside.specs.DiskLaws.{taken_then, stops_late, told_then}
+use Rattle.ix_outside.proofs.DiskLaws.{taken_then, stops_late, told_then}
 use Rattle.commit_point.specs.Publishing.{File}
 
 failing : (step : Step) (fault : StoreFault) (x y : Disk) → TakesOn {T = Unit {0}} step x y (Err fault) → Failing step x y

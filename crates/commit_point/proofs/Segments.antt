@@ -22,7 +22,7 @@ use Rattle.commit_point.specs.Holds.{HasSegment, HaveSegments}
 use Rattle.commit_point.specs.Reading.{segment_from, segments_from, has_birth}
 use Rattle.commit_point.specs.Loading.{Unknown}
 use Rattle.segment_core.specs.Births.{EachRises}
-use Rattle.commit_point.specs.SegmentLaws.{EntryShort, entry_short, rows_read, posts_read, live_read, segment_reads}
+use Rattle.commit_point.proofs.SegmentLaws.{EntryShort, entry_short, rows_read, posts_read, live_read, segment_reads}
 use Rattle.commit_point.specs.SegmentReads.{SegmentBroken}
 
 -- ---- files that are given by what was read of them

@@ -16,7 +16,7 @@ use Rattle.commit_point.specs.declared.heads.Head.{Head}
 use Rattle.commit_point.specs.declared.written.Written.{Written}
 use Rattle.commit_point.specs.Fits.{EntryFits}
 use Rattle.commit_point.specs.Holds.{HasSegment, HasSegments, HaveSegments, IsAmong, IsFileOf, Lists, AreKept, names_of, head_of}
-use Rattle.commit_point.specs.Laws.{one_head}
+use Rattle.commit_point.proofs.Laws.{one_head}
 use Rattle.commit_point.specs.Settling.{Settles}
 use Rattle.commit_point.specs.Writing.{AreWritten, ComesAfter, Commits, IsElsewhere, IsOldId, entries_of, listed}
 

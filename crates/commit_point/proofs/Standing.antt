@@ -7,8 +7,8 @@ use Rattle.ix_base.specs.declared.file_name.FileName.TheVariants.{Commit, Pendin
 use Rattle.ix_outside.specs.Files.{Files, SameBut, Changes, stays}
 use Rattle.ix_outside.specs.Images.{MayHaveRenamed}
 use Rattle.ix_outside.specs.Disk.{Disk, IsPartOf, Stops, Told, files, taken, told_files}
-use Rattle.ix_outside.specs.DiskLaws.{taken_then, told_onto}
-use Rattle.ix_outside.specs.CrashLaws.{reads_follow}
+use Rattle.ix_outside.proofs.DiskLaws.{taken_then, told_onto}
+use Rattle.ix_outside.proofs.CrashLaws.{reads_follow}
 use Rattle.ix_outside.specs.declared.step.Step.{Step}
 use Rattle.ix_outside.specs.declared.step.Step.TheVariants.{Wrote, Synced, Renamed, Settled, Spoilt, HalfRenamed}
 use Rattle.segment_core.specs.LiveRows.{Lived}
@@ -16,10 +16,10 @@ use Rattle.commit_point.specs.declared.heads.HeadSegment.{HeadSegment}
 use Rattle.commit_point.specs.declared.written.Written.{Written}
 use Rattle.commit_point.specs.Holds.{KeepsCommits, Lists}
 use Rattle.commit_point.specs.Publishing.{File, IsNoneOf, puts_all, syncs_all, writes_all}
-use Rattle.commit_point.specs.PublishLaws.{reads_of_stop}
+use Rattle.commit_point.proofs.PublishLaws.{reads_of_stop}
 use Rattle.commit_point.specs.Spelling.{commit_file}
 use Rattle.commit_point.specs.Steps.{GoesBy, IsNoCommit, KeepsMade, KeepsStanding, MakesCommits, OnlyCommits}
-use Rattle.commit_point.specs.StepLaws.{by_none, by_one, by_then}
+use Rattle.commit_point.proofs.StepLaws.{by_none, by_one, by_then}
 use Rattle.commit_point.specs.Writing.{ComesAfter, IsElsewhere, IsOldId, MayCommit, SameElsewhere, commit_files, commit_steps, new_head}
 use Rattle.commit_point.proofs.Made.{AreNew, may_of}
 use Rattle.commit_point.proofs.Making.{Stopped}

@@ -10,11 +10,11 @@ use Rattle.commit_point.specs.declared.heads.Head.{Head}
 use Rattle.commit_point.specs.Spelling.{commit_file}
 use Rattle.commit_point.specs.Fits.{HeadFits}
 use Rattle.commit_point.specs.Holds.{HasHead}
-use Rattle.commit_point.specs.Laws.{one_head}
+use Rattle.commit_point.proofs.Laws.{one_head}
 use Rattle.commit_point.specs.Loading.{IsBroken, IsOutside, TellsNone}
 use Rattle.ix_base.specs.FileReading.{of_file}
 use Rattle.commit_point.specs.Reading.{head_in, head_from}
-use Rattle.commit_point.specs.SegmentLaws.{head_reads}
+use Rattle.commit_point.proofs.SegmentLaws.{head_reads}
 use Rattle.commit_point.proofs.Segments.{Seen, sees, some_files}
 
 abbrev Tells : Option Files → ℕ → Bool → Type 0

@@ -4,17 +4,8 @@ pub mod Holds
 pub mod Reading
 pub mod Writing
 pub mod Steps
-pub mod StepLaws
-pub mod KeptLaws
 pub mod Encoding
 pub mod Settling
-pub mod HeadLaws
-pub mod Laws
 pub mod Publishing
-pub mod PublishLaws
 pub mod Loading
-pub mod RowsLaws
-pub mod HeadReading
-pub mod BirthLaws
-pub mod SegmentLaws
 pub mod SegmentReads

@@ -7,7 +7,7 @@ use Rattle.ix_base.specs.declared.file_name.FileName.{FileName}
 use Rattle.ix_base.specs.declared.file_name.FileName.TheVariants.{Commit}
 use Rattle.ix_outside.specs.Calls.{LeavesOnly, OnlyLeaves}
 use Rattle.ix_outside.specs.Crash.{IsImage, MayHold}
-use Rattle.ix_outside.specs.CrashLaws.{IsRead, extends_stops, images_follow, last_is_now, left_by_stops, reads_follow}
+use Rattle.ix_outside.proofs.CrashLaws.{IsRead, extends_stops, images_follow, last_is_now, left_by_stops, reads_follow}
 use Rattle.ix_outside.specs.Disk.{Disk, Stops, Told, files, taken, told_files}
 use Rattle.ix_outside.specs.Files.{Files}
 use Rattle.commit_point.specs.Holds.{AreKept, IsAmong}

@@ -9,10 +9,10 @@ use Rattle.ix_outside.specs.Files.{Files}
 use Rattle.commit_point.specs.declared.heads.HeadSegment.{HeadSegment}
 use Rattle.commit_point.specs.declared.heads.Head.{Head}
 use Rattle.commit_point.specs.Holds.{HasHead, IsAmong, IsFileOf, Lists, names_of}
-use Rattle.commit_point.specs.KeptLaws.{lists_there}
-use Rattle.commit_point.specs.Laws.{one_head}
+use Rattle.commit_point.proofs.KeptLaws.{lists_there}
+use Rattle.commit_point.proofs.Laws.{one_head}
 use Rattle.commit_pruning.specs.Choosing.{IsPlan, earlier, entries_of, is_listed, latest}
-use Rattle.commit_pruning.specs.ListedLaws.{listed_by, own_listed}
+use Rattle.commit_pruning.proofs.ListedLaws.{listed_by, own_listed}
 use Rattle.commit_pruning.specs.Pruning.{IsPruned, Stays}
 use Rattle.commit_pruning.proofs.Deletes.{among_or_not}
 use Rattle.commit_pruning.proofs.Latest.{AreCommits, are_given_up, earlier_given_up, earlier_is_there, is_latest, latest_stays}

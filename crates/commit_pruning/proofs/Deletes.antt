@@ -8,7 +8,7 @@ use Rattle.ix_outside.specs.Images.{MayHaveRemoved}
 use Rattle.ix_outside.specs.declared.step.Step.{Step}
 use Rattle.ix_outside.specs.declared.step.Step.TheVariants.{Deleted, HalfDeleted}
 use Rattle.ix_outside.specs.Disk.{Disk, is_same, files, is_unsynced, taken, Stops}
-use Rattle.ix_outside.specs.CrashLaws.{FollowsSteps, is_same-true, is_same-refl, with_at-same, with_at-other}
+use Rattle.ix_outside.proofs.CrashLaws.{FollowsSteps, is_same-true, is_same-refl, with_at-same, with_at-other}
 use Rattle.commit_point.specs.Holds.{IsAmong}
 
 -- names are the same or apart

@@ -8,9 +8,9 @@ use Rattle.ix_outside.specs.declared.step.Step.TheVariants.{Deleted, HalfDeleted
 use Rattle.ix_outside.specs.declared.store.StoreFault.{StoreFault}
 use Rattle.ix_outside.specs.declared.store.StoreFault.TheVariants.{Failed, NoMemory}
 use Rattle.ix_outside.specs.Disk.{Disk, IsPartOf, taken, Stops, Told, TakesOn}
-use Rattle.ix_outside.specs.DiskLaws.{taken_then, stops_done, stops_early, stops_late, told_then, told_onto}
+use Rattle.ix_outside.proofs.DiskLaws.{taken_then, stops_done, stops_early, stops_late, told_then, told_onto}
 use Rattle.std.specs.List.{AllByRecursion}
-use Rattle.commit_point.specs.StepLaws.{by_none, by_one, by_then}
+use Rattle.commit_point.proofs.StepLaws.{by_none, by_one, by_then}
 use Rattle.commit_pruning.specs.Pruning.{Deletes, OnlyDeletes}
 use Rattle.commit_pruning.specs.Deleting.{Pauses, HaltsAt, Halts, delete_steps, prune_steps}
 

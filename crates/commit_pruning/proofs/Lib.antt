@@ -6,3 +6,4 @@ pub mod Chosen
 pub mod Broken
 pub mod Planned
 pub mod Carried
+pub mod ListedLaws

@@ -11,7 +11,7 @@ use Rattle.commit_point.specs.declared.heads.HeadSegment.{HeadSegment}
 use Rattle.commit_point.specs.declared.heads.Head.{Head}
 use Rattle.commit_point.specs.Holds.{HasHead}
 use Rattle.commit_point.specs.Reading.{head_from}
-use Rattle.commit_point.specs.SegmentLaws.{head_reads}
+use Rattle.commit_point.proofs.SegmentLaws.{head_reads}
 use Rattle.commit_pruning.specs.Choosing.{AreNumbers, IsPlan, earlier, entries_of, latest, unlisted}
 use Rattle.commit_pruning.specs.Pruning.{AreWhole, BreaksStaying, IsBrokenCommit, IsOutside}
 use Rattle.commit_pruning.specs.declared.fault.PruningFault.{PruningFault}

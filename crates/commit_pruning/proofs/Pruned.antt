@@ -10,8 +10,8 @@ use Rattle.ix_outside.specs.Images.{MayHaveRemoved}
 use Rattle.ix_outside.specs.declared.step.Step.{Step}
 use Rattle.ix_outside.specs.declared.step.Step.TheVariants.{Deleted, Settled}
 use Rattle.ix_outside.specs.Disk.{Disk, files, is_unsynced, taken, Stops}
-use Rattle.ix_outside.specs.CrashLaws.{FollowsSteps}
-use Rattle.ix_outside.specs.DiskLaws.{taken_then}
+use Rattle.ix_outside.proofs.CrashLaws.{FollowsSteps}
+use Rattle.ix_outside.proofs.DiskLaws.{taken_then}
 use Rattle.commit_point.specs.declared.heads.HeadSegment.{HeadSegment}
 use Rattle.commit_point.specs.Holds.{AreKept, IsAmong, IsFileOf, KeepsCommits, names_of}
 use Rattle.commit_pruning.specs.Pruning.{IsWholeAs}

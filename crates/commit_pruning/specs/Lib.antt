@@ -1,5 +1,4 @@
 pub mod Pruning
 pub mod Deleting
 pub mod Choosing
-pub mod ListedLaws
 pub mod Naming

@@ -5,7 +5,7 @@ use mathlib.Core.Option.{some, some-injective, some-ne-none}
 use lib.ListN.{get_elem?}
 use Rattle.atomic_table.proofs.Lists.{at_longer}
 use Rattle.ix_base.specs.Words.{word_count}
-use Rattle.ix_base.specs.EntryLaws.{IsEntryWords-not_empty, IsEntryWords-count}
+use Rattle.ix_base.proofs.EntryLaws.{IsEntryWords-not_empty, IsEntryWords-count}
 use Rattle.queue_rule.specs.Lists.{last_or}
 use Rattle.queue_rule.specs.Chain.{ChainEntry}
 use Rattle.queue_rule.specs.Told.{Whole, HeadsAt, filled_by}

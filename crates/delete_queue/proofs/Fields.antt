@@ -19,7 +19,7 @@ use Rattle.delete_queue.specs.Ties.{IsTold}
 use Rattle.delete_queue.specs.Seats.{IsSeatOf, Shows, the_view, used_of, SawClosed}
 use Rattle.delete_queue.specs.Linking.{GoesOn, Came, Follows, Rereads, HasRoom}
 use Rattle.ix_base.specs.Words.{IsEntryWords}
-use Rattle.ix_base.specs.EntryLaws.{IsEntryWords-not_empty}
+use Rattle.ix_base.proofs.EntryLaws.{IsEntryWords-not_empty}
 use Rattle.queue_rule.proofs.Knowing.{in_longer, in_behind, known_at}
 use Rattle.delete_queue.proofs.Lists.{last_snoc}
 

@@ -9,7 +9,7 @@ use Rattle.queue_rule.specs.declared.view.Own.{Own}
 use Rattle.queue_rule.specs.declared.view.Old.{Old}
 use Rattle.queue_rule.specs.Lists.{Each, last_or}
 use Rattle.queue_rule.specs.Views.{Knows as KnowsWord}
-use Rattle.ix_base.specs.EntryLaws.{IsEntryWords-not_empty}
+use Rattle.ix_base.proofs.EntryLaws.{IsEntryWords-not_empty}
 use Rattle.queue_rule.specs.Chain.{ChainEntry, own, own_from}
 use Rattle.queue_rule.specs.Told.{Whole}
 use Rattle.queue_rule.proofs.Lists.{all_more, at_behind}

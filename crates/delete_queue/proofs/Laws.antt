@@ -7,7 +7,7 @@ use Rattle.atomic_table.proofs.Lists.{at_longer}
 use Rattle.ix_base.specs.Words.{word_count, IsEntryWords}
 use Rattle.queue_rule.specs.declared.view.Own.{Own}
 use Rattle.queue_rule.specs.Views.{Knows as KnowsWord, KnownFrom}
-use Rattle.ix_base.specs.EntryLaws.{IsEntryWords-not_empty, IsEntryWords-count}
+use Rattle.ix_base.proofs.EntryLaws.{IsEntryWords-not_empty, IsEntryWords-count}
 use Rattle.delete_queue.proofs.Looking.{at_place}
 use Rattle.delete_queue.specs.declared.queue.DeleteQueue.{DeleteQueue}
 use Rattle.delete_queue.specs.declared.seat.Seat.{Seat}

@@ -4,7 +4,7 @@ use mathlib.Core.Logic.{dite}
 use native.Mathlib.Decide.{ℕ_discrete}
 use Rattle.ix_base.specs.Entry as value
 use Rattle.ix_base.specs.Words.{head_kind, Spells, IsEntryWords}
-use Rattle.ix_base.specs.EntryLaws.{head_again, most_bytes, IsEntryWords-kind}
+use Rattle.ix_base.proofs.EntryLaws.{head_again, most_bytes, IsEntryWords-kind}
 use Rattle.node_words.specs.Entry.{value_of}
 use Rattle.node_words.specs.declared.entry.Entry.{Entry}
 use Rattle.node_words.specs.declared.entry.Entry.TheVariants as e

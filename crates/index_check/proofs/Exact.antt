@@ -15,7 +15,7 @@ use Rattle.segment_core.specs.Segments.{documents, IsInverted}
 use Rattle.segment_core.specs.declared.segment.Segment.{Segment}
 use Rattle.commit_point.specs.Holds.{AreInverted, HasSegments, head_of}
 use Rattle.commit_point.specs.Reading.{reading}
-use Rattle.commit_point.specs.SegmentLaws.{has_reads, one_segments}
+use Rattle.commit_point.proofs.SegmentLaws.{has_reads, one_segments}
 use Rattle.commit_point.specs.declared.heads.Head.{Head}
 use Rattle.commit_point.specs.declared.heads.HeadSegment.{HeadSegment}
 use Rattle.index_check.specs.Difference.{DifferAt, DiffersAt, DiffersIn, HaveOther, HasOther, IsOtherAt, IsTaken, LacksRoom, byte_at, next_id_is, spelled}

@@ -10,7 +10,7 @@ use Rattle.ix_outside.specs.Files.{Files, Was}
 use Rattle.segment_core.specs.LiveRows.{Lived}
 use Rattle.segment_core.specs.Segments.{IsInverted}
 use Rattle.commit_point.specs.Holds.{AreInverted, HasSegments, HaveSegments, IsAboveIds, Lists, head_of}
-use Rattle.commit_point.specs.Laws.{one_head}
+use Rattle.commit_point.proofs.Laws.{one_head}
 use Rattle.commit_point.specs.declared.heads.Head.{Head}
 use Rattle.commit_point.specs.declared.heads.HeadSegment.{HeadSegment}
 use Rattle.commit_point.specs.declared.open.Opened.{Opened}

@@ -4,7 +4,7 @@ use Rattle.std.specs.Int.{w32}
 use Rattle.std.specs.List.{AllByRecursion, flat_map, list_any}
 use Rattle.std.proofs.lemmas.Bool.{cases_lt, eqb-true}
 use Rattle.ix_base.specs.Codec.{number_at}
-use Rattle.ix_base.specs.CodecLaws.{ok_is, same_front, u32_again}
+use Rattle.ix_base.proofs.CodecLaws.{ok_is, same_front, u32_again}
 use Rattle.ix_base.specs.Inversion.{IsInversion}
 use Rattle.ix_base.specs.Spelling.{be32, be64}
 use Rattle.ix_base.specs.declared.document.Row.{Row}

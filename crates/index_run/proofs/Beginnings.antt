@@ -12,7 +12,7 @@ use Rattle.index_writer.specs.declared.state.State.{State}
 use Rattle.index_writer.specs.Laws.{OpenedGoOn}
 use Rattle.index_writer.specs.Ready.{CanFollow, IsStored, opened_on}
 use Rattle.run_log.specs.Headline.{CanRun, Given, HasNoCommit, IsLast, IsOn}
-use Rattle.run_log.specs.OnlyLaws.{none_of}
+use Rattle.run_log.proofs.OnlyLaws.{none_of}
 use Rattle.index_run.specs.Beginning.{BeginsOn, CanBeginOn, IsBase, IsGivenCommit, IsOpened, IsSpelled, last_or_zero}
 use Rattle.index_run.specs.Doing.{IsOnGiven}
 use Rattle.index_run.proofs.LogNumbers.{nat_or}

@@ -19,7 +19,7 @@ use Rattle.round_work.specs.declared.worked.Worked.{Worked}
 use Rattle.round_work.specs.Working.{AreWorked}
 use Rattle.line_shares.specs.declared.place.Place.{Place}
 use Rattle.line_shares.specs.Shares.{AreDone, AreShares, GoesOn, IsFresh, place_of}
-use Rattle.line_shares.specs.LogLaws.{fresh_log, fresh_told, log_whole}
+use Rattle.line_shares.proofs.LogLaws.{fresh_log, fresh_told, log_whole}
 use Rattle.line_shares.specs.Tells.{AreTold, pairs_since}
 use Rattle.run_report.specs.declared.outcome.Outcome.{Outcome}
 use Rattle.index_writer.specs.declared.round.CommitInfo.{CommitInfo}
@@ -30,13 +30,13 @@ use Rattle.index_writer.specs.Rounds.{AreBegunFrom, ArePartsOf, IsBegun}
 use Rattle.index_writer.specs.Ready.{HasRows, IsReady, IsSound}
 use Rattle.index_writer.specs.Storing.{Commits, GoesOn as WriterGoesOn, MayCommit, Settles, on_commit}
 use Rattle.run_log.specs.Headline.{commit_numbers, numbered, operations}
-use Rattle.run_log.specs.Lists.{each_behind, each_in_both, each_pair}
-use Rattle.run_log.specs.NumberLaws.{commits_append, commits_within, rows_at_all, rows_at_front}
+use Rattle.run_log.proofs.Lists.{each_behind, each_in_both, each_pair}
+use Rattle.run_log.proofs.NumberLaws.{commits_append, commits_within, rows_at_all, rows_at_front}
 use Rattle.index_run.specs.Doing.{CanBegin, IsWriterOn}
 use Rattle.index_run.specs.Driving.{EndsRound, HasCome, HasDone, IsAt, IsCut, IsDocs, IsDue, IsOver, IsRound, Run, base_of, number_in}
 use Rattle.index_run.specs.Leaving.{CommitLaws, IsNextCommit, first_numbers}
 use Rattle.index_run.specs.Replied.{CanTell, IsCounted}
-use Rattle.index_run.specs.RepliedLaws.{outcomes_counted}
+use Rattle.index_run.proofs.RepliedLaws.{outcomes_counted}
 use Rattle.index_run.specs.Outcomes.{AreOutcomes}
 use Rattle.index_run.specs.Rounds.{AllCame, gave_of, pieces_of, share_of, writers_of}
 use Rattle.index_run.proofs.DiskAfter.{crash_longer, disk_commit, disk_count, disk_same, disk_start}

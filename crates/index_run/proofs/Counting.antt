@@ -4,7 +4,8 @@ use Rattle.std.proofs.Common.{get_or, refl, sym, arith}
 use Rattle.std.specs.List.Sorted.{IsNonDecreasingBy, IsPartitionPoint}
 use Rattle.std.proofs.lemmas.Bool.{ltb-true, ltb-false}
 use Rattle.run_log.specs.Headline.{IsIn}
-use Rattle.run_log.specs.CommitLaws.{Rises, rises_above}
+use Rattle.run_log.proofs.CommitLaws.{rises_above}
+use Rattle.run_log.specs.Numbering.{Rises}
 use Rattle.index_run.specs.Replied.{IsCounted, numbers_of}
 
 -- the first commit that isn't below a number that one of them has is the one of that number

@@ -4,14 +4,14 @@ use Rattle.std.proofs.Common.{None, refl, sym, ap, subst, ◌∙◌, arith}
 use Rattle.std.specs.Prelude.{Option, IsSomeAnd}
 use Rattle.std.proofs.lemmas.List.{length-append}
 use Rattle.ix_outside.specs.Calls.{LeavesOnly}
-use Rattle.ix_outside.specs.CallLaws.{leaves_less, leaves_none, leaves_then}
+use Rattle.ix_outside.proofs.CallLaws.{leaves_less, leaves_none, leaves_then}
 use Rattle.ix_outside.specs.Crash.{MayHold}
 use Rattle.ix_outside.specs.Disk.{Disk, Told, told_files}
 use Rattle.ix_outside.specs.Files.{Files, Changes, onto, stays, then}
 use Rattle.ix_outside.specs.Images.{Follows, Reaches}
 use Rattle.commit_point.specs.declared.written.Written.{Written}
 use Rattle.commit_point.specs.Holds.{AreKept}
-use Rattle.commit_point.specs.StepLaws.{goes_none, goes_then}
+use Rattle.commit_point.proofs.StepLaws.{goes_none, goes_then}
 use Rattle.commit_point.specs.Steps.{KeepsMade, KeepsStanding, MakesCommits, OnlyCommits}
 use Rattle.commit_point.specs.Writing.{AreWritten}
 use Rattle.flush_control.specs.declared.published.Published.{Published}
@@ -26,7 +26,8 @@ use Rattle.run_log.specs.Headline.{commit_numbers}
 use Rattle.index_run.specs.Doing.{CanBegin, IsWriterOn}
 use Rattle.index_run.specs.Leaving.{CommitLaws, HasFront, HasSomeFront, IsDiskAfter, IsNextCommit, Stands, first_numbers}
 use Rattle.index_run.proofs.LogNumbers.{numbers_front, numbers_whole}
-use Rattle.run_log.specs.CommitLaws.{Rises, commits_rise, rises_last}
+use Rattle.run_log.proofs.CommitLaws.{commits_rise, rises_last}
+use Rattle.run_log.specs.Numbering.{Rises}
 use Rattle.index_run.proofs.MadeCommits.{ComesNext, front_crash, front_higher, front_longer, front_none, stands_commit}
 
 -- ---- files that are told

@@ -8,12 +8,12 @@ use Rattle.ix_base.specs.Hits.{hit_of}
 use Rattle.ix_base.specs.declared.damaged.Damaged.{Damaged}
 use Rattle.ix_base.specs.declared.document.Row.{Row}
 use Rattle.ix_outside.specs.Calls.{LeavesOnly}
-use Rattle.ix_outside.specs.CallLaws.{leaves_less, leaves_none}
+use Rattle.ix_outside.proofs.CallLaws.{leaves_less, leaves_none}
 use Rattle.ix_outside.specs.Crash.{MayHold}
 use Rattle.ix_outside.specs.Disk.{Disk, Told, files as read_files, told_files}
 use Rattle.ix_outside.specs.Files.{Files}
 use Rattle.commit_point.specs.Holds.{HoldsInverted, KeepsCommits}
-use Rattle.commit_point.specs.StepLaws.{goes_none}
+use Rattle.commit_point.proofs.StepLaws.{goes_none}
 use Rattle.commit_point.specs.Steps.{KeepsStanding, OnlyCommits}
 use Rattle.index_writer.specs.declared.fault.WriterFault.{WriterFault}
 use Rattle.index_writer.specs.declared.fault.WriterFault.TheVariants as writing
@@ -28,11 +28,11 @@ use Rattle.report_text.specs.declared.fault.Fault.TheVariants as fault
 use Rattle.run_report.specs.declared.outcome.Outcome.{Outcome}
 use Rattle.run_report.specs.Searching.{CanSearch, ReadsCommit}
 use Rattle.run_report.specs.Texts.{texts}
-use Rattle.run_log.specs.AgainLaws.{commits_run_on}
-use Rattle.run_log.specs.CountLaws.{same_count}
+use Rattle.run_log.proofs.AgainLaws.{commits_run_on}
+use Rattle.run_log.proofs.CountLaws.{same_count}
 use Rattle.run_log.specs.Headline.{CanRun, CanRunOn, Given, HasAll, HasOnly, HasOwnSome, HasSome, Interleaves, IsIn, IsKept, IsLast, IsLastSettled, IsOn, KeepsCommit, Keeps, Runs, Stops}
 use Rattle.run_log.specs.Headline.{commit_numbers, is_commit, numbered, report, rows_at}
-use Rattle.run_log.specs.OnlyLaws.{only_image, only_itself}
+use Rattle.run_log.proofs.OnlyLaws.{only_image, only_itself}
 use Rattle.index_run.specs.declared.stop.Stop.{Stop}
 use Rattle.index_run.specs.declared.stop.Stop.TheVariants as stop
 use Rattle.index_run.specs.declared.telling.Form.{Form}
@@ -43,7 +43,7 @@ use Rattle.index_run.specs.Commands.{IsMade, form_text}
 use Rattle.index_run.specs.Damage.{ReadsDamaged}
 use Rattle.index_run.specs.Doing.{IsOnGiven}
 use Rattle.index_run.specs.Driving.{IsCut, IsDocs, IsOver, Run, base_of}
-use Rattle.index_run.specs.OutcomeLaws.{asked_by, outcomes_weaker, texts_with_none}
+use Rattle.index_run.proofs.OutcomeLaws.{asked_by, outcomes_weaker, texts_with_none}
 use Rattle.index_run.specs.Outcomes.{AreOutcomes, IsAskedBy, rows_of}
 use Rattle.index_run.specs.Telling.{CanTell, TellsDamaged, is_committed}
 use Rattle.index_run.proofs.DiskAfter.{some_onto, the_files}

@@ -8,13 +8,13 @@ use Rattle.segment_core.specs.LiveRows.{Lived}
 use Rattle.commit_point.specs.declared.heads.HeadSegment.{HeadSegment}
 use Rattle.commit_point.specs.declared.open.Opened.{Opened}
 use Rattle.commit_point.specs.Holds.{HasSegment, HasSegments, HaveSegments, IsAmong, KeepsCommits, head_of, names_of}
-use Rattle.commit_point.specs.KeptLaws.{there_by}
+use Rattle.commit_point.proofs.KeptLaws.{there_by}
 use Rattle.index_writer.specs.declared.state.State.{State}
 use Rattle.index_writer.specs.Laws.{OpenedGoOn}
 use Rattle.index_writer.specs.Ready.{IsStored, opened_on}
 use Rattle.index_writer.specs.Storing.{GoesOn}
 use Rattle.run_log.specs.Headline.{Given, HasOnly, KeepsSegments}
-use Rattle.run_log.specs.OnlyLaws.{lists_back, none_there}
+use Rattle.run_log.proofs.OnlyLaws.{lists_back, none_there}
 use Rattle.index_run.specs.Leaving.{IsOfLast}
 
 -- a writer that goes on from the first files goes on from these

@@ -6,7 +6,7 @@ use Rattle.std.specs.Vec.Iter.{into_iter_items, into_iter_len}
 use Rattle.std.proofs.lemmas.List.{length-set}
 use Rattle.op_script.specs.declared.script.Line.{Line}
 use Rattle.worker_tasks.specs.declared.task.Reply.{Reply}
-use Rattle.line_shares.specs.LineLaws.{is_own, other_worker, own_first, own_not, same_worker}
+use Rattle.line_shares.proofs.LineLaws.{is_own, other_worker, own_first, own_not, same_worker}
 use Rattle.line_shares.specs.Shares.{is_doing, own_lines}
 use Rattle.index_run.specs.Replied.{AreLeft, AreLeftFrom, AreRepliesFor, Counts, IsReplyFor, Replies}
 

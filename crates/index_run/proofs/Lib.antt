@@ -23,3 +23,5 @@ pub mod Finish
 pub mod Commanded
 pub mod Promised
 pub mod Ended
+pub mod OutcomeLaws
+pub mod RepliedLaws

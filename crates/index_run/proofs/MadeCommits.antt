@@ -15,7 +15,7 @@ use Rattle.segment_core.specs.LiveRows.{Lived}
 use Rattle.commit_point.specs.declared.heads.HeadSegment.{HeadSegment}
 use Rattle.commit_point.specs.Fits.{EntryFits}
 use Rattle.commit_point.specs.Holds.{HasSegments, HoldsInverted, IsAmong, IsFileOf, KeepsCommits, Lists, names_of}
-use Rattle.commit_point.specs.Laws.{has_kept, inverted_kept}
+use Rattle.commit_point.proofs.Laws.{has_kept, inverted_kept}
 use Rattle.commit_point.specs.declared.written.Written.{Written}
 use Rattle.commit_point.specs.Writing as commit
 use Rattle.commit_point.specs.Writing.{IsElsewhere, IsOldId, SameElsewhere, entries_of, listed}
@@ -24,7 +24,7 @@ use Rattle.index_writer.specs.declared.state.State.{State}
 use Rattle.index_writer.specs.Ready.{IsReady, IsStored, NewIdsFrom}
 use Rattle.index_writer.specs.Storing.{Commits, GoesOn, MayCommit, SameBelow, on_commit}
 use Rattle.run_log.specs.Headline.{IsIn, KeepsCommit, operations, rows_at}
-use Rattle.run_log.specs.CommitLaws.{AllBelow, in_last, in_push}
+use Rattle.run_log.proofs.CommitLaws.{AllBelow, in_last, in_push}
 use Rattle.index_run.specs.Doing.{CanBegin, IsWriterOn}
 use Rattle.index_run.specs.Leaving.{AreMade, CommitLaws, HasFront, IsBefore, IsMade, SameBefore, Stands}
 use Rattle.index_run.proofs.LogNumbers.{nat_or, rows_front, rows_whole}

@@ -22,15 +22,16 @@ use Rattle.line_shares.specs.declared.place.Place.{Place}
 use Rattle.line_shares.specs.Shares.{AreDone, AreSharesFrom, is_doing, kind_of, operation_of, own_lines, place_of}
 use Rattle.line_shares.specs.Shares.{task_of}
 use Rattle.line_shares.specs.Tells.{IsTold, replies_at, tells_in}
-use Rattle.run_log.specs.CommitLaws.{Rises, commits_rise}
+use Rattle.run_log.proofs.CommitLaws.{commits_rise}
 use Rattle.run_log.specs.Headline.{commit_numbers, is_commit, number_of}
-use Rattle.run_log.specs.LogLaws.{each_committed}
+use Rattle.run_log.proofs.LogLaws.{each_committed}
+use Rattle.run_log.specs.Numbering.{Rises}
 use Rattle.run_report.specs.declared.outcome.Answer.{Answer}
 use Rattle.run_report.specs.declared.outcome.Answer.TheVariants.{Numbered, Committed, Searched}
 use Rattle.run_report.specs.declared.outcome.Outcome.{Outcome}
 use Rattle.index_run.specs.Replied.{AreCommits, AreLeft, AreLeftFrom, AreRepliesFor, AreRepliesOf, CanTell}
 use Rattle.index_run.specs.Replied.{IsCommitAnswer, IsCounted, IsReplyFor, IsSoFar, Replies, answer_for}
-use Rattle.index_run.specs.OutcomeLaws.{lasts_commit, lasts_first, lasts_other, outcome_next}
+use Rattle.index_run.proofs.OutcomeLaws.{lasts_commit, lasts_first, lasts_other, outcome_next}
 use Rattle.index_run.specs.Outcomes.{AreLasts, AreOutcomes, IsAnswer, IsDone, IsOutcome}
 
 -- ---- what a line does, by its kind

@@ -12,16 +12,16 @@ use Rattle.ix_outside.specs.Crash.{MayHold}
 use Rattle.ix_outside.specs.Disk.{Disk, Told, told_files}
 use Rattle.ix_outside.specs.Files.{Files, Changes}
 use Rattle.ix_outside.specs.Images.{Reaches}
-use Rattle.commit_point.specs.StepLaws.{goes_then}
+use Rattle.commit_point.proofs.StepLaws.{goes_then}
 use Rattle.commit_point.specs.Steps.{KeepsMade, MakesCommits, OnlyCommits}
 use Rattle.op_script.specs.declared.script.Line.{Line}
 use Rattle.round_order.specs.Order.{NoCommit, seconds}
 use Rattle.worker_tasks.specs.declared.share.Share.{Share}
 use Rattle.line_shares.specs.Shares.{AreShares}
-use Rattle.line_shares.specs.LogLaws.{log_completes, log_grows}
-use Rattle.line_shares.specs.NumberLaws.{told_go_on}
-use Rattle.line_shares.specs.ShareLaws.{shares_go_on}
-use Rattle.line_shares.specs.TellLaws.{pairs_are, tells_since}
+use Rattle.line_shares.proofs.LogLaws.{log_completes, log_grows}
+use Rattle.line_shares.proofs.NumberLaws.{told_go_on}
+use Rattle.line_shares.proofs.ShareLaws.{shares_go_on}
+use Rattle.line_shares.proofs.TellLaws.{pairs_are, tells_since}
 use Rattle.line_shares.specs.Tells.{pairs_since, told_since}
 use Rattle.index_writer.specs.declared.round.RoundEnd.{RoundEnd}
 use Rattle.index_writer.specs.declared.round.RoundEnd.TheVariants as ending
@@ -32,12 +32,12 @@ use Rattle.index_writer.specs.declared.writer.IndexWriter.{IndexWriter}
 use Rattle.index_writer.specs.Ready.{IsReady}
 use Rattle.index_writer.specs.Rounds.{EndsBy}
 use Rattle.index_writer.specs.Storing.{GoesOn, MayCommit}
-use Rattle.run_log.specs.CommitLaws.{IsDoing, each_doing, last_committed, none_committed, plain_lines}
+use Rattle.run_log.proofs.CommitLaws.{IsDoing, each_doing, last_committed, none_committed, plain_lines}
 use Rattle.run_log.specs.Headline.{commit_numbers, numbered}
-use Rattle.run_log.specs.NumberLaws.{commits_append}
-use Rattle.run_log.specs.PlaceLaws.{filter_rises}
+use Rattle.run_log.proofs.NumberLaws.{commits_append}
+use Rattle.run_log.proofs.PlaceLaws.{filter_rises}
 use Rattle.run_log.specs.Telling.{AreTells, IsOrder, Tell}
-use Rattle.run_log.specs.TellingLaws.{order_of}
+use Rattle.run_log.proofs.TellingLaws.{order_of}
 use Rattle.index_run.specs.Doing.{IsWriterOn}
 use Rattle.index_run.specs.Driving.{EndsRound, HasDone, IsCut, IsDue, IsRound, Run, base_of, number_in}
 use Rattle.index_run.specs.Leaving.{CommitLaws, IsDiskAfter, IsNextCommit, first_numbers}

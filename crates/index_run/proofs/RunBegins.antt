@@ -11,7 +11,7 @@ use Rattle.commit_point.specs.declared.heads.HeadSegment.{HeadSegment}
 use Rattle.commit_point.specs.declared.open.Opened.{Opened}
 use Rattle.commit_point.specs.Fits.{IdsRise}
 use Rattle.commit_point.specs.Holds.{HasSegments, IsLawful, Lists, head_of}
-use Rattle.commit_point.specs.Laws.{one_head}
+use Rattle.commit_point.proofs.Laws.{one_head}
 use Rattle.index_writer.specs.declared.state.State.{State}
 use Rattle.index_writer.specs.Laws.{IsLastOf, OpenedGoOn}
 use Rattle.index_writer.specs.Ready.{HasRows, opened_on}

@@ -7,7 +7,7 @@ use Rattle.std.proofs.lemmas.List.{append-nil, length-append}
 use Rattle.ix_base.specs.declared.document.Row.{Row}
 use Rattle.ix_base.specs.declared.file_name.FileName.TheVariants.{Commit}
 use Rattle.ix_outside.specs.Calls.{LeavesOnly}
-use Rattle.ix_outside.specs.CallLaws.{leaves_less, leaves_now, reads_may_hold}
+use Rattle.ix_outside.proofs.CallLaws.{leaves_less, leaves_now, reads_may_hold}
 use Rattle.ix_outside.specs.Crash.{MayHold}
 use Rattle.ix_outside.specs.Disk.{Disk, told_files}
 use Rattle.ix_outside.specs.Files.{Files, Changes, then}
@@ -17,13 +17,13 @@ use Rattle.op_script.specs.declared.script.Line.{Line}
 use Rattle.index_writer.specs.declared.state.State.{State}
 use Rattle.index_writer.specs.Ready.{IsStored}
 use Rattle.index_writer.specs.Storing.{GoesOn, MayCommit, SameBelow}
-use Rattle.run_log.specs.CommitLaws.{each_at}
+use Rattle.run_log.proofs.CommitLaws.{each_at}
 use Rattle.run_log.specs.Headline.{CanRun, CanRunOn, Given, GivesBack, HasAll, HasFirst, HasNoCommit, HasOnly, HasOwnAll, HasOwnFirst, HasOwnSome, HasSome}
 use Rattle.run_log.specs.Headline.{IsIn, IsKept, IsLast, IsLastSettled, IsNewCommit, IsOn, IsOwnCommit, IsSettled, KeepsCommit, commit_numbers, rows_at}
 use Rattle.run_report.specs.Searching.{ReadsCommit}
-use Rattle.commit_point.specs.KeptLaws.{kept_through}
-use Rattle.run_log.specs.OnlyLaws.{only_image, only_itself}
-use Rattle.run_log.specs.AgainLaws.{again}
+use Rattle.commit_point.proofs.KeptLaws.{kept_through}
+use Rattle.run_log.proofs.OnlyLaws.{only_image, only_itself}
+use Rattle.run_log.proofs.AgainLaws.{again}
 use Rattle.index_run.specs.Doing.{CanBegin, IsOnGiven, IsWriterOn}
 use Rattle.index_run.specs.Leaving.{AreMade, CommitLaws, HasFront, HasSomeFront, IsDiskAfter, IsNextCommit}
 use Rattle.index_run.specs.Leaving.{IsMade, Stands, first_numbers}

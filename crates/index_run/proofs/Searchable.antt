@@ -17,16 +17,16 @@ use Rattle.run_report.specs.declared.outcome.Answer.{Answer}
 use Rattle.run_report.specs.declared.outcome.Answer.TheVariants.{Numbered, Committed, Refused, Searched}
 use Rattle.run_report.specs.declared.outcome.Outcome.{Outcome}
 use Rattle.run_report.specs.Searching.{AnswerHolds, AnswerReads, CanRead, CanSearch, HoldsCommit, ReadsCommit}
-use Rattle.run_log.specs.CommitLaws.{commits_rise, each_at, rises_above}
+use Rattle.run_log.proofs.CommitLaws.{commits_rise, each_at, rises_above}
 use Rattle.run_log.specs.Headline.{CanRun, Given, HasAll, HasNoCommit, Interleaves, IsIn, IsNewCommit, commit_numbers, operations}
-use Rattle.commit_point.specs.KeptLaws.{inverted_there}
+use Rattle.commit_point.proofs.KeptLaws.{inverted_there}
 use Rattle.flush_control.specs.Published.{StandsFor}
 use Rattle.index_writer.specs.declared.state.State.{State}
 use Rattle.searcher.specs.Searching.{Searches}
 use Rattle.index_run.specs.Damage.{IsAsked}
 use Rattle.index_run.specs.Doing.{IsOnGiven, IsWriterOn}
 use Rattle.index_run.specs.Outcomes.{AsksBy, IsAskedBy, rows_of}
-use Rattle.index_run.specs.OutcomeLaws.{asked_commit, rows_of-is}
+use Rattle.index_run.proofs.OutcomeLaws.{asked_commit, rows_of-is}
 
 -- ---- the commits of a log
 

@@ -23,7 +23,7 @@ use Rattle.report_text.specs.Summaries.{summary_of}
 use Rattle.row_fates.specs.Fate.{BornBy}
 use Rattle.run_report.specs.declared.outcome.Answer.{Answer}
 use Rattle.run_report.specs.declared.outcome.Outcome.{Outcome}
-use Rattle.run_log.specs.CommitLaws.{commits_rise, each_at, rises_above}
+use Rattle.run_log.proofs.CommitLaws.{commits_rise, each_at, rises_above}
 use Rattle.run_log.specs.Headline.{CanRun, Given, HasAll, HasNoCommit, Interleaves, IsIn, IsNewCommit, commit_numbers, is_commit, rows_at}
 use Rattle.made_runs.specs.Ends.{EndsAt}
 use Rattle.made_runs.specs.Summary.{ComesTo, MadeRuns, run_rows, script_summary}

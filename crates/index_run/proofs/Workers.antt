@@ -22,7 +22,7 @@ use Rattle.round_work.specs.Outboxes.{held_of}
 use Rattle.round_work.specs.Working.{AreAtWork, AreWorked, Works}
 use Rattle.worker_tasks.specs.Replies.{told_in}
 use Rattle.line_shares.specs.Shares.{AreDone, AreShares, AreSharesFrom, GoesOn, IsDone, IsShare, open_count}
-use Rattle.line_shares.specs.ShareLaws.{count_falls}
+use Rattle.line_shares.proofs.ShareLaws.{count_falls}
 use Rattle.line_shares.specs.Tells.{pairs_since}
 use Rattle.index_writer.specs.declared.round.Round.{Round}
 use Rattle.index_writer.specs.declared.round.RoundParts.{RoundParts}

@@ -1,9 +1,7 @@
 pub mod Commands
 pub mod Causes
 pub mod Outcomes
-pub mod OutcomeLaws
 pub mod Replied
-pub mod RepliedLaws
 pub mod Leaving
 pub mod Doing
 pub mod Merged

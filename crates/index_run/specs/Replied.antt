@@ -13,9 +13,8 @@ use Rattle.worker_tasks.specs.declared.task.Reply.TheVariants.{Numbered, Refused
 use Rattle.line_shares.specs.Shares.{AreDone, AreShares, operation_of, own_lines, place_of}
 use Rattle.line_shares.specs.Tells.{AreTold}
 use Rattle.line_shares.specs.declared.place.Place.{Place}
-use Rattle.run_log.specs.CommitLaws.{Rises}
 use Rattle.run_log.specs.Headline.{Interleaves, commit_numbers, number_of}
-use Rattle.run_log.specs.LogLaws.{IsCommitted}
+use Rattle.run_log.specs.Numbering.{IsCommitted, Rises}
 use Rattle.run_report.specs.declared.outcome.Answer.{Answer}
 use Rattle.run_report.specs.declared.outcome.Answer.TheVariants as answer
 use Rattle.index_run.specs.Outcomes.{AreLasts}

@@ -3,8 +3,8 @@ ghost use Rattle.std.specs.Prelude.{◌≡◌, ◌++◌, [], ◌∷◌, ℕ, Lis
 ghost use Rattle.op_script.specs.declared.script.Line.{Line};
 ghost use Rattle.worker_tasks.specs.declared.task.Reply.TheVariants as said;
 ghost use Rattle.line_shares.specs.Shares.{is_doing, place_of};
-ghost use Rattle.run_log.specs.CommitLaws.{Rises};
 ghost use Rattle.run_log.specs.Headline.{IsIn};
+ghost use Rattle.run_log.specs.Numbering.{Rises};
 ghost use Rattle.index_run.specs.Outcomes.{AreOutcomes, IsOutcome};
 ghost use Rattle.index_run.specs.Replied.{AreCommits, AreLeft, AreRepliesOf, CanTell, IfNumbered, IsCommitAnswer};
 ghost use Rattle.index_run.specs.Replied.{IsCounted, IsReplyFor, IsSoFar, answer_for, numbers_of};

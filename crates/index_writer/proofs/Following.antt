@@ -13,7 +13,7 @@ use Rattle.commit_point.specs.declared.heads.HeadSegment.{HeadSegment}
 use Rattle.commit_point.specs.declared.open.Opened.{Opened}
 use Rattle.commit_point.specs.Fits.{EntryFits, IdsRise}
 use Rattle.commit_point.specs.Holds.{HasHead, HasSegment, HasSegments, HaveSegments, HoldsInverted, Lists, head_of}
-use Rattle.commit_point.specs.Laws.{one_head}
+use Rattle.commit_point.proofs.Laws.{one_head}
 use Rattle.commit_point.specs.Writing as commit
 use Rattle.commit_point.specs.Writing.{AreWritten, CanWrite, IsOldId, SegmentIdsRise, WrittenUpTo, entries_of, listed}
 use Rattle.index_writer.specs.declared.state.State.{State}

@@ -5,7 +5,7 @@ use Rattle.std.specs.List.{AllByRecursion}
 use Rattle.std.proofs.lemmas.List.Elements.{Contains-append_left, Contains-append_right}
 use Rattle.ix_base.specs.declared.file_name.FileName.{FileName}
 use Rattle.ix_base.specs.declared.file_name.FileName.TheVariants.{Commit, Pending, Rows, Posts, Live, Values}
-use Rattle.ix_outside.specs.CallLaws.{leaves_none}
+use Rattle.ix_outside.proofs.CallLaws.{leaves_none}
 use Rattle.ix_outside.specs.Calls.{LeavesOnly}
 use Rattle.ix_outside.specs.Crash.{MayHold}
 use Rattle.ix_outside.specs.Disk.{Disk}
@@ -14,10 +14,10 @@ use Rattle.segment_core.specs.LiveRows.{Lived}
 use Rattle.commit_point.specs.declared.heads.HeadSegment.{HeadSegment}
 use Rattle.commit_point.specs.declared.written.Written.{Written}
 use Rattle.commit_point.specs.Holds.{AreKept, HasSegment, HasSegments, HaveSegments, IsAmong, IsFileOf, Lists, head_of, names_of}
-use Rattle.commit_point.specs.KeptLaws.{lists_there}
+use Rattle.commit_point.proofs.KeptLaws.{lists_there}
 use Rattle.commit_point.specs.Writing.{AreWritten, IsWritten, entries_of, entry_of, is_alive, listed, version}
 use Rattle.commit_pruning.specs.Choosing.{has_id, has_written, is_listed}
-use Rattle.commit_pruning.specs.ListedLaws.{listed_by, own_listed}
+use Rattle.commit_pruning.proofs.ListedLaws.{listed_by, own_listed}
 use Rattle.commit_pruning.specs.Pruning.{IsWholeAs, MayBePruned, Stays}
 use Rattle.index_writer.specs.declared.state.State.{State}
 use Rattle.index_writer.specs.Ready.{IsStored, written_of}

@@ -5,7 +5,7 @@ use Rattle.std.proofs.lemmas.Bool.{eqb-true}
 use Rattle.std.proofs.lemmas.List.{take_more, append-nil, append_assoc}
 use Rattle.ix_base.specs.declared.postings.Posting.{Posting}
 use Rattle.ix_base.specs.declared.spots.Spot.{Spot}
-use Rattle.ix_base.specs.GroupedLaws.{grouped_push}
+use Rattle.ix_base.proofs.GroupedLaws.{grouped_push}
 use Rattle.ix_base.specs.Grouped.{joined, with_spot, grouped_from, grouped, with_row, position_in, positions_at, positions_in}
 
 -- ---- rows

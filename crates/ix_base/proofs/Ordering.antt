@@ -9,7 +9,7 @@ use Rattle.ix_base.specs.Inversion.{has_number, posted_at, IsPosting}
 use Rattle.ix_base.specs.declared.postings.Posting.{Posting}
 use Rattle.ix_base.specs.declared.spots.Spot.{Spot}
 use Rattle.ix_base.specs.Grouped.{one, joined, with_spot, grouped, ArePostings, AreSpots, IsBefore, IsAfter, IsUpto}
-use Rattle.ix_base.specs.GroupedLaws.{grouped_push, posted_are, is_spot}
+use Rattle.ix_base.proofs.GroupedLaws.{grouped_push, posted_are, is_spot}
 use Rattle.ix_base.proofs.Ends.{ends, All-front, All-last, All-push, pairs_front, pairs_last, pairs_push}
 
 at_end : (front : List Posting) (last : Posting) (s : Spot) → with_spot (front ++ last ∷ []) s ≡ front ++ joined (last.row == s.row) last s

@@ -6,8 +6,8 @@ use Rattle.ix_base.specs.declared.file_name.FileName.{FileName}
 use Rattle.ix_outside.specs.Files.{Files}
 use Rattle.ix_outside.specs.Disk.{is_same, moved, files as files_of}
 use Rattle.ix_memory.specs.History.{files_left, bytes_left, leaves_step}
-use Rattle.ix_outside.specs.CrashLaws.{is_same-true}
-use Rattle.ix_memory.specs.HistoryLaws.{whole_is_read}
+use Rattle.ix_outside.proofs.CrashLaws.{is_same-true}
+use Rattle.ix_memory.proofs.HistoryLaws.{whole_is_read}
 use Rattle.ix_memory.specs.Left.{Goes}
 use Rattle.ix_memory.specs.declared.outcome.StepsLeft.{StepsLeft}
 use Rattle.ix_memory.specs.declared.outcome.StepsLeft.TheVariants.{Every}

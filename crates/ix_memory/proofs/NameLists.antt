@@ -6,7 +6,7 @@ use Rattle.std.proofs.lemmas.List.Quantifiers.{all_pairs_push}
 use Rattle.ix_base.specs.declared.file_name.FileName.{FileName}
 use Rattle.ix_outside.specs.Files.{Files, Lists}
 use Rattle.ix_outside.specs.Disk.{is_same, with_at, moved, files as files_of}
-use Rattle.ix_outside.specs.CrashLaws.{is_same-refl, is_same-true, is_same-apart, moved-apart}
+use Rattle.ix_outside.proofs.CrashLaws.{is_same-refl, is_same-true, is_same-apart, moved-apart}
 use Rattle.ix_memory.specs.Names.{Gains, Loses, GoesOn}
 use Rattle.ix_outside.specs.declared.step.Step.TheVariants.{Wrote, Renamed, Deleted, Spoilt}
 

@@ -8,8 +8,8 @@ use Rattle.ix_outside.specs.Files.{Files}
 use Rattle.ix_outside.specs.Disk.{Disk, is_same, with_at, moved, files as files_of}
 use Rattle.ix_memory.specs.History.{files_left, leaves_step}
 use Rattle.ix_memory.proofs.Looks.{newest}
-use Rattle.ix_outside.specs.CrashLaws.{is_same-true}
-use Rattle.ix_memory.specs.HistoryLaws.{whole_is_read}
+use Rattle.ix_outside.proofs.CrashLaws.{is_same-true}
+use Rattle.ix_memory.proofs.HistoryLaws.{whole_is_read}
 use Rattle.ix_memory.specs.Settled.{AreDurable, AllSynced, Fills, no_files, with_pairs, are_made, taken_at, file_made}
 use Rattle.ix_memory.specs.declared.outcome.StepsLeft.{StepsLeft}
 use Rattle.ix_memory.specs.declared.outcome.StepsLeft.TheVariants.{Every}

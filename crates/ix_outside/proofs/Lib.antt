@@ -1,0 +1,3 @@
+pub mod CallLaws
+pub mod CrashLaws
+pub mod DiskLaws

@@ -3,9 +3,6 @@ pub mod Files
 pub mod Images
 pub mod Disk
 pub mod Crash
-pub mod DiskLaws
-pub mod CrashLaws
 pub mod Calls
-pub mod CallLaws
 pub mod Listing
 pub mod Locks

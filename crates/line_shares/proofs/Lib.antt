@@ -1,1 +1,8 @@
 mod Sharing
+pub mod LineLaws
+pub mod LogLaws
+pub mod NumberLaws
+pub mod OwnLaws
+pub mod ReplyLaws
+pub mod ShareLaws
+pub mod TellLaws

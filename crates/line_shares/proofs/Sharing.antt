@@ -9,7 +9,7 @@ use Rattle.op_script.specs.declared.script.Line.{Line}
 use Rattle.worker_tasks.specs.declared.share.Share.{Share}
 use Rattle.worker_tasks.specs.declared.task.Task.{Task}
 use Rattle.line_shares.specs.Dealing.{AreTasksFrom, IsShareOf}
-use Rattle.line_shares.specs.LineLaws.{is_own, other_worker, own_passed, own_pushed, same_worker}
+use Rattle.line_shares.proofs.LineLaws.{is_own, other_worker, own_passed, own_pushed, same_worker}
 use Rattle.line_shares.specs.Shares.{AreShares, AreSharesFrom, IsFresh, IsShare, is_doing, own_lines, task_of}
 
 -- ---- one line more

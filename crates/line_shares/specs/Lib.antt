@@ -1,10 +1,3 @@
 pub mod Shares
 pub mod Dealing
 pub mod Tells
-pub mod LineLaws
-pub mod ReplyLaws
-pub mod OwnLaws
-pub mod ShareLaws
-pub mod TellLaws
-pub mod LogLaws
-pub mod NumberLaws

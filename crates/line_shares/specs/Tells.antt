@@ -9,8 +9,8 @@ use Rattle.worker_tasks.specs.declared.task.Reply.TheVariants.{Numbered, Refused
 use Rattle.worker_tasks.specs.Shares.{open_tasks}
 use Rattle.worker_tasks.specs.Replies.{told_in}
 use Rattle.run_log.specs.Headline.{number_of}
-use Rattle.run_log.specs.NumberLaws.{HasLine}
 use Rattle.run_log.specs.Telling.{Tell, lines_of, of_caller}
+use Rattle.run_log.specs.Numbering.{HasLine}
 use Rattle.line_shares.specs.Shares.{operation_of, own_lines}
 
 -- ---- one worker

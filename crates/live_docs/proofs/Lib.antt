@@ -6,3 +6,4 @@ mod NumbersRise
 mod SetValues
 mod Places
 pub mod NumberedRows
+pub mod NumberedLaws

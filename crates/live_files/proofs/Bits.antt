@@ -6,7 +6,7 @@ use Rattle.std.proofs.Math.Seq.{drop-nil}
 use Rattle.std.proofs.lemmas.Bool.{eq-eqb, or_parts, or_from}
 use Rattle.std.proofs.lemmas.List.{append-nil, take_at, drop_at, length-append, length-drop}
 use Rattle.std.proofs.lemmas.List.Concat.{flat_map-cons}
-use Rattle.ix_base.specs.CodecLaws.{AreBytes-drop}
+use Rattle.ix_base.proofs.CodecLaws.{AreBytes-drop}
 use Rattle.ix_base.specs.Spelling.{AreBytes}
 use Rattle.live_files.specs.LiveSpelling.{bit_value, byte_count, bytes_of_bits}
 use Rattle.live_files.specs.LiveFits.{has_bit}

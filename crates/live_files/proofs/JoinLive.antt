@@ -8,7 +8,7 @@ use Rattle.ix_base.specs.Steps.{Named}
 use Rattle.live_docs.specs.Marks.{RowsNamesRise}
 use Rattle.live_docs.specs.declared.live_docs.Mark.{Mark}
 use Rattle.live_files.specs.LiveFits.{ValuesFit}
-use Rattle.live_files.specs.LiveMarkLaws.{own_first, others_first, marks_rise}
+use Rattle.live_files.proofs.LiveMarkLaws.{own_first, others_first, marks_rise}
 use Rattle.live_files.specs.LiveMarks.{unrowed, own_values, other_values, marks_from, marks_of}
 use Rattle.live_files.specs.LiveSpelling.{SetValue}
 

@@ -5,3 +5,5 @@ pub mod LiveWrite
 pub mod ValuesWrite
 pub mod JoinLive
 pub mod NumberedValues
+pub mod LiveMarkLaws
+pub mod ValueOrder

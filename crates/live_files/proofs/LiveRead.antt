@@ -8,9 +8,9 @@ use Rattle.std.proofs.lemmas.List.{append-nil, take_at, drop_at, take-append-dro
 use Rattle.ix_base.specs.declared.file_name.FileName.{FileName}
 use Rattle.ix_base.specs.declared.damaged.FileFault.{FileFault}
 use Rattle.ix_base.specs.Codec.{◌>>=◌}
-use Rattle.ix_base.specs.CodecLaws.{AreBytes-drop, AreBytes-take, bind_ok, ok_is, passed, Takes, Takes-then}
+use Rattle.ix_base.proofs.CodecLaws.{AreBytes-drop, AreBytes-take, bind_ok, ok_is, passed, Takes, Takes-then}
 use Rattle.ix_base.specs.FileReading.{number_where, mark_at, ended, placed, GivesFile}
-use Rattle.ix_base.specs.FileLaws.{u32_where_takes, u32_where_again, u64_where_takes, u64_where_again, mark_takes, mark_again, ended_ok, placed_ok}
+use Rattle.ix_base.proofs.FileLaws.{u32_where_takes, u32_where_again, u64_where_takes, u64_where_again, mark_takes, mark_again, ended_ok, placed_ok}
 use Rattle.ix_base.specs.Spelling.{be32, be64, AreBytes}
 use Rattle.live_files.specs.LiveSpelling.{live_mark, byte_count, bytes_of_bits, live_bytes, live_file}
 use Rattle.live_files.specs.LiveFits.{has_bit, LiveFits}

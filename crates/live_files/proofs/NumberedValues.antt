@@ -7,7 +7,7 @@ use Rattle.std.proofs.lemmas.List.{append-nil, length-append, length-map, take_a
 use Rattle.ix_base.specs.Limits.{names_rise}
 use Rattle.ix_base.specs.Steps.{Named}
 use Rattle.live_docs.specs.Marks.{fresh, numbered_from, numbered_rows, RowsNamesRise}
-use Rattle.live_docs.specs.NumberedLaws.{numbered_within}
+use Rattle.live_docs.proofs.NumberedLaws.{numbered_within}
 use Rattle.live_docs.specs.declared.live_docs.Mark.{Mark}
 use Rattle.live_files.specs.LiveSpelling.{SetValue, value_bytes, row_values, values_from, values_of}
 use Rattle.live_files.specs.LiveFits.{ValueFits}

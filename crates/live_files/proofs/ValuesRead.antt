@@ -14,17 +14,17 @@ use Rattle.std.proofs.lemmas.List.{append-nil}
 use Rattle.ix_base.specs.declared.file_name.FileName.{FileName}
 use Rattle.ix_base.specs.declared.damaged.FileFault.{FileFault}
 use Rattle.ix_base.specs.Codec.{◌>>=◌, number_at, signed_at, name_at, items_at}
-use Rattle.ix_base.specs.CodecLaws.{bind_ok, ok_is, passes, Takes, Takes-then, u64_takes, u64_again, signed_takes, signed_again, name_takes, name_again}
+use Rattle.ix_base.proofs.CodecLaws.{bind_ok, ok_is, passes, Takes, Takes-then, u64_takes, u64_again, signed_takes, signed_again, name_takes, name_again}
 use Rattle.ix_base.specs.FileReading.{number_where, mark_at, ended, placed, GivesFile}
-use Rattle.ix_base.specs.FileLaws.{u32_where_takes, u32_where_again, u64_where_takes, u64_where_again, mark_takes, mark_again, ended_ok, placed_ok}
-use Rattle.ix_base.specs.ItemLaws.{AllGood, TakesItem, GivesItem, items_take, items_again, good_each, good_onto, good_both}
+use Rattle.ix_base.proofs.FileLaws.{u32_where_takes, u32_where_again, u64_where_takes, u64_where_again, mark_takes, mark_again, ended_ok, placed_ok}
+use Rattle.ix_base.proofs.ItemLaws.{AllGood, TakesItem, GivesItem, items_take, items_again, good_each, good_onto, good_both}
 use Rattle.ix_base.specs.Limits.{text_lt}
 use Rattle.ix_base.specs.Spelling.{be32, be64, signed64, text_bytes, AreBytes, IsName}
 use Rattle.live_files.specs.LiveSpelling.{values_mark, SetValue, value_bytes, values_file}
 use Rattle.live_files.specs.LiveFits.{IsBefore, ValueFits, ValuesFit}
 use Rattle.live_files.specs.LiveReading.{row_comes, value_comes, value_name_at, value_at, values_in}
-use Rattle.live_files.specs.ValueOrder.{Before, before_of, of_before, not_after}
-use Rattle.segment_files.specs.Rising.{rises, chain}
+use Rattle.live_files.proofs.ValueOrder.{Before, before_of, of_before, not_after}
+use Rattle.segment_files.proofs.Rising.{rises, chain}
 
 -- ---- rows and names rise
 

@@ -5,7 +5,7 @@ use Rattle.std.specs.List.{flat_map, AllByRecursion}
 use Rattle.std.proofs.lemmas.Bool.{and_parts}
 use Rattle.std.proofs.lemmas.List.{length-append, flat_map_more}
 use Rattle.std.proofs.lemmas.List.Concat.{flat_map-cons}
-use Rattle.ix_base.specs.ItemLaws.{AllGood}
+use Rattle.ix_base.proofs.ItemLaws.{AllGood}
 use Rattle.ix_base.specs.Limits.{text_lt, rise_after, names_rise}
 use Rattle.ix_base.specs.Spelling.{be32, signed64, text_bytes}
 use Rattle.ix_base.specs.Steps.{Named}
@@ -14,8 +14,8 @@ use Rattle.live_docs.specs.declared.live_docs.Mark.{Mark}
 use Rattle.live_files.specs.LiveSpelling.{SetValue, value_bytes, row_values, values_from, values_of}
 use Rattle.live_files.specs.LiveFits.{IsBefore, ValueFits, ValuesFit}
 use Rattle.live_files.specs.LiveReading.{value_comes}
-use Rattle.segment_files.specs.Rising.{rises}
-use Rattle.live_files.specs.ValueOrder.{of_before}
+use Rattle.segment_files.proofs.Rising.{rises}
+use Rattle.live_files.proofs.ValueOrder.{of_before}
 use Rattle.live_files.proofs.ValuesRead.{ValueComes, itself, before_trans}
 
 abbrev pub names : List Named → List (List ℕ)

@@ -1,6 +1,4 @@
 pub mod LiveSpelling
 pub mod LiveFits
 pub mod LiveReading
-pub mod ValueOrder
 pub mod LiveMarks
-pub mod LiveMarkLaws

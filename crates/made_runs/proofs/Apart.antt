@@ -14,10 +14,10 @@ use Rattle.op_script.specs.declared.script.Line.{Line}
 use Rattle.op_script.specs.declared.script.Act.{Act}
 use Rattle.op_script.specs.declared.script.Act.TheVariants.{Do, Search}
 use Rattle.run_log.specs.Headline.{act_operation, operations}
-use Rattle.run_log.specs.Lists.{each_in_both, each_by_keys}
+use Rattle.run_log.proofs.Lists.{each_in_both, each_by_keys}
 use Rattle.made_runs.specs.Born.{documents}
 use Rattle.made_runs.specs.Apart.{touches, Adds, KeepsTo, KeepsToOwn, WorkApart, SameCallers, CallersApart}
-use Rattle.run_log.specs.ByKeys.{Decided, Reordered, reordered_map, reordered_by_keys, permuted}
+use Rattle.run_log.proofs.ByKeys.{Decided, Reordered, reordered_map, reordered_by_keys, permuted}
 use Rattle.made_runs.proofs.Folded.{left_by, added_by, folded, documents_after}
 use Rattle.made_runs.proofs.Tagged.{Tagged, tag_left, tag_all, tagged_by, tagged, untagged, untag, of_caller, of_tag, own_step, of_tag_other}
 

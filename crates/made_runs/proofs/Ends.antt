@@ -5,7 +5,7 @@ use Rattle.op_script.specs.declared.script.Line.{Line}
 use Rattle.op_script.specs.declared.script.Act.{Act}
 use Rattle.op_script.specs.declared.script.Act.TheVariants.{Do}
 use Rattle.run_log.specs.Headline.{is_commit, commit_numbers}
-use Rattle.run_log.specs.Lists.{filter_pushed}
+use Rattle.run_log.proofs.Lists.{filter_pushed}
 use Rattle.made_runs.specs.Apart.{SameCallers}
 use Rattle.made_runs.specs.Ends.{EndsInCommit, CallersCommit, EndsAt, LastIsCommit}
 use Rattle.made_runs.proofs.Tagged.{of_caller}

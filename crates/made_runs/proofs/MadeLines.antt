@@ -13,14 +13,14 @@ use Rattle.op_script.specs.declared.script.Line.{Line}
 use Rattle.op_script.specs.declared.script.Act.{Act}
 use Rattle.op_script.specs.declared.script.Act.TheVariants.{Do}
 use Rattle.run_log.specs.Headline.{act_operation, is_numbered, numbered, operations}
-use Rattle.run_log.specs.Lists.{each_says, each_in_both, each_mapped}
+use Rattle.run_log.proofs.Lists.{each_says, each_in_both, each_mapped}
 use Rattle.script_maker.specs.Draws.{draw_at}
 use Rattle.script_maker.specs.Made.{made_act, made_line, last_commit, made_script}
 use Rattle.script_maker.specs.Operations.{drawn_operation}
 use Rattle.made_runs.specs.Apart.{KeepsTo, KeepsToOwn}
 use Rattle.made_runs.specs.Ends.{CallersCommit, EndsInCommit}
 use Rattle.made_runs.specs.Own.{IsOwn, MadeApart}
-use Rattle.run_log.specs.ByKeys.{Decided}
+use Rattle.run_log.proofs.ByKeys.{Decided}
 use Rattle.made_runs.proofs.Chosen.{filter_none}
 use Rattle.made_runs.proofs.Numbers.{KeepsCounted, draw_small, drawn_counts, commit_counts, operations_count}
 use Rattle.made_runs.proofs.Own.{drawn_keeps, commit_keeps, own_stays}

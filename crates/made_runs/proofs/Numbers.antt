@@ -11,7 +11,7 @@ use Rattle.ix_base.specs.declared.document.Operation.{Operation}
 use Rattle.ix_base.specs.declared.document.Operation.TheVariants.{Add, Update, DeleteTerm, DeleteQuery, SetNumber, Commit}
 use Rattle.op_script.specs.declared.script.Line.{Line}
 use Rattle.run_log.specs.Headline.{act_operation, operations}
-use Rattle.run_log.specs.Lists.{each_in_both}
+use Rattle.run_log.proofs.Lists.{each_in_both}
 use Rattle.script_maker.specs.Draws.{number_at, draw_at}
 use Rattle.script_maker.specs.Operations.{document_of, key_term, tag_term, query_of, drawn_operation}
 use Rattle.made_runs.specs.Apart.{Adds}

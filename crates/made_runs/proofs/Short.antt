@@ -27,7 +27,7 @@ use Rattle.ix_base.specs.declared.document.Term as own
 use Rattle.ix_base.specs.declared.document.Operation.{Operation}
 use Rattle.ix_base.specs.declared.refusal.Refusal.{Refusal}
 use Rattle.ix_base.specs.declared.refusal.Refusal.TheVariants.{Term as TooLong, Query as TooLargeQuery}
-use Rattle.run_log.specs.Lists.{each_says, each_in_first, each_in_second, each_mapped, each_of_filter, each_in_both}
+use Rattle.run_log.proofs.Lists.{each_says, each_in_first, each_in_second, each_mapped, each_of_filter, each_in_both}
 use Rattle.script_maker.specs.Operations.{document_of, key_of, tag_of, body_of, key_term, tag_term, query_of, drawn_operation}
 use Rattle.made_runs.proofs.Own.{each_kind}
 

@@ -26,7 +26,7 @@ use Rattle.made_runs.specs.Own.{IsOwn}
 use Rattle.made_runs.specs.Sums.{HasMadeNumber}
 use Rattle.made_runs.specs.Summary.{left_rows, run_rows, ComesTo, MadeRuns, MadeNumbers}
 use Rattle.made_runs.proofs.Apart.{documents_apart}
-use Rattle.run_log.specs.ByKeys.{Reordered, done, next, each_reordered, reordered_map, permuted, reordered_by_keys}
+use Rattle.run_log.proofs.ByKeys.{Reordered, done, next, each_reordered, reordered_map, permuted, reordered_by_keys}
 use Rattle.made_runs.proofs.Ends.{last_is_commit, no_last}
 use Rattle.made_runs.proofs.Folded.{folded, documents_after}
 use Rattle.made_runs.proofs.Later.{born_later}

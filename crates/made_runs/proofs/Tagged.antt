@@ -8,7 +8,7 @@ use Rattle.ix_base.specs.Documents.{Document}
 use Rattle.ix_base.specs.declared.document.Operation.{Operation}
 use Rattle.op_script.specs.declared.script.Line.{Line}
 use Rattle.run_log.specs.Headline.{act_operation, operations}
-use Rattle.run_log.specs.ByKeys.{of_key}
+use Rattle.run_log.proofs.ByKeys.{of_key}
 use Rattle.made_runs.proofs.Folded.{left_by, added_by, folded}
 
 -- a document with the caller of the line that added it

@@ -8,7 +8,7 @@ use Rattle.std.specs.declared.cmp.Ordering.TheVariants.{Less, Equal, Greater}
 use Rattle.std.proofs.lemmas.Cmp.{ranked}
 use Rattle.std.proofs.lemmas.List.Sorted.{list_any-IsPermutation}
 use Rattle.ix_base.specs.Grouped.{grouped}
-use Rattle.ix_base.specs.GroupedLaws.{is_spot, posted_are}
+use Rattle.ix_base.proofs.GroupedLaws.{is_spot, posted_are}
 use Rattle.ix_base.specs.Posted.{posted_at}
 use Rattle.ix_base.specs.declared.postings.Posting.{Posting}
 use Rattle.ix_base.specs.declared.spots.Spot.{Spot}

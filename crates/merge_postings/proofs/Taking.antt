@@ -4,7 +4,7 @@ use Rattle.std.specs.List.{AllByRecursion}
 use Rattle.std.specs.Option.{IfSome}
 use Rattle.ix_base.proofs.Ends.{ends}
 use Rattle.ix_base.proofs.TermOrder.{term_total}
-use Rattle.ix_base.specs.GroupedLaws.{or_assoc}
+use Rattle.ix_base.proofs.GroupedLaws.{or_assoc}
 use Rattle.ix_base.specs.declared.document.Term.{Term}
 use Rattle.ix_base.specs.declared.postings.TermPostings.{TermPostings}
 use Rattle.merge_postings.specs.Renumbering.{CanMove, is_named, moved, moved_at}

@@ -3,7 +3,7 @@ use Rattle.std.proofs.Common.{◌≡◌, ℕ, ◌<◌, ◌≤◌, ℤ, List, [],
 use Rattle.std.specs.Int.{w64}
 use Rattle.std.specs.Prelude.{FitsSigned}
 use Rattle.std.proofs.lemmas.List.{append-nil, nil_from_length}
-use Rattle.ix_base.specs.EntryLaws.{length-be32}
+use Rattle.ix_base.proofs.EntryLaws.{length-be32}
 use Rattle.ix_base.specs.Entry.{add, update, delete_term, delete_query, set_number, commit, turn, entry_bytes, term_bytes, IsOwnTerm}
 use Rattle.ix_base.specs.QueryBytes.{query_bytes, IsQuery}
 use Rattle.ix_base.specs.Spelling.{be32, signed64, text_bytes, IsName}

@@ -3,7 +3,7 @@ use Rattle.std.proofs.Common.{◌≡◌, ℕ, ◌<◌, ◌^◌, List, ◌++◌, 
 use Rattle.std.specs.Int.{w32, w64}
 use Rattle.std.specs.Prelude.{FitsSigned}
 use Rattle.ix_base.specs.Codec.{byte_at, number_at, signed_at, text_at, name_at}
-use Rattle.ix_base.specs.CodecLaws.{Takes, ok_is, byte_takes, byte_again, u32_takes, u32_again, u64_takes, u64_again, signed_takes, signed_again, text_takes, text_again, name_takes, name_again}
+use Rattle.ix_base.proofs.CodecLaws.{Takes, ok_is, byte_takes, byte_again, u32_takes, u32_again, u64_takes, u64_again, signed_takes, signed_again, text_takes, text_again, name_takes, name_again}
 use Rattle.ix_base.specs.Spelling.{be32, be64, signed64, text_bytes, AreBytes, IsText, IsName}
 use Rattle.node_words.specs.Reads.{StandsAtStart, NoneAtStart, byte_alone}
 

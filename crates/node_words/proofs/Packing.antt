@@ -8,11 +8,11 @@ use Rattle.std.proofs.lemmas.List.Concat.{flat_map-cons}
 use Rattle.std.proofs.lemmas.Nat.{be_bytes_8}
 use Rattle.std.specs.Int.{w64, from_be_bytes}
 use Rattle.std.specs.List.{flat_map}
-use Rattle.ix_base.specs.EntryLaws.{length-words_in, head_again}
-use Rattle.ix_base.specs.CodecLaws.{AreBytes-take, AreBytes-drop}
+use Rattle.ix_base.proofs.EntryLaws.{length-words_in, head_again}
+use Rattle.ix_base.proofs.CodecLaws.{AreBytes-take, AreBytes-drop}
 use Rattle.ix_base.specs.Spelling.{be64, AreBytes}
 use Rattle.ix_base.specs.Words.{first_word, words_in, words_for, packed, head, head_len, head_kind}
-use Rattle.ix_base.specs.CodecLaws.{same_front}
+use Rattle.ix_base.proofs.CodecLaws.{same_front}
 use Rattle.node_words.proofs.Forms.{one_word}
 use Rattle.node_words.specs.Packed.{HoldsBytes}
 

@@ -5,9 +5,9 @@ use Rattle.std.specs.Int.{w64, cast_unsigned}
 use Rattle.std.specs.Str.{IsUtf8}
 use Rattle.std.proofs.lemmas.Bool.{and_parts, cases_lt, lt-ltb, le-ltb}
 use Rattle.ix_base.specs.Entry.{Entry, add, update, delete_term, delete_query, set_number, commit, turn, kind_of, entry_bytes, term_bytes, IsOwnTerm, IsEntry}
-use Rattle.ix_base.specs.EntryLaws.{most_bytes}
+use Rattle.ix_base.proofs.EntryLaws.{most_bytes}
 use Rattle.ix_base.specs.QueryBytes.{count_of, query_bytes, queries_bytes, list_bytes, IsQuery, AreQueries}
-use Rattle.ix_base.specs.CodecLaws.{AreBytes-drop}
+use Rattle.ix_base.proofs.CodecLaws.{AreBytes-drop}
 use Rattle.ix_base.specs.Spelling.{be32, be64, signed64, text_bytes, AreBytes, IsText, IsName}
 use Rattle.ix_base.specs.Tree.{Tree, all, term, phrase, range, bool, Trees, no_trees, tree}
 use Rattle.ix_base.specs.Words.{Spells}

@@ -8,7 +8,7 @@ use Rattle.queue_rule.specs.declared.view.View.{View}
 use Rattle.queue_rule.specs.declared.view.Known.{Known}
 use Rattle.queue_rule.specs.Lists.{Each}
 use Rattle.ix_base.specs.Words.{word_count}
-use Rattle.ix_base.specs.EntryLaws.{IsEntryWords-not_empty, IsEntryWords-count}
+use Rattle.ix_base.proofs.EntryLaws.{IsEntryWords-not_empty, IsEntryWords-count}
 use Rattle.queue_rule.specs.Chain.{ChainEntry, need, start, used, Chained, Spelled, Lies, IsLinked}
 use Rattle.queue_rule.specs.Rule.{IsKnown, Fits}
 use Rattle.queue_rule.proofs.Lists.{all_more, used_take}

@@ -31,7 +31,7 @@ use Rattle.queue_rule.proofs.Drafting.{filled_own}
 use Rattle.queue_rule.proofs.Entries.{at_of, each_at, used_more, used_other, used_same}
 use Rattle.queue_rule.proofs.Learning.{own_place, known_head, chain_next, has_own, needs, heads_needs}
 use Rattle.queue_rule.specs.Told.{HasOwn, HeadsAt, filled_by}
-use Rattle.ix_base.specs.EntryLaws.{IsEntryWords-kind}
+use Rattle.ix_base.proofs.EntryLaws.{IsEntryWords-kind}
 use Rattle.atomic_table.proofs.Lists.{at_longer}
 use Rattle.queue_rule.proofs.Viewing.{entry_seen}
 

@@ -22,7 +22,7 @@ use Rattle.ix_base.specs.declared.postings.TermPostings.{TermPostings}
 use Rattle.ix_base.specs.declared.spots.Spot.{Spot}
 use Rattle.ix_base.proofs.TermOrder.{term_total}
 use Rattle.ram_postings.specs.Kept.{kept, number_of, HasNoNumber}
-use Rattle.ix_base.specs.GroupedLaws.{or_false}
+use Rattle.ix_base.proofs.GroupedLaws.{or_false}
 use Rattle.ram_postings.proofs.KeptLists.{is_term, is_term_same, is_term_itself, posted_more, term_equal, term_itself}
 
 -- ---- lists with no place

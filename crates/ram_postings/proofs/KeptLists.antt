@@ -18,7 +18,7 @@ use Rattle.ix_base.specs.declared.postings.Posting.{Posting}
 use Rattle.ix_base.specs.declared.postings.TermPostings.{TermPostings}
 use Rattle.ix_base.proofs.TermOrder.{term_total, term_same}
 use Rattle.ram_postings.specs.Kept.{kept, IsKeptBelow}
-use Rattle.ix_base.specs.GroupedLaws.{or_false}
+use Rattle.ix_base.proofs.GroupedLaws.{or_false}
 
 equal_by : (a b : Term) (o : Ordering) → term_cmp a b ≡ o → is_eq o ≡ true → a ≡ b
 equal_by a b Less e h = cc

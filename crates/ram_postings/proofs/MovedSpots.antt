@@ -10,7 +10,7 @@ use Rattle.ix_base.specs.declared.postings.Posting.{Posting}
 use Rattle.ix_base.specs.declared.spots.Spot.{Spot}
 use Rattle.ix_base.specs.Grouped.{grouped, AreSpots, IsBefore, IsAfter}
 use Rattle.ram_postings.specs.Kept.{number_of, NumbersRise, IsBelowNumbers, HasNoNumber}
-use Rattle.ix_base.specs.GroupedLaws.{or_false, is_spot, posted_are}
+use Rattle.ix_base.proofs.GroupedLaws.{or_false, is_spot, posted_are}
 
 -- a place whose row has the number r, at the position x
 abbrev pub moves : List (Option ℕ) → ℕ → ℕ → Spot → Bool

@@ -5,7 +5,7 @@ use Rattle.std.specs.Prelude.{slice_index_or}
 use Rattle.std.specs.List.{filter}
 use Rattle.std.proofs.lemmas.List.Elements.{filter-append}
 use Rattle.ix_base.specs.Entry.{entry_bytes, entry_of, kind_of, turn}
-use Rattle.ix_base.specs.EntryLaws.{head_again, most_bytes}
+use Rattle.ix_base.proofs.EntryLaws.{head_again, most_bytes}
 use Rattle.ix_base.specs.Words.{Spells, entry_words, head_kind}
 use Rattle.ix_base.specs.declared.document.Operation.{Operation}
 use Rattle.ix_base.specs.declared.document.Operation.TheVariants as op

@@ -1,0 +1,10 @@
+pub mod AgainLaws
+pub mod ByKeys
+pub mod CountLaws
+pub mod OnlyLaws
+pub mod CommitLaws
+pub mod LogLaws
+pub mod NumberLaws
+pub mod TellingLaws
+pub mod PlaceLaws
+pub mod Lists

@@ -1,13 +1,4 @@
 pub mod Headline
 pub mod Telling
-pub mod Lists
-pub mod PlaceLaws
-pub mod TellingLaws
-pub mod NumberLaws
-pub mod CommitLaws
-pub mod LogLaws
-pub mod ByKeys
-pub mod CountLaws
-pub mod OnlyLaws
-pub mod AgainLaws
+pub mod Numbering
 pub mod Laws

@@ -6,7 +6,7 @@ use Rattle.segment_core.specs.LiveRows.{Lived}
 use Rattle.commit_point.specs.declared.heads.HeadSegment.{HeadSegment}
 use Rattle.commit_point.specs.declared.open.Opened.{Opened}
 use Rattle.commit_point.specs.Holds.{HasSegments, HoldsInverted}
-use Rattle.commit_point.specs.SegmentLaws.{one_segments}
+use Rattle.commit_point.proofs.SegmentLaws.{one_segments}
 use Rattle.searcher.specs.Searching.{Searches}
 
 -- the segments that the files hold, searched

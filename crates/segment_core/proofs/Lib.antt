@@ -8,3 +8,4 @@ mod Candidates
 mod Halving
 mod BuiltRows
 mod SetLive
+pub mod LiveLaws

@@ -7,11 +7,11 @@ use Rattle.std.specs.declared.cmp.Ordering.{Ordering}
 use Rattle.std.specs.declared.cmp.Ordering.TheVariants.{Less, Equal, Greater}
 use Rattle.std.proofs.lemmas.Cmp.{nat_list_cmp_total}
 use Rattle.ix_base.specs.Inversion.{term_cmp}
-use Rattle.ix_base.specs.ItemLaws.{AllGood}
+use Rattle.ix_base.proofs.ItemLaws.{AllGood}
 use Rattle.ix_base.specs.declared.document.Term.{Term}
 use Rattle.ix_base.specs.declared.postings.Posting.{Posting}
 use Rattle.segment_files.specs.Reading.{field_comes, term_comes}
-use Rattle.segment_files.specs.Rising.{rises, chain}
+use Rattle.segment_files.proofs.Rising.{rises, chain}
 
 -- ---- rows
 

@@ -3,7 +3,7 @@ use Rattle.std.proofs.Common.{◌≡◌, ℕ, ◌+◌, ◌<◌, ◌≤◌, List,
 use Rattle.std.specs.List.{AllByRecursion}
 use Rattle.std.proofs.lemmas.List.Elements.{All-from_recursion}
 use Rattle.ix_base.specs.Inversion.{IsPostings}
-use Rattle.ix_base.specs.ItemLaws.{AllGood}
+use Rattle.ix_base.proofs.ItemLaws.{AllGood}
 use Rattle.ix_base.specs.declared.postings.Posting.{Posting}
 use Rattle.ix_base.specs.declared.postings.TermPostings.{TermPostings}
 use Rattle.segment_files.proofs.Chains.{AllRowsBelow, RowFrom, RowsRise, after_row, rows_chain}

@@ -11,14 +11,14 @@ use Rattle.std.proofs.lemmas.Slice.Eq.{bytes_eq-Decides}
 use Rattle.ix_base.specs.Limits.{text_lt, rise_after, names_rise, is_among, share_name, names_are_apart}
 use Rattle.ix_base.specs.Documents.{Document}
 use Rattle.ix_base.specs.Codec.{◌>>=◌, number_at, signed_at, text_at, name_at, items_at}
-use Rattle.ix_base.specs.CodecLaws.{bind_ok, ok_is, passes, Takes, Takes-then, u32_takes, u32_again, u64_takes, u64_again, signed_takes, signed_again, text_takes, text_again}
+use Rattle.ix_base.proofs.CodecLaws.{bind_ok, ok_is, passes, Takes, Takes-then, u32_takes, u32_again, u64_takes, u64_again, signed_takes, signed_again, text_takes, text_again}
 use Rattle.ix_base.specs.Spelling.{be32, be64, signed64, text_bytes, AreBytes}
 use Rattle.segment_files.specs.Spelling.{field, fields, number_bytes, numbers_bytes, document}
 use Rattle.segment_files.specs.Fits.{FieldFits, NumberFits, DocumentFits}
 use Rattle.ix_base.specs.FileReading.{name_where}
 use Rattle.segment_files.specs.Fields.{comes_after, is_key, is_free_name, may_name, field_at, fields_at, numbered_at, numbers_at, document_at}
-use Rattle.ix_base.specs.FileLaws.{name_where_takes, name_where_again}
-use Rattle.ix_base.specs.ItemLaws.{AllGood, TakesItem, GivesItem, items_take, items_again, items_have, good_onto, good_each, good_both, all_both}
+use Rattle.ix_base.proofs.FileLaws.{name_where_takes, name_where_again}
+use Rattle.ix_base.proofs.ItemLaws.{AllGood, TakesItem, GivesItem, items_take, items_again, items_have, good_onto, good_each, good_both, all_both}
 
 -- ---- names rise
 

@@ -7,3 +7,5 @@ pub mod PostsRead
 pub mod Runs
 pub mod Counts
 pub mod Rooms
+pub mod PostLaws
+pub mod Rising

@@ -5,12 +5,12 @@ use Rattle.std.specs.List.{AllByRecursion}
 use Rattle.std.proofs.lemmas.Bool.{and_parts, eqb-true, eq-eqb, ne_eqb, leb-true, le-leb, lt-ltb}
 use Rattle.std.proofs.lemmas.List.Folds.{list_any-append}
 use Rattle.ix_base.specs.Codec.{◌>>=◌, Fails, number_at, items_at, left_by}
-use Rattle.ix_base.specs.CodecLaws.{bind_ok, ok_is, passes}
+use Rattle.ix_base.proofs.CodecLaws.{bind_ok, ok_is, passes}
 use Rattle.ix_base.specs.FileReading.{number_where}
 use Rattle.ix_base.specs.Grouped.{one, joined, with_spot, IsAfter}
-use Rattle.ix_base.specs.ItemLaws.{items_count}
+use Rattle.ix_base.proofs.ItemLaws.{items_count}
 use Rattle.ix_base.specs.Posted.{has_number, posted_at}
-use Rattle.ix_base.specs.ReadLoops.{so_far, starts, goes_on_from, ends_from, is_done, left_by-push}
+use Rattle.ix_base.proofs.ReadLoops.{so_far, starts, goes_on_from, ends_from, is_done, left_by-push}
 use Rattle.ix_base.specs.declared.broken.Broken.{Broken}
 use Rattle.ix_base.specs.declared.postings.Posting.{Posting}
 use Rattle.ix_base.specs.declared.spots.Spot.{Spot}

@@ -16,16 +16,16 @@ use Rattle.ix_base.specs.declared.postings.Posting.{Posting}
 use Rattle.ix_base.specs.declared.postings.TermPostings.{TermPostings}
 use Rattle.ix_base.specs.declared.postings.Postings.{Postings}
 use Rattle.ix_base.specs.Codec.{◌>>=◌, number_at, text_at, items_at}
-use Rattle.ix_base.specs.CodecLaws.{bind_ok, ok_is, passes, Takes, Takes-then, u64_takes, u64_again, text_takes, text_again}
+use Rattle.ix_base.proofs.CodecLaws.{bind_ok, ok_is, passes, Takes, Takes-then, u64_takes, u64_again, text_takes, text_again}
 use Rattle.ix_base.specs.FileReading.{number_where, name_where, mark_at, ended, placed, GivesFile}
-use Rattle.ix_base.specs.FileLaws.{u32_where_takes, u32_where_again, u64_where_takes, u64_where_again, name_where_takes, name_where_again, mark_takes, mark_again, ended_ok, placed_ok}
+use Rattle.ix_base.proofs.FileLaws.{u32_where_takes, u32_where_again, u64_where_takes, u64_where_again, name_where_takes, name_where_again, mark_takes, mark_again, ended_ok, placed_ok}
 use Rattle.ix_base.specs.Inversion.{term_cmp, IsPosting, IsTermPostings}
-use Rattle.ix_base.specs.ItemLaws.{AllGood, TakesItem, GivesItem, items_take, items_again, good_each, good_onto, good_both, all_both}
+use Rattle.ix_base.proofs.ItemLaws.{AllGood, TakesItem, GivesItem, items_take, items_again, good_each, good_onto, good_both, all_both}
 use Rattle.ix_base.specs.Spelling.{be32, be64, text_bytes, AreBytes, IsText, IsName}
 use Rattle.segment_files.specs.Spelling.{posts_mark, posting, term_postings, posts_file}
 use Rattle.segment_files.specs.Fits.{PostingFits, TermFits, PostingsFit}
 use Rattle.segment_files.specs.Reading.{position_at, posting_at, field_comes, term_comes, term_name_at, term_at, posts_in}
-use Rattle.segment_files.specs.Rising.{rises, chain}
+use Rattle.segment_files.proofs.Rising.{rises, chain}
 use Rattle.segment_files.proofs.Chains.{AllRowsBelow, RowFrom, RowsRise, after_row, rows_rise, rows_chain, Comes, less_of_comes, comes_of_less}
 
 -- ---- positions

@@ -3,7 +3,7 @@ use Rattle.std.proofs.Common.{◌≡◌, ℕ, ℤ, zero, suc, ◌+◌, ◌*◌, 
 use Rattle.std.proofs.lemmas.List.{take_all, length-map}
 use Rattle.std.proofs.lemmas.List.Concat.{flat_map-cons}
 use Rattle.std.specs.List.{flat_map}
-use Rattle.ix_base.specs.EntryLaws.{length-be32, length-text_bytes}
+use Rattle.ix_base.proofs.EntryLaws.{length-be32, length-text_bytes}
 use Rattle.ix_base.specs.Grouped.{grouped}
 use Rattle.ix_base.specs.Spelling.{be32, be64, signed64, text_bytes}
 use Rattle.ix_base.specs.Documents.{Document}

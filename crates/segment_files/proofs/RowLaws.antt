@@ -10,10 +10,10 @@ use Rattle.ix_base.specs.declared.file_name.FileName.{FileName}
 use Rattle.ix_base.specs.declared.document.Row.{Row}
 use Rattle.ix_base.specs.declared.damaged.FileFault.{FileFault}
 use Rattle.ix_base.specs.Codec.{◌>>=◌, items_at}
-use Rattle.ix_base.specs.CodecLaws.{bind_ok, ok_is, Takes, Takes-then}
+use Rattle.ix_base.proofs.CodecLaws.{bind_ok, ok_is, Takes, Takes-then}
 use Rattle.ix_base.specs.FileReading.{number_where, mark_at, ended, placed, GivesFile}
-use Rattle.ix_base.specs.FileLaws.{u32_where_takes, u32_where_again, u64_where_takes, u64_where_again, mark_takes, mark_again, ended_ok, placed_ok}
-use Rattle.ix_base.specs.ItemLaws.{AllGood, TakesItem, GivesItem, items_take, items_again, good_each}
+use Rattle.ix_base.proofs.FileLaws.{u32_where_takes, u32_where_again, u64_where_takes, u64_where_again, mark_takes, mark_again, ended_ok, placed_ok}
+use Rattle.ix_base.proofs.ItemLaws.{AllGood, TakesItem, GivesItem, items_take, items_again, good_each}
 use Rattle.ix_base.specs.Spelling.{be32, be64, AreBytes}
 use Rattle.segment_files.specs.Spelling.{rows_mark, document, row, rows_file}
 use Rattle.segment_files.specs.Fits.{DocumentFits, BirthsRise, IsSegment}

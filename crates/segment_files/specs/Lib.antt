@@ -4,6 +4,4 @@ pub mod Fields
 pub mod Reading
 pub mod ReadLists
 pub mod Placing
-pub mod Rising
-pub mod PostLaws
 pub mod Sizes

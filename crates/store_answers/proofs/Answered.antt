@@ -7,7 +7,7 @@ use Rattle.segment_core.specs.LiveRows.{Lived}
 use Rattle.commit_point.specs.Holds.{HasSegments, HoldsInverted}
 use Rattle.commit_point.specs.Loading.{IsOutside}
 use Rattle.commit_point.specs.Reading.{reading}
-use Rattle.commit_point.specs.SegmentLaws.{has_reads}
+use Rattle.commit_point.proofs.SegmentLaws.{has_reads}
 use Rattle.commit_point.specs.declared.fault.OpenFault.{OpenFault}
 use Rattle.commit_point.specs.declared.fault.OpenFault.TheVariants as opening
 use Rattle.commit_point.specs.declared.heads.HeadSegment.{HeadSegment}

@@ -14,7 +14,7 @@ use Rattle.ix_outside.specs.Files.{Files, Was, Reads}
 use Rattle.commit_point.specs.Fits.{HeadFits}
 use Rattle.commit_point.specs.Holds.{HasHead}
 use Rattle.commit_point.specs.Reading.{head_from, head_in}
-use Rattle.commit_point.specs.SegmentLaws.{head_reads}
+use Rattle.commit_point.proofs.SegmentLaws.{head_reads}
 use Rattle.commit_point.specs.Spelling.{commit_file}
 use Rattle.commit_point.specs.declared.heads.Head.{Head}
 use Rattle.store_answers.specs.Listing.{AreListed, BreaksAmong, IsBrokenCommit, IsFirstBroken, IsOutside, line_text}

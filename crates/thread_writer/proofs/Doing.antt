@@ -4,7 +4,7 @@ use Rattle.std.specs.List.{AllByRecursion}
 use Rattle.std.proofs.lemmas.List.Elements.{filter-append}
 use Rattle.std.proofs.lemmas.List.Concat.{flat_map-append}
 use Rattle.ix_base.specs.Entry.{Entry, entry_of, kind_of, turn}
-use Rattle.ix_base.specs.EntryLaws.{head_again, most_bytes}
+use Rattle.ix_base.proofs.EntryLaws.{head_again, most_bytes}
 use Rattle.ix_base.specs.Words.{Spells, head_kind, entry_words}
 use Rattle.ix_base.specs.declared.document.Row.{Row}
 use Rattle.ix_base.specs.declared.document.Operation.{Operation}

@@ -3,7 +3,7 @@ use Rattle.std.proofs.Common.{◌≡◌, ◌∙◌, ℕ, ◌+◌, ◌-◌, ◌<�
 use Rattle.std.specs.List.{All}
 use Rattle.ix_base.specs.Documents.{Document}
 use Rattle.ix_base.specs.Entry.{entry_of, kind_of}
-use Rattle.ix_base.specs.EntryLaws.{IsEntryWords-at_most}
+use Rattle.ix_base.proofs.EntryLaws.{IsEntryWords-at_most}
 use Rattle.ix_base.specs.Words.{Spells, IsEntryWords}
 use Rattle.ix_base.specs.declared.document.Row.{Row}
 use Rattle.ix_base.specs.declared.document.Operation.{Operation}

@@ -1,6 +1,6 @@
 use Rattle.std.proofs.Common.{arith}
 use Rattle.ix_base.specs.declared.file_name.FileName.TheVariants.{Commit}
-use Rattle.commit_point.specs.HeadReading.{head_found, head_only}
+use Rattle.commit_point.proofs.HeadReading.{head_found, head_only}
 use Rattle.commit_point.proofs.decode.decode_commit.Goals as goal
 
 pub returns-clause-found : goal.returns-clause-found

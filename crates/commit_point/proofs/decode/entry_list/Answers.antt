@@ -3,7 +3,7 @@ use Rattle.std.proofs.lemmas.Result.{err_from_is_err_and}
 use Rattle.ix_base.specs.declared.broken.Broken.TheVariants.{At}
 use Rattle.commit_point.specs.declared.heads.HeadSegment.{HeadSegment}
 use Rattle.commit_point.specs.Reading.{entry_at}
-use Rattle.ix_base.specs.ReadLoops.{goes_on_from, ends_from, is_done, left_by-push}
+use Rattle.ix_base.proofs.ReadLoops.{goes_on_from, ends_from, is_done, left_by-push}
 use Rattle.commit_point.proofs.decode.entry_list.Goals as goal
 
 pub returns-in_err-segment : goal.returns-in_err-segment

@@ -2,7 +2,7 @@ use Rattle.std.proofs.Common.{◌≡◌, ◌-◌, ◌+◌}
 use Rattle.commit_point.specs.declared.heads.HeadSegment.{HeadSegment}
 use Rattle.ix_base.specs.Codec.{items_at, left_by}
 use Rattle.commit_point.specs.Reading.{entry_at}
-use Rattle.ix_base.specs.ReadLoops.{so_far}
+use Rattle.ix_base.proofs.ReadLoops.{so_far}
 use Rattle.commit_point.proofs.decode.entry_list.Given as goal
 
 abbrev pub invariant-loop : goal.invariant-loop

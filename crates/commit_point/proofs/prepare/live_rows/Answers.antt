@@ -1,5 +1,5 @@
 use Rattle.std.proofs.Common.{rules}
-use Rattle.ix_base.specs.WriteLoops.{all_more}
+use Rattle.ix_base.proofs.WriteLoops.{all_more}
 use Rattle.segment_core.specs.LiveRows.{Lived, IsWhole}
 use Rattle.commit_point.proofs.Counting.{rows_left}
 use Rattle.commit_point.proofs.prepare.live_rows.Goals as goal

@@ -4,7 +4,7 @@ use Rattle.commit_point.proofs.Making.{did_at, stopped_at, refused_at, did_stop,
 use Rattle.commit_point.proofs.Names.{are_names, can_publish}
 use Rattle.commit_point.proofs.Settled.{settles}
 use Rattle.commit_point.proofs.Standing.{keeps_made, left_files, left_same, only_commits}
-use Rattle.commit_point.specs.StepLaws.{goes_none}
+use Rattle.commit_point.proofs.StepLaws.{goes_none}
 use Rattle.commit_point.specs.Steps.{KeepsStanding}
 use Rattle.ix_outside.specs.Disk.{told_files}
 use Rattle.commit_point.proofs.write.write_commit.Goals as goal

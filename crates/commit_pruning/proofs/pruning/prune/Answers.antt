@@ -1,7 +1,7 @@
 use Rattle.std.proofs.Common.{Err}
 use Rattle.commit_pruning.specs.declared.planning.Plan.{Plan}
 use Rattle.commit_pruning.proofs.Carried.{crash_by, crash_same, kept_by, left_by, left_same, never_damaged, paused_by, paused_same, pruned_by}
-use Rattle.commit_point.specs.StepLaws.{goes_still}
+use Rattle.commit_point.proofs.StepLaws.{goes_still}
 use Rattle.commit_pruning.specs.Pruning.{Deletes}
 use Rattle.commit_pruning.proofs.Halting.{told_deletes}
 use Rattle.commit_pruning.proofs.Planned.{whole_or_outside}

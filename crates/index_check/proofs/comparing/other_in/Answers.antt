@@ -4,7 +4,7 @@ use Rattle.ix_base.specs.Inversion.{IsInversion}
 use Rattle.ix_base.specs.declared.document.Row.{Row}
 use Rattle.segment_core.specs.Segments.{documents}
 use Rattle.segment_files.specs.Fits.{PostingsFit, RowsBelow}
-use Rattle.segment_files.specs.PostLaws.{inverted_below}
+use Rattle.segment_files.proofs.PostLaws.{inverted_below}
 use Rattle.segment_files.specs.Spelling.{posts_file}
 use Rattle.index_check.proofs.Compared.{bytes_compared}
 use Rattle.index_check.proofs.comparing.other_in.Goals as goal

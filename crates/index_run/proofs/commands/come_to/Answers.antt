@@ -3,7 +3,7 @@ use Rattle.index_run.specs.declared.stop.Stop.{Stop}
 use Rattle.index_run.specs.Promises.{Call, Does}
 use Rattle.index_run.proofs.Commanded.{does_nothing}
 use Rattle.index_run.proofs.Finish.{keeps_none}
-use Rattle.commit_point.specs.StepLaws.{goes_none}
+use Rattle.commit_point.proofs.StepLaws.{goes_none}
 use Rattle.commit_point.specs.Steps.{MakesCommits}
 use Rattle.index_run.proofs.commands.come_to.Goals as goal
 

@@ -10,7 +10,7 @@ use Rattle.index_run.specs.Promises.{Call, Does}
 use Rattle.index_run.proofs.Commanded.{asked_done, caused_run, checked_done, is_read, listed_done, script_done, script_undone}
 use Rattle.index_run.proofs.Finish.{keeps_none}
 use Rattle.index_run.proofs.Listed.{at_err, err_always}
-use Rattle.commit_point.specs.StepLaws.{goes_none, goes_still}
+use Rattle.commit_point.proofs.StepLaws.{goes_none, goes_still}
 use Rattle.commit_point.specs.Steps.{MakesCommits}
 use Rattle.index_run.proofs.commands.do_command.Goals as goal
 

@@ -1,6 +1,6 @@
 use Rattle.std.proofs.Common.{◌≡◌, ◌∙◌, Err, None, ap, sym, subst}
 use Rattle.std.specs.Prelude.{IfOk, Option}
-use Rattle.commit_point.specs.StepLaws.{goes_still}
+use Rattle.commit_point.proofs.StepLaws.{goes_still}
 use Rattle.commit_point.specs.Steps.{MakesCommits, OnlyCommits}
 use Rattle.ix_outside.specs.Disk.{Told, told_files}
 use Rattle.ix_outside.specs.Files.{Files}

@@ -2,7 +2,7 @@ use Rattle.std.proofs.Common.{◌≡◌, ◌∙◌, [], ◌∷◌, ◌++◌, len
 use Rattle.std.specs.Vec.Iter.{into_iter_items}
 use Rattle.worker_tasks.specs.declared.share.Share.{Share}
 use Rattle.index_run.specs.Replied.{AreRepliesOf, Counts, Replies}
-use Rattle.line_shares.specs.LineLaws.{zip_more}
+use Rattle.line_shares.proofs.LineLaws.{zip_more}
 use Rattle.index_run.proofs.outcomes.replies_of.Goals as goal
 
 pub loop-share-preserved : goal.loop-share-preserved

@@ -2,7 +2,7 @@ use Rattle.std.proofs.Common.{[], ◌∷◌, ◌++◌, List, sym, subst}
 use Rattle.std.specs.List.{AllZip}
 use Rattle.worker_tasks.specs.declared.share.Share.{Share}
 use Rattle.line_shares.specs.Dealing.{IsShareOf}
-use Rattle.line_shares.specs.LineLaws.{zip_more}
+use Rattle.line_shares.proofs.LineLaws.{zip_more}
 use Rattle.line_shares.proofs.dealing.shares_of.Goals as goal
 
 pub loop-own-preserved : goal.loop-own-preserved

@@ -2,7 +2,7 @@ use Rattle.std.proofs.Common.{◌≡◌, ◌∙◌, List, false, length, get_or,
 use Rattle.std.proofs.lemmas.Result.{IfOk-weaker}
 use Rattle.live_docs.specs.declared.live_docs.Mark.{Mark}
 use Rattle.live_files.specs.LiveMarks.{unrowed, own_values, marks_of}
-use Rattle.live_files.specs.LiveMarkLaws.{marks_count}
+use Rattle.live_files.proofs.LiveMarkLaws.{marks_count}
 use Rattle.live_files.proofs.JoinLive.{join_more, join_ends, own_rises}
 use Rattle.live_files.proofs.join_live.live_docs_of.Goals as goal
 

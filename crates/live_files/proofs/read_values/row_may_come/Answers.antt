@@ -1,5 +1,5 @@
 use Rattle.std.proofs.Common.{Some, None, refl}
-use Rattle.ix_base.specs.ReadLoops.{left_by-last}
+use Rattle.ix_base.proofs.ReadLoops.{left_by-last}
 use Rattle.live_files.specs.LiveSpelling.{SetValue}
 use Rattle.live_files.proofs.read_values.row_may_come.Goals as goal
 

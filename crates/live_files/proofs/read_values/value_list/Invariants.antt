@@ -1,6 +1,6 @@
 use Rattle.std.proofs.Common.{◌≡◌, ◌-◌, Some, None}
 use Rattle.ix_base.specs.Codec.{items_at}
-use Rattle.ix_base.specs.ReadLoops.{so_far}
+use Rattle.ix_base.proofs.ReadLoops.{so_far}
 use Rattle.live_files.specs.LiveReading.{value_at}
 use Rattle.live_files.specs.LiveSpelling.{SetValue}
 use Rattle.live_files.proofs.read_values.value_list.Given as goal

@@ -1,7 +1,7 @@
 use Rattle.std.proofs.Common.{◌≡◌, Bool, true, false, ◌&&◌, ◌||◌, eqb, ltb, List, ℕ, Some, None, sym, ap, ◌∙◌}
 use Rattle.std.proofs.lemmas.Bool.{lt-ltb, le-ltb, eq-eqb, ne_eqb}
 use Rattle.ix_base.specs.Limits.{text_lt}
-use Rattle.ix_base.specs.ReadLoops.{left_by-last}
+use Rattle.ix_base.proofs.ReadLoops.{left_by-last}
 use Rattle.live_files.specs.LiveSpelling.{SetValue}
 use Rattle.live_files.proofs.read_values.value_may_come.Goals as goal
 

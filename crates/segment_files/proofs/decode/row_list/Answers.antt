@@ -4,7 +4,7 @@ use Rattle.std.specs.BTreeSet.{contains}
 use Rattle.std.specs.Ordering.{nat_cmp}
 use Rattle.ix_base.specs.declared.document.Row.{Row}
 use Rattle.segment_files.specs.Reading.{row_at}
-use Rattle.ix_base.specs.ReadLoops.{goes_on_from, ends_from, is_done, left_by-push}
+use Rattle.ix_base.proofs.ReadLoops.{goes_on_from, ends_from, is_done, left_by-push}
 use Rattle.segment_files.proofs.decode.row_list.Goals as goal
 
 pub returns-in_err-row : goal.returns-in_err-row

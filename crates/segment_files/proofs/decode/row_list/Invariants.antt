@@ -4,7 +4,7 @@ use Rattle.std.specs.Ordering.{nat_cmp}
 use Rattle.ix_base.specs.declared.document.Row.{Row}
 use Rattle.ix_base.specs.Codec.{items_at, left_by}
 use Rattle.segment_files.specs.Reading.{row_at}
-use Rattle.ix_base.specs.ReadLoops.{so_far}
+use Rattle.ix_base.proofs.ReadLoops.{so_far}
 use Rattle.segment_files.proofs.decode.row_list.Given as goal
 
 abbrev pub invariant-loop : goal.invariant-loop

@@ -2,7 +2,7 @@ use Rattle.std.proofs.Common.{length, rules}
 use Rattle.ix_base.specs.Spelling.{be64}
 use Rattle.segment_files.specs.Spelling.{number_bytes}
 use Rattle.segment_files.specs.Fits.{NumberFits}
-use Rattle.ix_base.specs.WriteLoops.{one_more, all_done, all_more, all_over}
+use Rattle.ix_base.proofs.WriteLoops.{one_more, all_done, all_more, all_over}
 use Rattle.segment_files.proofs.documents.put_numbers.Goals as goal
 
 pub loop-pair-preserved : goal.loop-pair-preserved

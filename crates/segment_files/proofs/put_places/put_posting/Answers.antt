@@ -1,6 +1,6 @@
 use Rattle.std.proofs.Common.{◌++◌, length, arith, ◌∙◌, ap, List, ℕ}
 use Rattle.ix_base.specs.Spelling.{be32}
-use Rattle.ix_base.specs.WriteLoops.{all_done, all_over}
+use Rattle.ix_base.proofs.WriteLoops.{all_done, all_over}
 use Rattle.ix_base.specs.declared.spots.Spot.{Spot}
 use Rattle.segment_files.proofs.Runs.{run_spelled, run_fits}
 use Rattle.segment_files.proofs.put_places.put_posting.Goals as goal

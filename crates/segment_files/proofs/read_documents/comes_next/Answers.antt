@@ -1,6 +1,6 @@
 use Rattle.std.proofs.Common.{ℕ, List, Some, None, ◌∙◌, ap}
 use Rattle.ix_base.specs.Limits.{text_lt}
-use Rattle.ix_base.specs.ReadLoops.{left_by-last}
+use Rattle.ix_base.proofs.ReadLoops.{left_by-last}
 use Rattle.segment_files.proofs.read_documents.comes_next.Goals as goal
 
 pub returns-in-Some : goal.returns-in-Some

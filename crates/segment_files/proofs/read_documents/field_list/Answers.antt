@@ -1,9 +1,9 @@
 use Rattle.std.proofs.Common.{◌≡◌, ℕ, List, length, arith, map, Some, None}
 use Rattle.std.proofs.lemmas.Result.{err_from_is_err_and}
 use Rattle.segment_files.specs.Fields.{field_at}
-use Rattle.ix_base.specs.ItemLaws.{items_count}
+use Rattle.ix_base.proofs.ItemLaws.{items_count}
 use Rattle.segment_files.proofs.DocumentLaws.{field_list_rises}
-use Rattle.ix_base.specs.ReadLoops.{goes_on_seen, ends_seen, is_done}
+use Rattle.ix_base.proofs.ReadLoops.{goes_on_seen, ends_seen, is_done}
 use Rattle.segment_files.proofs.read_documents.field_list.Goals as goal
 
 pub returns-in_err-pair : goal.returns-in_err-pair

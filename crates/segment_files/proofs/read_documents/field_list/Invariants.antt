@@ -1,7 +1,7 @@
 use Rattle.std.proofs.Common.{◌≡◌, ◌-◌, ℕ, List, map, Some, None}
 use Rattle.ix_base.specs.Codec.{items_at}
 use Rattle.segment_files.specs.Fields.{field_at}
-use Rattle.ix_base.specs.ReadLoops.{so_far}
+use Rattle.ix_base.proofs.ReadLoops.{so_far}
 use Rattle.segment_files.proofs.read_documents.field_list.Given as goal
 
 abbrev pub invariant-loop : goal.invariant-loop

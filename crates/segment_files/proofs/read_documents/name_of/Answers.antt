@@ -1,5 +1,5 @@
 use Rattle.std.proofs.Common.{arith, ◌∙◌, ap}
-use Rattle.ix_base.specs.CodecLaws.{name_takes, IsText-from_IsName}
+use Rattle.ix_base.proofs.CodecLaws.{name_takes, IsText-from_IsName}
 use Rattle.ix_base.specs.Limits.{is_name}
 use Rattle.segment_files.proofs.read_documents.name_of.Goals as goal
 

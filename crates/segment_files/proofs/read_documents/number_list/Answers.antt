@@ -3,7 +3,7 @@ use Rattle.std.specs.Prelude.{ℤ}
 use Rattle.std.proofs.lemmas.Result.{err_from_is_err_and}
 use Rattle.segment_files.specs.Fields.{numbered_at}
 use Rattle.segment_files.proofs.DocumentLaws.{number_list_rises}
-use Rattle.ix_base.specs.ReadLoops.{goes_on_seen, ends_seen, is_done}
+use Rattle.ix_base.proofs.ReadLoops.{goes_on_seen, ends_seen, is_done}
 use Rattle.segment_files.proofs.read_documents.number_list.Goals as goal
 
 pub returns-in_err-pair : goal.returns-in_err-pair

@@ -1,5 +1,5 @@
 use Rattle.std.proofs.Common.{arith}
-use Rattle.ix_base.specs.CodecLaws.{text_takes}
+use Rattle.ix_base.proofs.CodecLaws.{text_takes}
 use Rattle.segment_files.proofs.read_documents.text_of.Goals as goal
 
 pub copy_of-requires : goal.copy_of-requires

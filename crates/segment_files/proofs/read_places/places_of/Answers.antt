@@ -1,6 +1,6 @@
 use Rattle.std.proofs.Common.{◌+◌}
 use Rattle.std.proofs.lemmas.Result.{err_from_is_err_and}
-use Rattle.ix_base.specs.ReadLoops.{ends_from, is_done}
+use Rattle.ix_base.proofs.ReadLoops.{ends_from, is_done}
 use Rattle.ix_base.specs.declared.postings.Posting.{Posting}
 use Rattle.segment_files.specs.Reading.{posting_at}
 use Rattle.segment_files.proofs.PlacesRead.{places_go_on}

@@ -1,6 +1,6 @@
 use Rattle.std.proofs.Common.{◌≡◌, ◌-◌, ◌+◌}
 use Rattle.ix_base.specs.Codec.{items_at, left_by}
-use Rattle.ix_base.specs.ReadLoops.{so_far}
+use Rattle.ix_base.proofs.ReadLoops.{so_far}
 use Rattle.ix_base.specs.declared.postings.Posting.{Posting}
 use Rattle.segment_files.specs.Reading.{posting_at}
 use Rattle.segment_files.proofs.Chains.{AllRowsBelow}

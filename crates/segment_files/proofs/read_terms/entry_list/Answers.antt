@@ -1,6 +1,6 @@
 use Rattle.std.proofs.Common.{Some, None}
 use Rattle.std.proofs.lemmas.Result.{err_from_is_err_and}
-use Rattle.ix_base.specs.ReadLoops.{goes_on_seen, ends_seen, is_done}
+use Rattle.ix_base.proofs.ReadLoops.{goes_on_seen, ends_seen, is_done}
 use Rattle.ix_base.specs.declared.postings.TermPostings.{TermPostings}
 use Rattle.segment_files.specs.Reading.{term_at}
 use Rattle.segment_files.proofs.read_terms.entry_list.Goals as goal

@@ -1,6 +1,6 @@
 use Rattle.std.proofs.Common.{◌≡◌, ◌-◌, Some, None}
 use Rattle.ix_base.specs.Codec.{items_at}
-use Rattle.ix_base.specs.ReadLoops.{so_far}
+use Rattle.ix_base.proofs.ReadLoops.{so_far}
 use Rattle.ix_base.specs.declared.postings.TermPostings.{TermPostings}
 use Rattle.segment_files.specs.Reading.{term_at}
 use Rattle.segment_files.proofs.read_terms.entry_list.Given as goal

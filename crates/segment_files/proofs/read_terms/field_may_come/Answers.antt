@@ -1,7 +1,7 @@
 use Rattle.std.proofs.Common.{List, ℕ, Some, None, ap, ◌∙◌}
 use Rattle.std.specs.Prelude.{not}
 use Rattle.ix_base.specs.Limits.{text_lt}
-use Rattle.ix_base.specs.ReadLoops.{left_by-last}
+use Rattle.ix_base.proofs.ReadLoops.{left_by-last}
 use Rattle.ix_base.specs.declared.postings.TermPostings.{TermPostings}
 use Rattle.segment_files.proofs.read_terms.field_may_come.Goals as goal
 

@@ -1,6 +1,6 @@
 use Rattle.std.proofs.Common.{◌≡◌, Bool, true, false, ◌||◌, List, ℕ, Some, None, sym, ap, ◌∙◌}
 use Rattle.ix_base.specs.Limits.{text_lt}
-use Rattle.ix_base.specs.ReadLoops.{left_by-last}
+use Rattle.ix_base.proofs.ReadLoops.{left_by-last}
 use Rattle.ix_base.specs.declared.postings.TermPostings.{TermPostings}
 use Rattle.segment_files.proofs.read_terms.term_may_come.Goals as goal
 

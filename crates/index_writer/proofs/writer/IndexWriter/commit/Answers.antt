@@ -1,7 +1,7 @@
 use Rattle.std.proofs.Common.{◌∙◌, List, Option, length, refl, sym, ap, subst, inl, arith}
 use Rattle.std.specs.Prelude.{IsSome}
 use Rattle.ix_base.specs.declared.file_name.FileName.TheVariants.{Commit}
-use Rattle.ix_outside.specs.CallLaws.{leaves_none}
+use Rattle.ix_outside.proofs.CallLaws.{leaves_none}
 use Rattle.ix_outside.specs.Crash.{MayHold}
 use Rattle.ix_outside.specs.Disk.{Told, told_files}
 use Rattle.ix_outside.specs.Files.{Changes, onto}
@@ -10,7 +10,7 @@ use Rattle.segment_core.specs.LiveRows.{Lived, all_live}
 use Rattle.commit_point.specs.declared.heads.Head.{Head}
 use Rattle.commit_point.specs.declared.written.Written.{Written}
 use Rattle.commit_point.specs.Settling as settling
-use Rattle.commit_point.specs.StepLaws.{goes_none}
+use Rattle.commit_point.proofs.StepLaws.{goes_none}
 use Rattle.commit_point.specs.Steps.{KeepsMade, KeepsStanding, MakesCommits}
 use Rattle.commit_point.specs.Writing as commit
 use Rattle.index_writer.specs.declared.state.State.{State}

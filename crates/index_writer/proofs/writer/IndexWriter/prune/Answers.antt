@@ -1,4 +1,4 @@
-use Rattle.commit_point.specs.StepLaws.{goes_none}
+use Rattle.commit_point.proofs.StepLaws.{goes_none}
 use Rattle.commit_pruning.specs.Pruning.{Deletes}
 use Rattle.index_writer.proofs.Standing.{closed_too, crash_before, pruned_go_on}
 use Rattle.index_writer.proofs.writer.IndexWriter.prune.Goals as goal

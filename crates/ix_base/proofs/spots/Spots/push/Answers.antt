@@ -3,7 +3,7 @@ use Rattle.ix_base.specs.declared.postings.Posting.{Posting}
 use Rattle.ix_base.specs.declared.spots.Spot.{Spot}
 use Rattle.ix_base.specs.Grouped.{with_spot, IsAfter}
 use Rattle.ix_base.specs.Inversion.{posted_at}
-use Rattle.ix_base.specs.GroupedLaws.{grouped_push, spot_exact}
+use Rattle.ix_base.proofs.GroupedLaws.{grouped_push, spot_exact}
 use Rattle.ix_base.proofs.Ordering.{spots_more}
 use Rattle.ix_base.proofs.spots.Spots.push.Goals as goal
 

@@ -3,7 +3,7 @@ use Rattle.ix_outside.specs.Files.{Files}
 use Rattle.ix_outside.specs.Disk.{files as files_of}
 use Rattle.ix_outside.specs.Crash.{IsImage}
 use Rattle.ix_memory.specs.History.{files_left, steps_of, bytes_of}
-use Rattle.ix_memory.specs.HistoryLaws.{outcome_is_image, whole_is_read}
+use Rattle.ix_memory.proofs.HistoryLaws.{outcome_is_image, whole_is_read}
 use Rattle.ix_memory.specs.declared.outcome.StepsLeft.{StepsLeft}
 use Rattle.ix_memory.specs.declared.outcome.StepsLeft.TheVariants.{Every}
 use Rattle.ix_memory.specs.declared.outcome.BytesLeft.{BytesLeft}

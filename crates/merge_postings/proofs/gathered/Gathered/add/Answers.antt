@@ -1,5 +1,5 @@
 use Rattle.std.proofs.Common.{◌∙◌, ◌||◌, Bool, List, ap, subst, sym}
-use Rattle.ix_base.specs.GroupedLaws.{or_false}
+use Rattle.ix_base.proofs.GroupedLaws.{or_false}
 use Rattle.ix_base.specs.declared.postings.Posting.{Posting}
 use Rattle.merge_postings.specs.Gathering.{is_gathered}
 use Rattle.merge_postings.specs.Renumbering.{IsFirstNumber, moved_at}

@@ -6,11 +6,12 @@ use Rattle.ix_base.specs.declared.document.Operation.TheVariants.{Add, Update, D
 use Rattle.op_script.specs.declared.script.Line.{Line}
 use Rattle.op_script.specs.declared.script.Act.{Act}
 use Rattle.op_script.specs.declared.script.Act.TheVariants.{Do}
-use Rattle.run_log.specs.Lists.{each_mapped}
+use Rattle.run_log.proofs.Lists.{each_mapped}
 use Rattle.run_log.specs.Headline.{IsIn, commit_numbers, is_commit as commits, operations}
 use Rattle.round_order.specs.Order.{Working, is_commit, NoCommit}
 use Rattle.run_log.specs.Telling.{Tell, IsTell, AreTells, IsOrder}
-use Rattle.run_log.specs.TellingLaws.{within_all}
+use Rattle.run_log.proofs.TellingLaws.{within_all}
+use Rattle.run_log.specs.Numbering.{Rises}
 
 -- ---- lines of operations
 
@@ -121,11 +122,6 @@ last_committed base (l ∷ ls) (op ∷ before) e =
     rw rest.0 (last_committed (base + 1) ls before rest.1 ∙ ap (λ (n : ℕ). n ∷ []) at)
 
 -- ---- the numbers of commits rise
-
--- each number is above the one before it, and the first above this one
-abbrev pub Rises : ℕ → List ℕ → Type 0
-Rises low [] = Unit {0}
-Rises low (n ∷ ns) = (low < n) × Rises n ns
 
 from_lower : (low high : ℕ) (ns : List ℕ) → low ≤ high → Rises high ns → Rises low ns
 from_lower low high [] le h = tt

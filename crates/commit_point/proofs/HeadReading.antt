@@ -13,12 +13,12 @@ use Rattle.ix_base.specs.declared.damaged.FileFault.{FileFault}
 use Rattle.commit_point.specs.Spelling.{commit_mark, entry, commit_file}
 use Rattle.commit_point.specs.Fits.{IdsRise, EntryFits, HeadFits}
 use Rattle.ix_base.specs.Codec.{◌>>=◌, number_at, items_at}
-use Rattle.ix_base.specs.CodecLaws.{bind_ok, ok_is, Takes, Takes-then, u64_takes, u64_again}
+use Rattle.ix_base.proofs.CodecLaws.{bind_ok, ok_is, Takes, Takes-then, u64_takes, u64_again}
 use Rattle.ix_base.specs.Spelling.{be32, be64, AreBytes}
 use Rattle.ix_base.specs.FileReading.{number_where, mark_at, ended, placed, GivesFile}
-use Rattle.ix_base.specs.FileLaws.{u32_where_takes, u32_where_again, u64_where_takes, u64_where_again, mark_takes, mark_again, ended_ok, placed_ok}
+use Rattle.ix_base.proofs.FileLaws.{u32_where_takes, u32_where_again, u64_where_takes, u64_where_again, mark_takes, mark_again, ended_ok, placed_ok}
 use Rattle.commit_point.specs.Reading.{entry_at, head_in}
-use Rattle.ix_base.specs.ItemLaws.{AllGood, TakesItem, GivesItem, items_take, items_again, good_each}
+use Rattle.ix_base.proofs.ItemLaws.{AllGood, TakesItem, GivesItem, items_take, items_again, good_each}
 
 record EntryGood (s next low : ℕ) (e : HeadSegment) : Type 0 where
   low_is : low ≤ e.id

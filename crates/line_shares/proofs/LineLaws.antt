@@ -2,7 +2,7 @@
 use Rattle.std.proofs.Common.{◌≡◌, ◌≢◌, ℕ, ◌%◌, Bool, true, false, eqb, eq-eqb, ne_eqb, ◌&&◌, List, [], ◌∷◌, ◌++◌, refl}
 use Rattle.std.specs.List.{AllZip}
 use Rattle.op_script.specs.declared.script.Line.{Line}
-use Rattle.run_log.specs.Lists.{filter_passed, filter_pushed}
+use Rattle.run_log.proofs.Lists.{filter_passed, filter_pushed}
 use Rattle.line_shares.specs.Shares.{is_doing, own_lines}
 
 -- whether this one of n workers does the line

@@ -6,17 +6,18 @@ use Rattle.op_script.specs.declared.script.Line.{Line}
 use Rattle.round_order.specs.Order.{Working}
 use Rattle.worker_tasks.specs.declared.share.Share.{Share}
 use Rattle.run_log.specs.Headline.{is_numbered, numbered}
-use Rattle.run_log.specs.Lists.{each_in_both, each_pair, each_says}
-use Rattle.run_log.specs.NumberLaws.{HasLine, has_line_behind, has_line_in_front}
-use Rattle.run_log.specs.NumberLaws.{lines_told, number_in_front, numbers_behind}
-use Rattle.run_log.specs.PlaceLaws.{filter_rises}
+use Rattle.run_log.proofs.Lists.{each_in_both, each_pair, each_says}
+use Rattle.run_log.proofs.NumberLaws.{has_line_behind, has_line_in_front}
+use Rattle.run_log.proofs.NumberLaws.{lines_told, number_in_front, numbers_behind}
+use Rattle.run_log.proofs.PlaceLaws.{filter_rises}
 use Rattle.run_log.specs.Telling.{AreTells, IsOrder, Tell}
-use Rattle.run_log.specs.TellingLaws.{HasNumber}
-use Rattle.line_shares.specs.LogLaws.{log_grows, log_is_part}
-use Rattle.line_shares.specs.ShareLaws.{shares_go_on}
+use Rattle.run_log.proofs.TellingLaws.{HasNumber}
+use Rattle.run_log.specs.Numbering.{HasLine}
+use Rattle.line_shares.proofs.LogLaws.{log_grows, log_is_part}
+use Rattle.line_shares.proofs.ShareLaws.{shares_go_on}
 use Rattle.line_shares.specs.Shares.{AreShares, GoesOn}
 use Rattle.line_shares.specs.Tells.{AreTold, IsLogOf, IsTold, told_since, told_so_far}
-use Rattle.line_shares.specs.TellLaws.{tells_grow, tells_since}
+use Rattle.line_shares.proofs.TellLaws.{tells_grow, tells_since}
 
 -- what was told of the log's lines stays so when it grows
 told_stays : (base : ℕ) (log more : List Line) (tells : List Tell) → AllByRecursion (IsTold base log) tells

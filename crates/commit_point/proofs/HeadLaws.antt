@@ -4,7 +4,7 @@ use Rattle.std.specs.Int.{w32, w64}
 use Rattle.std.specs.List.{flat_map, AllByRecursion}
 use Rattle.std.proofs.Common.{◌∙◌, refl, sym, ap, append_assoc, arith}
 use Rattle.ix_base.specs.Codec.{number_at}
-use Rattle.ix_base.specs.CodecLaws.{ok_is, u32_again, u64_again, same_front}
+use Rattle.ix_base.proofs.CodecLaws.{ok_is, u32_again, u64_again, same_front}
 use Rattle.ix_base.specs.Spelling.{be64, be32}
 use Rattle.commit_point.specs.declared.heads.HeadSegment.{HeadSegment}
 use Rattle.commit_point.specs.declared.heads.Head.{Head}

@@ -9,7 +9,7 @@ use Rattle.worker_tasks.specs.declared.share.Share.{Share}
 use Rattle.worker_tasks.specs.declared.task.Reply.{Reply}
 use Rattle.worker_tasks.specs.declared.task.Task.{Task}
 use Rattle.worker_tasks.specs.Replies.{AreReplies}
-use Rattle.line_shares.specs.ReplyLaws.{replies_append}
+use Rattle.line_shares.proofs.ReplyLaws.{replies_append}
 use Rattle.line_shares.specs.Shares.{AreDone, AreShares, AreSharesFrom, GoesOn, IsFresh, IsShare}
 use Rattle.line_shares.specs.Shares.{open_count, own_lines, task_of}
 use Rattle.line_shares.specs.Tells.{replies_at}

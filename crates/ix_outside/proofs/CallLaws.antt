@@ -5,7 +5,7 @@ use Rattle.ix_outside.specs.Files.{Files}
 use Rattle.ix_outside.specs.Disk.{Disk, Stops, Told, files, told_files}
 use Rattle.ix_outside.specs.declared.step.Step.{Step}
 use Rattle.ix_outside.specs.Crash.{Extends, IsImage, MayHold, MayLeave}
-use Rattle.ix_outside.specs.CrashLaws.{last_is_now, now_is_left, leave_then, left_by_stops, extends_stops, reads_are_image}
+use Rattle.ix_outside.proofs.CrashLaws.{last_is_now, now_is_left, leave_then, left_by_stops, extends_stops, reads_are_image}
 use Rattle.ix_outside.specs.Calls.{LeavesOnly}
 
 extends_then : (a b c : Disk) → Extends a b → Extends b c → Extends a c

@@ -4,7 +4,7 @@ use Rattle.std.proofs.Common.{inl, inr, subst}
 use Rattle.std.specs.List.{AllByRecursion}
 use Rattle.op_script.specs.declared.script.Line.{Line}
 use Rattle.run_report.specs.declared.outcome.Outcome.{Outcome}
-use Rattle.index_run.specs.OutcomeLaws.{outcomes_weaker}
+use Rattle.index_run.proofs.OutcomeLaws.{outcomes_weaker}
 use Rattle.index_run.specs.Outcomes.{AreOutcomes}
 use Rattle.index_run.specs.Replied.{IsCounted}
 

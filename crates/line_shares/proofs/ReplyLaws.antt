@@ -14,7 +14,7 @@ use Rattle.worker_tasks.specs.declared.task.Reply.TheVariants.{Numbered, Refused
 use Rattle.worker_tasks.specs.declared.task.Task.{Task}
 use Rattle.worker_tasks.specs.Replies.{AreReplies, IsReplyTo, told_by, told_in}
 use Rattle.run_log.specs.Headline.{is_numbered, numbered}
-use Rattle.run_log.specs.Lists.{each_in_both}
+use Rattle.run_log.proofs.Lists.{each_in_both}
 use Rattle.run_log.specs.Telling.{Tell, lines_of, pairs_of}
 use Rattle.line_shares.specs.Shares.{is_doing, operation_of, task_of}
 use Rattle.line_shares.specs.Tells.{tell_of, tells_in}

@@ -2,7 +2,7 @@
 use Rattle.std.specs.Prelude.{◌≡◌, List, [], ◌∷◌, ◌++◌, Option, refl}
 use Rattle.std.proofs.Common.{sym, subst, ap, ◌∙◌, append_assoc}
 use Rattle.ix_outside.specs.Disk.{Disk, Told}
-use Rattle.ix_outside.specs.DiskLaws.{told_same, told_then}
+use Rattle.ix_outside.proofs.DiskLaws.{told_same, told_then}
 use Rattle.ix_outside.specs.declared.step.Step.{Step}
 use Rattle.commit_point.specs.Steps.{AreSteps, GoesBy}
 

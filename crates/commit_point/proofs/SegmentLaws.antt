@@ -17,7 +17,7 @@ use Rattle.segment_files.proofs.RowLaws.{rows_again}
 use Rattle.live_files.proofs.ValuesRead.{values_again}
 use Rattle.segment_files.specs.Fits.{IsSegment, PostingsFit}
 use Rattle.live_files.specs.LiveFits.{LiveFits, ValuesFit}
-use Rattle.live_files.specs.LiveMarkLaws.{marks_back}
+use Rattle.live_files.proofs.LiveMarkLaws.{marks_back}
 use Rattle.live_files.specs.LiveMarks.{marks_of}
 use Rattle.live_files.specs.LiveReading.{live_in, values_in}
 use Rattle.live_files.specs.LiveSpelling.{SetValue, live_file, values_file, live_bits, values_of}
@@ -25,9 +25,9 @@ use Rattle.segment_files.specs.Reading.{rows_in, posts_in}
 use Rattle.segment_files.specs.Spelling.{rows_file, posts_file}
 use Rattle.commit_point.specs.declared.heads.Head.{Head}
 use Rattle.commit_point.specs.declared.heads.HeadSegment.{HeadSegment}
-use Rattle.commit_point.specs.BirthLaws.{unknown_of}
+use Rattle.commit_point.proofs.BirthLaws.{unknown_of}
 use Rattle.commit_point.specs.Fits.{IdsRise, EntryFits, HeadFits}
-use Rattle.commit_point.specs.HeadReading.{head_again}
+use Rattle.commit_point.proofs.HeadReading.{head_again}
 use Rattle.commit_point.specs.Holds.{HasSegment, HaveSegments, HasSegments, head_of}
 use Rattle.commit_point.specs.Loading.{Unknown}
 use Rattle.commit_point.specs.Reading.{head_in, head_from, segment_from, segments_from, reading, has_birth}

@@ -6,7 +6,7 @@ use Rattle.std.proofs.lemmas.Bool.{eqb-true}
 use Rattle.std.proofs.lemmas.List.{take_at, drop_at, take-append-drop, nil_from_length}
 use Rattle.std.proofs.lemmas.Slice.Eq.{bytes_eq-Decides}
 use Rattle.ix_base.specs.Codec.{number_at, name_at}
-use Rattle.ix_base.specs.CodecLaws.{AreBytes-drop, bind_ok, passes, Takes, u32_takes, u32_again, u64_takes, u64_again, name_takes, name_again}
+use Rattle.ix_base.proofs.CodecLaws.{AreBytes-drop, bind_ok, passes, Takes, u32_takes, u32_again, u64_takes, u64_again, name_takes, name_again}
 use Rattle.ix_base.specs.Spelling.{be64, be32, text_bytes, AreBytes, IsName}
 use Rattle.ix_base.specs.declared.file_name.FileName.{FileName}
 use Rattle.ix_base.specs.declared.damaged.Damaged.{Damaged}

@@ -4,7 +4,7 @@ use Rattle.std.proofs.lemmas.Bool.Decides.{eqb_tells}
 use Rattle.std.specs.List.{AllByRecursion, filter}
 use Rattle.op_script.specs.Shape.{LinesRise}
 use Rattle.op_script.specs.declared.script.Line.{Line}
-use Rattle.run_log.specs.Lists.{Decided, each_says, each_pair, each_in_part, each_passed, each_of_filter, each_by_key}
+use Rattle.run_log.proofs.Lists.{Decided, each_says, each_pair, each_in_part, each_passed, each_of_filter, each_by_key}
 use Rattle.run_log.specs.Telling.{IsPartOf, PlacesDiffer}
 pub use Rattle.run_log.specs.Telling.{of_caller}
 

@@ -10,6 +10,7 @@ use Rattle.op_script.specs.declared.script.Act.TheVariants.{Do, Search}
 use Rattle.op_script.specs.declared.script.Line.{Line}
 use Rattle.run_log.specs.Headline.{Interleaves, IsIn, commit_numbers, is_commit, is_numbered, last_commit, number_of, numbered}
 use Rattle.run_log.specs.Telling.{of_caller}
+use Rattle.run_log.specs.Numbering.{IsCommitted}
 
 -- ---- numbers
 
@@ -173,10 +174,6 @@ only_logged lines log rise numbering =
     (only_lines 1 lines rise)
 
 -- ---- commit lines
-
--- where the line is a commit line, its number in the log is that of a commit
-abbrev pub IsCommitted : ℕ → List Line → Line → Type 0
-IsCommitted base log l = is_commit l.act ≡ true → IsIn (commit_numbers base log) (number_of base log l.line)
 
 -- the same if it is the only line of its place
 abbrev pub IsCommittedOnly : ℕ → List Line → Line → Type 0

@@ -10,19 +10,15 @@ use Rattle.ix_base.specs.declared.document.Row.{Row}
 use Rattle.ix_base.specs.Steps.{step, after}
 use Rattle.op_script.specs.Shape.{LinesRise}
 use Rattle.op_script.specs.declared.script.Line.{Line}
-use Rattle.run_log.specs.Lists.{Decided, each_says, each_pair, each_behind, each_in_second}
+use Rattle.run_log.proofs.Lists.{Decided, each_says, each_pair, each_behind, each_in_second}
 use Rattle.run_log.specs.Headline.{act_operation, commit_numbers, is_commit, is_numbered, number_of, numbered, operations, rows_at}
-use Rattle.run_log.specs.PlaceLaws.{places_differ}
+use Rattle.run_log.proofs.PlaceLaws.{places_differ}
 use Rattle.round_order.specs.Order.{Working}
 use Rattle.run_log.specs.Telling.{Tell, of_caller, IsPartOf, AreTells, PlacesDiffer, IsOrder}
-use Rattle.run_log.specs.TellingLaws.{HasNumber, told_all}
+use Rattle.run_log.proofs.TellingLaws.{HasNumber, told_all}
+use Rattle.run_log.specs.Numbering.{HasLine}
 
 -- ---- the number of a line
-
--- some line stands at this place of the script
-abbrev pub HasLine : List Line → ℕ → Type 0
-HasLine [] place = ⊥
-HasLine (l ∷ log) place = (l.line ≡ place) ⊎ HasLine log place
 
 pub has_own_lines : (log : List Line) → AllByRecursion (λ (l : Line). HasLine log l.line) log
 has_own_lines [] = tt

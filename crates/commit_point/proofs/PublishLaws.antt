@@ -9,8 +9,8 @@ use Rattle.ix_outside.specs.declared.step.Step.{Step}
 use Rattle.ix_outside.specs.declared.step.Step.TheVariants.{Wrote, Synced, Renamed, Settled, Spoilt, HalfRenamed}
 use Rattle.ix_outside.specs.Disk.{Disk, files, is_unsynced, taken, Stops}
 use Rattle.ix_outside.specs.Crash.{IsImage, MayLeave}
-use Rattle.ix_outside.specs.DiskLaws.{taken_then}
-use Rattle.ix_outside.specs.CrashLaws.{FollowsSteps, IsRead, images_follow, reads_follow, left_by_stops, with_at-same, moved-to, moved-from}
+use Rattle.ix_outside.proofs.DiskLaws.{taken_then}
+use Rattle.ix_outside.proofs.CrashLaws.{FollowsSteps, IsRead, images_follow, reads_follow, left_by_stops, with_at-same, moved-to, moved-from}
 use Rattle.commit_point.specs.Publishing.{File, puts, puts_all, writes_all, syncs_all, publishes, IsNoneOf, AreApart, AreThere, Adds, Touches, SameBesides, Publishes, MayPublish, CanPublish}
 
 -- ---- one file

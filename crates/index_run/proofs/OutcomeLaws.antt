@@ -22,8 +22,8 @@ use Rattle.run_report.specs.declared.outcome.Answer.{Answer}
 use Rattle.run_report.specs.declared.outcome.Answer.TheVariants.{Searched}
 use Rattle.run_report.specs.declared.outcome.Outcome.{Outcome}
 use Rattle.run_log.specs.Headline.{Interleaves, IsIn, act_text, commit_numbers, done_text, is_commit, last_commit, number_of, operations, report, report_from, rows_at, told_text}
-use Rattle.run_log.specs.LogLaws.{last_commit-le}
-pub use Rattle.run_log.specs.LogLaws.{last_is_commit, last_more}
+use Rattle.run_log.proofs.LogLaws.{last_commit-le}
+pub use Rattle.run_log.proofs.LogLaws.{last_is_commit, last_more}
 use Rattle.index_run.specs.Outcomes.{AreLasts, AreOutcomes, AsksBy, IsAnswer, IsAskedBy, IsDone, IsOutcome, IsTold, rows_of}
 
 -- ---- one line more

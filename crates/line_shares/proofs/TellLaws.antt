@@ -12,10 +12,10 @@ use Rattle.worker_tasks.specs.Shares.{open_tasks}
 use Rattle.worker_tasks.specs.Replies.{AreReplies, told_in}
 use Rattle.run_log.specs.Headline.{numbered}
 use Rattle.run_log.specs.Telling.{AreTells, IsPartOf, IsTell, Tell, lines_of, of_caller, pairs_of}
-use Rattle.line_shares.specs.OwnLaws.{numbered_split, each_dropped, numbered_parts, own_callers, own_doing}
-use Rattle.line_shares.specs.ReplyLaws.{IsDoingLine, doing_act, lines_told_in, pairs_told_in}
-use Rattle.line_shares.specs.ReplyLaws.{replies_behind, tells_append, tells_each}
-use Rattle.line_shares.specs.ShareLaws.{fits_at, more_at, shares_go_on}
+use Rattle.line_shares.proofs.OwnLaws.{numbered_split, each_dropped, numbered_parts, own_callers, own_doing}
+use Rattle.line_shares.proofs.ReplyLaws.{IsDoingLine, doing_act, lines_told_in, pairs_told_in}
+use Rattle.line_shares.proofs.ReplyLaws.{replies_behind, tells_append, tells_each}
+use Rattle.line_shares.proofs.ShareLaws.{fits_at, more_at, shares_go_on}
 use Rattle.line_shares.specs.Shares.{AreShares, AreSharesFrom, GoesOn, IsShare, own_lines, task_of}
 use Rattle.line_shares.specs.Tells.{pairs_since, replies_at, tell_of, tells_in, told_since, told_so_far}
 

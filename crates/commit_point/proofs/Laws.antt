@@ -9,7 +9,7 @@ use Rattle.segment_core.specs.LiveRows.{Lived}
 use Rattle.commit_point.specs.declared.heads.HeadSegment.{HeadSegment}
 use Rattle.commit_point.specs.declared.heads.Head.{Head}
 use Rattle.commit_point.specs.Fits.{IdsRise, EntryFits}
-use Rattle.commit_point.specs.HeadLaws.{same_head}
+use Rattle.commit_point.proofs.HeadLaws.{same_head}
 use Rattle.commit_point.specs.Holds.{Holds, HoldsInverted, HasSegments, HaveSegments, HasHead}
 use Rattle.commit_point.specs.Spelling.{commit_file}
 use Rattle.commit_point.specs.Writing.{SameElsewhere}

@@ -3,7 +3,7 @@ use Rattle.std.proofs.Common.{zero, suc, List, [], ◌∷◌, arith}
 use Rattle.std.specs.List.{All, AllPairs, AllByRecursion}
 use Rattle.std.proofs.lemmas.List.Elements.{All-from_recursion}
 use Rattle.std.proofs.lemmas.List.Kept.{AllPairs-cons}
-use Rattle.ix_base.specs.ItemLaws.{AllGood}
+use Rattle.ix_base.proofs.ItemLaws.{AllGood}
 
 module _ {X : Type 0} where
   pairs_nil : (R : X → X → Type 0) → AllPairs R []

@@ -6,11 +6,12 @@ use Rattle.ix_base.specs.declared.file_name.FileName.TheVariants.{Commit}
 use Rattle.ix_outside.specs.Files.{Files}
 use Rattle.commit_point.specs.Holds.{IsLawful}
 use Rattle.op_script.specs.declared.script.Line.{Line}
-use Rattle.run_log.specs.CommitLaws.{AllBelow, Rises, commits_rise, each_at, in_last, in_most, rises_last, split_last}
-use Rattle.run_log.specs.CountLaws.{same_count}
+use Rattle.run_log.proofs.CommitLaws.{AllBelow, commits_rise, each_at, in_last, in_most, rises_last, split_last}
+use Rattle.run_log.proofs.CountLaws.{same_count}
 use Rattle.run_log.specs.Headline.{CanRun, CanRunOn, Given, HasFirst, HasNoCommit, HasOnly, HasRoom, HasSome, Interleaves, IsIn, IsLast, IsNewCommit, commit_numbers, numbered, rows_at}
-use Rattle.commit_point.specs.KeptLaws.{inverted_there, there_by}
-use Rattle.run_log.specs.OnlyLaws.{lists_back, none_of}
+use Rattle.commit_point.proofs.KeptLaws.{inverted_there, there_by}
+use Rattle.run_log.proofs.OnlyLaws.{lists_back, none_of}
+use Rattle.run_log.specs.Numbering.{Rises}
 
 -- the files have the given commits, and no other
 pub again_none : (g : Given) (f : Files) → CanRun g → HasOnly g.files f → CanRunOn f

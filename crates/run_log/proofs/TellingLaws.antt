@@ -8,10 +8,10 @@ use Rattle.ix_base.specs.declared.document.Operation.{Operation}
 use Rattle.op_script.specs.Shape.{LinesRise}
 use Rattle.op_script.specs.declared.script.Line.{Line}
 use Rattle.row_fates.specs.Fate.{Numbered}
-use Rattle.run_log.specs.Lists.{Decided, each_pair, each_mapped, each_behind, each_passed, each_of_filter, filter_twice, filter_mapped, each_by_key}
+use Rattle.run_log.proofs.Lists.{Decided, each_pair, each_mapped, each_behind, each_passed, each_of_filter, filter_twice, filter_mapped, each_by_key}
 use Rattle.run_log.specs.Headline.{number_of, operations}
 use Rattle.round_order.specs.Order.{Working, told_of, seconds}
-use Rattle.run_log.specs.PlaceLaws.{places_differ}
+use Rattle.run_log.proofs.PlaceLaws.{places_differ}
 use Rattle.run_log.specs.Telling.{Tell, IsTell, lines_of, pairs_of, of_caller, IsPartOf, AreTells, PlacesDiffer, IsOrder}
 
 -- ---- the tells in the order of their numbers

@@ -6,7 +6,7 @@ use Rattle.ix_outside.specs.Files.{Files, SameBut, Removes}
 use Rattle.ix_outside.specs.Images.{MayHaveRenamed, MayHaveRemoved}
 use Rattle.ix_outside.specs.Disk.{Disk, is_same, with_at, moved, is_unsynced, files as files_of}
 use Rattle.ix_outside.specs.Crash.{IsImage}
-use Rattle.ix_outside.specs.CrashLaws.{is_same-true, with_at-same, with_at-other, may_rename}
+use Rattle.ix_outside.proofs.CrashLaws.{is_same-true, with_at-same, with_at-other, may_rename}
 use Rattle.ix_outside.specs.declared.step.Step.TheVariants.{Wrote, Synced, Renamed, Deleted, Settled, Spoilt, HalfRenamed, HalfDeleted}
 use Rattle.ix_memory.specs.History.{leaves_step, bytes_left, files_left}
 use Rattle.ix_memory.specs.declared.outcome.StepsLeft.{StepsLeft}

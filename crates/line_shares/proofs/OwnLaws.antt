@@ -6,10 +6,10 @@ use Rattle.std.proofs.lemmas.List.Elements.{filter-append}
 use Rattle.std.specs.List.{AllByRecursion, filter}
 use Rattle.op_script.specs.declared.script.Line.{Line}
 use Rattle.run_log.specs.Headline.{is_numbered, numbered}
-use Rattle.run_log.specs.Lists.{each_says, each_passed, each_of_filter}
-use Rattle.run_log.specs.NumberLaws.{numbered_append}
+use Rattle.run_log.proofs.Lists.{each_says, each_passed, each_of_filter}
+use Rattle.run_log.proofs.NumberLaws.{numbered_append}
 use Rattle.run_log.specs.Telling.{of_caller}
-use Rattle.line_shares.specs.ReplyLaws.{IsDoingLine, numbered_doing}
+use Rattle.line_shares.proofs.ReplyLaws.{IsDoingLine, numbered_doing}
 use Rattle.line_shares.specs.Shares.{is_doing, own_lines}
 
 -- ---- lists

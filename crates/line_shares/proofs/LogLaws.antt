@@ -8,14 +8,14 @@ use Rattle.op_script.specs.declared.script.Line.{Line}
 use Rattle.round_order.specs.Order.{Working}
 use Rattle.worker_tasks.specs.declared.share.Share.{Share}
 use Rattle.run_log.specs.Headline.{Interleaves, numbered}
-use Rattle.run_log.specs.Lists.{Decided}
+use Rattle.run_log.proofs.Lists.{Decided}
 use Rattle.run_log.specs.Telling.{IsOrder, IsPartOf, Tell, lines_of, of_caller}
-use Rattle.line_shares.specs.OwnLaws.{none_of_other, numbered_parts, of_caller_append}
-use Rattle.line_shares.specs.ReplyLaws.{lines_of_append}
-use Rattle.line_shares.specs.ShareLaws.{done_at, fresh_at}
+use Rattle.line_shares.proofs.OwnLaws.{none_of_other, numbered_parts, of_caller_append}
+use Rattle.line_shares.proofs.ReplyLaws.{lines_of_append}
+use Rattle.line_shares.proofs.ShareLaws.{done_at, fresh_at}
 use Rattle.line_shares.specs.Shares.{AreDone, AreShares, GoesOn, IsFresh, own_lines}
 use Rattle.line_shares.specs.Tells.{AreTold, IsLogOf, IsTold, replies_at, tells_in, told_since, told_so_far}
-use Rattle.line_shares.specs.TellLaws.{left_callers, lines_left, lines_so_far, tells_grow}
+use Rattle.line_shares.proofs.TellLaws.{left_callers, lines_left, lines_so_far, tells_grow}
 
 -- ---- a log that grows
 

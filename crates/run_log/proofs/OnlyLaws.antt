@@ -5,7 +5,7 @@ use Rattle.ix_base.specs.declared.file_name.FileName.TheVariants.{Commit}
 use Rattle.ix_outside.specs.Files.{Files}
 use Rattle.commit_point.specs.declared.heads.HeadSegment.{HeadSegment}
 use Rattle.commit_point.specs.Holds.{AreKept, Lists}
-use Rattle.commit_point.specs.KeptLaws.{lists_there, there_by}
+use Rattle.commit_point.proofs.KeptLaws.{lists_there, there_by}
 use Rattle.run_log.specs.Headline.{HasOnly}
 
 pub none_of : {A : Type 0} (o : Option A) → (IsSome o → ⊥) → o ≡ None

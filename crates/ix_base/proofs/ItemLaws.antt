@@ -4,7 +4,7 @@ use Rattle.std.specs.Prelude.{⊤}
 use Rattle.std.specs.List.{flat_map, AllByRecursion}
 use Rattle.std.proofs.lemmas.List.Concat.{flat_map-cons}
 use Rattle.ix_base.specs.Codec.{◌>>=◌, items_at}
-use Rattle.ix_base.specs.CodecLaws.{bind_ok, ok_is, Takes, Takes-then}
+use Rattle.ix_base.proofs.CodecLaws.{bind_ok, ok_is, Takes, Takes-then}
 use Rattle.ix_base.specs.Spelling.{AreBytes}
 
 -- each item is good after what the one before it leaves

@@ -10,7 +10,7 @@ use Rattle.live_docs.specs.declared.live_docs.Mark.{Mark}
 use Rattle.live_files.specs.LiveFits.{IsBefore, ValueFits, ValuesFit}
 use Rattle.live_files.specs.LiveMarks.{own_values, other_values, marks_from, marks_of}
 use Rattle.live_files.specs.LiveSpelling.{SetValue, live_bits, row_values, values_from, values_of}
-use Rattle.live_files.specs.ValueOrder.{Before, before_of, not_after}
+use Rattle.live_files.proofs.ValueOrder.{Before, before_of, not_after}
 
 -- ---- marks are given back
 
