@@ -30,7 +30,7 @@ use Rattle.run_report.specs.Searching.{CanSearch, ReadsCommit}
 use Rattle.run_report.specs.Texts.{texts}
 use Rattle.run_log.proofs.AgainLaws.{commits_run_on}
 use Rattle.run_log.proofs.CountLaws.{same_count}
-use Rattle.run_log.specs.Headline.{CanRun, CanRunOn, Given, HasAll, HasOnly, HasOwnSome, HasSome, Interleaves, IsIn, IsKept, IsLast, IsLastSettled, IsOn, KeepsCommit, Keeps, Runs, Stops}
+use Rattle.run_log.specs.Headline.{CanRun, CanRunOn, Given, HasAll, HasOnly, HasOwnSome, HasSome, Interleaves, IsIn, IsKept, IsLast, IsLastSettled, IsOn, KeepsCommit, Preserves, Runs, Stops}
 use Rattle.run_log.specs.Headline.{commit_numbers, is_commit, numbered, report, rows_at}
 use Rattle.run_log.proofs.OnlyLaws.{only_image, only_itself}
 use Rattle.index_run.specs.declared.stop.Stop.{Stop}
@@ -118,9 +118,9 @@ stops_none g disk now same told can =
     (none_first g (numbered g.lines) g.files (only_itself g.files))) (none_crash g (numbered g.lines) disk)
     (none_own g (numbered g.lines) disk))
 
-pub keeps_none : (g : Given) (disk now : Option Disk) → now ≡ disk → told_files disk ≡ Some g.files → Keeps g disk now
+pub keeps_none : (g : Given) (disk now : Option Disk) → now ≡ disk → told_files disk ≡ Some g.files → Preserves g disk now
 keeps_none g disk now same told =
-    subst (λ (d : Option Disk). Keeps g disk d) (sym same) (record {
+    subst (λ (d : Option Disk). Preserves g disk d) (sym same) (record {
       kept = some_told (KeepsCommits g.files) (told_files disk) g.files told (only_itself g.files).kept;
       crash = λ are. keeps_some g [] disk disk (none_crash g [] disk are);
       standing = goes_none KeepsStanding disk;
@@ -145,7 +145,7 @@ kept_some : (g : Given) (log : List Line) (now : Option Disk) → IsSomeAnd (tol
 kept_some g log now = some_onto (told_files now) (HasSome g log) (KeepsCommits g.files) (λ f some. some.1.kept)
 
 pub cut_keeps : (g : Given) (r : Run) (lines : List Line) (now : Option Disk) → told_files r.start ≡ Some g.files
-    → IsOnGiven g r.first → IsCut r lines now → Keeps g r.start now
+    → IsOnGiven g r.first → IsCut r lines now → Preserves g r.start now
 cut_keeps g r lines now told on cut = record {
   kept = kept_some g cut.log now (cut.files g told on);
   crash = λ are. keeps_some g cut.log r.start now (crash_some g r.first cut.log r.start now on cut.crash are);
@@ -183,7 +183,7 @@ over_stops g r lines outcomes w now same can told on o =
     (own_some g r.first o.log r.start now on o.disk.crash)
 
 pub over_keeps : (g : Given) (r : Run) (lines : List Line) (outcomes : List Outcome) (w : State) (now : Option Disk)
-    → told_files r.start ≡ Some g.files → IsOnGiven g r.first → IsOver r lines outcomes w now → Keeps g r.start now
+    → told_files r.start ≡ Some g.files → IsOnGiven g r.first → IsOver r lines outcomes w now → Preserves g r.start now
 over_keeps g r lines outcomes w now told on o = record {
   kept = kept_some g o.log now (over_files g r lines outcomes w now told on o);
   crash = λ are. keeps_some g o.log r.start now (over_crash g r lines outcomes w now on o are);

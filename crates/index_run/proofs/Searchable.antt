@@ -23,7 +23,7 @@ use Rattle.commit_point.proofs.KeptLaws.{inverted_there}
 use Rattle.flush_control.specs.Published.{StandsFor}
 use Rattle.index_writer.specs.declared.state.State.{State}
 use Rattle.searcher.specs.Searching.{Searches}
-use Rattle.index_run.specs.Damage.{IsAsked}
+use Rattle.index_run.specs.Damage.{IsSearched}
 use Rattle.index_run.specs.Doing.{IsOnGiven, IsWriterOn}
 use Rattle.index_run.specs.Outcomes.{AsksBy, IsAskedBy, rows_of}
 use Rattle.index_run.proofs.OutcomeLaws.{asked_commit, rows_of-is}
@@ -179,7 +179,7 @@ can_read g log lines new outcomes numbering rise reads asked =
 -- a commit that an outcome searches is one that a line of the script asks for
 pub is_asked : (base : ℕ) (log lines : List Line) (outcomes : List Outcome) (o : Outcome) (number : ℕ) (query : Query)
     → Interleaves lines log → AllByRecursion (IsAskedBy base log lines) outcomes → Contains outcomes o
-    → o.answer ≡ Searched number query → IsAsked base lines number
+    → o.answer ≡ Searched number query → IsSearched base lines number
 is_asked base log lines outcomes o number query numbering asked has searches =
     let asks : AsksBy base log lines number query =
     All-contains (IsAskedBy base log lines) outcomes o

@@ -23,7 +23,7 @@ use Rattle.index_run.specs.declared.telling.Form.TheVariants.{Report, Summary}
 
 -- A search line asks for the commit of this number, for one order of the numbered lines: for that
 -- of its caller's last commit line before it, or else for the one that the run began on.
-pub record IsAsked (base : ℕ) (lines : List Line) (number : ℕ) : Type 0 where
+pub record IsSearched (base : ℕ) (lines : List Line) (number : ℕ) : Type 0 where
   pub log : List Line
   pub numbering : Interleaves lines log
   pub before : List Line
@@ -43,7 +43,7 @@ pub record IsEnd (base : ℕ) (lines : List Line) (number : ℕ) : Type 0 where
 -- What a run reads once its lines are done: for its report the commits that search lines ask for, and for its summary the
 -- last one.
 abbrev pub IsRead : Form → ℕ → List Line → ℕ → Type 0
-IsRead Report base lines number = IsAsked base lines number
+IsRead Report base lines number = IsSearched base lines number
 IsRead Summary base lines number = IsEnd base lines number
 
 -- A commit that a run over these lines reads is first broken at this place: the last one, on which

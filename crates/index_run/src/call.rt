@@ -15,7 +15,7 @@ ghost use Rattle.op_script.specs.declared.questions.Question.{Question};
 ghost use Rattle.op_script.specs.declared.script.BadLine.{BadLine};
 ghost use Rattle.report_text.specs.Faults.{fault_text};
 ghost use Rattle.report_text.specs.declared.fault.Fault.{Fault};
-ghost use Rattle.run_log.specs.Headline.{CanRun, Given, IsGiven, Keeps, Runs, Stops};
+ghost use Rattle.run_log.specs.Headline.{CanRun, Given, IsGiven, Preserves, Runs, Stops};
 ghost use Rattle.store_answers.specs.Asking.{LacksAsked};
 ghost use Rattle.index_run.specs.Beginning.{CanBeginOn};
 ghost use Rattle.index_run.specs.Causes.{IsOneOf, LeavesStore, TakesUpTo, WritesBy, WritesFront, stop_status};
@@ -163,7 +163,7 @@ pub fn top<R: Threads + Wait + Sync, I: Source, O: Sink, S: Store, G: Gate>(
     // made stays: no step of the call deletes.
     ensures steps { Told OnlyCommits (S.disk store) (S.disk result.store) }
     ensures kept { (g : Given) → told_files (S.disk store) ≡ Some g.files → CanRun g
-        → Keeps g (S.disk store) (S.disk result.store) }
+        → Preserves g (S.disk store) (S.disk result.store) }
     // Each question is answered from the commit that is asked for.
     ensures answers { (commit : Option ℕ) (a : Asked)
         → command_of words.now ≡ Some (command.Ask commit)

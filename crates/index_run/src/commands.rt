@@ -7,7 +7,7 @@ ghost use Rattle.ix_outside.specs.Disk.{Told, told_files};
 ghost use Rattle.op_script.specs.Language.{most_bytes};
 ghost use Rattle.op_script.specs.declared.script.BadLine.{BadLine};
 ghost use Rattle.report_text.specs.declared.fault.Fault.{Fault};
-ghost use Rattle.run_log.specs.Headline.{CanRun, Given, Keeps};
+ghost use Rattle.run_log.specs.Headline.{CanRun, Given, Preserves};
 ghost use Rattle.ix_outside.specs.Files.{Files};
 ghost use Rattle.index_run.specs.Beginning.{CanBeginOn};
 ghost use Rattle.index_run.specs.Causes.{IsOneOf, LeavesStore, TakesUpTo, stop_status};
@@ -66,7 +66,7 @@ pub fn do_command<R: Threads + Wait + Sync, I: Source, S: Store, G: Gate>(
         → IsErrAnd result.text (λ stop. IsOneOf (stop_status stop) (3 ∷ 4 ∷ 5 ∷ [])) }
     ensures steps { Told OnlyCommits (S.disk store) (S.disk result.store) }
     ensures kept { (g : Given) → told_files (S.disk store) ≡ Some g.files → CanRun g
-        → Keeps g (S.disk store) (S.disk result.store) }
+        → Preserves g (S.disk store) (S.disk result.store) }
     ensures unopened { IfErr result.text (λ stop. IsOneOf (stop_status stop) (3 ∷ 5 ∷ [])
         → result.store ≡ store) }
     ensures untouched { IfErr result.text (λ stop. LeavesStore (stop_status stop)
@@ -154,7 +154,7 @@ pub fn come_to<R: Threads + Wait + Sync, I: Source, S: Store, G: Gate>(
         → IsErrAnd result.text (λ stop. IsOneOf (stop_status stop) (3 ∷ 4 ∷ 5 ∷ [])) }
     ensures steps { Told OnlyCommits (S.disk store) (S.disk result.store) }
     ensures kept { (g : Given) → told_files (S.disk store) ≡ Some g.files → CanRun g
-        → Keeps g (S.disk store) (S.disk result.store) }
+        → Preserves g (S.disk store) (S.disk result.store) }
     ensures unopened { IfErr result.text (λ stop. IsOneOf (stop_status stop) (2 ∷ 3 ∷ 5 ∷ [])
         → result.store ≡ store) }
     ensures untouched { IfErr result.text (λ stop. LeavesStore (stop_status stop)

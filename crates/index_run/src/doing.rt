@@ -11,7 +11,7 @@ ghost use Rattle.index_run.specs.Beginning.{CanBeginOn, IsHighBase};
 ghost use Rattle.index_run.specs.Causes.{IsOneOf, LeavesStore, stop_status};
 ghost use Rattle.index_run.specs.Commands.{IsMade, form_text};
 ghost use Rattle.index_run.specs.Damage.{ReadsDamaged};
-ghost use Rattle.run_log.specs.Headline.{CanEnd, CanRun, Given, IsLast, Keeps, Runs, Stops};
+ghost use Rattle.run_log.specs.Headline.{CanEnd, CanRun, Given, IsLast, Preserves, Runs, Stops};
 
 use crate::begin::begin;
 use crate::lines::do_lines;
@@ -69,7 +69,7 @@ pub fn do_script<R: Threads + Wait + Sync, S: Store, G: Gate>(
     ensures stops { (g : Given) → g.lines ≡ lines → told_files (S.disk store) ≡ Some g.files
         → CanRun g → Stops g (S.disk store) (S.disk result.store) }
     ensures kept { (g : Given) → told_files (S.disk store) ≡ Some g.files → CanRun g
-        → Keeps g (S.disk store) (S.disk result.store) }
+        → Preserves g (S.disk store) (S.disk result.store) }
     ensures steps { Told OnlyCommits (S.disk store) (S.disk result.store) }
     ensures base { (base : ℕ) → result.text ≡ Err (Stop.Fault (Fault.Base base))
         → IsHighBase (told_files (S.disk store)) base }

@@ -273,7 +273,7 @@ pub record Stops (g : Given) (old new : Option Disk) : Type 0 where
 -- after a crash at any moment of the call. A commit that stands at some moment of it, an old one or
 -- one of the run's, stands from then on, with its files and bytes. A commit that is settled by itself
 -- has its files and bytes after a crash at any moment, whatever became of the others.
-pub record Keeps (g : Given) (old new : Option Disk) : Type 0 where
+pub record Preserves (g : Given) (old new : Option Disk) : Type 0 where
   pub kept : IsSomeAnd (told_files new) (KeepsCommits g.files)
   pub crash : IsKept g old → LeavesOnly old new (KeepsCommits g.files)
   pub standing : Told KeepsMade old new

@@ -4,7 +4,7 @@ use Rattle.commit_point.proofs.StepLaws.{goes_still}
 use Rattle.commit_point.specs.Steps.{MakesCommits, OnlyCommits}
 use Rattle.ix_outside.specs.Disk.{Told, told_files}
 use Rattle.ix_outside.specs.Files.{Files}
-use Rattle.run_log.specs.Headline.{Keeps, Runs, Stops}
+use Rattle.run_log.specs.Headline.{Preserves, Runs, Stops}
 use Rattle.index_run.specs.Commands.{form_text}
 use Rattle.index_run.specs.Damage.{ReadsDamaged}
 use Rattle.index_run.specs.Driving.{IsOver}
@@ -42,7 +42,7 @@ returns-in-Err-came-clause-kept g c = λ given told can.
     let began = g.S.Store.disk c.in-Ok.writer.store in
     let still = told_still start began given.files c.in-Ok.ensures.reads told in
     let on = c.in-Ok.ensures.given given told can in
-    same_disks (Keeps given) start began _
+    same_disks (Preserves given) start began _
     (g.S.Store.disk c.into_parts.result.0) c.in-Ok.ensures.reads
     (ap (λ s. g.S.Store.disk s) c.into_parts.ensures.store)
     (cut_keeps given _ c.args.lines _ still on (on_fault _ _ c.in-Err-came.is c.do_lines-writer.ensures.cut))
@@ -86,7 +86,7 @@ returns-in-Ok-came-clause-kept g c = λ given told can.
     let began = g.S.Store.disk c.in-Ok.writer.store in
     let still = told_still start began given.files c.in-Ok.ensures.reads told in
     let on = c.in-Ok.ensures.given given told can in
-    same_disks (Keeps given) start began (g.S.Store.disk c.into_parts.result.0)
+    same_disks (Preserves given) start began (g.S.Store.disk c.into_parts.result.0)
     (g.S.Store.disk c.text_of.new.store) c.in-Ok.ensures.reads c.text_of.ensures.reads
     (over_keeps given _ c.args.lines c.as_slice.result.now _ _ still on (over g c))
 
