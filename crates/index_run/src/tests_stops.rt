@@ -1,6 +1,6 @@
 //! Runs that stop at a call of the store, and what calls make of each image that a crash then leaves:
 //! which commits it has, what each of them holds, and how a further run goes on from the last.
-use crate::tests::{ADD_A1, ADD_A2, COMMIT, Done, ended, one_document, run_bytes, run_words};
+use crate::tests::{ADD_A1, ADD_A2, ALL, COMMIT, Done, ended, one_document, run_bytes, run_words};
 use ix_base::FileName;
 use ix_memory::{FuseStore, MemoryStore};
 use ix_outside::Store;
@@ -192,6 +192,12 @@ fn stops_at_each_call_of_a_commit(rt: HostRuntime) -> Result<(), Fail> {
 #[test]
 fn stops_at_each_call_beside_a_round(rt: HostRuntime) -> Result<(), Fail> {
     stops_at_each_call(&rt, rt.alloc(), ADD_A1)
+}
+
+/// A search of the last commit is answered without a call.
+#[test]
+fn stops_at_each_call_before_a_search(rt: HostRuntime) -> Result<(), Fail> {
+    stops_at_each_call(&rt, rt.alloc(), ALL)
 }
 
 /// A second run of three commits, whose call of the store of this number fails.

@@ -129,7 +129,7 @@ pub fn i64_at(bytes: &[u8]) -> Result<(i64, &[u8]), BrokenField>
 }
 
 /// The bytes as a text, where they are UTF-8.
-#[tactic(auto, using(crate::specs::CodecLaws::not_utf8, crate::specs::CodecLaws::utf8_found))]
+#[tactic(auto, using(crate::proofs::CodecLaws::not_utf8, crate::proofs::CodecLaws::utf8_found))]
 fn str_of(bytes: &[u8]) -> Option<&str>
     ensures { MatchOption result (is_utf8 bytes.now ≡ false) (λ text. (is_utf8 bytes.now ≡ true)
         × (text.now ≡ bytes.now)) }

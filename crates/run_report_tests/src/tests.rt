@@ -1,9 +1,11 @@
-//! Reports of lines that search nothing, of a search before any commit, and of one with many hits.
+//! Reports of lines that search nothing, of a search before any commit, of one with many hits, and of a
+//! commit that is in memory.
 use commit_point::OpenFault;
 use ix_base::{FileName, NoMemory, Query, Refusal};
 use ix_memory::{FuseStore, MemoryStore};
 use ix_outside::{Store, StoreFault};
-use run_report::{Answer, Outcome, report};
+use run_report::{Answer, Outcome, SearchedCommit, report};
+use searcher::Searcher;
 use std::alloc::Global;
 use std::test::Fail;
 
@@ -31,7 +33,8 @@ fn texts_stand_in_the_order_of_the_lines(rt: HostRuntime) {
         panic!(rt; "memory");
     };
     let mut store = MemoryStore::new(alloc);
-    let Ok(bytes) = report(alloc, &mut store, outcomes.as_slice()) else {
+    let none = SearchedCommit::none(alloc);
+    let Ok(bytes) = report(alloc, &mut store, none, outcomes.as_slice()) else {
         panic!(rt; "memory");
     };
     let wanted =
@@ -151,7 +154,8 @@ fn a_search_has_all_its_hits(rt: HostRuntime) {
         line: 1,
         answer: Answer::Searched(1000, Query::All),
     };
-    let Ok(bytes) = report(alloc, &mut store, &[outcome]) else {
+    let none = SearchedCommit::none(alloc);
+    let Ok(bytes) = report(alloc, &mut store, none, &[outcome]) else {
         panic!(rt; "the commit is whole");
     };
     assert!(rt; bytes.as_slice() == wanted.as_slice());
@@ -171,13 +175,29 @@ fn searches(alloc: Global, count: u32) -> Result<Vec<Outcome>, NoMemory> {
     Ok(outcomes)
 }
 
+/// The commit of a thousand documents, in memory, or none.
+fn loaded(alloc: Global, is_loaded: bool) -> Result<SearchedCommit, Fail> {
+    if !is_loaded {
+        return Ok(SearchedCommit::none(alloc));
+    }
+    let mut store = store_of_thousand(alloc)?;
+    match Searcher::open(alloc, &mut store, 1000) {
+        Ok(searcher) => Ok(SearchedCommit {
+            number: 1000,
+            searcher,
+        }),
+        Err(_) => Err("the commit is whole")?,
+    }
+}
+
 /// How many calls of the store pass where so many lines search. With fewer the store is told to have
 /// failed.
-fn calls_of_searches(alloc: Global, count: u32) -> Result<u64, Fail> {
+fn calls_of_searches(alloc: Global, count: u32, is_loaded: bool) -> Result<u64, Fail> {
     let outcomes = searches(alloc, count)?;
     for passes in 0..40u64 {
         let mut store = FuseStore::new(store_of_thousand(alloc)?, passes);
-        match report(alloc, &mut store, outcomes.as_slice()) {
+        let commit = loaded(alloc, is_loaded)?;
+        match report(alloc, &mut store, commit, outcomes.as_slice()) {
             Ok(_) => return Ok(passes),
             Err(OpenFault::Store) => {}
             Err(_) => Err("another fault")?,
@@ -186,10 +206,12 @@ fn calls_of_searches(alloc: Global, count: u32) -> Result<u64, Fail> {
     Ok(40)
 }
 
-/// Twenty searches of a commit make the calls that one makes: they read its five files once.
+/// Twenty searches of a commit make the calls that one makes: they read its five files once. Where it is
+/// in memory they make none.
 #[test]
 fn a_commit_is_read_once(rt: HostRuntime) -> Result<(), Fail> {
-    assert!(rt; calls_of_searches(rt.alloc(), 1)? == 5);
-    assert!(rt; calls_of_searches(rt.alloc(), 20)? == 5);
+    assert!(rt; calls_of_searches(rt.alloc(), 1, false)? == 5);
+    assert!(rt; calls_of_searches(rt.alloc(), 20, false)? == 5);
+    assert!(rt; calls_of_searches(rt.alloc(), 20, true)? == 0);
     Ok(())
 }
