@@ -171,7 +171,9 @@ impl<S> IndexWriter<S> {
         ensures segments { result.1 ≡ self.state.published.segments }
     {
         let IndexWriter { store, state, .. } = self;
-        (store, state.published.segments)
+        let State { published, .. } = state;
+        let Published { segments, .. } = published;
+        (store, segments)
     }
 }
 
