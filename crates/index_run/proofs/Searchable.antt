@@ -23,6 +23,7 @@ use Rattle.commit_point.proofs.KeptLaws.{inverted_there}
 use Rattle.flush_control.specs.Published.{StandsFor}
 use Rattle.index_writer.specs.declared.state.State.{State}
 use Rattle.searcher.specs.Searching.{Searches}
+use Rattle.segment_core.specs.LiveRows.{Lived}
 use Rattle.index_run.specs.Damage.{IsSearched}
 use Rattle.index_run.specs.Doing.{IsOnGiven, IsWriterOn}
 use Rattle.index_run.specs.Outcomes.{AsksBy, IsAskedBy, rows_of}
@@ -158,6 +159,13 @@ searches_last g first log w can on writer =
         rows_of-is g.base g.rows log w.published.upto (no_rows g can) (omega (arith, end))
         ∙ ap (λ (n : ℕ). after g.rows g.base (operations (take n log))) count
         ∙ ap (λ (ls : List Line). after g.rows g.base (operations ls)) (take-length log)
+
+-- the same of segments and a number that are the writer's
+pub searches_same : (w : State) (by : ℕ → List Row) (segments : List Lived) (number : ℕ)
+    → segments ≡ w.published.segments → number ≡ w.published.upto → SearchesAt w by → Searches segments (by number)
+searches_same w by segments number same at found =
+    subst (λ (gs : List Lived). Searches gs (by number)) (sym same)
+    (subst (λ (n : ℕ). Searches w.published.segments (by n)) (sym at) found)
 
 -- what is searched can be read, also where little is known of the store
 pub can_read : (g : Given) (log lines : List Line) (new : Files) (outcomes : List Outcome) → Interleaves lines log

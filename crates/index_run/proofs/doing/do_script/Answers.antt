@@ -14,6 +14,7 @@ use Rattle.index_run.specs.declared.stop.Stop.TheVariants as stop
 use Rattle.ix_base.specs.declared.damaged.Damaged.{Damaged}
 use Rattle.report_text.specs.declared.fault.Fault.TheVariants as fault
 use Rattle.index_run.proofs.Rounding.{on_fault, on_ok}
+use Rattle.index_run.proofs.Searchable.{searches_same}
 use Rattle.index_run.proofs.doing.do_script.Given as given
 use Rattle.index_run.proofs.doing.do_script.Goals as goal
 
@@ -32,8 +33,8 @@ returns-in-Err-came-clause-stops g c = λ given same told can.
     let still = told_still start began given.files c.in-Ok.ensures.reads told in
     let on = c.in-Ok.ensures.given given told can in
     same_disks (Stops given) start began _
-    (g.S.Store.disk c.into_parts.result.0) c.in-Ok.ensures.reads
-    (ap (λ s. g.S.Store.disk s) c.into_parts.ensures.store)
+    (g.S.Store.disk c.into_parts-store.result.0) c.in-Ok.ensures.reads
+    (ap (λ s. g.S.Store.disk s) c.into_parts-store.ensures.store)
     (cut_stops given _ c.args.lines _ same can still on (on_fault _ _ c.in-Err-came.is c.do_lines-writer.ensures.cut))
 
 pub returns-in-Err-came-clause-kept : goal.returns-in-Err-came-clause-kept
@@ -43,8 +44,8 @@ returns-in-Err-came-clause-kept g c = λ given told can.
     let still = told_still start began given.files c.in-Ok.ensures.reads told in
     let on = c.in-Ok.ensures.given given told can in
     same_disks (Preserves given) start began _
-    (g.S.Store.disk c.into_parts.result.0) c.in-Ok.ensures.reads
-    (ap (λ s. g.S.Store.disk s) c.into_parts.ensures.store)
+    (g.S.Store.disk c.into_parts-store.result.0) c.in-Ok.ensures.reads
+    (ap (λ s. g.S.Store.disk s) c.into_parts-store.ensures.store)
     (cut_keeps given _ c.args.lines _ still on (on_fault _ _ c.in-Err-came.is c.do_lines-writer.ensures.cut))
 
 -- the lines were done, and the store is the writer's
@@ -52,10 +53,10 @@ over : (g : given.Over) (c : goal.After-drop-outcomes g) → IsOver (record {
   workers = c.args.options.threads;
   first = c.in-Ok.writer.state;
   start = g.S.Store.disk c.in-Ok.writer.store;
-}) c.args.lines c.as_slice.result.now c.do_lines-writer.result.writer.state (g.S.Store.disk c.into_parts.result.0)
+}) c.args.lines c.as_slice.result.now c.do_lines-writer.result.writer.state (g.S.Store.disk c.into_parts-store.result.0)
 over g c =
     over_same _ c.args.lines c.in-Ok-came.outcomes.items c.as_slice.result.now _ _ _ c.as_slice.ensures.value
-    (ap (λ s. g.S.Store.disk s) c.into_parts.ensures.store) (on_ok _ _ _ c.in-Ok-came.is c.do_lines-writer.ensures.over)
+    (ap (λ s. g.S.Store.disk s) c.into_parts-store.ensures.store) (on_ok _ _ _ c.in-Ok-came.is c.do_lines-writer.ensures.over)
 
 pub returns-in-Ok-came-clause-done : goal.returns-in-Ok-came-clause-done
 returns-in-Ok-came-clause-done g c = λ given same told can.
@@ -64,11 +65,14 @@ returns-in-Ok-came-clause-done g c = λ given same told can.
     let still = told_still start began given.files c.in-Ok.ensures.reads told in
     let on = c.in-Ok.ensures.given given told can in
     same_disks (λ a b. IfOk c.text_of.result (λ text. Runs given (form_text c.args.form given) (λ told. text.items ≡ told) a b)) start began
-    (g.S.Store.disk c.into_parts.result.0) (g.S.Store.disk c.text_of.new.store) c.in-Ok.ensures.reads
+    (g.S.Store.disk c.into_parts-store.result.0) (g.S.Store.disk c.text_of.new.store) c.in-Ok.ensures.reads
     c.text_of.ensures.reads
     (told_by c.made_runs.ensures given _ c.args.form c.args.lines c.as_slice.result.now _ _ c.upto-base.result c.upto-number.result c.text_of.result same
     c.requires.lines.rise c.requires.made can still on (over g c) c.upto-base.ensures c.upto-number.ensures
-    c.text_of.ensures.report c.text_of.ensures.summary)
+    (λ f by is told search found.
+    c.text_of.ensures.report f by is told search
+    (searches_same c.do_lines-writer.result.writer.state by _ _ c.into_parts-store.ensures.segments c.upto-number.ensures found))
+    c.text_of.ensures.summary)
 
 pub returns-in-Ok-came-clause-stops : goal.returns-in-Ok-came-clause-stops
 returns-in-Ok-came-clause-stops g c = λ given same told can.
@@ -76,7 +80,7 @@ returns-in-Ok-came-clause-stops g c = λ given same told can.
     let began = g.S.Store.disk c.in-Ok.writer.store in
     let still = told_still start began given.files c.in-Ok.ensures.reads told in
     let on = c.in-Ok.ensures.given given told can in
-    same_disks (Stops given) start began (g.S.Store.disk c.into_parts.result.0)
+    same_disks (Stops given) start began (g.S.Store.disk c.into_parts-store.result.0)
     (g.S.Store.disk c.text_of.new.store) c.in-Ok.ensures.reads c.text_of.ensures.reads
     (over_stops given _ c.args.lines c.as_slice.result.now _ _ same can still on (over g c))
 
@@ -86,7 +90,7 @@ returns-in-Ok-came-clause-kept g c = λ given told can.
     let began = g.S.Store.disk c.in-Ok.writer.store in
     let still = told_still start began given.files c.in-Ok.ensures.reads told in
     let on = c.in-Ok.ensures.given given told can in
-    same_disks (Preserves given) start began (g.S.Store.disk c.into_parts.result.0)
+    same_disks (Preserves given) start began (g.S.Store.disk c.into_parts-store.result.0)
     (g.S.Store.disk c.text_of.new.store) c.in-Ok.ensures.reads c.text_of.ensures.reads
     (over_keeps given _ c.args.lines c.as_slice.result.now _ _ still on (over g c))
 
@@ -100,7 +104,7 @@ returns-in-Ok-came-clause-whole g c = λ given told last can.
 -- where the text met what is damaged the store tells nothing
 none_told : (g : given.Over) (c : goal.After-drop-outcomes g) (damaged : Damaged)
     → c.text_of.result ≡ Err (stop.Fault (fault.Damaged damaged))
-    → (g.S.Store.disk c.args.store ≡ None) × (g.S.Store.disk c.into_parts.result.0 ≡ None)
+    → (g.S.Store.disk c.args.store ≡ None) × (g.S.Store.disk c.into_parts-store.result.0 ≡ None)
 none_told g c damaged is =
     let before = c.in-Ok.ensures.reads in
     let none = untold c.made_runs.ensures _ c.args.form c.args.lines c.as_slice.result.now _ _ c.upto-number.result c.text_of.result damaged
@@ -137,11 +141,11 @@ returns-in-Err-clause-steps g c = goes_still (λ step older. MakesCommits step) 
 pub returns-in-Err-came-clause-steps : goal.returns-in-Err-came-clause-steps
 returns-in-Err-came-clause-steps g c =
     same_disks (Told OnlyCommits) (g.S.Store.disk c.args.store) (g.S.Store.disk c.in-Ok.writer.store)
-    _ (g.S.Store.disk c.into_parts.result.0) c.in-Ok.ensures.reads
-    (ap (λ s. g.S.Store.disk s) c.into_parts.ensures.store) (on_fault _ _ c.in-Err-came.is c.do_lines-writer.ensures.cut).only
+    _ (g.S.Store.disk c.into_parts-store.result.0) c.in-Ok.ensures.reads
+    (ap (λ s. g.S.Store.disk s) c.into_parts-store.ensures.store) (on_fault _ _ c.in-Err-came.is c.do_lines-writer.ensures.cut).only
 
 pub returns-in-Ok-came-clause-steps : goal.returns-in-Ok-came-clause-steps
 returns-in-Ok-came-clause-steps g c =
     same_disks (Told OnlyCommits) (g.S.Store.disk c.args.store) (g.S.Store.disk c.in-Ok.writer.store)
-    (g.S.Store.disk c.into_parts.result.0) (g.S.Store.disk c.text_of.new.store) c.in-Ok.ensures.reads
+    (g.S.Store.disk c.into_parts-store.result.0) (g.S.Store.disk c.text_of.new.store) c.in-Ok.ensures.reads
     c.text_of.ensures.reads (over g c).disk.only
