@@ -36,10 +36,10 @@ def key_deletes(rows, count):
 
 
 def searches(rows, count):
-    """So many searches for a range, and a commit, which tells how many documents there are."""
+    """A commit, which tells how many documents there are, and so many searches for a range in it."""
+    yield {"c": 0, "op": "commit"}
     for number in picked(rows, count):
         yield {"c": 0, "op": "search", "query": range_of(number)}
-    yield {"c": 0, "op": "commit"}
 
 
 def questions(rows, count):
@@ -49,11 +49,11 @@ def questions(rows, count):
 
 
 def among_terms(rows, count):
-    """So many searches for a range among the documents of a key, and a commit."""
+    """A commit, and so many searches for a range among the documents of a key in it."""
+    yield {"c": 0, "op": "commit"}
     for number in picked(rows, count):
         must = [{"term": ["key", f"k{number}"]}, range_of(number)]
         yield {"c": 0, "op": "search", "query": {"bool": {"must": must}}}
-    yield {"c": 0, "op": "commit"}
 
 
 def prepared(first, count):
