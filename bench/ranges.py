@@ -42,6 +42,13 @@ def searches(rows, count):
         yield {"c": 0, "op": "search", "query": range_of(number)}
 
 
+def searches_before(rows, count):
+    """So many searches for a range in the commit that the run begins on, and a commit, which tells how many documents there are."""
+    for number in picked(rows, count):
+        yield {"c": 0, "op": "search", "query": range_of(number)}
+    yield {"c": 0, "op": "commit"}
+
+
 def questions(rows, count):
     """So many questions for a range, by a later process."""
     for number in picked(rows, count):
@@ -70,6 +77,7 @@ def phases(quick):
     yield Phase(f"ranges: {count} deletes by key", rows, Run(ALONE, (key_deletes, rows, count)), before, fts5=True)
     for one in (1, count):
         yield Phase(f"ranges: {one} searches", rows, Run(ALONE, (searches, rows, one)), before, fts5=True)
+        yield Phase(f"ranges: {one} searches before", rows, Run(ALONE, (searches_before, rows, one)), before, fts5=True)
         yield Phase(f"ranges: {one} questions", rows, Run(("ask",), (questions, rows, one)), before, fts5=True)
     yield Phase(f"ranges: {count} searches among terms", rows, Run(ALONE, (among_terms, rows, count)), before, fts5=True)
 

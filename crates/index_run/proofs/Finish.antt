@@ -206,14 +206,15 @@ outcomes_given g r log lines outcomes on are =
 over_report : (g : Given) (r : Run) (lines : List Line) (outcomes : List Outcome) (w : State) (now : Option Disk)
     (f : Files) (text : List ℕ) → g.lines ≡ lines → LinesRise 1 lines → CanRun g → IsOnGiven g r.first
     → (o : IsOver r lines outcomes w now) → HasAll g o.log f
-    → ((by : ℕ → List Row) → CanSearch f by outcomes → SearchesAt w by → text ≡ texts by outcomes)
+    → ((by : ℕ → List Row) → CanSearch f by outcomes → SearchesAt w g.base outcomes by → text ≡ texts by outcomes)
     → text ≡ report g.base g.rows g.lines o.log
 over_report g r lines outcomes w now f text same rise can on o has told =
     let are = outcomes_given g r o.log lines outcomes on o.outcomes in
     let asked =
     asked_by (λ (s docs : ℕ). docs ≡ length (rows_at g.base g.rows o.log s)) g.base o.log lines outcomes are in
     told (rows_of g.base g.rows o.log) (can_search g o.log lines f outcomes can o.numbering rise has asked)
-    (searches_last g r.first o.log w can on o.writer)
+    (searches_last (λ (s docs : ℕ). docs ≡ length (rows_at g.base g.rows o.log s)) g r.first o.log lines outcomes w can on
+    o.writer rise o.numbering are)
     ∙ texts_with_none g.base g.rows o.log lines outcomes (no_rows g can) are
     ∙ ap (λ (ls : List Line). report g.base g.rows ls o.log) (sym same)
 
@@ -255,14 +256,14 @@ over_told g r lines outcomes w now form (Ok bytes) same can told on o text =
 pub runs_of : (g : Given) (r : Run) (lines : List Line) (outcomes : List Outcome) (w : State) (now : Option Disk)
     (result : Result Bytes Stop) → g.lines ≡ lines → LinesRise 1 lines → CanRun g
     → told_files r.start ≡ Some g.files → IsOnGiven g r.first → IsOver r lines outcomes w now
-    → ((f : Files) (by : ℕ → List Row) → told_files now ≡ Some f → CanSearch f by outcomes → SearchesAt w by
-    → IfOk result (λ bytes. bytes.items ≡ texts by outcomes))
+    → ((f : Files) (by : ℕ → List Row) → told_files now ≡ Some f → CanSearch f by outcomes
+    → SearchesAt w g.base outcomes by → IfOk result (λ bytes. bytes.items ≡ texts by outcomes))
     → IfOk result (λ bytes. Runs g (form_text Report g) (λ told. bytes.items ≡ told) r.start now)
 runs_of g r lines outcomes w now result same rise can told on o text =
     over_told g r lines outcomes w now Report result same can told on o (λ f is all. by result f is all (text f))
   where
     by : (result : Result Bytes Stop) (f : Files) → told_files now ≡ Some f → HasAll g o.log f
-        → ((by : ℕ → List Row) → told_files now ≡ Some f → CanSearch f by outcomes → SearchesAt w by
+        → ((by : ℕ → List Row) → told_files now ≡ Some f → CanSearch f by outcomes → SearchesAt w g.base outcomes by
         → IfOk result (λ bytes. bytes.items ≡ texts by outcomes))
         → IfOk result (λ bytes. bytes.items ≡ report g.base g.rows g.lines o.log)
     by (Err s) f is all text = tt
@@ -309,7 +310,7 @@ pub told_by : MadeRuns → (g : Given) (r : Run) (form : Form) (lines : List Lin
     → (form ≡ Summary → IsMade lines) → CanRun g → told_files r.start ≡ Some g.files → IsOnGiven g r.first
     → IsOver r lines outcomes w now → base ≡ r.first.published.upto → upto ≡ w.published.upto
     → ((f : Files) (by : ℕ → List Row) → form ≡ Report → told_files now ≡ Some f → CanSearch f by outcomes
-    → SearchesAt w by → IfOk result (λ bytes. bytes.items ≡ texts by outcomes))
+    → SearchesAt w g.base outcomes by → IfOk result (λ bytes. bytes.items ≡ texts by outcomes))
     → ((f : Files) (next : ℕ) (rows : List Row) → form ≡ Summary → told_files now ≡ Some f → HoldsInverted f upto next rows
     → IfOk result (λ bytes. bytes.items ≡ text_line (summary_value (summary_of (count_by is_committed outcomes)
     (upto - base) (map hit_of (born_after base rows))))))

@@ -16,6 +16,7 @@ pub mod Replying
 pub mod Coming
 pub mod Beginnings
 pub mod Inputs
+pub mod Unchanged
 pub mod Searchable
 pub mod Summarised
 pub mod Listed

@@ -26,8 +26,9 @@ use Rattle.searcher.specs.Searching.{Searches}
 use Rattle.segment_core.specs.LiveRows.{Lived}
 use Rattle.index_run.specs.Damage.{IsSearched}
 use Rattle.index_run.specs.Doing.{IsOnGiven, IsWriterOn}
-use Rattle.index_run.specs.Outcomes.{AsksBy, IsAskedBy, rows_of}
+use Rattle.index_run.specs.Outcomes.{AreOutcomes, AsksBy, IsAskedBy, SearchesUnchanged, rows_of}
 use Rattle.index_run.proofs.OutcomeLaws.{asked_commit, rows_of-is}
+use Rattle.index_run.proofs.Unchanged.{rows_unchanged}
 
 -- ---- the commits of a log
 
@@ -130,15 +131,21 @@ can_search g log lines new outcomes can numbering rise has asked = record {
 
 -- ---- what the writer has in memory
 
--- the writer's segments, searched, are the rows by its number
-abbrev pub SearchesAt : State → (ℕ → List Row) → Type 0
-SearchesAt w by = Searches w.published.segments (by w.published.upto)
+-- the writer's segments, searched, are the rows of each number since which no line changed a row
+abbrev pub SearchesAt : State → ℕ → List Outcome → (ℕ → List Row) → Type 0
+SearchesAt w base outcomes by = SearchesUnchanged w.published.segments base w.published.upto outcomes by
 
 -- they are the log's rows
-pub searches_last : (g : Given) (first : State) (log : List Line) (w : State) → CanRun g → IsOnGiven g first
-    → IsWriterOn first log w → SearchesAt w (rows_of g.base g.rows log)
-searches_last g first log w can on writer =
-    subst (λ (rows : List Row). Searches w.published.segments rows) (sym rows_are) (record {
+pub searches_last : (Docs : ℕ → ℕ → Type 0) (g : Given) (first : State) (log lines : List Line)
+    (outcomes : List Outcome) (w : State) → CanRun g → IsOnGiven g first → IsWriterOn first log w → LinesRise 1 lines
+    → Interleaves lines log → AreOutcomes Docs g.base log [] lines outcomes
+    → SearchesAt w g.base outcomes (rows_of g.base g.rows log)
+searches_last Docs g first log lines outcomes w can on writer rise numbering are = λ since above each s from to.
+    subst (λ (rows : List Row). Searches w.published.segments rows)
+    (sym (rows_of-is g.base g.rows log s (no_rows g can) (omega (arith, above, from))
+    ∙ rows_unchanged Docs g.base since s g.rows log lines outcomes rise numbering are each from (omega (arith, above, from))
+    (omega (arith, to, end))))
+    (record {
       number = w.published.upto;
       rows_are = stands.rows_are;
       inverted = stands.inverted;
@@ -151,21 +158,13 @@ searches_last g first log w can on writer =
     stands =
         subst (λ (n : ℕ). StandsFor w.published (after g.rows n (operations log))) on.number (writer.rows g.rows on.rows)
 
-    count : w.published.upto - g.base ≡ length log
-    count = omega (arith, end)
-
-    rows_are : rows_of g.base g.rows log w.published.upto ≡ after g.rows g.base (operations log)
-    rows_are =
-        rows_of-is g.base g.rows log w.published.upto (no_rows g can) (omega (arith, end))
-        ∙ ap (λ (n : ℕ). after g.rows g.base (operations (take n log))) count
-        ∙ ap (λ (ls : List Line). after g.rows g.base (operations ls)) (take-length log)
-
--- the same of segments and a number that are the writer's
-pub searches_same : (w : State) (by : ℕ → List Row) (segments : List Lived) (number : ℕ)
-    → segments ≡ w.published.segments → number ≡ w.published.upto → SearchesAt w by → Searches segments (by number)
-searches_same w by segments number same at found =
-    subst (λ (gs : List Lived). Searches gs (by number)) (sym same)
-    (subst (λ (n : ℕ). Searches w.published.segments (by n)) (sym at) found)
+-- the same of segments and numbers that are the writer's
+pub searches_same : (w : State) (by : ℕ → List Row) (segments : List Lived) (base upto first : ℕ) (outcomes : List Outcome)
+    → segments ≡ w.published.segments → upto ≡ w.published.upto → base ≡ first → SearchesAt w first outcomes by
+    → SearchesUnchanged segments base upto outcomes by
+searches_same w by segments base upto first outcomes same at from found = λ since above each s low high.
+    subst (λ (gs : List Lived). Searches gs (by s)) (sym same)
+    (found since (omega (arith, above, from)) each s low (omega (arith, high, at)))
 
 -- what is searched can be read, also where little is known of the store
 pub can_read : (g : Given) (log lines : List Line) (new : Files) (outcomes : List Outcome) → Interleaves lines log

@@ -1,5 +1,6 @@
 -- What becomes of the lines of a script, by the log.
-use Rattle.std.specs.Prelude.{◌≡◌, ℕ, zero, suc, ◌<◌, List, [], ◌∷◌, ◌++◌, slice_index, Option, Some, None}
+use Rattle.std.specs.Prelude.{◌≡◌, ℕ, zero, suc, ◌<◌, ◌≤◌, List, [], ◌∷◌, ◌++◌, slice_index, Option, Some, None}
+use Rattle.std.specs.List.{AllByRecursion}
 use Rattle.ix_base.specs.declared.document.Operation.{Operation}
 use Rattle.ix_base.specs.declared.document.Operation.TheVariants.{Add, Update, DeleteTerm, DeleteQuery, SetNumber, Commit}
 use Rattle.ix_base.specs.declared.document.Row.{Row}
@@ -13,6 +14,8 @@ use Rattle.run_report.specs.declared.outcome.Answer.{Answer}
 use Rattle.run_report.specs.declared.outcome.Answer.TheVariants.{Numbered, Committed, Refused, Searched}
 use Rattle.run_report.specs.declared.outcome.Outcome.{Outcome}
 use Rattle.run_log.specs.Headline.{last_commit, number_of, rows_at}
+use Rattle.searcher.specs.Searching.{Searches}
+use Rattle.segment_core.specs.LiveRows.{Lived}
 
 -- What becomes of an operation that gets the number s: a commit is told how many rows it has.
 abbrev pub IsDone : (ℕ → ℕ → Type 0) → ℕ → Operation → Answer → Type 0
@@ -46,6 +49,16 @@ AreOutcomes Docs base log before [] (o ∷ outcomes) = ⊥
 AreOutcomes Docs base log before (l ∷ lines) [] = ⊥
 AreOutcomes Docs base log before (l ∷ lines) (o ∷ outcomes) =
     IsOutcome Docs base log before l o × AreOutcomes Docs base log (before ++ l ∷ []) lines outcomes
+
+-- a line that changed rows has at most this number
+abbrev pub ChangesUpTo : ℕ → Outcome → Type 0
+ChangesUpTo last o = (s : ℕ) → o.answer ≡ Numbered s → s ≤ last
+
+-- The segments have the rows of each commit behind the last line that changed a row, and those of the base where none
+-- did. The run's last number is `upto`.
+abbrev pub SearchesUnchanged : List Lived → ℕ → ℕ → List Outcome → (ℕ → List Row) → Type 0
+SearchesUnchanged segments base upto outcomes rows_by = (since : ℕ) → base ≤ since
+    → AllByRecursion (ChangesUpTo since) outcomes → (s : ℕ) → since ≤ s → s ≤ upto → Searches segments (rows_by s)
 
 -- A line of the script searches with this query, in the commit of this number: that of its caller's
 -- last commit line before it, or else the one that the run began on.

@@ -106,7 +106,11 @@ pub fn do_script<R: Threads + Wait + Sync, S: Store, G: Gate>(
     let number = writer.upto();
     let (mut store, segments) = writer.into_parts();
     let searcher = Searcher { segments };
-    let loaded = SearchedCommit { number, searcher };
+    let loaded = SearchedCommit {
+        since: number,
+        number,
+        searcher,
+    };
     match came {
         Ok(outcomes) => Done {
             text: text_of(alloc, &mut store, form, base, loaded, outcomes.as_slice()),

@@ -13,7 +13,9 @@ ghost use Rattle.report_text.specs.Summaries.{summary_of};
 ghost use Rattle.run_report.specs.Searching.{CanRead, CanSearch, ReadsCommit, SearchesDamaged};
 ghost use Rattle.run_report.specs.Texts.{texts};
 ghost use Rattle.run_report.specs.declared.outcome.Outcome.{Outcome};
-ghost use Rattle.searcher.specs.Searching.{IsDamagedIn, Searches};
+ghost use Rattle.searcher.specs.Searching.{IsDamagedIn};
+ghost use Rattle.std.specs.List.{AllByRecursion};
+ghost use Rattle.index_run.specs.Outcomes.{ChangesUpTo, SearchesUnchanged};
 ghost use Rattle.index_run.specs.Telling.{CanTell, TellsDamaged, is_committed};
 
 use crate::stop::Stop;
@@ -34,8 +36,8 @@ pub enum Form {
 }
 
 /// The text of this form, of a run from the commit `base` in which this became of the lines. What is
-/// in memory, under the run's last number, answers the report's searches in a commit of that number. A
-/// summary asks the store for that commit.
+/// in memory, under the run's last number, answers the report's searches in that commit, and in each since
+/// which no line changed a row. A summary asks the store for the last commit.
 pub fn text_of<S: Store>(
     alloc: Global,
     store: &mut S,
@@ -47,7 +49,8 @@ pub fn text_of<S: Store>(
     requires order { base ≤ loaded.number }
     ensures report { (files : Files) (rows_of : ℕ → List Row) → form ≡ Form.Report
         → told_files (S.disk store.old) ≡ Some files → CanSearch files rows_of outcomes.now
-        → Searches loaded.searcher.segments (rows_of loaded.number) → IfOk result (λ bytes. bytes.items ≡ texts rows_of outcomes.now) }
+        → SearchesUnchanged loaded.searcher.segments base loaded.number outcomes.now rows_of
+        → IfOk result (λ bytes. bytes.items ≡ texts rows_of outcomes.now) }
     ensures summary { (files : Files) (next : ℕ) (rows : List Row) → form ≡ Form.Summary
         → told_files (S.disk store.old) ≡ Some files → HoldsInverted files loaded.number next rows
         → IfOk result (λ bytes. bytes.items ≡ text_line (summary_value (summary_of
@@ -65,7 +68,7 @@ pub fn text_of<S: Store>(
         ⊎ ((damaged : Damaged) × (stop ≡ Stop.Fault (Fault.Damaged damaged))))) }
 {
     match form {
-        Form::Report => report_of(alloc, store, loaded, outcomes),
+        Form::Report => report_of(alloc, store, base, loaded, outcomes),
         Form::Summary => {
             let upto = loaded.number;
             drop(loaded);
@@ -74,16 +77,32 @@ pub fn text_of<S: Store>(
     }
 }
 
+/// The number of the last line that changed a row, or `base` where none did.
+fn last_change(base: u64, outcomes: &[Outcome]) -> u64
+    ensures from { base ≤ result }
+    ensures each { AllByRecursion (ChangesUpTo result) outcomes.now }
+{
+    let mut last = base;
+    for outcome in outcomes {
+        if let Answer::Numbered(number) = &outcome.answer {
+            last = last.max(*number);
+        }
+    }
+    last
+}
+
 /// The report of what became of the lines, or why the run stops.
 fn report_of<S: Store>(
     alloc: Global,
     store: &mut S,
+    base: u64,
     loaded: SearchedCommit,
     outcomes: &[Outcome],
 ) -> Result<Vec<u8>, Stop>
     ensures text { (files : Files) (rows_of : ℕ → List Row)
         → told_files (S.disk store.old) ≡ Some files → CanSearch files rows_of outcomes.now
-        → Searches loaded.searcher.segments (rows_of loaded.number) → IfOk result (λ bytes. bytes.items ≡ texts rows_of outcomes.now) }
+        → SearchesUnchanged loaded.searcher.segments base loaded.number outcomes.now rows_of
+        → IfOk result (λ bytes. bytes.items ≡ texts rows_of outcomes.now) }
     ensures whole { (files : Files) → told_files (S.disk store.old) ≡ Some files
         → CanRead files outcomes.now
         → IfErr result (λ stop. (stop ≡ Stop.Fault Fault.Store) ⊎ (stop ≡ Stop.NoMemory)) }
@@ -97,6 +116,16 @@ fn report_of<S: Store>(
     ensures others { IfErr result (λ stop. (stop ≡ Stop.Fault Fault.Store) ⊎ ((stop ≡ Stop.NoMemory)
         ⊎ ((damaged : Damaged) × (stop ≡ Stop.Fault (Fault.Damaged damaged))))) }
 {
+    let SearchedCommit {
+        number,
+        searcher,
+        ..
+    } = loaded;
+    let loaded = SearchedCommit {
+        since: last_change(base, outcomes),
+        number,
+        searcher,
+    };
     match report(alloc, store, loaded, outcomes) {
         Ok(text) => Ok(text),
         Err(fault) => Err(Stop::from(fault)),

@@ -191,25 +191,27 @@ const COMMIT_1: &str = "{\"c\":1,\"op\":\"commit\"}\n";
 /// A search by the caller 1.
 const ALL_1: &str = "{\"c\":1,\"op\":\"search\",\"query\":\"all\"}\n";
 
-/// Whichever call of the store fails, it is told as the store's fault, and each commit but a run's last
-/// is read once, however many lines search it: there are the list of the files, twelve calls of a commit
-/// that has a new segment and four of one that has not, and the reads of a commit file and of the four
-/// files of each of its segments.
+/// Whichever call of the store fails, it is told as the store's fault, and a commit is read once, however
+/// many lines search it, or not at all where only commits came since: there are the list of the files,
+/// twelve calls of a commit that has a new segment and four of one that has not, and the reads of a commit
+/// file and of the four files of each of its segments.
 #[test]
 fn each_store_call_fails(rt: HostRuntime) -> Result<(), Fail> {
     let alloc = rt.alloc();
     let run: &[&str] = &["run", "--threads", "1"];
     let make: &[&str] = &["make", "--seed", "1", "--lines", "10", "--callers", "1"];
     let added: &[&str] = &[ADD_A1, COMMIT];
-    let cases: [(&[&str], &[&str], &[&str], u64); 6] = [
+    let cases: [(&[&str], &[&str], &[&str], u64); 8] = [
         (&[], run, &[ADD_A1, COMMIT, ALL], 1 + 12),
         (&[], run, &[ADD_A1, COMMIT, ALL, ALL, ALL, ALL], 1 + 12),
         (
             added,
             run,
             &[ADD_A2, COMMIT, COMMIT_1, ALL, ALL_1, ALL, ALL_1],
-            6 + 12 + 4 + 9,
+            6 + 12 + 4,
         ),
+        (added, run, &[ALL, ALL, COMMIT], 6 + 4),
+        (added, run, &[ALL, ALL, ADD_A2, COMMIT], 6 + 12 + 5),
         (&[], make, &[], 1 + 12 + 5),
         (added, &["ask"], &["\"all\"\n", "\"all\"\n"], 1 + 5),
         (added, &["list"], &[], 1 + 1),

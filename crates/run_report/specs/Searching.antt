@@ -3,7 +3,7 @@ use Rattle.std.specs.Prelude.{◌≡◌, ◌⊎◌, ℕ, ◌≤◌, List, [], Op
 use Rattle.ix_base.specs.declared.document.Row.{Row}
 use Rattle.ix_outside.specs.Files.{Files}
 use Rattle.commit_point.specs.Holds.{Holds, HoldsInverted}
-use Rattle.searcher.specs.Searching.{IsDamagedIn}
+use Rattle.searcher.specs.Searching.{IsDamagedIn, Searches}
 use Rattle.ix_base.specs.declared.damaged.Damaged.{Damaged}
 use Rattle.commit_point.specs.declared.fault.OpenFault.{OpenFault}
 use Rattle.commit_point.specs.declared.fault.OpenFault.TheVariants as opening
@@ -11,6 +11,7 @@ use Rattle.ix_base.specs.declared.query.Query.{Query}
 use Rattle.run_report.specs.declared.outcome.Outcome.{Outcome}
 use Rattle.run_report.specs.declared.outcome.Answer.{Answer}
 use Rattle.run_report.specs.declared.outcome.Answer.TheVariants.{Searched}
+use Rattle.run_report.specs.declared.searches.SearchedCommit.{SearchedCommit}
 
 -- the files hold these rows as the commit of this number, and their inversion
 abbrev pub HoldsCommit : Files → ℕ → List Row → Type 0
@@ -33,6 +34,11 @@ AnswerReads files answer = ⊤
 abbrev pub is_search : Answer → Bool
 is_search (Searched s query) = true
 is_search answer = false
+
+-- what is in memory has the rows of each commit from `since` up to `number`
+abbrev pub ServesCommits : SearchedCommit → (ℕ → List Row) → Type 0
+ServesCommits loaded rows_of =
+    (s : ℕ) → loaded.since ≤ s → s ≤ loaded.number → Searches loaded.searcher.segments (rows_of s)
 
 -- the commits that the outcomes search have these rows, and no commit has none
 pub record CanSearch (files : Files) (rows_of : ℕ → List Row) (outcomes : List Outcome) : Type 0 where

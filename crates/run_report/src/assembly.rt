@@ -8,9 +8,8 @@ ghost use Rattle.ix_outside.specs.Files.{Files};
 ghost use Rattle.ix_base.specs.declared.damaged.Damaged.{Damaged};
 ghost use Rattle.run_report.specs.declared.outcome.Outcome.{Outcome};
 ghost use Rattle.run_report.specs.Texts.{outcome_text, texts};
-ghost use Rattle.run_report.specs.Searching.{CanRead, CanSearch, SearchesDamaged, IsReadFault};
+ghost use Rattle.run_report.specs.Searching.{CanRead, CanSearch, SearchesDamaged, ServesCommits, IsReadFault};
 ghost use Rattle.commit_point.specs.Loading.{IsOutside};
-ghost use Rattle.searcher.specs.Searching.{Searches};
 ghost use Rattle.run_report.specs.Assembling.{IsOrderOf};
 
 use crate::outcome::{Answer, Outcome};
@@ -61,13 +60,14 @@ fn empty_texts(alloc: Global, count: usize) -> Result<Vec<Vec<u8>>, NoMemory>
     Ok(texts)
 }
 
-/// The commit that is in memory, where the line of the first turn searches it. Else it is let go.
+/// The commit that is in memory, where it has the rows that the line of the first turn searches. Else it
+/// is let go.
 fn if_wanted(alloc: Global, loaded: SearchedCommit, turns: &[Turn]) -> SearchedCommit
-    ensures { (rows_of : ℕ → List Row) → Searches loaded.searcher.segments (rows_of loaded.number)
-        → rows_of 0 ≡ [] → Searches result.searcher.segments (rows_of result.number) }
+    ensures { (rows_of : ℕ → List Row) → ServesCommits loaded rows_of → rows_of 0 ≡ []
+        → ServesCommits result rows_of }
 {
     match turns.first() {
-        Some(turn) if turn.commit == loaded.number => loaded,
+        Some(turn) if loaded.serves(turn.commit) => loaded,
         _ => SearchedCommit::none(alloc),
     }
 }
@@ -83,7 +83,7 @@ fn texts_in_turn<S: Store>(
     requires { IsOrderOf (length outcomes.now) turns.now }
     ensures texts { (files : Files) (rows_of : ℕ → List Row)
         → told_files (S.disk store.old) ≡ Some files → CanSearch files rows_of outcomes.now
-        → Searches loaded.searcher.segments (rows_of loaded.number) → IfOk result (λ made.
+        → ServesCommits loaded rows_of → IfOk result (λ made.
         map (λ text. text.items) made.items ≡ map (outcome_text rows_of) outcomes.now) }
     ensures whole { (files : Files) → told_files (S.disk store.old) ≡ Some files
         → CanRead files outcomes.now → IfErr result IsOutside }
@@ -123,7 +123,8 @@ fn joined(alloc: Global, made: &[Vec<u8>]) -> Result<Vec<u8>, NoMemory>
 }
 
 /// The whole report, for a script with these outcomes. Search lines are answered from the commit that
-/// is in memory, where it is theirs; the others read their commits from the store, one after another.
+/// is in memory, where it has the rows of theirs; the others read their commits from the store, one after
+/// another.
 /// The store is as before, whatever is answered.
 ///
 /// `Store` comes only where the store's count of faults rose; `Damaged` names the first broken place
@@ -136,7 +137,8 @@ pub fn report<S: Store>(
 ) -> Result<Vec<u8>, OpenFault>
     ensures text { (files : Files) (rows_of : ℕ → List Row)
         → told_files (S.disk store.old) ≡ Some files → CanSearch files rows_of outcomes.now
-        → Searches loaded.searcher.segments (rows_of loaded.number) → IfOk result (λ bytes. bytes.items ≡ texts rows_of outcomes.now) }
+        → ServesCommits loaded rows_of
+        → IfOk result (λ bytes. bytes.items ≡ texts rows_of outcomes.now) }
     ensures whole { (files : Files) → told_files (S.disk store.old) ≡ Some files
         → CanRead files outcomes.now → IfErr result IsOutside }
     ensures damaged { (damaged : Damaged) → result ≡ Err (OpenFault.Damaged damaged)

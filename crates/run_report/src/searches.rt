@@ -1,5 +1,5 @@
 //! Search lines, answered from what the store holds of their commits.
-ghost use Rattle.std.specs.Prelude.{◌≡◌, ◌⊎◌, ◌≤◌, ℕ, List, [], false, OnOk, IfOk, IfErr, Err, Some};
+ghost use Rattle.std.specs.Prelude.{◌≡◌, ◌⊎◌, ◌≤◌, ℕ, List, [], true, false, OnOk, IfOk, IfErr, Err, Some};
 ghost use Rattle.ix_base.specs.Hits.{hits};
 ghost use Rattle.ix_base.specs.declared.damaged.Damaged.{Damaged};
 ghost use Rattle.ix_base.specs.declared.document.Row.{Row};
@@ -10,7 +10,7 @@ ghost use Rattle.commit_point.specs.Loading.{IsOutside};
 ghost use Rattle.searcher.specs.Searching.{Searches, IsDamagedIn};
 ghost use Rattle.report_text.specs.Lines.{text_line, search_value};
 ghost use Rattle.run_report.specs.Texts.{outcome_text, answer_text};
-ghost use Rattle.run_report.specs.Searching.{AnswerHolds, AnswerReads, HoldsCommit, ReadsCommit, SearchesDamaged, is_search, IsReadFault};
+ghost use Rattle.run_report.specs.Searching.{AnswerHolds, AnswerReads, HoldsCommit, ReadsCommit, SearchesDamaged, ServesCommits, is_search, IsReadFault};
 
 use crate::outcome::{Answer, Outcome};
 use commit_point::OpenFault;
@@ -20,9 +20,11 @@ use report_text::{commit_text, refused_text, search_text, write_text};
 use searcher::Searcher;
 use std::alloc::Global;
 
-/// A commit that is in memory, to be searched. Without a commit its number is 0, and it has no row.
+/// A commit that is in memory, to be searched. It has the rows of the commits before it down to `since`,
+/// too: no line between them changed a row. Without a commit both numbers are 0, and it has no row.
 #[derive(Drop)]
 pub struct SearchedCommit {
+    pub since: u64,
     pub number: u64,
     pub searcher: Searcher,
 }
@@ -34,13 +36,21 @@ impl SearchedCommit {
         ensures none { Searches result.searcher.segments [] }
     {
         SearchedCommit {
+            since: 0,
             number: 0,
             searcher: Searcher::none(alloc),
         }
     }
+
+    /// Whether it has the rows of the commit of this number.
+    pub fn serves(&self, number: u64) -> bool
+        ensures { result ≡ true → (self.now.since ≤ number) × (number ≤ self.now.number) }
+    {
+        self.since <= number && number <= self.number
+    }
 }
 
-/// Brings up the commit of this number, unless it is the one that is searched already. That is let go
+/// Brings up the commit of this number, unless the one that is in memory has its rows. That is let go
 /// first, so that never more than one is in memory.
 fn reopen<S: Store>(
     alloc: Global,
@@ -48,12 +58,11 @@ fn reopen<S: Store>(
     commit: &mut SearchedCommit,
     number: u64,
 ) -> Result<(), OpenFault>
-    ensures number { OnOk result (commit.new.number ≡ number) }
     ensures rows { (files : Files) (rows_of : ℕ → List Row)
-        → told_files (S.disk store.old) ≡ Some files
-        → Searches commit.old.searcher.segments (rows_of commit.old.number) → rows_of 0 ≡ []
-        → (number ≡ 0) ⊎ ((1 ≤ number) × HoldsCommit files number (rows_of number))
-        → OnOk result (Searches commit.new.searcher.segments (rows_of number)) }
+        → told_files (S.disk store.old) ≡ Some files → ServesCommits commit.old rows_of
+        → rows_of 0 ≡ [] → (number ≡ 0) ⊎ ((1 ≤ number) × HoldsCommit files number (rows_of number))
+        → OnOk result (Searches commit.new.searcher.segments (rows_of number)
+        × ServesCommits commit.new rows_of) }
     ensures whole { (files : Files) → told_files (S.disk store.old) ≡ Some files
         → (number ≡ 0) ⊎ ((1 ≤ number) × ReadsCommit files number) → IfErr result IsOutside }
     ensures damaged { (damaged : Damaged) → result ≡ Err (OpenFault.Damaged damaged)
@@ -64,7 +73,7 @@ fn reopen<S: Store>(
         → Rose (S.fault_count store.old) (S.fault_count store.new) }
     ensures others { IfErr result IsReadFault }
 {
-    if commit.number == number {
+    if commit.serves(number) {
         return Ok(());
     }
     *commit = SearchedCommit::none(alloc);
@@ -73,28 +82,33 @@ fn reopen<S: Store>(
     }
     match Searcher::open_listed(alloc, store, number) {
         Ok(searcher) => {
-            *commit = SearchedCommit { number, searcher };
+            *commit = SearchedCommit {
+                since: number,
+                number,
+                searcher,
+            };
             Ok(())
         }
         Err(fault) => Err(fault),
     }
 }
 
-/// The text of a search line, whose commit this is.
+/// The text of a line that searches the commit of this number, whose rows are in memory.
 fn found_text(
     alloc: Global,
     commit: &mut SearchedCommit,
+    number: u64,
     query: &Query,
     line: u32,
 ) -> Result<Vec<u8>, NoMemory>
     ensures text { (rows : List Row) → Searches commit.old.searcher.segments rows
         → IfOk result (λ text.
-        text.items ≡ text_line (search_value commit.old.number (hits query.now rows) line)) }
+        text.items ≡ text_line (search_value number (hits query.now rows) line)) }
     ensures same { commit.new ≡ commit.old }
 {
     commit.searcher.prepare(alloc, query)?;
     let found = commit.searcher.hits(alloc, query)?;
-    search_text(alloc, commit.number, found.as_slice(), line)
+    search_text(alloc, number, found.as_slice(), line)
 }
 
 /// The text of a line. A search line brings up its commit.
@@ -105,11 +119,10 @@ pub fn line_text<S: Store>(
     outcome: &Outcome,
 ) -> Result<Vec<u8>, OpenFault>
     ensures text { (files : Files) (rows_of : ℕ → List Row)
-        → told_files (S.disk store.old) ≡ Some files
-        → Searches commit.old.searcher.segments (rows_of commit.old.number) → rows_of 0 ≡ []
-        → AnswerHolds files rows_of outcome.now.answer
+        → told_files (S.disk store.old) ≡ Some files → ServesCommits commit.old rows_of
+        → rows_of 0 ≡ [] → AnswerHolds files rows_of outcome.now.answer
         → IfOk result (λ text. (text.items ≡ outcome_text rows_of outcome.now)
-        × Searches commit.new.searcher.segments (rows_of commit.new.number)) }
+        × ServesCommits commit.new rows_of) }
     ensures whole { (files : Files) → told_files (S.disk store.old) ≡ Some files
         → AnswerReads files outcome.now.answer → IfErr result IsOutside }
     ensures damaged { (damaged : Damaged) → result ≡ Err (OpenFault.Damaged damaged)
@@ -123,7 +136,7 @@ pub fn line_text<S: Store>(
     let line = outcome.line;
     if let Answer::Searched(number, query) = &outcome.answer {
         return match reopen(alloc, store, commit, *number) {
-            Ok(()) => or_no_memory(found_text(alloc, commit, query, line)),
+            Ok(()) => or_no_memory(found_text(alloc, commit, *number, query, line)),
             Err(fault) => Err(fault),
         };
     }

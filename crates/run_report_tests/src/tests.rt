@@ -1,7 +1,7 @@
 //! Reports of lines that search nothing, of a search before any commit, of one with many hits, and of a
 //! commit that is in memory.
 use commit_point::OpenFault;
-use ix_base::{FileName, NoMemory, Query, Refusal};
+use ix_base::{FileName, NoMemory, Queries, Query, Refusal};
 use ix_memory::{FuseStore, MemoryStore};
 use ix_outside::{Store, StoreFault};
 use run_report::{Answer, Outcome, SearchedCommit, report};
@@ -175,14 +175,12 @@ fn searches(alloc: Global, count: u32) -> Result<Vec<Outcome>, NoMemory> {
     Ok(outcomes)
 }
 
-/// The commit of a thousand documents, in memory, or none.
-fn loaded(alloc: Global, is_loaded: bool) -> Result<SearchedCommit, Fail> {
-    if !is_loaded {
-        return Ok(SearchedCommit::none(alloc));
-    }
+/// The commit of a thousand documents, in memory, which no line since this number changed.
+fn loaded(alloc: Global, since: u64) -> Result<SearchedCommit, Fail> {
     let mut store = store_of_thousand(alloc)?;
     match Searcher::open(alloc, &mut store, 1000) {
         Ok(searcher) => Ok(SearchedCommit {
+            since,
             number: 1000,
             searcher,
         }),
@@ -196,7 +194,11 @@ fn calls_of_searches(alloc: Global, count: u32, is_loaded: bool) -> Result<u64, 
     let outcomes = searches(alloc, count)?;
     for passes in 0..40u64 {
         let mut store = FuseStore::new(store_of_thousand(alloc)?, passes);
-        let commit = loaded(alloc, is_loaded)?;
+        let commit = if is_loaded {
+            loaded(alloc, 1000)?
+        } else {
+            SearchedCommit::none(alloc)
+        };
         match report(alloc, &mut store, commit, outcomes.as_slice()) {
             Ok(_) => return Ok(passes),
             Err(OpenFault::Store) => {}
@@ -213,5 +215,49 @@ fn a_commit_is_read_once(rt: HostRuntime) -> Result<(), Fail> {
     assert!(rt; calls_of_searches(rt.alloc(), 1, false)? == 5);
     assert!(rt; calls_of_searches(rt.alloc(), 20, false)? == 5);
     assert!(rt; calls_of_searches(rt.alloc(), 20, true)? == 0);
+    Ok(())
+}
+
+/// A query that no document matches.
+fn nothing(alloc: Global) -> Query {
+    let none = || Queries::from_vec(Vec::new(alloc));
+    Query::Bool {
+        must: none(),
+        should: none(),
+        must_not: none(),
+    }
+}
+
+/// The report of one search of this commit for what no document has, over a store that has no file, where
+/// the commit 1000 is in memory, which no line since 998 changed. Without one the store was asked.
+fn found_since(alloc: Global, number: u64) -> Result<Option<Vec<u8>>, Fail> {
+    let commit = loaded(alloc, 998)?;
+    let outcome = Outcome {
+        line: 1,
+        answer: Answer::Searched(number, nothing(alloc)),
+    };
+    let mut store = MemoryStore::new(alloc);
+    Ok(report(alloc, &mut store, commit, &[outcome]).ok())
+}
+
+/// A commit since which no line changed a row is answered under its own number from what is in memory, and
+/// no other is.
+#[test]
+fn a_later_commit_has_the_rows(rt: HostRuntime) -> Result<(), Fail> {
+    let alloc = rt.alloc();
+    for (number, text) in [
+        (997, ""),
+        (998, "{\"commit\":998,\"hits\":[],\"line\":1}\n"),
+        (1000, "{\"commit\":1000,\"hits\":[],\"line\":1}\n"),
+        (1001, ""),
+    ] {
+        let found = found_since(alloc, number)?;
+        assert!(rt;
+            found
+                .as_ref()
+                .map_or("".as_bytes(), |bytes| bytes.as_slice())
+                == text.as_bytes()
+        );
+    }
     Ok(())
 }

@@ -71,7 +71,8 @@ returns-in-Ok-came-clause-done g c = λ given same told can.
     c.requires.lines.rise c.requires.made can still on (over g c) c.upto-base.ensures c.upto-number.ensures
     (λ f by is told search found.
     c.text_of.ensures.report f by is told search
-    (searches_same c.do_lines-writer.result.writer.state by _ _ c.into_parts-store.ensures.segments c.upto-number.ensures found))
+    (searches_same c.do_lines-writer.result.writer.state by _ _ _ given.base _ c.into_parts-store.ensures.segments
+    c.upto-number.ensures (c.upto-base.ensures ∙ on.number) found))
     c.text_of.ensures.summary)
 
 pub returns-in-Ok-came-clause-stops : goal.returns-in-Ok-came-clause-stops

@@ -7,8 +7,7 @@ use Rattle.ix_base.specs.declared.document.Row.{Row}
 use Rattle.ix_outside.specs.Files.{Files}
 use Rattle.run_report.specs.declared.outcome.Outcome.{Outcome}
 use Rattle.run_report.specs.declared.assembly.Turn.{Turn}
-use Rattle.searcher.specs.Searching.{Searches}
-use Rattle.run_report.specs.Searching.{AnswerHolds, AnswerReads, CanRead, CanSearch, SearchesDamaged}
+use Rattle.run_report.specs.Searching.{AnswerHolds, AnswerReads, CanRead, CanSearch, SearchesDamaged, ServesCommits}
 use Rattle.run_report.proofs.Filled.{FilledAt, filled_more, all_filled, turn_in_range, get_or_any}
 use Rattle.run_report.proofs.assembly.texts_in_turn.Goals as goal
 
@@ -38,7 +37,7 @@ loop-turn-preserved g c =
     let text = c.in-Ok-line_text.text in
     let lt = turn_in_range (length outcomes) turns i some c.requires c.loop-turn-test.true in
     let done = λ (files : Files) (rows_of : ℕ → List Row) (told : told_files (g.S.Store.disk c.args.store.now) ≡ Some files) (can : CanSearch files rows_of outcomes)
-    (found : Searches c.args.loaded.searcher.segments (rows_of c.args.loaded.number)).
+    (found : ServesCommits c.args.loaded rows_of).
     c.in-Ok-line_text.ensures.text files rows_of ((ap told_files inv.reads) ∙ told) (inv.rows_are files rows_of told can found) can.none (holds_at files rows_of outcomes at c.index-outcomes-turn.result lt c.index-outcomes-turn.is can) in
     record {
       count = length-set made at text ∙ inv.count;
