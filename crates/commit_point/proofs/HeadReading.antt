@@ -1,23 +1,30 @@
 -- A commit file that is read is the one that was written, and what was written is read again.
-use Rattle.std.proofs.Common.{◌≡◌, ℕ, ◌+◌, ◌^◌, ◌<◌, ◌≤◌, Bool, eqb, leb, ltb, List, [], ◌∷◌, ◌++◌, length, Result, Ok, Err, refl, sym, ap, subst, ◌∙◌, append_assoc, arith}
+use Rattle.std.proofs.Common.{◌≡◌, ℕ, ◌+◌, ◌^◌, ◌<◌, ◌≤◌, Bool, false, eqb, leb, ltb, List, [], ◌∷◌, ◌++◌, length, Result, Ok, Err, refl, sym, ap, subst, ◌∙◌, append_assoc, arith}
 use Rattle.std.specs.Prelude.{◌&&◌, IfOk}
 use Rattle.std.specs.Cmp.Derive.{both_true}
 use Rattle.std.specs.Int.{w32, w64}
 use Rattle.std.specs.List.{flat_map, AllByRecursion}
+use Rattle.std.specs.Str.{bytes_eq}
 use Rattle.std.proofs.lemmas.Bool.{and_parts, eqb-true, eq-eqb, leb-true, le-leb, ltb-true, lt-ltb}
-use Rattle.std.proofs.lemmas.List.{append-nil}
+use Rattle.std.proofs.lemmas.List.{append-nil, take_at}
 use Rattle.ix_base.specs.declared.file_name.FileName.{FileName}
 use Rattle.commit_point.specs.declared.heads.HeadSegment.{HeadSegment}
 use Rattle.commit_point.specs.declared.heads.Head.{Head}
 use Rattle.ix_base.specs.declared.damaged.FileFault.{FileFault}
-use Rattle.commit_point.specs.Spelling.{commit_mark, entry, commit_file}
+use Rattle.commit_point.specs.declared.heads.CommitFormat.{CommitFormat}
+use Rattle.commit_point.specs.declared.heads.CommitFormat.TheVariants.{First, Second}
+use Rattle.segment_files.specs.Fits.{PairsFit}
+use Rattle.segment_files.specs.Pairs.{pairs_at}
+use Rattle.segment_files.specs.Spelling.{fields}
+use Rattle.segment_files.proofs.PairLaws.{pairs_again, pairs_take}
+use Rattle.commit_point.specs.Spelling.{entry, commit_file, first_mark, mark_of, second_mark, tail_of}
 use Rattle.commit_point.specs.Fits.{IdsRise, EntryFits, HeadFits}
 use Rattle.ix_base.specs.Codec.{◌>>=◌, number_at, items_at}
 use Rattle.ix_base.proofs.CodecLaws.{bind_ok, ok_is, Takes, Takes-then, u64_takes, u64_again}
 use Rattle.ix_base.specs.Spelling.{be32, be64, AreBytes}
 use Rattle.ix_base.specs.FileReading.{number_where, mark_at, ended, placed, GivesFile}
 use Rattle.ix_base.proofs.FileLaws.{u32_where_takes, u32_where_again, u64_where_takes, u64_where_again, mark_takes, mark_again, ended_ok, placed_ok}
-use Rattle.commit_point.specs.Reading.{entry_at, head_in}
+use Rattle.commit_point.specs.Reading.{entry_at, format_at, head_in, marked_or, tail_at}
 use Rattle.ix_base.proofs.ItemLaws.{AllGood, TakesItem, GivesItem, items_take, items_again, good_each}
 
 record EntryGood (s next low : ℕ) (e : HeadSegment) : Type 0 where
@@ -78,39 +85,106 @@ number_test s x = eqb x s && leb 1 x
 abbrev next_test : ℕ → Bool
 next_test x = leb 1 x && leb x (2 ^ 62)
 
+-- ---- the form
+
+first_eight : length first_mark ≡ 8
+unfolding first_mark
+first_eight = refl
+
+second_eight : length second_mark ≡ 8
+unfolding second_mark
+second_eight = refl
+
+marks_differ : bytes_eq first_mark second_mark ≡ false
+unfolding first_mark second_mark
+marks_differ = refl
+
+marked_takes : (bytes : List ℕ) (r : Result (List ℕ) ℕ) (x : CommitFormat × List ℕ) → AreBytes bytes → mark_at second_mark bytes ≡ r → marked_or r bytes ≡ Ok x → Takes bytes (mark_of x.0) x.1
+marked_takes bytes (Ok rest) x fits marked is =
+    subst (λ (y : CommitFormat × List ℕ). Takes bytes (mark_of y.0) y.1) (ok_is (Second, rest) x is) (mark_takes second_mark bytes rest second_eight fits marked)
+marked_takes bytes (Err left) x fits marked is =
+    let a = bind_ok (mark_at first_mark bytes) (λ rest. Ok (First, rest)) x is in
+    subst (λ (y : CommitFormat × List ℕ). Takes bytes (mark_of y.0) y.1) (ok_is (First, a.0) x a.2) (mark_takes first_mark bytes a.0 first_eight fits a.1)
+
+format_takes : (bytes : List ℕ) (x : CommitFormat × List ℕ) → AreBytes bytes → format_at bytes ≡ Ok x → Takes bytes (mark_of x.0) x.1
+unfolding format_at
+format_takes bytes x fits e = marked_takes bytes (mark_at second_mark bytes) x fits refl e
+
+not_second : (rest : List ℕ) → mark_at second_mark (first_mark ++ rest) ≡ Err (length (first_mark ++ rest))
+unfolding mark_at
+not_second rest = rw (take_at first_mark rest 8 first_eight, marks_differ) refl
+
+format_again : (format : CommitFormat) (rest : List ℕ) → format_at (mark_of format ++ rest) ≡ Ok (format, rest)
+unfolding format_at
+format_again First rest = rw (not_second rest, mark_again first_mark rest first_eight) refl
+format_again Second rest = rw (mark_again second_mark rest second_eight) refl
+
+-- ---- the pairs
+
+none_fit : PairsFit []
+none_fit = record { count = omega arith; each = tt; rise = refl }
+
+-- what a form says of pairs that are read
+record TailGood (format : CommitFormat) (pairs : List (List ℕ × List ℕ)) : Type 0 where
+  fits : PairsFit pairs
+  first : format ≡ First → pairs ≡ []
+
+tail_takes : (format : CommitFormat) (bytes : List ℕ) (x : List (List ℕ × List ℕ) × List ℕ) → AreBytes bytes → tail_at format bytes ≡ Ok x → Takes bytes (tail_of format x.0) x.1 × TailGood format x.0
+unfolding tail_at
+tail_takes First bytes x fits e =
+    subst (λ (y : List (List ℕ × List ℕ) × List ℕ). Takes bytes [] y.1 × TailGood First y.0) (ok_is ([], bytes) x e)
+    (record { parts = refl; rest_fits = fits }, record { fits = none_fit; first = λ is. refl })
+tail_takes Second bytes x fits e =
+    let t = pairs_take bytes x fits e in
+    (t.0, record { fits = t.1; first = λ is. absurd cc })
+
+tail_again : (format : CommitFormat) (pairs : List (List ℕ × List ℕ)) → PairsFit pairs → (format ≡ First → pairs ≡ []) → tail_at format (tail_of format pairs) ≡ Ok (pairs, [])
+unfolding tail_at
+tail_again First pairs fits first = ap (λ (ps : List (List ℕ × List ℕ)). Ok (ps, [])) (sym (first refl))
+tail_again Second pairs fits first = ap pairs_at (sym (append-nil (fields pairs))) ∙ pairs_again pairs [] fits
+
+-- ---- the whole file
+
+abbrev made : ℕ → ℕ → ℕ → List HeadSegment → CommitFormat → List (List ℕ × List ℕ) → Head
+made number docs next segments format pairs =
+    record { number = number; docs = docs; next_id = next; segments = segments; format = format; pairs = pairs }
+
 pub head_take : (s : ℕ) (bytes : List ℕ) (head : Head) → AreBytes bytes → head_in s bytes ≡ Ok head → (head.number ≡ s) × HeadFits head × (bytes ≡ commit_file head)
-unfolding head_in commit_mark
+unfolding head_in
 head_take s bytes head fits e =
-    let made : ℕ → ℕ → ℕ → List HeadSegment → Head = λ number docs next segments. record { number = number; docs = docs; next_id = next; segments = segments } in
-    let a = bind_ok (mark_at commit_mark bytes) (λ rest. number_where w64 (number_test s) rest >>= λ number. number_at w64 number.1 >>= λ docs. number_where w64 next_test docs.1 >>= λ next. number_at w64 next.1 >>= λ count. items_at (entry_at s next.0) after_id 1 count.0 count.1 >>= λ segments. ended (made number.0 docs.0 next.0 segments.0) segments.1) head e in
-    let b = bind_ok (number_where w64 (number_test s) a.0) (λ number. number_at w64 number.1 >>= λ docs. number_where w64 next_test docs.1 >>= λ next. number_at w64 next.1 >>= λ count. items_at (entry_at s next.0) after_id 1 count.0 count.1 >>= λ segments. ended (made number.0 docs.0 next.0 segments.0) segments.1) head a.2 in
-    let c = bind_ok (number_at w64 b.0.1) (λ docs. number_where w64 next_test docs.1 >>= λ next. number_at w64 next.1 >>= λ count. items_at (entry_at s next.0) after_id 1 count.0 count.1 >>= λ segments. ended (made b.0.0 docs.0 next.0 segments.0) segments.1) head b.2 in
-    let d = bind_ok (number_where w64 next_test c.0.1) (λ next. number_at w64 next.1 >>= λ count. items_at (entry_at s next.0) after_id 1 count.0 count.1 >>= λ segments. ended (made b.0.0 c.0.0 next.0 segments.0) segments.1) head c.2 in
-    let f = bind_ok (number_at w64 d.0.1) (λ count. items_at (entry_at s d.0.0) after_id 1 count.0 count.1 >>= λ segments. ended (made b.0.0 c.0.0 d.0.0 segments.0) segments.1) head d.2 in
-    let g = bind_ok (items_at (entry_at s d.0.0) after_id 1 f.0.0 f.0.1) (λ segments. ended (made b.0.0 c.0.0 d.0.0 segments.0) segments.1) head f.2 in
-    let z = ended_ok (made b.0.0 c.0.0 d.0.0 g.0.0) g.0.1 head g.2 in
-    let t0 = mark_takes commit_mark bytes a.0 refl fits a.1 in
-    let t1 = u64_where_takes (number_test s) a.0 b.0 t0.rest_fits b.1 in
+    let a = bind_ok (format_at bytes) (λ format. number_where w64 (number_test s) format.1 >>= λ number. number_at w64 number.1 >>= λ docs. number_where w64 next_test docs.1 >>= λ next. number_at w64 next.1 >>= λ count. items_at (entry_at s next.0) after_id 1 count.0 count.1 >>= λ segments. tail_at format.0 segments.1 >>= λ pairs. ended (made number.0 docs.0 next.0 segments.0 format.0 pairs.0) pairs.1) head e in
+    let b = bind_ok (number_where w64 (number_test s) a.0.1) (λ number. number_at w64 number.1 >>= λ docs. number_where w64 next_test docs.1 >>= λ next. number_at w64 next.1 >>= λ count. items_at (entry_at s next.0) after_id 1 count.0 count.1 >>= λ segments. tail_at a.0.0 segments.1 >>= λ pairs. ended (made number.0 docs.0 next.0 segments.0 a.0.0 pairs.0) pairs.1) head a.2 in
+    let c = bind_ok (number_at w64 b.0.1) (λ docs. number_where w64 next_test docs.1 >>= λ next. number_at w64 next.1 >>= λ count. items_at (entry_at s next.0) after_id 1 count.0 count.1 >>= λ segments. tail_at a.0.0 segments.1 >>= λ pairs. ended (made b.0.0 docs.0 next.0 segments.0 a.0.0 pairs.0) pairs.1) head b.2 in
+    let d = bind_ok (number_where w64 next_test c.0.1) (λ next. number_at w64 next.1 >>= λ count. items_at (entry_at s next.0) after_id 1 count.0 count.1 >>= λ segments. tail_at a.0.0 segments.1 >>= λ pairs. ended (made b.0.0 c.0.0 next.0 segments.0 a.0.0 pairs.0) pairs.1) head c.2 in
+    let f = bind_ok (number_at w64 d.0.1) (λ count. items_at (entry_at s d.0.0) after_id 1 count.0 count.1 >>= λ segments. tail_at a.0.0 segments.1 >>= λ pairs. ended (made b.0.0 c.0.0 d.0.0 segments.0 a.0.0 pairs.0) pairs.1) head d.2 in
+    let g = bind_ok (items_at (entry_at s d.0.0) after_id 1 f.0.0 f.0.1) (λ segments. tail_at a.0.0 segments.1 >>= λ pairs. ended (made b.0.0 c.0.0 d.0.0 segments.0 a.0.0 pairs.0) pairs.1) head f.2 in
+    let h = bind_ok (tail_at a.0.0 g.0.1) (λ pairs. ended (made b.0.0 c.0.0 d.0.0 g.0.0 a.0.0 pairs.0) pairs.1) head g.2 in
+    let z = ended_ok (made b.0.0 c.0.0 d.0.0 g.0.0 a.0.0 h.0.0) h.0.1 head h.2 in
+    let t0 = format_takes bytes a.0 fits a.1 in
+    let t1 = u64_where_takes (number_test s) a.0.1 b.0 t0.rest_fits b.1 in
     let t2 = u64_takes b.0.1 c.0 t1.0.rest_fits c.1 in
     let t3 = u64_where_takes next_test c.0.1 d.0 t2.0.rest_fits d.1 in
     let t4 = u64_takes d.0.1 f.0 t3.0.rest_fits f.1 in
     let t5 = items_take (entry_at s d.0.0) after_id entry (EntryGood s d.0.0) (entry_takes s d.0.0) 1 f.0.0 f.0.1 g.0 t4.0.rest_fits g.1 in
-    let h = and_parts (eqb b.0.0 s) (leb 1 b.0.0) t1.2 in
+    let t6 = tail_takes a.0.0 g.0.1 h.0 t5.0.rest_fits h.1 in
+    let own = and_parts (eqb b.0.0 s) (leb 1 b.0.0) t1.2 in
     let k = and_parts (leb 1 d.0.0) (leb d.0.0 (2 ^ 62)) t3.2 in
-    let s-is : b.0.0 ≡ s = eqb-true _ _ h.0 in
+    let s-is : b.0.0 ≡ s = eqb-true _ _ own.0 in
     let listed = flat_map entry g.0.0 in
-    let e45 = Takes-then d.0.1 (be64 f.0.0) f.0.1 listed g.0.1 t4.0 t5.0 in
-    let e35 = Takes-then c.0.1 (be64 d.0.0) d.0.1 (be64 f.0.0 ++ listed) g.0.1 t3.0 e45 in
-    let e25 = Takes-then b.0.1 (be64 c.0.0) c.0.1 (be64 d.0.0 ++ (be64 f.0.0 ++ listed)) g.0.1 t2.0 e35 in
-    let e15 = Takes-then a.0 (be64 b.0.0) b.0.1 (be64 c.0.0 ++ (be64 d.0.0 ++ (be64 f.0.0 ++ listed))) g.0.1 t1.0 e25 in
-    let e05 = Takes-then bytes commit_mark a.0 (be64 b.0.0 ++ (be64 c.0.0 ++ (be64 d.0.0 ++ (be64 f.0.0 ++ listed)))) g.0.1 t0 e15 in
-    let spelled : List ℕ = commit_mark ++ (be64 b.0.0 ++ (be64 c.0.0 ++ (be64 d.0.0 ++ (be64 f.0.0 ++ listed)))) in
-    let whole : bytes ≡ spelled = e05.parts ∙ ap (λ (r : List ℕ). spelled ++ r) z.0 ∙ append-nil spelled in
-    let counted : bytes ≡ commit_file (made b.0.0 c.0.0 d.0.0 g.0.0) = whole ∙ ap (λ (i : ℕ). commit_mark ++ (be64 b.0.0 ++ (be64 c.0.0 ++ (be64 d.0.0 ++ (be64 i ++ listed))))) (sym t5.1) in
+    let tail = tail_of a.0.0 h.0.0 in
+    let e56 = Takes-then f.0.1 listed g.0.1 tail h.0.1 t5.0 t6.0 in
+    let e46 = Takes-then d.0.1 (be64 f.0.0) f.0.1 (listed ++ tail) h.0.1 t4.0 e56 in
+    let e36 = Takes-then c.0.1 (be64 d.0.0) d.0.1 (be64 f.0.0 ++ (listed ++ tail)) h.0.1 t3.0 e46 in
+    let e26 = Takes-then b.0.1 (be64 c.0.0) c.0.1 (be64 d.0.0 ++ (be64 f.0.0 ++ (listed ++ tail))) h.0.1 t2.0 e36 in
+    let e16 = Takes-then a.0.1 (be64 b.0.0) b.0.1 (be64 c.0.0 ++ (be64 d.0.0 ++ (be64 f.0.0 ++ (listed ++ tail)))) h.0.1 t1.0 e26 in
+    let e06 = Takes-then bytes (mark_of a.0.0) a.0.1 (be64 b.0.0 ++ (be64 c.0.0 ++ (be64 d.0.0 ++ (be64 f.0.0 ++ (listed ++ tail))))) h.0.1 t0 e16 in
+    let spelled : List ℕ = mark_of a.0.0 ++ (be64 b.0.0 ++ (be64 c.0.0 ++ (be64 d.0.0 ++ (be64 f.0.0 ++ (listed ++ tail))))) in
+    let whole : bytes ≡ spelled = e06.parts ∙ ap (λ (r : List ℕ). spelled ++ r) z.0 ∙ append-nil spelled in
+    let counted : bytes ≡ commit_file (made b.0.0 c.0.0 d.0.0 g.0.0 a.0.0 h.0.0) = whole ∙ ap (λ (i : ℕ). mark_of a.0.0 ++ (be64 b.0.0 ++ (be64 c.0.0 ++ (be64 d.0.0 ++ (be64 i ++ (listed ++ tail)))))) (sym t5.1) in
     subst (λ (x : Head). (x.number ≡ s) × HeadFits x × (bytes ≡ commit_file x)) z.1 (
       s-is,
       record {
-        some = leb-true _ _ h.1;
+        some = leb-true _ _ own.1;
         number = t1.1;
         docs = t2.1;
         next_some = leb-true _ _ k.0;
@@ -118,27 +192,30 @@ head_take s bytes head fits e =
         count = omega (arith, t5.1, t4.1);
         ids = ids_of s d.0.0 1 g.0.0 t5.2;
         entries = subst (λ (i : ℕ). AllByRecursion (EntryFits i) g.0.0) (sym s-is) (good_each (EntryGood s d.0.0) (EntryFits s) after_id (λ low x y. y.fits) 1 g.0.0 t5.2);
+        pairs = t6.1.fits;
+        first = t6.1.first;
       },
       counted,
     )
 
 pub head_again : (head : Head) → HeadFits head → head_in head.number (commit_file head) ≡ Ok head
-unfolding head_in commit_mark
+unfolding head_in
 head_again head fits =
     let listed = flat_map entry head.segments in
-    let counted = be64 (length head.segments) ++ listed in
+    let tail = tail_of head.format head.pairs in
+    let counted = be64 (length head.segments) ++ (listed ++ tail) in
     let s = head.number in
-    let items : items_at (entry_at s head.next_id) after_id 1 (length head.segments) listed ≡ Ok (head.segments, []) =
-    ap (items_at (entry_at s head.next_id) after_id 1 (length head.segments)) (sym (append-nil listed))
-    ∙ items_again (entry_at s head.next_id) after_id entry (EntryGood s head.next_id) (entry_again s head.next_id fits.number) 1 head.segments [] (entries_good s head.next_id 1 head.segments fits.next fits.ids fits.entries) in
+    let items : items_at (entry_at s head.next_id) after_id 1 (length head.segments) (listed ++ tail) ≡ Ok (head.segments, tail) =
+    items_again (entry_at s head.next_id) after_id entry (EntryGood s head.next_id) (entry_again s head.next_id fits.number) 1 head.segments tail (entries_good s head.next_id 1 head.segments fits.next fits.ids fits.entries) in
     let short : head.next_id < 2 ^ 64 = omega (arith, fits.next) in
     rw (
-      mark_again commit_mark (be64 s ++ (be64 head.docs ++ (be64 head.next_id ++ counted))) refl,
+      format_again head.format (be64 s ++ (be64 head.docs ++ (be64 head.next_id ++ counted))),
       u64_where_again (number_test s) s (be64 head.docs ++ (be64 head.next_id ++ counted)) fits.number (both_true (eq-eqb s s refl) (le-leb _ _ fits.some)),
       u64_again head.docs (be64 head.next_id ++ counted) fits.docs,
       u64_where_again next_test head.next_id counted short (both_true (le-leb _ _ fits.next_some) (le-leb _ _ fits.next)),
-      u64_again (length head.segments) listed fits.count,
+      u64_again (length head.segments) (listed ++ tail) fits.count,
       items,
+      tail_again head.format head.pairs fits.pairs fits.first,
     ) refl
 
 pub head_found : (s : ℕ) (bytes : List ℕ) (name : FileName) (r : Result Head FileFault) → AreBytes bytes

@@ -9,11 +9,18 @@ use std::alloc::Global;
 use std::fmt::Write;
 use std::test::Fail;
 
-/// `segments_2`: one segment of one row.
+/// `segments_2`: one segment of one row, in the first form.
 pub(crate) const COMMIT: [u8; 60] = [
     0x49, 0x58, 0x43, 0x4f, 0x4d, 0x30, 0x30, 0x31, 0, 0, 0, 0, 0, 0, 0, 2, 0, 0, 0, 0, 0, 0, 0, 1,
     0, 0, 0, 0, 0, 0, 0, 2, 0, 0, 0, 0, 0, 0, 0, 1, 0, 0, 0, 0, 0, 0, 0, 1, 0, 0, 0, 1, 0, 0, 0, 0,
     0, 0, 0, 2,
+];
+
+/// The same commit file in the second form, as it is written where the commit has no pairs.
+pub(crate) const SECOND_COMMIT: [u8; 64] = [
+    0x49, 0x58, 0x43, 0x4f, 0x4d, 0x30, 0x30, 0x32, 0, 0, 0, 0, 0, 0, 0, 2, 0, 0, 0, 0, 0, 0, 0, 1,
+    0, 0, 0, 0, 0, 0, 0, 2, 0, 0, 0, 0, 0, 0, 0, 1, 0, 0, 0, 0, 0, 0, 0, 1, 0, 0, 0, 1, 0, 0, 0, 0,
+    0, 0, 0, 2, 0, 0, 0, 0,
 ];
 
 /// `seg_1.row`: the key `m1`, a text, an exact text and a number.
