@@ -1,5 +1,5 @@
 //! Commit files alone.
-use crate::tests_files::{COMMIT, COMMIT_FIELDS};
+use crate::tests_files::{COMMIT, COMMIT_FIELDS, SECOND_COMMIT};
 use commit_point::{CommitFormat, Head, HeadSegment, decode_commit, encode_commit};
 use ix_base::{Fields, FileFault, List};
 use std::alloc::Global;
@@ -32,44 +32,50 @@ fn changed(alloc: Global, bytes: &[u8], at: usize, to: u8) -> Result<Vec<u8>, Fa
     Ok(copy)
 }
 
+/// A commit file of one segment in each form, as it stands in bytes.
+const FORMS: [(CommitFormat, &[u8]); 2] = [
+    (CommitFormat::First, &COMMIT),
+    (CommitFormat::Second, &SECOND_COMMIT),
+];
+
+/// Their segment.
+const ONLY: HeadSegment = HeadSegment {
+    id: 1,
+    rows: 1,
+    written: 2,
+};
+
 #[test]
 fn spells_one_segment(rt: HostRuntime) -> Result<(), Fail> {
     let alloc = rt.alloc();
-    let segment = HeadSegment {
-        id: 1,
-        rows: 1,
-        written: 2,
-    };
-    let head = Head {
-        number: 2,
-        docs: 1,
-        next_id: 2,
-        segments: List::from_vec(vec![in alloc; segment]?),
-        format: CommitFormat::First,
-        pairs: Fields::none(alloc),
-    };
-    let commit = encode_commit(alloc, &head).ok().ok_or("memory")?;
-    assert!(rt; commit.as_slice() == COMMIT.as_slice());
+    for (format, bytes) in FORMS {
+        let head = Head {
+            number: 2,
+            docs: 1,
+            next_id: 2,
+            segments: List::from_vec(vec![in alloc; ONLY]?),
+            format,
+            pairs: Fields::none(alloc),
+        };
+        let commit = encode_commit(alloc, &head).ok().ok_or("memory")?;
+        assert!(rt; commit.as_slice() == bytes);
+    }
     Ok(())
 }
 
 #[test]
 fn reads_one_segment(rt: HostRuntime) -> Result<(), Fail> {
     let alloc = rt.alloc();
-    let head = decode_commit(alloc, &COMMIT, 2)
-        .ok()
-        .ok_or("the bytes are a commit file")?;
-    assert!(rt; head.docs == 1);
-    assert!(rt; head.next_id == 2);
-    assert!(rt;
-        head.segments.as_slice()
-            == [HeadSegment {
-                id: 1,
-                rows: 1,
-                written: 2
-            }]
-            .as_slice()
-    );
+    for (format, bytes) in FORMS {
+        let head = decode_commit(alloc, bytes, 2)
+            .ok()
+            .ok_or("the bytes are a commit file")?;
+        assert!(rt; head.docs == 1);
+        assert!(rt; head.next_id == 2);
+        assert!(rt; head.segments.as_slice() == [ONLY].as_slice());
+        assert!(rt; head.format == format);
+        assert!(rt; head.pairs.as_slice().is_empty());
+    }
     Ok(())
 }
 
@@ -176,10 +182,20 @@ fn broken_pairs_name_the_field(rt: HostRuntime) -> Result<(), Fail> {
         }
         assert!(rt; broken_place(alloc, &WITH_PAIRS[..len]) == Some(place));
     }
-    // A name that doesn't rise, three pairs, a byte behind the last pair, and another mark.
-    assert!(rt; broken_place(alloc, &changed(alloc, &WITH_PAIRS[..65], 60, 0x61)?) == Some(56));
-    assert!(rt; broken_place(alloc, &changed(alloc, &WITH_PAIRS[..65], 43, 3)?) == Some(65));
+    // A mark of no form, one pair fewer and one more, a name without bytes and one with no UTF-8, a text
+    // longer than the file, a name that falls, and a byte behind the last pair.
+    for (at, to, place) in [
+        (7, 0x33, 0),
+        (43, 1, 56),
+        (43, 3, 65),
+        (47, 0, 44),
+        (48, 0xff, 44),
+        (54, 0xff, 51),
+        (60, 0x61, 56),
+    ] {
+        let other = changed(alloc, &WITH_PAIRS[..65], at, to)?;
+        assert!(rt; broken_place(alloc, &other) == Some(place), "{at}");
+    }
     assert!(rt; broken_place(alloc, &WITH_PAIRS) == Some(65));
-    assert!(rt; broken_place(alloc, &changed(alloc, &WITH_PAIRS[..65], 7, 0x33)?) == Some(0));
     Ok(())
 }

@@ -77,6 +77,9 @@ pub(crate) const SMALL_VALUES: [u8; 36] = [
 /// Where the fields of each file begin.
 pub(crate) const COMMIT_FIELDS: [u64; 8] = [0, 8, 16, 24, 32, 40, 48, 52];
 
+/// Where the fields of the same file in the second form begin: the last is the count of pairs.
+pub(crate) const SECOND_COMMIT_FIELDS: [u64; 9] = [0, 8, 16, 24, 32, 40, 48, 52, 60];
+
 pub(crate) const ROWS_FIELDS: [u64; 14] = [0, 8, 16, 20, 28, 34, 38, 46, 56, 60, 67, 73, 81, 89];
 
 pub(crate) const POSTS_FIELDS: [u64; 28] = [
