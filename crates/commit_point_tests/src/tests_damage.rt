@@ -1,8 +1,9 @@
 //! The files of one commit, cut at every length and changed byte by byte.
 use crate::tests_files::{
     Bytes, COMMIT, COMMIT_FIELDS, LIVE, LIVE_FIELDS, POSTS, POSTS_FIELDS, ROWS, ROWS_FIELDS,
-    SECOND_COMMIT, SECOND_COMMIT_FIELDS, SMALL_POSTS, SMALL_POSTS_FIELDS, SMALL_ROWS, SMALL_ROWS_FIELDS, SMALL_VALUES,
-    SMALL_VALUES_FIELDS, VALUES, VALUES_FIELDS, exchanged, full, shown, small, store_of,
+    SECOND_COMMIT, SECOND_COMMIT_FIELDS, SMALL_POSTS, SMALL_POSTS_FIELDS, SMALL_ROWS,
+    SMALL_ROWS_FIELDS, SMALL_VALUES, SMALL_VALUES_FIELDS, VALUES, VALUES_FIELDS, exchanged, full,
+    shown, small, store_of,
 };
 use commit_point::{OpenFault, head, open_commit, read_commit};
 use ix_base::{Damaged, FileName};
