@@ -1,4 +1,4 @@
-use Rattle.std.proofs.Common.{◌∙◌, ◌++◌, ◌∷◌, [], List, refl, sym, subst}
+use Rattle.std.proofs.Common.{◌++◌, ◌∷◌, [], List, refl, sym, subst}
 use Rattle.merge_postings.specs.Gathering.{is_gathered}
 use Rattle.merge_postings.specs.Walk.{AreQueued, TakenAll, Waiting}
 use Rattle.merge_postings.proofs.Queued.{front_queued}
