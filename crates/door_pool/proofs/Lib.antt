@@ -1,0 +1,5 @@
+pub mod Words
+pub mod Moving
+pub mod Facts
+pub mod Beginning
+pub mod Telling
