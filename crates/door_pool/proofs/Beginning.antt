@@ -1,15 +1,12 @@
 -- How doors are made.
-use Rattle.std.proofs.Common.{◌≡◌, ◌≢◌, ◌∙◌, ◌⊎◌, ℕ, zero, suc, ◌+◌, ◌<◌, ◌≤◌, Bool, true, false, List, [], ◌∷◌, ◌++◌, length, map, take, get_or, refl, sym, ap, subst, inl, inr, ⊎_elim, arith, true≢false}
+use Rattle.std.proofs.Common.{◌≡◌, ◌∙◌, ℕ, zero, suc, ◌+◌, ◌<◌, ◌≤◌, false, List, [], ◌∷◌, ◌++◌, length, map, take, refl, sym, ap, subst, ⊎_elim, arith, true≢false}
 use Rattle.std.specs.Prelude.{Option, Some, None, All, slice_index}
-use mathlib.Core.Option.{some, none, some-injective, some-ne-none}
-use lib.ListN.{get_elem?}
 use Rattle.atomic_table.specs.Seated.{TableId}
-use Rattle.atomic_table.specs.declared.shared.Seat.{Seat}
 use Rattle.door_pool.specs.declared.view.View.{View}
 use Rattle.door_pool.specs.declared.view.DoorSeen.{DoorSeen}
 use Rattle.door_pool.specs.declared.doors.Pass.{Pass}
-use Rattle.door_pool.specs.Views.{deed_at, next_pass, doors_of, doors_in}
-use Rattle.door_pool.specs.Passes.{ArePasses, IsNewPass, AreFresh}
+use Rattle.door_pool.specs.Views.{deed_at, next_pass, door_seen, doors_of, doors_in}
+use Rattle.door_pool.specs.Passes.{AreNewPasses, IsNewPass, AreFresh}
 use Rattle.door_pool.proofs.Words.{at_end}
 
 -- ---- words
@@ -54,11 +51,6 @@ somes_none [] = refl
 somes_none (None ∷ xs) = somes_none xs
 somes_none (Some y ∷ xs) = ap (λ l. y ∷ l) (somes_none xs)
 
-pub somes_many : {A : Type 0} (xs : List (Option A)) → length (somes xs) ≤ length xs
-somes_many [] = omega arith
-somes_many (None ∷ xs) = let r = somes_many xs in omega (arith, r)
-somes_many (Some x ∷ xs) = let r = somes_many xs in omega (arith, r)
-
 pub nothing_left : {A : Type 0} (xs : List A) → length xs ≡ 0 → xs ≡ []
 nothing_left [] e = refl
 nothing_left (x ∷ xs) e = absurd (omega (arith, e))
@@ -66,19 +58,18 @@ nothing_left (x ∷ xs) e = absurd (omega (arith, e))
 -- ---- passes
 
 pub passes_more : {H D T : Type 0} (t : TableId) (doors : List (DoorSeen D)) (ps : List (Pass H D T)) (p : Pass H D T)
-    → ArePasses t doors ps → IsNewPass t (length ps) (deed_at doors (length ps)) p → ArePasses t doors (ps ++ p ∷ [])
+    → AreNewPasses t doors ps → IsNewPass t (length ps) (deed_at doors (length ps)) p → AreNewPasses t doors (ps ++ p ∷ [])
 passes_more {H} {D} {T} t doors ps p are new c q got = ⊎_elim (λ o. are c q o)
     (λ (e : (c ≡ length ps) × (p ≡ q)).
-        subst (λ (y : ℕ × Pass H D T). IsNewPass t y.0 (deed_at doors y.0) y.1) (λ i. (sym e.0 i, e.1 i)) new)
+    subst (λ (y : ℕ × Pass H D T). IsNewPass t y.0 (deed_at doors y.0) y.1) (λ i. (sym e.0 i, e.1 i)) new)
     (at_end ps p q c got)
 
 -- a seat that was split off is a new pass
-pub split_off : {H D T : Type 0} (t : TableId) (c : ℕ) (doors : List (DoorSeen D)) (v : View D T) (p : Pass H D T)
-    → p.seat.table_id ≡ t → p.seat.me ≡ (next_pass v, []) → p.door ≡ c → v.made ≡ c → v.doors ≡ doors → c + 2 < t.words → c < 16
-    → IsNewPass t c (deed_at doors c) p
-split_off t c doors v p table is door_is made same words few = record {
-  door_is = door_is;
-  seat = record {
+pub split_off : {H D T : Type 0} (t : TableId) (doors : List (DoorSeen D)) (v : View D T) (p : Pass H D T)
+    → p.seat.table_id ≡ t → p.seat.me ≡ (next_pass v, []) → v.made ≡ p.door → v.doors ≡ doors → p.door + 2 < t.words → p.door < 16
+    → IsNewPass t p.door (deed_at doors p.door) p
+split_off t doors v p table is made same words few = record {
+  pass = record {
     seat = record {
       table = table;
       words = words;
@@ -90,7 +81,8 @@ split_off t c doors v p table is door_is made same words few = record {
     out = λ o. ap (λ m. m.1) is;
     inn = λ i. absurd (true≢false (sym i ∙ ap (λ m. m.0.inside) is));
   };
-  deed_is = ap (λ m. m.0.deed) is ∙ ap (λ (x : ℕ). deed_at v.doors x) made ∙ ap (λ (ds : List (DoorSeen _)). deed_at ds c) same;
+  door = ap (λ m. m.0.door) is ∙ made;
+  deed_is = ap (λ m. m.0.deed) is ∙ ap (λ (x : ℕ). deed_at v.doors x) made ∙ ap (λ (ds : List (DoorSeen _)). deed_at ds p.door) same;
   told = ap (λ m. m.0.told) is;
   outside = ap (λ m. m.0.inside) is;
 }
@@ -105,4 +97,4 @@ fresh_in_slots told_of (h ∷ hs) fresh = (fresh 0 h (omega arith), fresh_in_slo
 
 pub doors_in_slots : {H D : Type 0} (deed_of : H → D) (hands : List H) → doors_in deed_of (map Some hands) ≡ doors_of deed_of hands
 doors_in_slots deed_of [] = refl
-doors_in_slots deed_of (h ∷ hs) = ap (λ ds. _ ∷ ds) (doors_in_slots deed_of hs)
+doors_in_slots deed_of (h ∷ hs) = ap (λ ds. door_seen (Some (deed_of h)) false ∷ ds) (doors_in_slots deed_of hs)

@@ -1,6 +1,6 @@
--- The steps keep the rule.
-use Rattle.std.proofs.Common.{◌≡◌, ◌≢◌, ◌∙◌, ◌⊎◌, ℕ, zero, suc, ◌+◌, ◌<◌, ◌==◌, eqb, Bool, true, false, if◌then◌else◌, List, [], ◌∷◌, ◌++◌, length, map, set, get_or, refl, sym, ap, subst, inl, inr, ⊎_elim, arith, eq-eqb, ne_eqb, true≢false}
-use Rattle.std.specs.Prelude.{Option, Some, None, slice_index, MatchBool}
+-- Each kind of step keeps the rule.
+use Rattle.std.proofs.Common.{◌≡◌, ◌≢◌, ◌∙◌, ◌⊎◌, ℕ, zero, suc, ◌+◌, ◌<◌, ◌==◌, Bool, true, false, List, [], ◌∷◌, ◌++◌, length, map, set, refl, sym, ap, subst, inl, ⊎_elim, arith, true≢false}
+use Rattle.std.specs.Prelude.{Option, Some, None, slice_index}
 use Rattle.std.proofs.lemmas.List.{length-set, get_or-set_same, get_or-set_other}
 use mathlib.Core.Option.{some, none, some-ne-none, some-injective}
 use mathlib.Core.Option.{Option as Home}
@@ -8,13 +8,12 @@ use mathlib.Core.Logic.{dite}
 use native.Mathlib.Decide.{ℕ_discrete}
 use prog.Atomic.{either}
 use lib.ListN.{get_elem?}
-use Rattle.atomic_table.specs.Table.{State, Me, Act, Allows, Splits, Valid, stepped, opening, carried_after, put_back, keeps, takes, gives, rest}
+use Rattle.atomic_table.specs.Table.{State, Act, Valid, stepped, carried_after, put_back, keeps, takes, gives, rest}
 use Rattle.atomic_table.proofs.Lists.{at_set, set_here, set_else, at_longer, at_last}
 use Rattle.door_pool.specs.declared.view.View.{View}
-use Rattle.door_pool.specs.declared.view.DoorSeen.{DoorSeen}
 use Rattle.door_pool.specs.Views.{deed_at, taken_at, with_taken, after_found, after_enter, after_leave, after_take, after_split, next_pass, doors_in, keeper_of}
 use Rattle.door_pool.specs.Rule.{Kept, Fits, HoldsHand, HasView, word_of}
-use Rattle.door_pool.specs.Steps.{Enters, Leaves, Takes}
+use Rattle.door_pool.specs.Steps.{Enters, Takes}
 use Rattle.door_pool.specs.Passes.{AreFresh}
 use Rattle.door_pool.specs.Laws.{OpeningKept, EnterKept, LeaveKept, TakeKept, BellOrCountKept, SplitKept}
 use Rattle.door_pool.proofs.Words.{bool_cases, at_end, at, at_same, at_other, at_each, deed_stays, taken_here, taken_else, doors_many}
@@ -43,9 +42,9 @@ pub view_stays : {V : Type 0} (views : List V) (id j : ℕ) (v w : V) (P : V →
 view_stays views id j v w P is same has =
     dite (ℕ_discrete j id)
     (λ (e : j ≡ id). (
-        w,
-        subst (λ (i : ℕ). get_elem? (set views id w) i ≡ some w) (sym e) (set_here views id w (there views id v is)),
-        same (subst P (some-injective has.0 v (sym has.1 ∙ ap (λ (i : ℕ). get_elem? views i) e ∙ is)) has.2),
+      w,
+      subst (λ (i : ℕ). get_elem? (set views id w) i ≡ some w) (sym e) (set_here views id w (there views id v is)),
+      same (subst P (some-injective has.0 v (sym has.1 ∙ ap (λ (i : ℕ). get_elem? views i) e ∙ is)) has.2),
     ))
     (λ (ne : j ≢ id). (has.0, set_else views id j w ne ∙ has.1, has.2))
 
@@ -104,13 +103,13 @@ module _ {H D T : Type 0} (deed_of : H → D) (told_of : H → List T) where
     passes_there = λ c lt. pass_stays s.views id (k.holder c) c v w is one_seat (k.passes_there c lt);
     fits = λ j u got. ⊎_elim
         (λ (t : (j ≡ id) × (w ≡ u)).
-            subst (λ (y : ℕ × View D T). Fits n k.keeper k.made k.holder k.deed k.told k.inside k.taken y.0 y.1)
-            (λ i. (sym t.0 i, t.1 i)) (fit (k.fits id v is)))
+        subst (λ (y : ℕ × View D T). Fits n k.keeper k.made k.holder k.deed k.told k.inside k.taken y.0 y.1)
+        (λ i. (sym t.0 i, t.1 i)) (fit (k.fits id v is)))
         (λ (t : (j ≢ id) × (get_elem? s.views j ≡ some u)). k.fits j u t.1) (at_set s.views id j w u got);
   }
 
   -- a pass changes its door's word, its slot, and what its view says of them
-  pub pass_moves : (n id : ℕ) (v : View D T) (inside : Bool) (told : List T) (found steps : ℕ) (homes : List (Home (Option H)))
+  pub pass_moves : (n id : ℕ) (v : View D T) (inside : Bool) (told : List T) (found tries : ℕ) (homes : List (Home (Option H)))
       (s : State (Option H) (View D T)) → (k : Held n s) → v.is_pass ≡ true → v.is_keeper ≡ false
       → get_elem? s.views id ≡ some v → k.taken v.door ≡ false
       → ((c : ℕ) → c ≢ v.door → get_elem? homes c ≡ get_elem? s.homes c)
@@ -119,12 +118,12 @@ module _ {H D T : Type 0} (deed_of : H → D) (told_of : H → List T) where
       → Held n record {
         words = set s.words (v.door + 2) (word_of inside false);
         homes = homes;
-        views = set s.views id (record v { inside = inside; told = told; found = found; steps = steps });
+        views = set s.views id (record v { inside = inside; told = told; found = found; tries = tries });
       }
-  pass_moves n id v inside told found steps homes s k passes rests is free others home away =
+  pass_moves n id v inside told found tries homes s k passes rests is free others home away =
       let mine = (k.fits id v is).pass passes in
       let d = v.door in
-      let w : View D T = record v { inside = inside; told = told; found = found; steps = steps } in
+      let w : View D T = record v { inside = inside; told = told; found = found; tries = tries } in
       let now_inside = at k.inside d inside in
       let now_told = at k.told d told in
       let one_seat : SameSeat v w = record { is_pass = λ p. p; door = refl; is_keeper = λ p. p } in
@@ -148,8 +147,8 @@ module _ {H D T : Type 0} (deed_of : H → D) (told_of : H → List T) where
             (λ (x : ℕ) (l : List T). x < n → now_inside x ≡ false → k.taken x ≡ false → IsAt homes x (k.deed x) l)
             (λ lt no_in no_taken. home (sym (at_same k.inside d inside) ∙ no_in))
             (λ x ne lt no_in no_taken.
-                let h = k.at_home x lt (sym (at_other k.inside d inside x ne) ∙ no_in) no_taken in
-                (h.0, others x ne ∙ h.1, h.2, h.3))
+            let h = k.at_home x lt (sym (at_other k.inside d inside x ne) ∙ no_in) no_taken in
+            (h.0, others x ne ∙ h.1, h.2, h.3))
             c lt;
         away = λ c lt. at_each k.inside d inside
             (λ (x : ℕ) (b : Bool). x < n → (b ≡ true) ⊎ (k.taken x ≡ true) → get_elem? homes x ≡ some none)
@@ -163,25 +162,25 @@ module _ {H D T : Type 0} (deed_of : H → D) (told_of : H → List T) where
         passes_there = λ c lt. pass_stays s.views id (k.holder c) c v w is one_seat (k.passes_there c lt);
         fits = λ j u got. ⊎_elim
             (λ (t : (j ≡ id) × (w ≡ u)).
-                subst (λ (y : ℕ × View D T). Fits n k.keeper k.made k.holder k.deed now_told now_inside k.taken y.0 y.1)
-                (λ i. (sym t.0 i, t.1 i)) record {
-                  pass = λ p. (mine.0, mine.1, mine.2, mine.3, sym (at_same k.told d told), sym (at_same k.inside d inside));
-                  keeper_is = λ p. absurd (true≢false (sym p ∙ rests));
-                })
+            subst (λ (y : ℕ × View D T). Fits n k.keeper k.made k.holder k.deed now_told now_inside k.taken y.0 y.1)
+            (λ i. (sym t.0 i, t.1 i)) record {
+              pass = λ p. (mine.0, mine.1, mine.2, mine.3, sym (at_same k.told d told), sym (at_same k.inside d inside));
+              keeper_is = λ p. absurd (true≢false (sym p ∙ rests));
+            })
             (λ (t : (j ≢ id) × (get_elem? s.views j ≡ some u)).
-                let f = k.fits j u t.1 in
-                record {
-                  pass = λ p.
-                      let h = f.pass p in
-                      let ne : u.door ≢ d = λ e. t.0 (sym h.0 ∙ ap k.holder e ∙ mine.0) in
-                      (h.0, h.1, h.2, h.3, h.4 ∙ sym (at_other k.told d told u.door ne), h.5 ∙ sym (at_other k.inside d inside u.door ne));
-                  keeper_is = f.keeper_is;
-                })
+            let f = k.fits j u t.1 in
+            record {
+              pass = λ p.
+                  let h = f.pass p in
+                  let ne : u.door ≢ d = λ e. t.0 (sym h.0 ∙ ap k.holder e ∙ mine.0) in
+                  (h.0, h.1, h.2, h.3, h.4 ∙ sym (at_other k.told d told u.door ne), h.5 ∙ sym (at_other k.inside d inside u.door ne));
+              keeper_is = f.keeper_is;
+            })
             (at_set s.views id j w u got);
       }
 
   -- the keeper takes a door: its word, its slot and what the keeper's view says of it change
-  pub keeper_moves : (n id : ℕ) (v : View D T) (d steps : ℕ) (homes : List (Home (Option H)))
+  pub keeper_moves : (n id : ℕ) (v : View D T) (d tries : ℕ) (homes : List (Home (Option H)))
       (s : State (Option H) (View D T)) → (k : Held n s) → v.is_keeper ≡ true → v.is_pass ≡ false
       → get_elem? s.views id ≡ some v → d < n → k.inside d ≡ false
       → ((c : ℕ) → c ≢ d → get_elem? homes c ≡ get_elem? s.homes c)
@@ -189,11 +188,11 @@ module _ {H D T : Type 0} (deed_of : H → D) (told_of : H → List T) where
       → Held n record {
         words = set s.words (d + 2) 2;
         homes = homes;
-        views = set s.views id (record v { doors = with_taken v.doors d; found = 0; steps = steps });
+        views = set s.views id (record v { doors = with_taken v.doors d; found = 0; tries = tries });
       }
-  keeper_moves n id v d steps homes s k keeps_it rests is below out others away =
+  keeper_moves n id v d tries homes s k keeps_it rests is below out others away =
       let mine = (k.fits id v is).keeper_is keeps_it in
-      let w : View D T = record v { doors = with_taken v.doors d; found = 0; steps = steps } in
+      let w : View D T = record v { doors = with_taken v.doors d; found = 0; tries = tries } in
       let now_taken = at k.taken d true in
       let one_seat : SameSeat v w = record { is_pass = λ p. p; door = refl; is_keeper = λ p. p } in
       record {
@@ -224,27 +223,27 @@ module _ {H D T : Type 0} (deed_of : H → D) (told_of : H → List T) where
         passes_there = λ c lt. pass_stays s.views id (k.holder c) c v w is one_seat (k.passes_there c lt);
         fits = λ j u got. ⊎_elim
             (λ (t : (j ≡ id) × (w ≡ u)).
-                subst (λ (y : ℕ × View D T). Fits n k.keeper k.made k.holder k.deed k.told k.inside now_taken y.0 y.1)
-                (λ i. (sym t.0 i, t.1 i)) record {
-                  pass = λ p. absurd (true≢false (sym p ∙ rests));
-                  keeper_is = λ p. (
-                    mine.0,
-                    mine.1,
-                    doors_many v.doors d ∙ mine.2,
-                    (λ c lt. (
-                        deed_stays v.doors d c ∙ (mine.3 c lt).0,
-                        at_each k.taken d true (λ (x : ℕ) (b : Bool). x < n → taken_at (with_taken v.doors d) x ≡ b)
-                        (λ lt. taken_here v.doors d (subst (λ (m : ℕ). d < m) (sym mine.2) below))
-                        (λ x ne lt. taken_else v.doors d x ne ∙ (mine.3 x lt).1) c lt,
-                    )),
-                  );
-                })
+            subst (λ (y : ℕ × View D T). Fits n k.keeper k.made k.holder k.deed k.told k.inside now_taken y.0 y.1)
+            (λ i. (sym t.0 i, t.1 i)) record {
+              pass = λ p. absurd (true≢false (sym p ∙ rests));
+              keeper_is = λ p. (
+                mine.0,
+                mine.1,
+                doors_many v.doors d ∙ mine.2,
+                (λ c lt. (
+                  deed_stays v.doors d c ∙ (mine.3 c lt).0,
+                  at_each k.taken d true (λ (x : ℕ) (b : Bool). x < n → taken_at (with_taken v.doors d) x ≡ b)
+                      (λ lt. taken_here v.doors d (subst (λ (m : ℕ). d < m) (sym mine.2) below))
+                      (λ x ne lt. taken_else v.doors d x ne ∙ (mine.3 x lt).1) c lt,
+                )),
+              );
+            })
             (λ (t : (j ≢ id) × (get_elem? s.views j ≡ some u)).
-                let f = k.fits j u t.1 in
-                record {
-                  pass = f.pass;
-                  keeper_is = λ p. absurd (t.0 (sym (f.keeper_is p).0 ∙ mine.0));
-                })
+            let f = k.fits j u t.1 in
+            record {
+              pass = f.pass;
+              keeper_is = λ p. absurd (t.0 (sym (f.keeper_is p).0 ∙ mine.0));
+            })
             (at_set s.views id j w u got);
       }
 
@@ -259,32 +258,36 @@ module _ {H D T : Type 0} (deed_of : H → D) (told_of : H → List T) where
       let long : d + 2 < length s.words = (let l = k.long in omega (arith, l, lt)) in
       bool_cases (k.taken d) _
       (λ (yes_taken : k.taken d ≡ true).
-          let word : slice_index s.words (d + 2) ≡ 2 = k.word d lt ∙ ap (word_of (k.inside d)) yes_taken in
-          subst (λ (x : ℕ). Goes s k at_id x) (sym word) (
-            after_found v 2,
-            keeps,
-            tt,
-            steady n id v (after_found v 2) s (set s.words (d + 2) 2) k (length-set s.words (d + 2) 2)
+      let word : slice_index s.words (d + 2) ≡ 2 = k.word d lt ∙ ap (word_of (k.inside d)) yes_taken in
+      subst (λ (x : ℕ). Goes s k at_id x) (sym word) (
+        after_found v 2,
+        keeps,
+        tt,
+        steady n id v (after_found v 2) s (set s.words (d + 2) 2) k (length-set s.words (d + 2) 2)
             (same_words s.words (d + 2) 2 long word) at_id record { is_pass = λ p. p; door = refl; is_keeper = λ p. p }
             (λ f. record { pass = f.pass; keeper_is = f.keeper_is }),
-            (refl, refl),
-          ))
+        (refl, refl),
+      ))
       (λ (no_taken : k.taken d ≡ false).
-          let word : slice_index s.words (d + 2) ≡ 0 =
-              k.word d lt ∙ ap (λ (b : Bool). word_of (k.inside d) b) no_taken ∙ ap (λ (b : Bool). word_of b false) out_now in
-          let h = k.at_home d lt out_now no_taken in
-          subst (λ (x : ℕ). Goes s k at_id x) (sym word) (
-            after_enter v,
-            takes d (Some h.0),
-            h.1,
-            subst (λ (c : ℕ). Held n record { words = set s.words (c + 2) 1; homes = set s.homes d none; views = set s.views id (after_enter v) }) is
+      let word : slice_index s.words (d + 2) ≡ 0 =
+      k.word d lt ∙ ap (λ (b : Bool). word_of (k.inside d) b) no_taken ∙ ap (λ (b : Bool). word_of b false) out_now in
+      let h = k.at_home d lt out_now no_taken in
+      subst (λ (x : ℕ). Goes s k at_id x) (sym word) (
+        after_enter v,
+        takes d (Some h.0),
+        h.1,
+        subst (λ (c : ℕ). Held n record { words = set s.words (c + 2) 1; homes = set s.homes d none; views = set s.views id (after_enter v) }) is
             (pass_moves n id v true v.told 0 (v.tries + 1) (set s.homes d none) s k passes rests at_id
             (ap k.taken is ∙ no_taken) (λ c ne. set_else s.homes d c none (λ e. ne (e ∙ sym is)))
             (λ no_in. absurd (true≢false no_in))
             (λ yes_in. subst (λ (c : ℕ). get_elem? (set s.homes d none) c ≡ some none) (sym is) (set_here s.homes d none (there s.homes d _ h.1)))),
-            (h.0, h.2 ∙ ap k.deed (sym is) ∙ sym mine.3, h.3 ∙ ap k.told (sym is) ∙ sym mine.4,
-                (λ i. (after_enter v, (sym is i, Some h.0) ∷ me.1))),
-          ))
+        (
+          h.0,
+          h.2 ∙ ap k.deed (sym is) ∙ sym mine.3,
+          h.3 ∙ ap k.told (sym is) ∙ sym mine.4,
+          (λ i. (after_enter v, (sym is i, Some h.0) ∷ me.1)),
+        ),
+      ))
     where
       Goes : (s : State (Option H) (View D T)) → Held n s → get_elem? s.views id ≡ some me.0 → ℕ → Type 0
       Goes s k at_id x = (w : View D T) × (a : Act (Option H)) × Valid s.homes me.1 a
@@ -305,18 +308,18 @@ module _ {H D T : Type 0} (deed_of : H → D) (told_of : H → List T) where
         gives,
         tt,
         subst (λ (hs : List (Home (Option H))). Held n record { words = set s.words (d + 2) 0; homes = hs; views = set s.views id (after_leave v (told_of h)) })
-        (sym put)
-        (subst (λ (c : ℕ). Held n record { words = set s.words (c + 2) 0; homes = homes; views = set s.views id (after_leave v (told_of h)) }) is
-        (pass_moves n id v false (told_of h) v.found v.tries homes s k passes rests at_id (ap k.taken is ∙ free)
-        (λ c ne. set_else s.homes d c (some (Some h)) (λ e. ne (e ∙ sym is)))
-        (λ no_in. (
-            h,
-            subst (λ (c : ℕ). get_elem? homes c ≡ some (some (Some h))) (sym is)
-            (set_here s.homes d (some (Some h)) (there s.homes d none away)),
-            same ∙ mine.3,
-            refl,
-        ))
-        (λ yes_in. absurd (true≢false (sym yes_in))))),
+            (sym put)
+            (subst (λ (c : ℕ). Held n record { words = set s.words (c + 2) 0; homes = homes; views = set s.views id (after_leave v (told_of h)) }) is
+            (pass_moves n id v false (told_of h) v.found v.tries homes s k passes rests at_id (ap k.taken is ∙ free)
+            (λ c ne. set_else s.homes d c (some (Some h)) (λ e. ne (e ∙ sym is)))
+            (λ no_in. (
+              h,
+              subst (λ (c : ℕ). get_elem? homes c ≡ some (some (Some h))) (sym is)
+                  (set_here s.homes d (some (Some h)) (there s.homes d none away)),
+              same ∙ mine.3,
+              refl,
+            ))
+            (λ yes_in. absurd (true≢false (sym yes_in))))),
         (h, holds_it ∙ (λ i. (sym is i, Some h) ∷ rest me.1), refl),
       )
 
@@ -330,29 +333,29 @@ module _ {H D T : Type 0} (deed_of : H → D) (told_of : H → List T) where
       let long : d + 2 < length s.words = (let l = k.long in omega (arith, l, lt)) in
       bool_cases (k.inside d) _
       (λ (yes_in : k.inside d ≡ true).
-          let found : slice_index s.words (d + 2) ≡ 1 =
-              k.word d lt ∙ ap (λ (b : Bool). word_of (k.inside d) b) free ∙ ap (λ (b : Bool). word_of b false) yes_in in
-          subst (λ (x : ℕ). Goes s k at_id x) (sym found) (
-            after_found v 1,
-            keeps,
-            tt,
-            steady n id v (after_found v 1) s (set s.words (d + 2) 1) k (length-set s.words (d + 2) 1)
+      let found : slice_index s.words (d + 2) ≡ 1 =
+      k.word d lt ∙ ap (λ (b : Bool). word_of (k.inside d) b) free ∙ ap (λ (b : Bool). word_of b false) yes_in in
+      subst (λ (x : ℕ). Goes s k at_id x) (sym found) (
+        after_found v 1,
+        keeps,
+        tt,
+        steady n id v (after_found v 1) s (set s.words (d + 2) 1) k (length-set s.words (d + 2) 1)
             (same_words s.words (d + 2) 1 long found) at_id record { is_pass = λ p. p; door = refl; is_keeper = λ p. p }
             (λ f. record { pass = f.pass; keeper_is = f.keeper_is }),
-            (d, word_is, (refl, refl)),
-          ))
+        (d, word_is, (refl, refl)),
+      ))
       (λ (no_in : k.inside d ≡ false).
-          let found : slice_index s.words (d + 2) ≡ 0 =
-              k.word d lt ∙ ap (λ (b : Bool). word_of (k.inside d) b) free ∙ ap (λ (b : Bool). word_of b false) no_in in
-          let h = k.at_home d lt no_in free in
-          subst (λ (x : ℕ). Goes s k at_id x) (sym found) (
-            after_take v d,
-            takes d (Some h.0),
-            h.1,
-            keeper_moves n id v d (v.tries + 1) (set s.homes d none) s k keeps_it rests at_id lt no_in
+      let found : slice_index s.words (d + 2) ≡ 0 =
+      k.word d lt ∙ ap (λ (b : Bool). word_of (k.inside d) b) free ∙ ap (λ (b : Bool). word_of b false) no_in in
+      let h = k.at_home d lt no_in free in
+      subst (λ (x : ℕ). Goes s k at_id x) (sym found) (
+        after_take v d,
+        takes d (Some h.0),
+        h.1,
+        keeper_moves n id v d (v.tries + 1) (set s.homes d none) s k keeps_it rests at_id lt no_in
             (λ c ne. set_else s.homes d c none ne) (set_here s.homes d none (there s.homes d _ h.1)),
-            (d, word_is, (h.0, h.2 ∙ sym (mine.3 d lt).0, refl)),
-          ))
+        (d, word_is, (h.0, h.2 ∙ sym (mine.3 d lt).0, refl)),
+      ))
     where
       Goes : (s : State (Option H) (View D T)) → Held n s → get_elem? s.views id ≡ some me.0 → ℕ → Type 0
       Goes s k at_id x = (w : View D T) × (a : Act (Option H)) × Valid s.homes me.1 a
@@ -366,8 +369,8 @@ module _ {H D T : Type 0} (deed_of : H → D) (told_of : H → List T) where
         keeps,
         tt,
         steady n id me.0 me.0 s (set s.words i x) k (length-set s.words i x)
-        (λ c. word_else s.words i (c + 2) x (λ e. let z : ⊥ = omega (arith, e, low) in z)) at_id
-        record { is_pass = λ p. p; door = refl; is_keeper = λ p. p } (λ g. g),
+            (λ c. word_else s.words i (c + 2) x (λ e. let z : ⊥ = omega (arith, e, low) in z)) at_id
+            record { is_pass = λ p. p; door = refl; is_keeper = λ p. p } (λ g. g),
         refl,
       )
 
@@ -382,14 +385,14 @@ module _ {H D T : Type 0} (deed_of : H → D) (told_of : H → List T) where
       let one_seat : SameSeat v (after_split v) = record { is_pass = λ p. p; door = refl; is_keeper = λ p. p } in
       let fresh = k.later v.made (λ l. let m = mine.1 in let z : ⊥ = omega (arith, l, m) in z) in
       let old : (j : ℕ) (u : View D T) → u.is_keeper ≡ false → Fits n k.keeper k.made k.holder k.deed k.told k.inside k.taken j u
-          → Fits n k.keeper (k.made + 1) holder k.deed k.told k.inside k.taken j u =
-          λ j u no f. record {
-            pass = λ p.
-                let h = f.pass p in
-                let ne : u.door ≢ v.made = λ e. let m = mine.1 in let l = h.2 in let z : ⊥ = omega (arith, e, m, l) in z in
-                (at_other k.holder v.made new u.door ne ∙ h.0, h.1, (let l = h.2 in omega (arith, l)), h.3, h.4, h.5);
-            keeper_is = λ p. absurd (true≢false (sym p ∙ no));
-          } in
+      → Fits n k.keeper (k.made + 1) holder k.deed k.told k.inside k.taken j u =
+      λ j u no f. record {
+        pass = λ p.
+            let h = f.pass p in
+            let ne : u.door ≢ v.made = λ e. let m = mine.1 in let l = h.2 in let z : ⊥ = omega (arith, e, m, l) in z in
+            (at_other k.holder v.made new u.door ne ∙ h.0, h.1, (let l = h.2 in omega (arith, l)), h.3, h.4, h.5);
+        keeper_is = λ p. absurd (true≢false (sym p ∙ no));
+      } in
       record {
         long = k.long;
         keeper = k.keeper;
@@ -409,34 +412,34 @@ module _ {H D T : Type 0} (deed_of : H → D) (told_of : H → List T) where
             (λ (c j : ℕ). c < k.made + 1 → HasView (vs ++ next_pass v ∷ []) j (λ u. (u.is_pass ≡ true) × (u.door ≡ c)))
             (λ lt. view_last vs (next_pass v) (λ u. (u.is_pass ≡ true) × (u.door ≡ v.made)) (refl, refl))
             (λ c ne lt.
-                let below : c < k.made = (let m = mine.1 in let z : c ≢ v.made = ne in omega (arith, m, lt, z)) in
-                view_before vs (k.holder c) (next_pass v) (λ u. (u.is_pass ≡ true) × (u.door ≡ c))
-                (pass_stays s.views id (k.holder c) c v (after_split v) at_id one_seat (k.passes_there c below)));
+            let below : c < k.made = (let m = mine.1 in let z : c ≢ v.made = ne in omega (arith, m, lt, z)) in
+            view_before vs (k.holder c) (next_pass v) (λ u. (u.is_pass ≡ true) × (u.door ≡ c))
+            (pass_stays s.views id (k.holder c) c v (after_split v) at_id one_seat (k.passes_there c below)));
         fits = λ j u got. ⊎_elim
             (λ o. ⊎_elim
-                (λ (t : (j ≡ id) × (after_split v ≡ u)).
-                    subst (λ (y : ℕ × View D T). Fits n k.keeper (k.made + 1) holder k.deed k.told k.inside k.taken y.0 y.1)
-                    (λ i. (sym t.0 i, t.1 i)) record {
-                      pass = λ p. absurd (true≢false (sym p ∙ rests));
-                      keeper_is = λ p. (mine.0, ap (λ (x : ℕ). x + 1) mine.1, mine.2, mine.3);
-                    })
-                (λ (t : (j ≢ id) × (get_elem? s.views j ≡ some u)).
-                    let f = k.fits j u t.1 in
-                    old j u (bool_cases u.is_keeper (u.is_keeper ≡ false) (λ p. absurd (t.0 (sym (f.keeper_is p).0 ∙ mine.0))) (λ p. p)) f)
-                (at_set s.views id j (after_split v) u o))
+            (λ (t : (j ≡ id) × (after_split v ≡ u)).
+            subst (λ (y : ℕ × View D T). Fits n k.keeper (k.made + 1) holder k.deed k.told k.inside k.taken y.0 y.1)
+            (λ i. (sym t.0 i, t.1 i)) record {
+              pass = λ p. absurd (true≢false (sym p ∙ rests));
+              keeper_is = λ p. (mine.0, ap (λ (x : ℕ). x + 1) mine.1, mine.2, mine.3);
+            })
+            (λ (t : (j ≢ id) × (get_elem? s.views j ≡ some u)).
+            let f = k.fits j u t.1 in
+            old j u (bool_cases u.is_keeper (u.is_keeper ≡ false) (λ p. absurd (t.0 (sym (f.keeper_is p).0 ∙ mine.0))) (λ p. p)) f)
+            (at_set s.views id j (after_split v) u o))
             (λ (t : (j ≡ new) × (next_pass v ≡ u)).
-                subst (λ (y : ℕ × View D T). Fits n k.keeper (k.made + 1) holder k.deed k.told k.inside k.taken y.0 y.1)
-                (λ i. (sym t.0 i, t.1 i)) record {
-                  pass = λ p. (
-                    at_same k.holder v.made new,
-                    lt,
-                    (let m = mine.1 in omega (arith, m)),
-                    (mine.3 v.made lt).0,
-                    sym fresh.1,
-                    sym fresh.0,
-                  );
-                  keeper_is = λ p. absurd (true≢false (sym p));
-                })
+            subst (λ (y : ℕ × View D T). Fits n k.keeper (k.made + 1) holder k.deed k.told k.inside k.taken y.0 y.1)
+            (λ i. (sym t.0 i, t.1 i)) record {
+              pass = λ p. (
+                at_same k.holder v.made new,
+                lt,
+                (let m = mine.1 in omega (arith, m)),
+                (mine.3 v.made lt).0,
+                sym fresh.1,
+                sym fresh.0,
+              );
+              keeper_is = λ p. absurd (true≢false (sym p));
+            })
             (at_end vs (next_pass v) u j got);
       }
 
@@ -480,6 +483,7 @@ module _ {H D T : Type 0} (deed_of : H → D) (told_of : H → List T) where
     where
       Fit : ℕ → View D T → Type 0
       Fit = Fits (length xs) 0 0 (λ c. 0) (deed_at (doors_in deed_of xs)) (λ c. []) (λ c. false) (λ c. false)
+
       only : (id : ℕ) (v : View D T) → get_elem? (keeper_of deed_of xs ∷ []) id ≡ some v → Fit id v
       only zero v got = subst (λ (y : View D T). Fit 0 y) (some-injective _ v got) record {
         pass = λ p. absurd (true≢false (sym p));

@@ -1,9 +1,8 @@
 -- The laws of the rule: what holds at the start, that each kind of step keeps the rule, and what the rule says of a door. `Allows`
 -- of atomic_table says: whatever the table is when the step comes, the seat has a new view that keeps the rule, and of which the
 -- step tells what stands behind.
-use Rattle.std.specs.Prelude.{◌≡◌, ◌⊎◌, ◌↔◌, ℕ, ◌+◌, ◌==◌, ◌<◌, Bool, true, false, List, [], ◌∷◌, length, slice_index, Option, Some, None}
+use Rattle.std.specs.Prelude.{◌≡◌, ◌⊎◌, ◌↔◌, ℕ, ◌+◌, ◌==◌, ◌<◌, true, false, List, ◌∷◌, length, slice_index, Option, Some}
 use mathlib.Core.Option.{some}
-use mathlib.Core.Option.{Option as Home}
 use prog.Atomic.{either}
 use lib.ListN.{get_elem?}
 use Rattle.atomic_table.specs.Table.{State, Me, Allows, Splits, opening, rest}
@@ -73,5 +72,5 @@ module _ {H D T : Type 0} (deed_of : H → D) (told_of : H → List T) where
   HandAtHome = (n : ℕ) (s : State (Option H) (View D T)) → Kept deed_of told_of n s → (c : ℕ) → c < n
       → slice_index s.words (c + 2) ≡ 0 → (h : H) × (get_elem? s.homes c ≡ some (some (Some h)))
       × ((id : ℕ) (v : View D T) → get_elem? s.views id ≡ some v → v.is_pass ≡ true → v.door ≡ c
-          → (v.deed ≡ Some (deed_of h)) × (v.told ≡ told_of h))
+      → (v.deed ≡ Some (deed_of h)) × (v.told ≡ told_of h))
       × ((id : ℕ) (v : View D T) → get_elem? s.views id ≡ some v → v.is_keeper ≡ true → deed_at v.doors c ≡ Some (deed_of h))

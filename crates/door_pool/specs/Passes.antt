@@ -93,12 +93,12 @@ AreFresh told_of (Some h ∷ xs) = (told_of h ≡ []) × AreFresh told_of xs
 
 -- a pass of door c that is out, whose hand has this deed and was told nothing
 pub record IsNewPass {H D T : Type 0} (t : TableId) (c : ℕ) (deed : Option D) (p : Pass H D T) : Type 0 where
-  pub door_is : p.door ≡ c
-  pub seat : IsPassAt t c p.seat
-  pub deed_is : p.seat.me.0.deed ≡ deed
-  pub told : p.seat.me.0.told ≡ []
-  pub outside : p.seat.me.0.inside ≡ false
+  pub pass : IsPassAt t p.door p.seat
+  pub door : (view_of p).door ≡ c
+  pub deed_is : (view_of p).deed ≡ deed
+  pub told : (view_of p).told ≡ []
+  pub outside : (view_of p).inside ≡ false
 
--- the passes of the doors, one after another
-abbrev pub ArePasses : {H D T : Type 0} → TableId → List (DoorSeen D) → List (Pass H D T) → Type 0
-ArePasses {H} {D} {T} t doors passes = (c : ℕ) (p : Pass H D T) → get_elem? passes c ≡ some p → IsNewPass t c (deed_at doors c) p
+-- new passes of the doors, one after another
+abbrev pub AreNewPasses : {H D T : Type 0} → TableId → List (DoorSeen D) → List (Pass H D T) → Type 0
+AreNewPasses {H} {D} {T} t doors passes = (c : ℕ) (p : Pass H D T) → get_elem? passes c ≡ some p → IsNewPass t c (deed_at doors c) p

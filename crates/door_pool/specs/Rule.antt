@@ -1,11 +1,10 @@
 -- The rule of the doors, over the words, the slots and all views of a table.
-use Rattle.std.specs.Prelude.{◌≡◌, ◌⊎◌, ℕ, ◌+◌, ◌<◌, Bool, true, false, if◌then◌else◌, List, [], length, slice_index, Option, Some, None}
+use Rattle.std.specs.Prelude.{◌≡◌, ◌⊎◌, ℕ, ◌+◌, ◌<◌, Bool, true, false, if◌then◌else◌, List, [], length, slice_index, Option, Some}
 use mathlib.Core.Option.{some, none}
 use mathlib.Core.Option.{Option as Home}
 use lib.ListN.{get_elem?}
 use Rattle.atomic_table.specs.Table.{State}
 use Rattle.door_pool.specs.declared.view.View.{View}
-use Rattle.door_pool.specs.declared.view.DoorSeen.{DoorSeen}
 use Rattle.door_pool.specs.Views.{deed_at, taken_at}
 
 -- the word of a door: 0 at home, 1 with its pass, 2 taken

@@ -1,5 +1,5 @@
 -- What each kind of step tells of the seat after it.
-use Rattle.std.specs.Prelude.{◌≡◌, ℕ, ◌+◌, ◌==◌, List, ◌∷◌, Option, Some, None, MatchBool}
+use Rattle.std.specs.Prelude.{◌≡◌, ℕ, ◌+◌, ◌==◌, List, ◌∷◌, Option, Some, MatchBool}
 use Rattle.atomic_table.specs.Table.{Me, rest}
 use Rattle.door_pool.specs.declared.view.View.{View}
 use Rattle.door_pool.specs.Views.{deed_at, after_found, after_enter, after_leave, after_take}

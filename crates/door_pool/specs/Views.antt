@@ -1,5 +1,5 @@
 -- What passes and the keeper know, and what each kind of step makes of it.
-use Rattle.std.specs.Prelude.{◌≡◌, ℕ, zero, suc, ◌+◌, Bool, true, false, List, [], ◌∷◌, map, Option, Some, None}
+use Rattle.std.specs.Prelude.{ℕ, zero, suc, ◌+◌, Bool, true, false, List, [], ◌∷◌, map, Option, Some, None}
 use Rattle.door_pool.specs.declared.view.View.{View}
 use Rattle.door_pool.specs.declared.view.DoorSeen.{DoorSeen}
 

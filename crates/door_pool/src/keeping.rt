@@ -38,11 +38,7 @@ impl<H: Held + Drop> Doors<H> {
     {
         let found = self.try_take(keeper, door);
         if found == 0 {
-            match self
-                .table
-                .shared
-                .exchange(&mut keeper.seat, door, None)
-            {
+            match self.table.shared.exchange(&mut keeper.seat, door, None) {
                 Some(hand) => Take::Out(hand),
                 None => unreachable!(),
             }
@@ -71,10 +67,7 @@ impl<H: Held + Drop> Doors<H> {
         ensures keeper { IsKeeperOf self.now keeper.new }
         ensures same { keeper_view keeper.new ≡ keeper_view keeper.old }
     {
-        self.table
-            .shared
-            .load::<BellOrCount>(&mut keeper.seat, 0)
-            != 0
+        self.table.shared.load::<BellOrCount>(&mut keeper.seat, 0) != 0
     }
 
     /// How many callers have ended: how often `done` was called. No clause says so.
@@ -83,8 +76,6 @@ impl<H: Held + Drop> Doors<H> {
         ensures keeper { IsKeeperOf self.now keeper.new }
         ensures same { keeper_view keeper.new ≡ keeper_view keeper.old }
     {
-        self.table
-            .shared
-            .load::<BellOrCount>(&mut keeper.seat, 1)
+        self.table.shared.load::<BellOrCount>(&mut keeper.seat, 1)
     }
 }

@@ -1,9 +1,9 @@
 //! Doors are made.
 ghost use Rattle.std.specs.Prelude.{◌≡◌, ◌≤◌, ◌+◌, [], All, length, map, IfOk, IfErr, List, Some, true, false, vec_capacity};
 ghost use Rattle.door_pool.specs.Views.{keeper_of, doors_of, doors_in};
-ghost use Rattle.door_pool.specs.Passes.{ArePasses, AreFresh, IsKeeperAt, IsKeeperOf, keeper_view, table_of};
+ghost use Rattle.door_pool.specs.Passes.{AreNewPasses, AreFresh, IsKeeperAt, IsKeeperOf, keeper_view, table_of};
 
-use crate::doors::{Doors, Keeper, Pass};
+use crate::doors::{Doors, Keeper, MOST_DOORS, Pass};
 use crate::held::Held;
 use crate::rule::{DoorRule, Hands, NextPass};
 use crate::view::View;
@@ -48,7 +48,7 @@ impl<H: Held + Drop> Doors<H> {
         ensures doors { IfOk result (λ m. (keeper_view m.keeper).doors ≡ doors_of H.deed hands.items) }
         ensures count { IfOk result (λ m. length m.passes.items ≡ length hands.items) }
         ensures passes { IfOk result (λ m.
-            ArePasses (table_of m.doors) (keeper_view m.keeper).doors m.passes.items) }
+            AreNewPasses (table_of m.doors) (keeper_view m.keeper).doors m.passes.items) }
 
         ensures err { IfErr result (λ refused. refused.hands.items ≡ hands.items) }
     {
@@ -142,7 +142,7 @@ fn new_table<H: Held + Drop>(
     ensures seat { IfOk result (λ t. t.1.me ≡ (keeper_of H.deed slots.items, [])) }
     ensures err { IfErr result (λ back. back.items ≡ slots.items) }
 {
-    let zeros = [0u64; 18];
+    let zeros = [0u64; MOST_DOORS + 2];
     let about = Snapshot::of(&slots);
     match Table::new(alloc, &zeros[..slots.len() + 2], slots, &about) {
         Ok(made) => Ok(made),
@@ -165,7 +165,7 @@ fn split_all<H: Held + Drop>(
     ensures keeper { IsKeeperAt table.now.shared.table_id result.0 }
     ensures doors { result.0.me.0.doors ≡ seat.me.0.doors }
     ensures count { length result.1.items ≡ count }
-    ensures passes { ArePasses table.now.shared.table_id seat.me.0.doors result.1.items }
+    ensures passes { AreNewPasses table.now.shared.table_id seat.me.0.doors result.1.items }
 {
     let mut seat = seat;
     let mut passes = passes;

@@ -111,9 +111,7 @@ impl<H: Held + Drop> Doors<H> {
         ensures pass { IsPassOf self.now pass.new }
         ensures same { view_of pass.new ≡ view_of pass.old }
     {
-        self.table
-            .shared
-            .store::<BellOrCount>(&mut pass.seat, 0, 1);
+        self.table.shared.store::<BellOrCount>(&mut pass.seat, 0, 1);
     }
 
     /// Counts the caller among those that have ended. A caller calls it once; no clause says so, nor

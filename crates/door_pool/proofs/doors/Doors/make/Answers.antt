@@ -1,8 +1,8 @@
-use Rattle.std.proofs.Common.{◌≡◌, ◌≤◌, ◌∙◌, ℕ, List, length, map, refl, sym, ap, subst, arith, rules}
+use Rattle.std.proofs.Common.{◌≡◌, ◌∙◌, List, length, sym, ap, subst, arith, rules}
 use Rattle.std.specs.Prelude.{Option, Some}
 use Rattle.std.proofs.lemmas.List.{length-map}
 use Rattle.door_pool.specs.declared.view.DoorSeen.{DoorSeen}
-use Rattle.door_pool.specs.Passes.{ArePasses, AreFresh}
+use Rattle.door_pool.specs.Passes.{AreNewPasses, AreFresh}
 use Rattle.door_pool.specs.Views.{doors_in}
 use Rattle.door_pool.proofs.Moving.{doors_first}
 use Rattle.door_pool.proofs.Beginning.{fresh_in_slots, doors_in_slots}
@@ -15,10 +15,9 @@ new_table-requires-clause-fresh g c =
 
 pub split_all-seat-requires-clause-count : goal.split_all-seat-requires-clause-count
 split_all-seat-requires-clause-count g c =
-    let many : c.len-count.result ≡ length c.args.hands.items = search rules in
-    (
+    let many : c.len-count.result ≡ length c.args.hands.items = search rules in (
       ap (λ m. length m.0.doors) c.in-Ok-new_table.ensures.seat ∙ doors_first g.H.Held.deed g.H.Held.told c.wrap-slots.result.items
-      ∙ ap length c.wrap-slots.ensures ∙ length-map c.args.hands.items (λ h. Some h) ∙ sym many,
+          ∙ ap length c.wrap-slots.ensures ∙ length-map c.args.hands.items (λ h. Some h) ∙ sym many,
       (let few = c.requires.few in omega (arith, many, few)),
     )
 
@@ -29,5 +28,5 @@ returns-in-Ok-new_table-clause-doors g c =
 
 pub returns-in-Ok-new_table-clause-passes : goal.returns-in-Ok-new_table-clause-passes
 returns-in-Ok-new_table-clause-passes g c =
-    subst (λ (ds : List (DoorSeen g.row.H-Deed.Denot)). ArePasses c.in-Ok-new_table.table.shared.table_id ds c.split_all-seat.result.1.items)
+    subst (λ (ds : List (DoorSeen g.row.H-Deed.Denot)). AreNewPasses c.in-Ok-new_table.table.shared.table_id ds c.split_all-seat.result.1.items)
     (sym c.split_all-seat.ensures.doors) c.split_all-seat.ensures.passes

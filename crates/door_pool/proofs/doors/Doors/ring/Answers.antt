@@ -1,4 +1,4 @@
-use Rattle.std.proofs.Common.{arith, ℕ, ◌+◌, ◌%◌, ◌^◌}
+use Rattle.std.proofs.Common.{arith, ℕ}
 use Rattle.door_pool.proofs.Moving.{keeps_doors}
 use Rattle.door_pool.proofs.doors.Doors.ring.Goals as goal
 

@@ -1,4 +1,4 @@
-use Rattle.std.proofs.Common.{arith, Fits, w64}
+use Rattle.std.proofs.Common.{arith}
 use Rattle.door_pool.proofs.Moving.{enters}
 use Rattle.door_pool.proofs.doors.Doors.try_enter.Goals as goal
 
