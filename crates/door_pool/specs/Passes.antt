@@ -53,6 +53,10 @@ module _ {H D T : Type 0} where
   abbrev pub keeper_view : Keeper H D T → View D T
   keeper_view k = k.seat.me.0
 
+  -- the doors, as the keeper knows them
+  abbrev pub known_doors : Keeper H D T → List (DoorSeen D)
+  known_doors k = (keeper_view k).doors
+
   -- the table of these doors
   abbrev pub table_of : Doors H D T → TableId
   table_of doors = doors.table.shared.table_id

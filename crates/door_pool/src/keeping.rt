@@ -1,6 +1,6 @@
 //! The keeper at the doors.
 ghost use Rattle.std.specs.Prelude.{◌≡◌, ◌<◌, ◌+◌, Some, length, true, false};
-ghost use Rattle.door_pool.specs.Passes.{IsKeeperOf, IfOut, IfBusy, keeper_view};
+ghost use Rattle.door_pool.specs.Passes.{IsKeeperOf, IfOut, IfBusy, keeper_view, known_doors};
 ghost use Rattle.door_pool.specs.Views.{after_take, after_found, deed_at, taken_at};
 ghost use Rattle.door_pool.specs.Steps.{Takes};
 
@@ -21,20 +21,22 @@ pub enum Take<H: Drop> {
 }
 
 impl<H: Held + Drop> Doors<H> {
-    /// Takes a door for good, and gives the hand that lies behind it, with the deed that the keeper
-    /// knows of this door. The only other answer is that the door's pass is in, which this call's own
-    /// exchange found. Doors are counted from 0.
+    /// Takes a door for good, and gives the hand that lies behind it, with the deed that the
+    /// keeper knows of this door. The only other answer is that the door's pass is in, which this
+    /// call's own exchange found. Doors are counted from 0.
     pub fn take(&self, keeper: &mut Keeper<H>, door: usize) -> Take<H>
         requires keeper { IsKeeperOf self.now keeper.old }
-        requires door { door < length (keeper_view keeper.old).doors }
-        requires free { taken_at (keeper_view keeper.old).doors door ≡ false }
+        requires door { door < length (known_doors keeper.old) }
+        requires free { taken_at (known_doors keeper.old) door ≡ false }
         ensures keeper { IsKeeperOf self.now keeper.new }
 
-        ensures deed { IfOut result (λ h. Some (H.deed h) ≡ deed_at (keeper_view keeper.old).doors door) }
-        ensures taken { IfOut result (λ _. keeper_view keeper.new ≡ after_take (keeper_view keeper.old) door) }
+        ensures deed { IfOut result (λ h. Some (H.deed h) ≡ deed_at (known_doors keeper.old) door) }
+        ensures taken { IfOut result (λ _.
+            keeper_view keeper.new ≡ after_take (keeper_view keeper.old) door) }
 
         ensures busy { IfBusy result (λ word. word ≡ 1) }
-        ensures found { IfBusy result (λ w. keeper_view keeper.new ≡ after_found (keeper_view keeper.old) w) }
+        ensures found { IfBusy result (λ word.
+            keeper_view keeper.new ≡ after_found (keeper_view keeper.old) word) }
     {
         let found = self.try_take(keeper, door);
         if found == 0 {
@@ -47,12 +49,12 @@ impl<H: Held + Drop> Doors<H> {
         }
     }
 
-    /// Tries a door, and returns the word found there. At 0 the door is taken, and the slot with the
-    /// hand is out with the keeper.
+    /// Tries a door, and returns the word found there. At 0 the door is taken, and the slot with
+    /// the hand is out with the keeper.
     fn try_take(&self, keeper: &mut Keeper<H>, door: usize) -> u64
         requires keeper { IsKeeperOf self.now keeper.old }
-        requires door { door < length (keeper_view keeper.old).doors }
-        requires free { taken_at (keeper_view keeper.old).doors door ≡ false }
+        requires door { door < length (known_doors keeper.old) }
+        requires free { taken_at (known_doors keeper.old) door ≡ false }
         ensures table { keeper.new.seat.table_id ≡ keeper.old.seat.table_id }
         ensures tried { Takes H.deed (door + 2) keeper.old.seat.me result keeper.new.seat.me }
     {

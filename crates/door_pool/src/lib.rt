@@ -1,25 +1,27 @@
-//! Doors through which callers in threads and one keeper hand things to one another, without a lock.
+//! Doors through which callers in threads and one keeper hand things to one another, without a
+//! lock.
 //!
 //! Behind each door lies a *hand*: whatever its caller works with, of any type that is `Held`. The
 //! caller has the door's `Pass`, by which it goes in (`enter`) and has the hand, and goes out again
-//! (`leave`) and lays the hand back. The keeper may take each door once, for good (`take`): it then has
-//! the hand, and the caller finds its door shut. Where the caller is in, the keeper finds it busy.
-//! Beside the doors there is a bell, which callers ring (`ring`) and the keeper hears (`rung`), and a
-//! count of the callers that have ended (`done`, `ended`). No call waits for another.
+//! (`leave`) and lays the hand back. The keeper may take each door once, for good (`take`): it then
+//! has the hand, and the caller finds its door shut. Where the caller is in, the keeper finds the
+//! door busy. Beside the doors there is a bell, which callers ring (`ring`) and the keeper hears
+//! (`rung`), and a count of the callers that have ended (`done`, `ended`). No call waits for
+//! another.
 //!
-//! Of a hand contracts see two things: its *deed*, which stays as long as the doors do, and its *told*
-//! list, which grows. A pass and the keeper each have a view, which exists in the proofs alone: which
-//! deed lies behind the door, what the hand had been told that was left last, who is where.
+//! Of a hand contracts see two things: its *deed*, which stays as long as the doors do, and its
+//! *told* list, which grows. A pass and the keeper each have a view, which exists in proofs alone:
+//! which deed lies behind the door, what the hand had been told that was left last, who is where.
 //!
-//! Doors are a table of words and slots. Word 0 is the bell, word 1 the count; the word of door c is
-//! word c + 2: 0 where the hand lies behind the door, 1 while its pass is in, 2 once the keeper took
-//! it. Slot c holds the hand of door c. The rule (`specs/Rule.antt`) holds between any two atomic
-//! steps: a door's word is 1 exactly where its pass is in, 2 exactly where the keeper took it, and at 0
-//! its slot holds a hand with the deed that pass and keeper know, which was told what the pass knows.
-//! At 1 and 2 the slot is out with the pass or the keeper.
+//! Doors are a table of words and slots. Word 0 is the bell and word 1 the count. The word of door
+//! c is word c + 2: 0 where the hand lies behind the door, 1 while its pass is in, 2 once the
+//! keeper took it. Slot c holds the hand of door c. The rule (`specs/Rule.antt`) holds between any
+//! two atomic steps: a door's word is 1 exactly where its pass is in and 2 exactly where the keeper
+//! took it. At 0 its slot holds a hand with the deed that the pass and the keeper know, which was
+//! told what the pass knows; at 1 and 2 the slot is out with the pass or the keeper.
 //!
-//! The laws stand in `specs/Laws.antt`. `steps_keep_the_rule` has as its clauses that each kind of step
-//! keeps the rule:
+//! The laws stand in `specs/Laws.antt`. `steps_keep_the_rule` has as its clauses that each kind of
+//! step keeps the rule:
 //!
 //! | Step | Proved by |
 //! |---|---|
@@ -30,7 +32,7 @@
 //! | a step on the bell or on the count | `proofs.Moving.keeps_doors` |
 //! | a pass is split from the keeper's seat | `proofs.Moving.splits` |
 //!
-//! An exchange of a slot is none of them: the slot is then out with the seat that does it.
+//! An exchange of a slot is none of them: the slot is then out with the seat that makes it.
 //! `rule_tells_of_doors` has what the rule says of a door's word and slot.
 #![tactic(auto)]
 

@@ -1,7 +1,7 @@
 //! Doors are made.
 ghost use Rattle.std.specs.Prelude.{◌≡◌, ◌≤◌, ◌+◌, [], All, length, map, IfOk, IfErr, List, Some, true, false, vec_capacity};
 ghost use Rattle.door_pool.specs.Views.{keeper_of, doors_of, doors_in};
-ghost use Rattle.door_pool.specs.Passes.{AreNewPasses, AreFresh, IsKeeperAt, IsKeeperOf, keeper_view, table_of};
+ghost use Rattle.door_pool.specs.Passes.{AreNewPasses, AreFresh, IsKeeperAt, IsKeeperOf, known_doors, table_of};
 
 use crate::doors::{Doors, Keeper, MOST_DOORS, Pass};
 use crate::held::Held;
@@ -37,18 +37,18 @@ struct Room<H: Held> {
 }
 
 impl<H: Held + Drop> Doors<H> {
-    /// Makes doors behind which these hands lie, and a pass for each. It asks for 1 to 16 hands that
-    /// were told nothing yet. The only error is out of memory.
+    /// Makes doors behind which these hands lie, and a pass for each. It asks for 1 to 16 hands
+    /// that were told nothing yet. The only error is out of memory.
     pub fn make(alloc: Global, hands: Vec<H>) -> Result<Made<H>, DoorsRefused<H>>
         requires some { 1 ≤ length hands.items }
         requires few { length hands.items ≤ 16 }
         requires fresh { All (λ hand. H.told hand ≡ []) hands.items }
 
         ensures keeper { IfOk result (λ m. IsKeeperOf m.doors m.keeper) }
-        ensures doors { IfOk result (λ m. (keeper_view m.keeper).doors ≡ doors_of H.deed hands.items) }
+        ensures doors { IfOk result (λ m. known_doors m.keeper ≡ doors_of H.deed hands.items) }
         ensures count { IfOk result (λ m. length m.passes.items ≡ length hands.items) }
         ensures passes { IfOk result (λ m.
-            AreNewPasses (table_of m.doors) (keeper_view m.keeper).doors m.passes.items) }
+            AreNewPasses (table_of m.doors) (known_doors m.keeper) m.passes.items) }
 
         ensures err { IfErr result (λ refused. refused.hands.items ≡ hands.items) }
     {
@@ -129,8 +129,8 @@ type DoorTable<H> = Table<
 
 type DoorSeat<H> = Seat<Option<H>, View<<H as Held>::Deed, <H as Held>::Told>>;
 
-/// Makes a table of these slots, with a word 0 for each door and two more. Where there is no memory for it the slots come
-/// back.
+/// Makes a table of these slots, with a word 0 for each and two more. Where there is no memory for
+/// it, the slots come back.
 fn new_table<H: Held + Drop>(
     alloc: Global,
     slots: Vec<Option<H>>,
@@ -159,7 +159,8 @@ fn split_all<H: Held + Drop>(
 ) -> (DoorSeat<H>, Vec<Pass<H>>)
     requires table { seat.table_id ≡ table.now.shared.table_id }
     requires words { table.now.shared.table_id.words ≡ count + 2 }
-    requires view { (seat.me.0.is_keeper ≡ true) × (seat.me.0.is_pass ≡ false) × (seat.me.0.made ≡ 0) }
+    requires keeper { (seat.me.0.is_keeper ≡ true) × (seat.me.0.is_pass ≡ false) }
+    requires none { seat.me.0.made ≡ 0 }
     requires count { (length seat.me.0.doors ≡ count) × (count ≤ 16) }
     requires room { (passes.items ≡ []) × (count ≤ vec_capacity passes) }
     ensures keeper { IsKeeperAt table.now.shared.table_id result.0 }

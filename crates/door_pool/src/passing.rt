@@ -23,9 +23,9 @@ pub enum Enter<H: Drop> {
 }
 
 impl<H: Held + Drop> Doors<H> {
-    /// Goes in at the pass's door, and gives the hand that lies behind it: with the deed of its door,
-    /// and told what the hand had been told that this pass left last. The only other answer is that
-    /// the keeper took the door, which this call's own exchange found.
+    /// Goes in at the pass's door, and gives the hand that lies behind it: with the deed of its
+    /// door, and told what the hand had been told that this pass left last. The only other answer
+    /// is that the keeper took the door, which this call's own exchange found.
     pub fn enter(&self, pass: &mut Pass<H>) -> Enter<H>
         requires pass { IsPassOf self.now pass.old }
         requires outside { (view_of pass.old).inside ≡ false }
@@ -50,8 +50,8 @@ impl<H: Held + Drop> Doors<H> {
         }
     }
 
-    /// Tries the pass's door, and returns the word found there. At 0 the pass is in, and the slot with
-    /// the hand is out with it.
+    /// Tries the pass's door, and returns the word found there. At 0 the pass is in, and the slot
+    /// with the hand is out with it.
     fn try_enter(&self, pass: &mut Pass<H>) -> u64
         requires pass { IsPassOf self.now pass.old }
         requires outside { (view_of pass.old).inside ≡ false }
@@ -65,8 +65,8 @@ impl<H: Held + Drop> Doors<H> {
             .compare_exchange::<EnterDoor<H>>(&mut pass.seat, word, 0, 1)
     }
 
-    /// Lays a hand back behind the pass's door, and goes out. It asks for a hand with the deed of the
-    /// one that was entered, whose told list begins with that one's.
+    /// Lays a hand back behind the pass's door, and goes out. It asks for a hand with the deed of
+    /// the one that was there, whose told list begins with that one's.
     pub fn leave(&self, pass: &mut Pass<H>, hand: H)
         requires pass { IsPassOf self.now pass.old }
         requires inside { (view_of pass.old).inside ≡ true }
@@ -114,8 +114,8 @@ impl<H: Held + Drop> Doors<H> {
         self.table.shared.store::<BellOrCount>(&mut pass.seat, 0, 1);
     }
 
-    /// Counts the caller among those that have ended. A caller calls it once; no clause says so, nor
-    /// what the count is.
+    /// Counts the caller among those that have ended. A caller calls it once; no clause says so,
+    /// nor what the count is.
     pub fn done(&self, pass: &mut Pass<H>)
         requires pass { IsPassOf self.now pass.old }
         ensures pass { IsPassOf self.now pass.new }

@@ -8,7 +8,8 @@ use std::snapshot::Snapshot;
 /// The slots that a table of doors was made with, as proofs know them. It has no bytes.
 pub type Hands<H> = Snapshot<Vec<Option<H>>>;
 
-/// The rule of the doors, for hands of one type. It holds between any two steps on the table's words.
+/// The rule of the doors, for hands of one type. It holds between any two steps on the table's
+/// words.
 pub struct DoorRule<H> {
     hand: PhantomData<H>,
 }

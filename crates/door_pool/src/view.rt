@@ -1,4 +1,5 @@
-//! What passes and the keeper know. No value of these types is ever made: they stand in proofs alone.
+//! What passes and the keeper know. No value of these types is ever made: they stand in proofs
+//! alone.
 use std::collections::LinkedList;
 
 /// What the keeper knows of a door.
