@@ -5,8 +5,9 @@ use Rattle.atomic_table.specs.Seated.{TableId}
 use Rattle.door_pool.specs.declared.view.View.{View}
 use Rattle.door_pool.specs.declared.view.DoorSeen.{DoorSeen}
 use Rattle.door_pool.specs.declared.doors.Pass.{Pass}
-use Rattle.door_pool.specs.Views.{deed_at, next_pass, door_seen, doors_of, doors_in}
-use Rattle.door_pool.specs.Passes.{AreNewPasses, IsNewPass, AreFresh}
+use Rattle.door_pool.specs.Views.{deed_at, taken_at, next_pass, door_seen, doors_of, doors_in}
+use Rattle.door_pool.specs.Passes.{ArePassesAt, IsNewPass, AreFresh}
+use Rattle.atomic_table.proofs.Lists.{at_last, at_longer}
 use Rattle.door_pool.proofs.Words.{at_end}
 
 -- ---- words
@@ -58,11 +59,22 @@ nothing_left (x ∷ xs) e = absurd (omega (arith, e))
 -- ---- passes
 
 pub passes_more : {H D T : Type 0} (t : TableId) (doors : List (DoorSeen D)) (ps : List (Pass H D T)) (p : Pass H D T)
-    → AreNewPasses t doors ps → IsNewPass t (length ps) (deed_at doors (length ps)) p → AreNewPasses t doors (ps ++ p ∷ [])
+    → ArePassesAt t doors ps → IsNewPass t (length ps) (deed_at doors (length ps)) p → ArePassesAt t doors (ps ++ p ∷ [])
 passes_more {H} {D} {T} t doors ps p are new c q got = ⊎_elim (λ o. are c q o)
     (λ (e : (c ≡ length ps) × (p ≡ q)).
     subst (λ (y : ℕ × Pass H D T). IsNewPass t y.0 (deed_at doors y.0) y.1) (λ i. (sym e.0 i, e.1 i)) new)
     (at_end ps p q c got)
+
+-- the last of several, and those before it
+pub last_new : {H D T : Type 0} (t : TableId) (doors : List (DoorSeen D)) (old new : List (Pass H D T)) (p : Pass H D T)
+    → ArePassesAt t doors old → old ≡ new ++ p ∷ [] → IsNewPass t (length new) (deed_at doors (length new)) p
+last_new {H} {D} {T} t doors old new p are is =
+    subst (λ (ps : List (Pass H D T)). ArePassesAt t doors ps) is are (length new) p (at_last new p (length new) refl)
+
+pub others_new : {H D T : Type 0} (t : TableId) (doors : List (DoorSeen D)) (old new : List (Pass H D T)) (p : Pass H D T)
+    → ArePassesAt t doors old → old ≡ new ++ p ∷ [] → ArePassesAt t doors new
+others_new {H} {D} {T} t doors old new p are is c q got =
+    subst (λ (ps : List (Pass H D T)). ArePassesAt t doors ps) is are c q (at_longer new (p ∷ []) c q got)
 
 -- a seat that was split off is a new pass
 pub split_off : {H D T : Type 0} (t : TableId) (doors : List (DoorSeen D)) (v : View D T) (p : Pass H D T)
@@ -98,3 +110,14 @@ fresh_in_slots told_of (h ∷ hs) fresh = (fresh 0 h (omega arith), fresh_in_slo
 pub doors_in_slots : {H D : Type 0} (deed_of : H → D) (hands : List H) → doors_in deed_of (map Some hands) ≡ doors_of deed_of hands
 doors_in_slots deed_of [] = refl
 doors_in_slots deed_of (h ∷ hs) = ap (λ ds. door_seen (Some (deed_of h)) false ∷ ds) (doors_in_slots deed_of hs)
+
+-- the doors that the keeper of new doors knows
+pub known : {H D : Type 0} (deed_of : H → D) (now first : List (DoorSeen D)) (slots : List (Option H)) (hands : List H) → now ≡ first
+    → first ≡ doors_in deed_of slots → slots ≡ map Some hands → now ≡ doors_of deed_of hands
+known deed_of now first slots hands same is all = same ∙ is ∙ ap (doors_in deed_of) all ∙ doors_in_slots deed_of hands
+
+-- none of them is taken
+pub none_taken : {H D : Type 0} (deed_of : H → D) (hands : List H) (c : ℕ) → taken_at (doors_of deed_of hands) c ≡ false
+none_taken deed_of [] c = refl
+none_taken deed_of (h ∷ hs) zero = refl
+none_taken deed_of (h ∷ hs) (suc c) = none_taken deed_of hs c

@@ -9,7 +9,7 @@ use Rattle.door_pool.specs.declared.view.DoorSeen.{DoorSeen}
 use Rattle.door_pool.specs.declared.doors.Doors.{Doors}
 use Rattle.door_pool.specs.declared.doors.Pass.{Pass}
 use Rattle.door_pool.specs.declared.doors.Keeper.{Keeper}
-use Rattle.door_pool.specs.Views.{deed_at}
+use Rattle.door_pool.specs.Views.{deed_at, taken_at}
 use Rattle.door_pool.specs.declared.passing.Enter.{Enter}
 use Rattle.door_pool.specs.declared.passing.Enter.TheVariants.{In, Shut}
 use Rattle.door_pool.specs.declared.keeping.Take.{Take}
@@ -103,6 +103,14 @@ pub record IsNewPass {H D T : Type 0} (t : TableId) (c : ℕ) (deed : Option D) 
   pub told : (view_of p).told ≡ []
   pub outside : (view_of p).inside ≡ false
 
--- new passes of the doors, one after another
-abbrev pub AreNewPasses : {H D T : Type 0} → TableId → List (DoorSeen D) → List (Pass H D T) → Type 0
-AreNewPasses {H} {D} {T} t doors passes = (c : ℕ) (p : Pass H D T) → get_elem? passes c ≡ some p → IsNewPass t c (deed_at doors c) p
+-- new passes of doors with these deeds, one after another
+abbrev pub ArePassesAt : {H D T : Type 0} → TableId → List (DoorSeen D) → List (Pass H D T) → Type 0
+ArePassesAt {H} {D} {T} t doors passes = (c : ℕ) (p : Pass H D T) → get_elem? passes c ≡ some p → IsNewPass t c (deed_at doors c) p
+
+-- new passes of these doors, one after another, which know the deeds that the keeper knows
+abbrev pub AreNewPasses : {H D T : Type 0} → Doors H D T → Keeper H D T → List (Pass H D T) → Type 0
+AreNewPasses doors keeper passes = ArePassesAt (table_of doors) (known_doors keeper) passes
+
+-- no door is taken
+abbrev pub NoneTaken : {D : Type 0} → List (DoorSeen D) → Type 0
+NoneTaken doors = (c : ℕ) → taken_at doors c ≡ false

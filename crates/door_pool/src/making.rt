@@ -1,7 +1,7 @@
 //! Doors are made.
 ghost use Rattle.std.specs.Prelude.{◌≡◌, ◌≤◌, ◌+◌, [], All, length, map, IfOk, IfErr, List, Some, true, false, vec_capacity};
 ghost use Rattle.door_pool.specs.Views.{keeper_of, doors_of, doors_in};
-ghost use Rattle.door_pool.specs.Passes.{AreNewPasses, AreFresh, IsKeeperAt, IsKeeperOf, known_doors, table_of};
+ghost use Rattle.door_pool.specs.Passes.{AreNewPasses, ArePassesAt, AreFresh, IsKeeperAt, IsKeeperOf, NoneTaken, known_doors};
 
 use crate::doors::{Doors, Keeper, MOST_DOORS, Pass};
 use crate::held::Held;
@@ -46,9 +46,9 @@ impl<H: Held + Drop> Doors<H> {
 
         ensures keeper { IfOk result (λ m. IsKeeperOf m.doors m.keeper) }
         ensures doors { IfOk result (λ m. known_doors m.keeper ≡ doors_of H.deed hands.items) }
+        ensures free { IfOk result (λ m. NoneTaken (known_doors m.keeper)) }
         ensures count { IfOk result (λ m. length m.passes.items ≡ length hands.items) }
-        ensures passes { IfOk result (λ m.
-            AreNewPasses (table_of m.doors) (known_doors m.keeper) m.passes.items) }
+        ensures passes { IfOk result (λ m. AreNewPasses m.doors m.keeper m.passes.items) }
 
         ensures err { IfErr result (λ refused. refused.hands.items ≡ hands.items) }
     {
@@ -166,7 +166,7 @@ fn split_all<H: Held + Drop>(
     ensures keeper { IsKeeperAt table.now.shared.table_id result.0 }
     ensures doors { result.0.me.0.doors ≡ seat.me.0.doors }
     ensures count { length result.1.items ≡ count }
-    ensures passes { AreNewPasses table.now.shared.table_id seat.me.0.doors result.1.items }
+    ensures passes { ArePassesAt table.now.shared.table_id seat.me.0.doors result.1.items }
 {
     let mut seat = seat;
     let mut passes = passes;

@@ -1,6 +1,6 @@
 use Rattle.std.proofs.Common.{◌+◌, ◌∙◌, ℕ, List, [], ◌∷◌, length, sym, ap, subst, arith, length-append}
 use Rattle.door_pool.specs.declared.doors.Pass.{Pass}
-use Rattle.door_pool.specs.Passes.{AreNewPasses, IsNewPass}
+use Rattle.door_pool.specs.Passes.{ArePassesAt, IsNewPass}
 use Rattle.door_pool.specs.Views.{deed_at}
 use Rattle.door_pool.proofs.Moving.{splits}
 use Rattle.door_pool.proofs.Beginning.{passes_more, split_off}
@@ -39,7 +39,7 @@ loop-door-preserved g c =
       count = ap length c.push_reserved.ensures.items ∙ length-append at.passes.items (p ∷ []) ∙ ap (λ (n : ℕ). n + 1) i.count;
       room = (let r = i.room in let capacity = c.push_reserved.ensures.capacity in omega (arith, r, capacity));
       passes =
-          subst (λ (ps : List (Pass g.row.H.Denot g.row.H-Deed.Denot g.row.H-Told.Denot)). AreNewPasses t doors ps)
+          subst (λ (ps : List (Pass g.row.H.Denot g.row.H-Deed.Denot g.row.H-Told.Denot)). ArePassesAt t doors ps)
           (sym c.push_reserved.ensures.items)
           (passes_more t doors at.passes.items p i.passes
           (subst (λ (n : ℕ). IsNewPass t n (deed_at doors n) p) (sym i.count)

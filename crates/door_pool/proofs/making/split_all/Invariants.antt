@@ -1,6 +1,6 @@
 use Rattle.std.proofs.Common.{◌≡◌, ◌≤◌, length, true, false}
 use Rattle.std.specs.Prelude.{vec_capacity}
-use Rattle.door_pool.specs.Passes.{AreNewPasses}
+use Rattle.door_pool.specs.Passes.{ArePassesAt}
 use Rattle.door_pool.proofs.making.split_all.Given as goal
 
 abbrev pub invariant-loop-door : goal.invariant-loop-door
@@ -13,5 +13,5 @@ invariant-loop-door g l = record {
   within : l.door ≤ l.count;
   count : length l.passes.items ≡ l.door;
   room : l.count ≤ vec_capacity l.passes;
-  passes : AreNewPasses l.table.shared.table_id l.fn.seat.me.0.doors l.passes.items;
+  passes : ArePassesAt l.table.shared.table_id l.fn.seat.me.0.doors l.passes.items;
 }
