@@ -1,6 +1,6 @@
 //! The keeper of these tests.
 ghost use Rattle.std.specs.Prelude.{◌≡◌, ◌<◌, ◌≤◌, IfSome, length, true, false};
-ghost use Rattle.door_pool.specs.Passes.{IsKeeperOf, known_doors};
+ghost use Rattle.door_pool.specs.Passes.{IsKeeperOf, NoneTaken, known_doors};
 ghost use Rattle.door_pool.specs.Views.{taken_at, with_taken};
 
 use crate::notes::Notes;
@@ -31,7 +31,8 @@ pub fn take_soon(doors: &Doors<Notes>, keeper: &mut Keeper<Notes>, door: usize) 
     requires door { door < length (known_doors keeper.old) }
     requires free { taken_at (known_doors keeper.old) door ≡ false }
     ensures keeper { IsKeeperOf doors.now keeper.new }
-    ensures taken { IfSome result (λ _. known_doors keeper.new ≡ with_taken (known_doors keeper.old) door) }
+    ensures taken { IfSome result (λ _.
+        known_doors keeper.new ≡ with_taken (known_doors keeper.old) door) }
 {
     for _ in 0..TURNS {
         match doors.take(keeper, door) {
@@ -46,8 +47,7 @@ pub fn take_soon(doors: &Doors<Notes>, keeper: &mut Keeper<Notes>, door: usize) 
 pub fn take_both(doors: &Doors<Notes>, keeper: &mut Keeper<Notes>) -> Option<(Notes, Notes)>
     requires keeper { IsKeeperOf doors.now keeper.old }
     requires two { length (known_doors keeper.old) ≡ 2 }
-    requires first { taken_at (known_doors keeper.old) 0 ≡ false }
-    requires second { taken_at (known_doors keeper.old) 1 ≡ false }
+    requires free { NoneTaken (known_doors keeper.old) }
 {
     if !wait_for(doors, keeper, 2) {
         return None;

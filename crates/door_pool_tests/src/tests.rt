@@ -1,8 +1,7 @@
 //! What no clause says: the bell, the count, and that calls of several threads come to an end.
 ghost use Rattle.std.specs.Prelude.{◌≡◌, ◌<◌, ◌≤◌, All, IfOk, IfSome, [], length, false};
 ghost use Rattle.std.specs.Arc.{arc_value};
-ghost use Rattle.door_pool.specs.Passes.{AreNewPasses, IsKeeperOf, IsPassOf, known_doors, table_of, view_of};
-ghost use Rattle.door_pool.specs.Views.{taken_at};
+ghost use Rattle.door_pool.specs.Passes.{AreNewPasses, IsKeeperOf, IsPassOf, NoneTaken, known_doors, view_of};
 
 use crate::caller::{Next, caller};
 use crate::keeper::take_both;
@@ -41,10 +40,8 @@ fn new_doors(alloc: Global, count: u64) -> Result<Made<Notes>, Fail>
     requires { (1 ≤ count) × (count ≤ 16) }
     ensures keeper { IfOk result (λ m. IsKeeperOf m.doors m.keeper) }
     ensures count { IfOk result (λ m. length (known_doors m.keeper) ≡ count) }
-    ensures free { IfOk result (λ m. taken_at (known_doors m.keeper) 0 ≡ false) }
-    ensures second { IfOk result (λ m. taken_at (known_doors m.keeper) 1 ≡ false) }
-    ensures passes { IfOk result (λ m.
-        AreNewPasses (table_of m.doors) (known_doors m.keeper) m.passes.items) }
+    ensures free { IfOk result (λ m. NoneTaken (known_doors m.keeper)) }
+    ensures passes { IfOk result (λ m. AreNewPasses m.doors m.keeper m.passes.items) }
 {
     match Doors::make(alloc, new_hands(alloc, count)?) {
         Ok(made) => Ok(made),
@@ -59,10 +56,10 @@ fn last_pass(
     keeper: &Keeper<Notes>,
     passes: &mut Vec<Pass<Notes>>,
 ) -> Option<Pass<Notes>>
-    requires { AreNewPasses (table_of doors.now) (known_doors keeper.now) passes.old.items }
+    requires { AreNewPasses doors.now keeper.now passes.old.items }
     ensures pass { IfSome result (λ p. IsPassOf doors.now p) }
     ensures outside { IfSome result (λ p. (view_of p).inside ≡ false) }
-    ensures rest { AreNewPasses (table_of doors.now) (known_doors keeper.now) passes.new.items }
+    ensures rest { AreNewPasses doors.now keeper.now passes.new.items }
 {
     match passes.pop() {
         Some(pass) => Some(pass),
@@ -103,8 +100,7 @@ fn run_beside<R: Threads + Wait + Sync>(
 ) -> Option<(Notes, Notes)>
     requires keeper { IsKeeperOf doors.now keeper }
     requires two { length (known_doors keeper) ≡ 2 }
-    requires first { taken_at (known_doors keeper) 0 ≡ false }
-    requires second { taken_at (known_doors keeper) 1 ≡ false }
+    requires free { NoneTaken (known_doors keeper) }
 {
     let (first, second) = inboxes;
     let mut keeper = keeper;
@@ -113,8 +109,7 @@ fn run_beside<R: Threads + Wait + Sync>(
         move || -> Option<(Notes, Notes)>
             requires keeper { IsKeeperOf doors.now keeper }
             requires two { length (known_doors keeper) ≡ 2 }
-            requires first { taken_at (known_doors keeper) 0 ≡ false }
-            requires second { taken_at (known_doors keeper) 1 ≡ false }
+            requires free { NoneTaken (known_doors keeper) }
         {
             let hands = take_both(doors, &mut keeper);
             drop(senders);
