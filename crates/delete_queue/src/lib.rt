@@ -6,12 +6,12 @@
 //! which the layers above cite and don't look into.
 //!
 //! The table of words moves through the six functions of `steps.rt` alone, one for each kind of
-//! atomic step. No call but `make` and `finish` takes memory, and none waits.
+//! atomic step. No call but `make` and `gather` takes memory, and none waits.
 #![tactic(auto)]
 
 mod copy;
 mod entry;
-mod finish;
+mod gather;
 mod link;
 mod log;
 mod make;
@@ -22,7 +22,7 @@ mod reserve;
 mod seat;
 mod steps;
 
-pub use finish::FinishRefused;
+pub use gather::GatherRefused;
 pub use log::QueueLog;
 pub use queue::DeleteQueue;
 pub use reserve::Reserve;

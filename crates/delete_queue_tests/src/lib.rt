@@ -1,4 +1,4 @@
-//! Tests of `delete_queue`: seats that link, read and finish a queue, by one thread and by several.
+//! Tests of `delete_queue`: seats that link, read and gather a queue, by one thread and by several.
 #![tactic(auto)]
 
 #[cfg(test)]

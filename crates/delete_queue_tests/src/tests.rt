@@ -117,7 +117,7 @@ fn two_seats_link(rt: HostRuntime) -> Result<(), Fail> {
     let second = seats.pop().ok_or("a seat")?;
     let first = seats.pop().ok_or("a seat")?;
     let (a, b) = link_both(&rt, alloc, &queue, first, second);
-    let (first, mut told) = a?;
+    let (mut first, mut told) = a?;
     let (second, more) = b?;
     assert!(rt; told.len() == 1000 && rises(told.as_slice()));
     assert!(rt; more.len() == 1000 && rises(more.as_slice()));
@@ -125,11 +125,10 @@ fn two_seats_link(rt: HostRuntime) -> Result<(), Fail> {
         told.push(*number)?;
     }
     told.sort()?;
-    let mut back = Vec::new(alloc);
-    back.push(first)?;
-    back.push(second)?;
+    let mut others = Vec::new(alloc);
+    others.push(second)?;
     let log = queue
-        .finish(back, &mut Reserve::new(alloc))
+        .gather(&mut first, others, &mut Reserve::new(alloc))
         .ok()
         .ok_or("memory")?;
     assert!(rt; log.len() == 2000);

@@ -73,7 +73,7 @@ fn ends_with_commit(log: &QueueLog, deletes: u64) -> bool
     right
 }
 
-/// One queue: made, filled by two threads, closed and finished.
+/// One queue: made, filled by two threads, closed and gathered.
 fn race<R: Threads>(rt: &R, alloc: Global) -> Result<bool, Fail> {
     let (queue, mut seats) = new_queue(alloc, 0, 2)?;
     let second = seats.pop().ok_or("a seat")?;
@@ -90,11 +90,10 @@ fn race<R: Threads>(rt: &R, alloc: Global) -> Result<bool, Fail> {
     } = b;
     let closed = queue.close(&mut first, Closing::Commit) == Linked::At(8321)
         && queue.close(&mut second, Closing::Commit) == Linked::Closed;
-    let mut both = Vec::with_capacity(alloc, 2)?;
-    both.push(first)?;
-    both.push(second)?;
+    let mut others = Vec::with_capacity(alloc, 1)?;
+    others.push(second)?;
     let log = queue
-        .finish(both, &mut Reserve::new(alloc))
+        .gather(&mut first, others, &mut Reserve::new(alloc))
         .ok()
         .ok_or("a log")?;
     Ok(full && closed && ends_with_commit(&log, 8320))

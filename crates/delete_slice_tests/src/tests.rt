@@ -62,9 +62,8 @@ fn log_of(alloc: Global, queue: DeleteQueue, seat: Seat) -> Result<QueueLog, NoM
     requires { IsSeatOf queue seat }
     ensures { IfOk result (λ log. IsInGrammar log) }
 {
-    let mut seats = Vec::new(alloc);
-    seats.push(seat)?;
-    match queue.finish(seats, &mut Reserve::new(alloc)) {
+    let mut seat = seat;
+    match queue.gather(&mut seat, Vec::new(alloc), &mut Reserve::new(alloc)) {
         Ok(log) => Ok(log),
         Err(_) => Err(NoMemory),
     }
