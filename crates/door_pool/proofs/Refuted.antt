@@ -1,6 +1,6 @@
 -- Steps that the rule refuses.
-use Rattle.std.proofs.Common.{◌≡◌, ◌≢◌, ◌∙◌, ℕ, ◌+◌, ◌==◌, ◌<◌, false, List, length, set, sym, ap, subst, ⊎_elim, arith, true≢false}
-use Rattle.std.specs.Prelude.{slice_index}
+use Rattle.std.proofs.Common.{◌≡◌, ◌≢◌, ◌∙◌, ℕ, ◌+◌, ◌==◌, ◌<◌, Bool, true, false, List, ◌∷◌, length, set, sym, ap, subst, inl, inr, ⊎_elim, arith, true≢false}
+use Rattle.std.specs.Prelude.{slice_index, Option, Some}
 use Rattle.std.proofs.lemmas.List.{get_or-set_same}
 use mathlib.Core.Option.{some}
 use prog.Atomic.{either}
@@ -9,6 +9,7 @@ use Rattle.atomic_table.specs.Table.{carried_after}
 use Rattle.atomic_table.proofs.Lists.{at_set}
 use Rattle.door_pool.specs.declared.view.View.{View}
 use Rattle.door_pool.specs.Views.{taken_at}
+use Rattle.door_pool.specs.Rule.{Kept}
 use Rattle.door_pool.specs.Steps.{Takes}
 use Rattle.door_pool.specs.Laws.{NoneShutsItsDoor, NoneTakesFromInside}
 use Rattle.door_pool.proofs.Telling.{one_where_in, two_where_taken}
