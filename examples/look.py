@@ -45,11 +45,17 @@ class Reader:
 
 def read_commit(directory, number):
     file = Reader(os.path.join(directory, f"segments_{number}"))
-    file.mark(b"IXCOM001")
+    mark = file.take(8)
+    if mark not in (b"IXCOM001", b"IXCOM002"):
+        sys.exit(f"{file.path}: no mark of a commit file")
     head = {"commit": file.number(8), "docs": file.number(8), "next_id": file.number(8)}
     head["segments"] = [
         {"id": file.number(8), "n": file.number(4), "v": file.number(8)} for _ in range(file.number(8))
     ]
+    if mark == b"IXCOM002":
+        pairs = {file.text(): file.text() for _ in range(file.number(4))}
+        if pairs:
+            head["pairs"] = pairs
     file.end()
     return head
 

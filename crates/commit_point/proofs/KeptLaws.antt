@@ -48,6 +48,7 @@ pub has_there : (files d : Files) (s next : ℕ) (entries : List HeadSegment) (s
 has_there files d s next entries segments kept h =
     let there = there_by files s _ h.head.file in
     record {
+      tail = h.tail;
       head = record {
         file = kept s there (Commit s) (inl refl) ∙ h.head.file;
         number = h.head.number;
@@ -56,7 +57,7 @@ has_there files d s next entries segments kept h =
       each = segments_there files d s entries segments
           (λ e listed name among.
           let lists : Lists files s e =
-          record { head = head_of s next entries segments; has_head = h.head; listed = listed } in
+          record { head = head_of s next h.tail entries segments; has_head = h.head; listed = listed } in
           kept s there name (inr (e, lists, among)))
           h.each;
       differ = h.differ;

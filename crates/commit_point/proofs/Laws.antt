@@ -1,7 +1,7 @@
 -- Laws of what commits hold.
-use Rattle.std.specs.Prelude.{◌≡◌, ◌≢◌, ℕ, ◌+◌, ◌<◌, List, [], ◌∷◌}
+use Rattle.std.specs.Prelude.{◌≡◌, ◌≢◌, ℕ, ◌+◌, ◌<◌, List, [], ◌∷◌, Ok}
 use Rattle.std.specs.List.{AllByRecursion}
-use Rattle.std.proofs.Common.{◌∙◌, arith}
+use Rattle.std.proofs.Common.{◌∙◌, ap, sym, arith}
 use Rattle.ix_base.specs.declared.file_name.FileName.TheVariants.{Commit, Rows, Posts, Live, Values}
 use Rattle.ix_base.specs.declared.document.Row.{Row}
 use Rattle.ix_outside.specs.Files.{Files}
@@ -9,7 +9,8 @@ use Rattle.segment_core.specs.LiveRows.{Lived}
 use Rattle.commit_point.specs.declared.heads.HeadSegment.{HeadSegment}
 use Rattle.commit_point.specs.declared.heads.Head.{Head}
 use Rattle.commit_point.specs.Fits.{IdsRise, EntryFits}
-use Rattle.commit_point.proofs.HeadLaws.{same_head}
+use Rattle.commit_point.proofs.HeadReading.{head_again}
+use Rattle.commit_point.specs.Reading.{head_in}
 use Rattle.commit_point.specs.Holds.{Holds, HoldsInverted, HasSegments, HaveSegments, HasHead}
 use Rattle.commit_point.specs.Spelling.{commit_file}
 use Rattle.commit_point.specs.Writing.{SameElsewhere}
@@ -18,7 +19,10 @@ use Rattle.commit_point.specs.Writing.{SameElsewhere}
 pub one_head : (files : Files) (s : ℕ) (a b : Head) → HasHead files s a → HasHead files s b → a ≡ b
 one_head files s a b p q =
     let same : commit_file a ≡ commit_file b = (let one = p.file in let two = q.file in cc) in
-    same_head a b p.fits q.fits same
+    let first : head_in s (commit_file a) ≡ Ok a = ap (λ (n : ℕ). head_in n (commit_file a)) (sym p.number) ∙ head_again a p.fits in
+    let second : head_in s (commit_file b) ≡ Ok b = ap (λ (n : ℕ). head_in n (commit_file b)) (sym q.number) ∙ head_again b q.fits in
+    let read : head_in s (commit_file a) ≡ head_in s (commit_file b) = ap (head_in s) same in
+    cc
 
 -- all ids below this one are old
 abbrev pub OldBelow : ℕ → (ℕ → Type 0) → Type 0
@@ -54,6 +58,7 @@ pub has_kept : (t n s : ℕ) (Old : ℕ → Type 0) (entries : List HeadSegment)
     → t < s → OldBelow n Old → SameElsewhere s Old old new
     → HasSegments old t n entries segments → HasSegments new t n entries segments
 has_kept t n s Old entries segments old new lt are same h = record {
+  tail = h.tail;
   head = record {
     file = same (Commit t) (λ e. absurd (omega (arith, e, lt))) ∙ h.head.file;
     number = h.head.number;

@@ -14,7 +14,6 @@ pub mod LiveReads
 pub mod Opening
 pub mod Telling
 pub mod BirthLaws
-pub mod HeadLaws
 pub mod HeadReading
 pub mod KeptLaws
 pub mod Laws

@@ -12,12 +12,14 @@ use Rattle.live_docs.specs.declared.live_docs.Mark.{Mark}
 use Rattle.segment_core.specs.LiveRows.{Lived, IsWhole, all_live, stored_rows}
 use Rattle.live_files.specs.LiveFits.{LiveFits, ValuesFit}
 use Rattle.live_files.specs.LiveSpelling.{live_bits, values_of, live_file, values_file}
+use Rattle.segment_files.specs.Fits.{PairsFit}
+use Rattle.commit_point.specs.declared.heads.CommitFormat.TheVariants.{Second}
 use Rattle.commit_point.specs.declared.heads.HeadSegment.{HeadSegment}
 use Rattle.commit_point.specs.declared.written.Written.{Written}
 use Rattle.segment_core.specs.Births.{births_append, BirthsDiffer, births_at}
 use Rattle.commit_point.specs.Encoding.{own_files, AreWhole, IsEncoded, AreEncoded, HaveSpelling}
 use Rattle.commit_point.specs.Fits.{IdsRise, EntryFits}
-use Rattle.commit_point.specs.Holds.{HasHead, HasSegment, HasSegments, HaveSegments}
+use Rattle.commit_point.specs.Holds.{Pairs, HasHead, HasSegment, HasSegments, HaveSegments}
 use Rattle.commit_point.specs.Publishing.{File, IsNoneOf, AreThere, SameBesides, IsWhole as IsAllThere, Publishes, MayPublish}
 use Rattle.commit_point.specs.Spelling.{commit_file}
 use Rattle.commit_point.specs.Writing.{CanWrite, CanCommit, SegmentIdsRise, WrittenUpTo, IsWritten, AreWritten, Commits, MayCommit, is_alive, listed, files_of, commit_files, entry_of, entries_of, new_head}
@@ -25,13 +27,14 @@ use Rattle.commit_point.proofs.Counting.{live_first}
 use Rattle.commit_point.proofs.Names.{own, there_append, none_own, none_both, none_before, elsewhere_of}
 
 -- segments that can be written as a commit, and have a spelling
-pub record AreNew (s next : ℕ) (gs : List Lived) (ws : List (Option Written)) : Type 0 where
+pub record AreNew (s next : ℕ) (pairs : Pairs) (gs : List Lived) (ws : List (Option Written)) : Type 0 where
   pub number : 1 ≤ s
   pub fits : s < 2 ^ 64
   pub some_id : 1 ≤ next
   pub room : next ≤ 2 ^ 62
   pub can : CanCommit s next gs ws
   pub spelling : HaveSpelling gs ws
+  pub fit : PairsFit pairs
 
 -- ---- the commit file
 
@@ -80,9 +83,9 @@ entries_few s (g ∷ gs) (w ∷ ws) whole =
     by true e rest = let some = ltb-true 0 (count_live g.live.marks) e in omega (arith, some, rest)
     by false e rest = omega (arith, rest)
 
-head_made : (s next : ℕ) (gs : List Lived) (ws : List (Option Written)) (now : Files) → AreNew s next gs ws → now (Commit s) ≡ Some (commit_file (new_head s next gs ws))
-    → HasHead now s (new_head s next gs ws)
-head_made s next gs ws now new commit = record {
+pub head_made : (s next : ℕ) (pairs : Pairs) (gs : List Lived) (ws : List (Option Written)) (now : Files) → AreNew s next pairs gs ws → now (Commit s) ≡ Some (commit_file (new_head s next pairs gs ws))
+    → HasHead now s (new_head s next pairs gs ws)
+head_made s next pairs gs ws now new commit = record {
   file = commit;
   number = refl;
   fits = record {
@@ -94,6 +97,8 @@ head_made s next gs ws now new commit = record {
     count = let few = entries_few s gs ws new.spelling.whole in omega (arith, few, new.spelling.docs);
     ids = ids_rise s 1 next gs ws new.can.ids;
     entries = entries_fit s gs ws new.number new.can.can new.spelling.whole new.can.written;
+    pairs = new.fit;
+    first = λ is. absurd cc;
   };
 }
 
@@ -217,11 +222,12 @@ segments_made s low limit (g ∷ gs) (w ∷ ws) old new rise count can whole enc
     by false e there kept rest = rest
 
 -- files with the commit file of segments and the files that it writes spell the segments, where the others are as before
-has_made : (s next : ℕ) (gs : List Lived) (ws : List (Option Written)) (old now : Files) → AreNew s next gs ws → now (Commit s) ≡ Some (commit_file (new_head s next gs ws))
+has_made : (s next : ℕ) (pairs : Pairs) (gs : List Lived) (ws : List (Option Written)) (old now : Files) → AreNew s next pairs gs ws → now (Commit s) ≡ Some (commit_file (new_head s next pairs gs ws))
     → AreThere (commit_files s gs ws) now → SameBesides (commit_files s gs ws) (Pending s) (Commit s) old now → AreWritten old s gs ws
     → HasSegments now s next (entries_of s gs ws) (listed gs)
-has_made s next gs ws old now new commit there same was = record {
-  head = head_made s next gs ws now new commit;
+has_made s next pairs gs ws old now new commit there same was = record {
+  tail = (Second, pairs);
+  head = head_made s next pairs gs ws now new commit;
   each = segments_made s 1 next gs ws old now new.can.ids new.can.count new.can.can new.spelling.whole new.spelling.encoded was there
       (λ name from none. same name none (λ e. absurd (let zero : own name ≡ 0 = ap own e in omega (arith, zero, from))) (λ e. absurd (let zero : own name ≡ 0 = ap own e in omega (arith, zero, from))));
   differ = listed_differ gs new.can.differ;
@@ -230,10 +236,10 @@ has_made s next gs ws old now new commit there same was = record {
 -- ---- what was published
 
 -- all was published, so the commit was made
-pub made_of : (s next : ℕ) (gs : List Lived) (ws : List (Option Written)) (a c : Files) → AreNew s next gs ws
-    → Publishes (commit_files s gs ws) (Pending s) (Commit s) (commit_file (new_head s next gs ws)) a c → Commits s next gs ws a c
-made_of s next gs ws a c new all = record {
-  spelled = has_made s next gs ws a c new all.whole.last all.whole.there all.elsewhere;
+pub made_of : (s next : ℕ) (pairs : Pairs) (gs : List Lived) (ws : List (Option Written)) (a c : Files) → AreNew s next pairs gs ws
+    → Publishes (commit_files s gs ws) (Pending s) (Commit s) (commit_file (new_head s next pairs gs ws)) a c → Commits s next pairs gs ws a c
+made_of s next pairs gs ws a c new all = record {
+  spelled = has_made s next pairs gs ws a c new all.whole.last all.whole.there all.elsewhere;
   commit = all.whole.last;
   files = all.whole.there;
   pending = all.whole.gone;
@@ -241,10 +247,10 @@ made_of s next gs ws a c new all = record {
 }
 
 -- all was published, or the commit file is as before
-pub may_of : (s next : ℕ) (gs : List Lived) (ws : List (Option Written)) (a c : Files) → AreNew s next gs ws
-    → MayPublish (commit_files s gs ws) (Pending s) (Commit s) (commit_file (new_head s next gs ws)) a c → MayCommit s next gs ws a c
-may_of s next gs ws a c new may = record { elsewhere = elsewhere_of s gs ws a c may.elsewhere; whole = cases may.whole }
+pub may_of : (s next : ℕ) (pairs : Pairs) (gs : List Lived) (ws : List (Option Written)) (a c : Files) → AreNew s next pairs gs ws
+    → MayPublish (commit_files s gs ws) (Pending s) (Commit s) (commit_file (new_head s next pairs gs ws)) a c → MayCommit s next pairs gs ws a c
+may_of s next pairs gs ws a c new may = record { elsewhere = elsewhere_of s gs ws a c may.elsewhere; whole = cases may.whole }
   where
-    cases : (c (Commit s) ≡ a (Commit s)) ⊎ IsAllThere (commit_files s gs ws) (Pending s) (Commit s) (commit_file (new_head s next gs ws)) c → (c (Commit s) ≡ a (Commit s)) ⊎ Commits s next gs ws a c
+    cases : (c (Commit s) ≡ a (Commit s)) ⊎ IsAllThere (commit_files s gs ws) (Pending s) (Commit s) (commit_file (new_head s next pairs gs ws)) c → (c (Commit s) ≡ a (Commit s)) ⊎ Commits s next pairs gs ws a c
     cases (inl same) = inl same
-    cases (inr whole) = inr (made_of s next gs ws a c new (record { whole = whole; elsewhere = may.elsewhere }))
+    cases (inr whole) = inr (made_of s next pairs gs ws a c new (record { whole = whole; elsewhere = may.elsewhere }))

@@ -21,93 +21,102 @@ use Rattle.commit_point.specs.declared.fault.CommitRefused.{CommitRefused}
 use Rattle.commit_point.specs.Publishing.{File, puts, puts_all, publishes, AreThere, MayPublish, CanPublish, Refuses}
 use Rattle.commit_point.proofs.PublishLaws.{publish_stops, publish_early, image_of_publish, reads_of_publish, reads_of_stop}
 use Rattle.commit_point.specs.Spelling.{commit_file}
+use Rattle.commit_point.specs.Holds.{HasPairs, Pairs}
 use Rattle.commit_point.specs.Writing.{Commits, MayCommit, SameElsewhere, IsOldId, commit_steps, commit_files, new_head}
-use Rattle.commit_point.proofs.Made.{AreNew, made_of, may_of}
+use Rattle.commit_point.proofs.Made.{AreNew, head_made, made_of, may_of}
 use Rattle.commit_point.proofs.Names.{can_publish, elsewhere_of}
 
 -- ---- what the call promises, by the steps that it took
 
 -- the steps were all taken
-abbrev pub Did : ℕ → ℕ → List Lived → List (Option Written) → Option Disk → Option Disk → Type 0
-Did s next gs ws = Told (λ old now. now ≡ taken (commit_steps s next gs ws) old)
+abbrev pub Did : ℕ → ℕ → Pairs → List Lived → List (Option Written) → Option Disk → Option Disk → Type 0
+Did s next pairs gs ws = Told (λ old now. now ≡ taken (commit_steps s next pairs gs ws) old)
 
 -- the first few of the steps were taken
-abbrev pub Stopped : ℕ → ℕ → List Lived → List (Option Written) → Option Disk → Option Disk → Type 0
-Stopped s next gs ws = Told (λ old now. Stops (commit_steps s next gs ws) old now)
+abbrev pub Stopped : ℕ → ℕ → Pairs → List Lived → List (Option Written) → Option Disk → Option Disk → Type 0
+Stopped s next pairs gs ws = Told (λ old now. Stops (commit_steps s next pairs gs ws) old now)
 
 -- what was published is the list of the files and the commit file
-pub did_at : (s next : ℕ) (gs : List Lived) (ws : List (Option Written)) (list : List File) (bytes : List ℕ) (a b : Option Disk) → list ≡ commit_files s gs ws → bytes ≡ commit_file (new_head s next gs ws)
-    → Told (λ old now. now ≡ taken (publishes list (Pending s) (Commit s) bytes) old) a b → Did s next gs ws a b
-did_at s next gs ws list bytes a b is same did =
-    subst (λ (xs : List File). Told (λ old now. now ≡ taken (publishes xs (Pending s) (Commit s) (commit_file (new_head s next gs ws))) old) a b) is
+pub did_at : (s next : ℕ) (pairs : Pairs) (gs : List Lived) (ws : List (Option Written)) (list : List File) (bytes : List ℕ) (a b : Option Disk) → list ≡ commit_files s gs ws → bytes ≡ commit_file (new_head s next pairs gs ws)
+    → Told (λ old now. now ≡ taken (publishes list (Pending s) (Commit s) bytes) old) a b → Did s next pairs gs ws a b
+did_at s next pairs gs ws list bytes a b is same did =
+    subst (λ (xs : List File). Told (λ old now. now ≡ taken (publishes xs (Pending s) (Commit s) (commit_file (new_head s next pairs gs ws))) old) a b) is
     (subst (λ (x : List ℕ). Told (λ old now. now ≡ taken (publishes list (Pending s) (Commit s) x) old) a b) same did)
 
-pub stopped_at : (s next : ℕ) (gs : List Lived) (ws : List (Option Written)) (list : List File) (bytes : List ℕ) (a b : Option Disk) → list ≡ commit_files s gs ws → bytes ≡ commit_file (new_head s next gs ws)
-    → Told (λ old now. Stops (publishes list (Pending s) (Commit s) bytes) old now) a b → Stopped s next gs ws a b
-stopped_at s next gs ws list bytes a b is same stopped =
-    subst (λ (xs : List File). Told (λ old now. Stops (publishes xs (Pending s) (Commit s) (commit_file (new_head s next gs ws))) old now) a b) is
+pub stopped_at : (s next : ℕ) (pairs : Pairs) (gs : List Lived) (ws : List (Option Written)) (list : List File) (bytes : List ℕ) (a b : Option Disk) → list ≡ commit_files s gs ws → bytes ≡ commit_file (new_head s next pairs gs ws)
+    → Told (λ old now. Stops (publishes list (Pending s) (Commit s) bytes) old now) a b → Stopped s next pairs gs ws a b
+stopped_at s next pairs gs ws list bytes a b is same stopped =
+    subst (λ (xs : List File). Told (λ old now. Stops (publishes xs (Pending s) (Commit s) (commit_file (new_head s next pairs gs ws))) old now) a b) is
     (subst (λ (x : List ℕ). Told (λ old now. Stops (publishes list (Pending s) (Commit s) x) old now) a b) same stopped)
 
-pub did_stop : (s next : ℕ) (gs : List Lived) (ws : List (Option Written)) (a b : Option Disk) → Did s next gs ws a b → Stopped s next gs ws a b
-did_stop s next gs ws a b did = told_onto _ _ a b (λ x y is. stops_done (commit_steps s next gs ws) x y is) did
+pub did_stop : (s next : ℕ) (pairs : Pairs) (gs : List Lived) (ws : List (Option Written)) (a b : Option Disk) → Did s next pairs gs ws a b → Stopped s next pairs gs ws a b
+did_stop s next pairs gs ws a b did = told_onto _ _ a b (λ x y is. stops_done (commit_steps s next pairs gs ws) x y is) did
 
-pub makes : (s next : ℕ) (gs : List Lived) (ws : List (Option Written)) (a b : Option Disk) → AreNew s next gs ws → Did s next gs ws a b → Changes (Commits s next gs ws) (told_files a) (told_files b)
-makes s next gs ws None b new did = tt
-makes s next gs ws (Some x) None new did = absurd did
-makes s next gs ws (Some x) (Some y) new did = made_of s next gs ws (files x) (files y) new (reads_of_publish _ _ _ _ x y (can_publish s next gs ws new.can.ids) did)
+pub makes : (s next : ℕ) (pairs : Pairs) (gs : List Lived) (ws : List (Option Written)) (a b : Option Disk) → AreNew s next pairs gs ws → Did s next pairs gs ws a b → Changes (Commits s next pairs gs ws) (told_files a) (told_files b)
+makes s next pairs gs ws None b new did = tt
+makes s next pairs gs ws (Some x) None new did = absurd did
+makes s next pairs gs ws (Some x) (Some y) new did = made_of s next pairs gs ws (files x) (files y) new (reads_of_publish _ _ _ _ x y (can_publish s next gs ws new.can.ids) did)
 
-pub leaves_others : (s next : ℕ) (gs : List Lived) (ws : List (Option Written)) (a b : Option Disk) → CanPublish (commit_files s gs ws) (Pending s) (Commit s) → Stopped s next gs ws a b → Changes (SameElsewhere s (IsOldId gs ws)) (told_files a) (told_files b)
-leaves_others s next gs ws None b can stopped = tt
-leaves_others s next gs ws (Some x) None can stopped = absurd stopped
-leaves_others s next gs ws (Some x) (Some y) can stopped =
-    elsewhere_of s gs ws (files x) (files y) (reads_of_stop (commit_files s gs ws) (Pending s) (Commit s) (commit_file (new_head s next gs ws)) x y can stopped).elsewhere
+-- the pairs stand in the commit file
+pub has_pairs : (s next : ℕ) (pairs : Pairs) (gs : List Lived) (ws : List (Option Written)) (a b : Option Disk) → AreNew s next pairs gs ws → Did s next pairs gs ws a b → Changes (λ old now. HasPairs now s pairs) (told_files a) (told_files b)
+has_pairs s next pairs gs ws None b new did = tt
+has_pairs s next pairs gs ws (Some x) None new did = absurd did
+has_pairs s next pairs gs ws (Some x) (Some y) new did =
+    let made = made_of s next pairs gs ws (files x) (files y) new (reads_of_publish _ _ _ _ x y (can_publish s next gs ws new.can.ids) did) in
+    (new_head s next pairs gs ws, head_made s next pairs gs ws (files y) new made.commit, refl)
 
-pub images_have : (s next : ℕ) (gs : List Lived) (ws : List (Option Written)) (a b : Option Disk) → AreNew s next gs ws → Did s next gs ws a b → Follows (Commits s next gs ws) (MayHold a) (MayHold b)
-images_have s next gs ws a None new did c image = absurd image
-images_have s next gs ws None (Some y) new did c image = absurd did
-images_have s next gs ws (Some x) (Some y) new did c image =
+pub leaves_others : (s next : ℕ) (pairs : Pairs) (gs : List Lived) (ws : List (Option Written)) (a b : Option Disk) → CanPublish (commit_files s gs ws) (Pending s) (Commit s) → Stopped s next pairs gs ws a b → Changes (SameElsewhere s (IsOldId gs ws)) (told_files a) (told_files b)
+leaves_others s next pairs gs ws None b can stopped = tt
+leaves_others s next pairs gs ws (Some x) None can stopped = absurd stopped
+leaves_others s next pairs gs ws (Some x) (Some y) can stopped =
+    elsewhere_of s gs ws (files x) (files y) (reads_of_stop (commit_files s gs ws) (Pending s) (Commit s) (commit_file (new_head s next pairs gs ws)) x y can stopped).elsewhere
+
+pub images_have : (s next : ℕ) (pairs : Pairs) (gs : List Lived) (ws : List (Option Written)) (a b : Option Disk) → AreNew s next pairs gs ws → Did s next pairs gs ws a b → Follows (Commits s next pairs gs ws) (MayHold a) (MayHold b)
+images_have s next pairs gs ws a None new did c image = absurd image
+images_have s next pairs gs ws None (Some y) new did c image = absurd did
+images_have s next pairs gs ws (Some x) (Some y) new did c image =
     let found = image_of_publish _ _ _ _ x y (can_publish s next gs ws new.can.ids) did c image in
-    (found.0, found.1, made_of s next gs ws found.0 c new found.2)
+    (found.0, found.1, made_of s next pairs gs ws found.0 c new found.2)
 
 -- what is seen of the images wherever the call stopped
-stopped_image : (s next : ℕ) (gs : List Lived) (ws : List (Option Written)) (x y : Disk) → CanPublish (commit_files s gs ws) (Pending s) (Commit s) → Stops (commit_steps s next gs ws) x y → (c : Files) → IsImage y c
-    → (d : Files) × IsImage x d × MayPublish (commit_files s gs ws) (Pending s) (Commit s) (commit_file (new_head s next gs ws)) d c
-stopped_image s next gs ws x y can stops c image = publish_stops IsImage images_follow (commit_files s gs ws) (Pending s) (Commit s) (commit_file (new_head s next gs ws)) x y can stops c image
+stopped_image : (s next : ℕ) (pairs : Pairs) (gs : List Lived) (ws : List (Option Written)) (x y : Disk) → CanPublish (commit_files s gs ws) (Pending s) (Commit s) → Stops (commit_steps s next pairs gs ws) x y → (c : Files) → IsImage y c
+    → (d : Files) × IsImage x d × MayPublish (commit_files s gs ws) (Pending s) (Commit s) (commit_file (new_head s next pairs gs ws)) d c
+stopped_image s next pairs gs ws x y can stops c image = publish_stops IsImage images_follow (commit_files s gs ws) (Pending s) (Commit s) (commit_file (new_head s next pairs gs ws)) x y can stops c image
 
-pub images_elsewhere : (s next : ℕ) (gs : List Lived) (ws : List (Option Written)) (a b : Option Disk) → CanPublish (commit_files s gs ws) (Pending s) (Commit s) → Stopped s next gs ws a b → Follows (SameElsewhere s (IsOldId gs ws)) (MayHold a) (MayHold b)
-images_elsewhere s next gs ws a None can stopped c image = absurd image
-images_elsewhere s next gs ws None (Some y) can stopped c image = absurd stopped
-images_elsewhere s next gs ws (Some x) (Some y) can stopped c image =
-    let found = stopped_image s next gs ws x y can stopped c image in
+pub images_elsewhere : (s next : ℕ) (pairs : Pairs) (gs : List Lived) (ws : List (Option Written)) (a b : Option Disk) → CanPublish (commit_files s gs ws) (Pending s) (Commit s) → Stopped s next pairs gs ws a b → Follows (SameElsewhere s (IsOldId gs ws)) (MayHold a) (MayHold b)
+images_elsewhere s next pairs gs ws a None can stopped c image = absurd image
+images_elsewhere s next pairs gs ws None (Some y) can stopped c image = absurd stopped
+images_elsewhere s next pairs gs ws (Some x) (Some y) can stopped c image =
+    let found = stopped_image s next pairs gs ws x y can stopped c image in
     (found.0, found.1, elsewhere_of s gs ws found.0 c found.2.elsewhere)
 
-pub crash_leaves : (s next : ℕ) (gs : List Lived) (ws : List (Option Written)) (a b : Option Disk) → AreNew s next gs ws → Stopped s next gs ws a b → LeavesOnly a b (Reaches (MayCommit s next gs ws) (MayHold a))
-crash_leaves s next gs ws a b new stopped =
-    leaves_steps (commit_steps s next gs ws) a b (Reaches (MayCommit s next gs ws) (MayHold a)) stopped
+pub crash_leaves : (s next : ℕ) (pairs : Pairs) (gs : List Lived) (ws : List (Option Written)) (a b : Option Disk) → AreNew s next pairs gs ws → Stopped s next pairs gs ws a b → LeavesOnly a b (Reaches (MayCommit s next pairs gs ws) (MayHold a))
+crash_leaves s next pairs gs ws a b new stopped =
+    leaves_steps (commit_steps s next pairs gs ws) a b (Reaches (MayCommit s next pairs gs ws) (MayHold a)) stopped
     (λ old at c is stops image.
-    let found = stopped_image s next gs ws old at (can_publish s next gs ws new.can.ids) stops c image in
-    (found.0, subst (λ (o : Option Disk). MayHold o found.0) (sym is) found.1, may_of s next gs ws found.0 c new found.2))
+    let found = stopped_image s next pairs gs ws old at (can_publish s next gs ws new.can.ids) stops c image in
+    (found.0, subst (λ (o : Option Disk). MayHold o found.0) (sym is) found.1, may_of s next pairs gs ws found.0 c new found.2))
 
 stops_nowhere : (steps : List Step) (x : Disk) → Stops steps x x
 stops_nowhere [] x = refl
 stops_nowhere (step ∷ steps) x = inl (inl refl)
 
 -- nothing was called
-pub stopped_first : (s next : ℕ) (gs : List Lived) (ws : List (Option Written)) (a : Option Disk) → Stopped s next gs ws a a
-stopped_first s next gs ws a = told_same _ a (λ x. stops_nowhere (commit_steps s next gs ws) x)
+pub stopped_first : (s next : ℕ) (pairs : Pairs) (gs : List Lived) (ws : List (Option Written)) (a : Option Disk) → Stopped s next pairs gs ws a a
+stopped_first s next pairs gs ws a = told_same _ a (λ x. stops_nowhere (commit_steps s next pairs gs ws) x)
 
 -- nothing was called, so a crash leaves what it might have left
-pub crash_before : (s next : ℕ) (gs : List Lived) (ws : List (Option Written)) (a : Option Disk) → LeavesOnly a a (Reaches (MayCommit s next gs ws) (MayHold a))
-crash_before s next gs ws a = leaves_none a (Reaches (MayCommit s next gs ws) (MayHold a)) (λ c image. (c, image, record { elsewhere = λ name not. refl; whole = inl refl }))
+pub crash_before : (s next : ℕ) (pairs : Pairs) (gs : List Lived) (ws : List (Option Written)) (a : Option Disk) → LeavesOnly a a (Reaches (MayCommit s next pairs gs ws) (MayHold a))
+crash_before s next pairs gs ws a = leaves_none a (Reaches (MayCommit s next pairs gs ws) (MayHold a)) (λ c image. (c, image, record { elsewhere = λ name not. refl; whole = inl refl }))
 
 durable_at : (name : FileName) (bytes : Option (List ℕ)) (y : Disk) → ((c : Files) → IsImage y c → c name ≡ bytes) → files y name ≡ bytes → IsDurable name (MayHold (Some y)) (told_files (Some y))
 durable_at name bytes y each read = λ c image. each c image ∙ sym read
 
-pub durable_commit : (s next : ℕ) (gs : List Lived) (ws : List (Option Written)) (a b : Option Disk) → CanPublish (commit_files s gs ws) (Pending s) (Commit s) → Did s next gs ws a b → IsDurable (Commit s) (MayHold b) (told_files b)
-durable_commit s next gs ws a None can did = tt
-durable_commit s next gs ws None (Some y) can did = absurd did
-durable_commit s next gs ws (Some x) (Some y) can did =
-    durable_at (Commit s) (Some (commit_file (new_head s next gs ws))) y (λ c image. (image_of_publish _ _ _ _ x y can did c image).2.whole.last)
+pub durable_commit : (s next : ℕ) (pairs : Pairs) (gs : List Lived) (ws : List (Option Written)) (a b : Option Disk) → CanPublish (commit_files s gs ws) (Pending s) (Commit s) → Did s next pairs gs ws a b → IsDurable (Commit s) (MayHold b) (told_files b)
+durable_commit s next pairs gs ws a None can did = tt
+durable_commit s next pairs gs ws None (Some y) can did = absurd did
+durable_commit s next pairs gs ws (Some x) (Some y) can did =
+    durable_at (Commit s) (Some (commit_file (new_head s next pairs gs ws))) y (λ c image. (image_of_publish _ _ _ _ x y can did c image).2.whole.last)
     (reads_of_publish _ _ _ _ x y can did).whole.last
 
 -- files that stand in each image, and as reads give them
@@ -119,30 +128,30 @@ not_told : (list : List File) → AllByRecursion (λ (file : File). IsDurable fi
 not_told [] = tt
 not_told (f ∷ fs) = (tt, not_told fs)
 
-pub durable_files : (s next : ℕ) (gs : List Lived) (ws : List (Option Written)) (a b : Option Disk) → CanPublish (commit_files s gs ws) (Pending s) (Commit s) → Did s next gs ws a b
+pub durable_files : (s next : ℕ) (pairs : Pairs) (gs : List Lived) (ws : List (Option Written)) (a b : Option Disk) → CanPublish (commit_files s gs ws) (Pending s) (Commit s) → Did s next pairs gs ws a b
     → AllByRecursion (λ (file : File). IsDurable file.0 (MayHold b) (told_files b)) (commit_files s gs ws)
-durable_files s next gs ws a None can did = not_told (commit_files s gs ws)
-durable_files s next gs ws None (Some y) can did = absurd did
-durable_files s next gs ws (Some x) (Some y) can did =
+durable_files s next pairs gs ws a None can did = not_told (commit_files s gs ws)
+durable_files s next pairs gs ws None (Some y) can did = absurd did
+durable_files s next pairs gs ws (Some x) (Some y) can did =
     all_durable (commit_files s gs ws) y (λ c image. (image_of_publish _ _ _ _ x y can did c image).2.whole.there) (reads_of_publish _ _ _ _ x y can did).whole.there
 
 -- ---- whether the commit is there after memory ran out
 
 -- the steps before the rename
-abbrev before_rename : ℕ → ℕ → List Lived → List (Option Written) → List Step
-before_rename s next gs ws = puts_all (commit_files s gs ws) ++ puts (Pending s) (commit_file (new_head s next gs ws))
+abbrev before_rename : ℕ → ℕ → Pairs → List Lived → List (Option Written) → List Step
+before_rename s next pairs gs ws = puts_all (commit_files s gs ws) ++ puts (Pending s) (commit_file (new_head s next pairs gs ws))
 
-renamed_there : (s next : ℕ) (gs : List Lived) (ws : List (Option Written)) (x y : Disk) → y ≡ taken (before_rename s next gs ws ++ Renamed (Pending s) (Commit s) ∷ []) x → files y (Commit s) ≡ Some (commit_file (new_head s next gs ws))
-renamed_there s next gs ws x y is =
-    let split : taken (before_rename s next gs ws ++ Renamed (Pending s) (Commit s) ∷ []) x ≡ Renamed (Pending s) (Commit s) ∷ taken (before_rename s next gs ws) x = taken_then (before_rename s next gs ws) (Renamed (Pending s) (Commit s) ∷ []) x in
-    let put : taken (before_rename s next gs ws) x ≡ Synced (Pending s) ∷ Wrote (Pending s) (commit_file (new_head s next gs ws)) ∷ taken (puts_all (commit_files s gs ws)) x = taken_then (puts_all (commit_files s gs ws)) (puts (Pending s) (commit_file (new_head s next gs ws))) x in
+renamed_there : (s next : ℕ) (pairs : Pairs) (gs : List Lived) (ws : List (Option Written)) (x y : Disk) → y ≡ taken (before_rename s next pairs gs ws ++ Renamed (Pending s) (Commit s) ∷ []) x → files y (Commit s) ≡ Some (commit_file (new_head s next pairs gs ws))
+renamed_there s next pairs gs ws x y is =
+    let split : taken (before_rename s next pairs gs ws ++ Renamed (Pending s) (Commit s) ∷ []) x ≡ Renamed (Pending s) (Commit s) ∷ taken (before_rename s next pairs gs ws) x = taken_then (before_rename s next pairs gs ws) (Renamed (Pending s) (Commit s) ∷ []) x in
+    let put : taken (before_rename s next pairs gs ws) x ≡ Synced (Pending s) ∷ Wrote (Pending s) (commit_file (new_head s next pairs gs ws)) ∷ taken (puts_all (commit_files s gs ws)) x = taken_then (puts_all (commit_files s gs ws)) (puts (Pending s) (commit_file (new_head s next pairs gs ws))) x in
     ap (λ (d : Disk). files d (Commit s)) (is ∙ split ∙ ap (λ (d : Disk). Renamed (Pending s) (Commit s) ∷ d) put)
-    ∙ moved-to (Pending s) (Commit s) None (with_at (Pending s) (Some (commit_file (new_head s next gs ws))) (files (taken (puts_all (commit_files s gs ws)) x))) (λ e. cc)
-    ∙ with_at-same (Pending s) (Some (commit_file (new_head s next gs ws))) (files (taken (puts_all (commit_files s gs ws)) x))
+    ∙ moved-to (Pending s) (Commit s) None (with_at (Pending s) (Some (commit_file (new_head s next pairs gs ws))) (files (taken (puts_all (commit_files s gs ws)) x))) (λ e. cc)
+    ∙ with_at-same (Pending s) (Some (commit_file (new_head s next pairs gs ws))) (files (taken (puts_all (commit_files s gs ws)) x))
 
-stopped_before : (s next : ℕ) (gs : List Lived) (ws : List (Option Written)) (x y : Disk) → CanPublish (commit_files s gs ws) (Pending s) (Commit s) → Stops (before_rename s next gs ws) x y → files y (Commit s) ≡ files x (Commit s)
-stopped_before s next gs ws x y can stops =
-    let found = publish_early IsRead reads_follow (commit_files s gs ws) (Pending s) (Commit s) (commit_file (new_head s next gs ws)) x y can stops (files y) refl in
+stopped_before : (s next : ℕ) (pairs : Pairs) (gs : List Lived) (ws : List (Option Written)) (x y : Disk) → CanPublish (commit_files s gs ws) (Pending s) (Commit s) → Stops (before_rename s next pairs gs ws) x y → files y (Commit s) ≡ files x (Commit s)
+stopped_before s next pairs gs ws x y can stops =
+    let found = publish_early IsRead reads_follow (commit_files s gs ws) (Pending s) (Commit s) (commit_file (new_head s next pairs gs ws)) x y can stops (files y) refl in
     found.2.last ∙ ap (λ (d : Files). d (Commit s)) found.1
 
 -- the commit is there exactly where the rename was done
@@ -158,12 +167,12 @@ not_there f g name same none there = let is : f ≡ g = cc in differ (sym (ap (�
     differ : false ≡ true → ⊥
     differ e = cc
 
-pub tells_rename : (s next : ℕ) (gs : List Lived) (ws : List (Option Written)) (a b : Option Disk) (refused : CommitRefused) → CanPublish (commit_files s gs ws) (Pending s) (Commit s)
-    → Told (λ old now. Refuses (before_rename s next gs ws) (Renamed (Pending s) (Commit s)) refused.fault refused.renamed old now) a b → TellsRename s a b refused
-tells_rename s next gs ws None b refused can refuses old now told absent told_now no_memory = absurd cc
-tells_rename s next gs ws (Some x) None refused can refuses old now told absent told_now no_memory = absurd refuses
-tells_rename s next gs ws (Some x) (Some y) refused can refuses old now told absent told_now no_memory = (
-  (λ was. is_there (files y) now (Commit s) (commit_file (new_head s next gs ws)) told_now (renamed_there s next gs ws x y (refuses.done was))),
+pub tells_rename : (s next : ℕ) (pairs : Pairs) (gs : List Lived) (ws : List (Option Written)) (a b : Option Disk) (refused : CommitRefused) → CanPublish (commit_files s gs ws) (Pending s) (Commit s)
+    → Told (λ old now. Refuses (before_rename s next pairs gs ws) (Renamed (Pending s) (Commit s)) refused.fault refused.renamed old now) a b → TellsRename s a b refused
+tells_rename s next pairs gs ws None b refused can refuses old now told absent told_now no_memory = absurd cc
+tells_rename s next pairs gs ws (Some x) None refused can refuses old now told absent told_now no_memory = absurd refuses
+tells_rename s next pairs gs ws (Some x) (Some y) refused can refuses old now told absent told_now no_memory = (
+  (λ was. is_there (files y) now (Commit s) (commit_file (new_head s next pairs gs ws)) told_now (renamed_there s next pairs gs ws x y (refuses.done was))),
   (λ there. by_flag refused.renamed refl there),
 )
   where
@@ -172,12 +181,12 @@ tells_rename s next gs ws (Some x) (Some y) refused can refuses old now told abs
 
     by_flag : (r : Bool) → refused.renamed ≡ r → IsSome (now (Commit s)) → refused.renamed ≡ true
     by_flag true is there = is
-    by_flag false is there = absurd (not_there (files y) now (Commit s) told_now (stopped_before s next gs ws x y can (refuses.not_done is no_memory) ∙ none) there)
+    by_flag false is there = absurd (not_there (files y) now (Commit s) told_now (stopped_before s next pairs gs ws x y can (refuses.not_done is no_memory) ∙ none) there)
 
 -- what was refused is the list of the files and the commit file
-pub refused_at : (s next : ℕ) (gs : List Lived) (ws : List (Option Written)) (list : List File) (bytes : List ℕ) (a b : Option Disk) (refused : CommitRefused) → list ≡ commit_files s gs ws → bytes ≡ commit_file (new_head s next gs ws)
+pub refused_at : (s next : ℕ) (pairs : Pairs) (gs : List Lived) (ws : List (Option Written)) (list : List File) (bytes : List ℕ) (a b : Option Disk) (refused : CommitRefused) → list ≡ commit_files s gs ws → bytes ≡ commit_file (new_head s next pairs gs ws)
     → Told (λ old now. Refuses (puts_all list ++ puts (Pending s) bytes) (Renamed (Pending s) (Commit s)) refused.fault refused.renamed old now) a b
-    → Told (λ old now. Refuses (before_rename s next gs ws) (Renamed (Pending s) (Commit s)) refused.fault refused.renamed old now) a b
-refused_at s next gs ws list bytes a b refused is same refuses =
-    subst (λ (xs : List File). Told (λ old now. Refuses (puts_all xs ++ puts (Pending s) (commit_file (new_head s next gs ws))) (Renamed (Pending s) (Commit s)) refused.fault refused.renamed old now) a b) is
+    → Told (λ old now. Refuses (before_rename s next pairs gs ws) (Renamed (Pending s) (Commit s)) refused.fault refused.renamed old now) a b
+refused_at s next pairs gs ws list bytes a b refused is same refuses =
+    subst (λ (xs : List File). Told (λ old now. Refuses (puts_all xs ++ puts (Pending s) (commit_file (new_head s next pairs gs ws))) (Renamed (Pending s) (Commit s)) refused.fault refused.renamed old now) a b) is
     (subst (λ (x : List ℕ). Told (λ old now. Refuses (puts_all list ++ puts (Pending s) x) (Renamed (Pending s) (Commit s)) refused.fault refused.renamed old now) a b) same refuses)

@@ -33,10 +33,10 @@ see_head told s head reads =
     (see.files, see.was, see.there)
 
 -- a head with this number and sum is that of its entries and segments
-head_is : (s : ℕ) (head : Head) (segments : List Lived) → head.number ≡ s → head.docs ≡ length (all_live segments) → head ≡ head_of s head.next_id head.segments segments
+head_is : (s : ℕ) (head : Head) (segments : List Lived) → head.number ≡ s → head.docs ≡ length (all_live segments) → head ≡ head_of s head.next_id (head.format, head.pairs) head.segments segments
 head_is s head segments number docs =
-    ap (λ (n : ℕ). record { number = n; docs = head.docs; next_id = head.next_id; segments = head.segments }) number
-    ∙ ap (λ (d : ℕ). record { number = s; docs = d; next_id = head.next_id; segments = head.segments }) docs
+    ap (λ (n : ℕ). record { number = n; docs = head.docs; next_id = head.next_id; segments = head.segments; format = head.format; pairs = head.pairs }) number
+    ∙ ap (λ (d : ℕ). record { number = s; docs = d; next_id = head.next_id; segments = head.segments; format = head.format; pairs = head.pairs }) docs
 
 pub opens : (told next_told : Option Files) (s : ℕ) (head : Head) (segments : List Lived) → next_told ≡ told → Reads told (Commit s) (Some (commit_file head)) → head.number ≡ s → HeadFits head
     → ((before : Files) → Was next_told before → AreRead next_told head before segments) → eqb head.docs (length (all_live segments)) ≡ true
@@ -49,6 +49,7 @@ opens told next_told s head segments same reads number fits each docs =
       read.files,
       subst (λ (o : Option Files). Was o read.files) same read.was,
       record {
+        tail = (head.format, head.pairs);
         head = subst (HasHead read.files s) (head_is s head segments number (eqb-true _ _ docs)) (record { file = there; number = number; fits = fits });
         each = have;
         differ = differ_of s segments (each_rises read.files s head.segments segments have) read.unknown;
@@ -130,5 +131,5 @@ whole_is_read told s (Err (open_faults.Damaged d)) damaged listed files next ent
     let at = damaged d refl in
     let same : files ≡ at.0 = subst (λ (o : Option Files). Was o at.0) is at.1 in
     let broken : reading files s ≡ Err d = subst (λ (f : Files). reading f s ≡ Err d) (sym same) at.2 in
-    let read : reading files s ≡ Ok (head_of s next entries segments, segments) = has_reads files s next entries segments h in
+    let read : reading files s ≡ Ok (head_of s next h.tail entries segments, segments) = has_reads files s next entries segments h in
     absurd cc

@@ -121,10 +121,10 @@ head_reads files s head file number fits =
 
 -- what the files of a commit spell is read
 pub has_reads : (files : Files) (s next : ℕ) (entries : List HeadSegment) (segments : List Lived)
-    → HasSegments files s next entries segments → reading files s ≡ Ok (head_of s next entries segments, segments)
+    → (h : HasSegments files s next entries segments) → reading files s ≡ Ok (head_of s next h.tail entries segments, segments)
 unfolding reading
 has_reads files s next entries segments h =
-    let head = head_of s next entries segments in
+    let head = head_of s next h.tail entries segments in
     let docs : eqb (length (all_live segments)) (length (all_live segments)) ≡ true = eq-eqb _ _ refl in
     rw (
       head_reads files s head h.head.file refl h.head.fits,
@@ -139,8 +139,8 @@ is_ok p = Ok p
 pub one_segments : (files : Files) (s n m : ℕ) (es fs : List HeadSegment) (a b : List Lived)
     → HasSegments files s n es a → HasSegments files s m fs b → (a ≡ b) × (es ≡ fs) × (n ≡ m)
 one_segments files s n m es fs a b h k =
-    let same : is_ok (head_of s n es a, a) ≡ is_ok (head_of s m fs b, b) = sym (has_reads files s n es a h) ∙ has_reads files s m fs b k in
-    let pair : (head_of s n es a, a) ≡ (head_of s m fs b, b) = cc in (
+    let same : is_ok (head_of s n h.tail es a, a) ≡ is_ok (head_of s m k.tail fs b, b) = sym (has_reads files s n es a h) ∙ has_reads files s m fs b k in
+    let pair : (head_of s n h.tail es a, a) ≡ (head_of s m k.tail fs b, b) = cc in (
       ap (λ (p : Head × List Lived). p.1) pair,
       ap (λ (p : Head × List Lived). p.0.segments) pair,
       ap (λ (p : Head × List Lived). p.0.next_id) pair,

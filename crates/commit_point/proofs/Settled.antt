@@ -15,7 +15,7 @@ use Rattle.commit_point.specs.declared.heads.HeadSegment.{HeadSegment}
 use Rattle.commit_point.specs.declared.heads.Head.{Head}
 use Rattle.commit_point.specs.declared.written.Written.{Written}
 use Rattle.commit_point.specs.Fits.{EntryFits}
-use Rattle.commit_point.specs.Holds.{HasSegment, HasSegments, HaveSegments, IsAmong, IsFileOf, Lists, AreKept, names_of, head_of}
+use Rattle.commit_point.specs.Holds.{Pairs, HasSegment, HasSegments, HaveSegments, IsAmong, IsFileOf, Lists, AreKept, names_of, head_of}
 use Rattle.commit_point.proofs.Laws.{one_head}
 use Rattle.commit_point.specs.Settling.{Settles}
 use Rattle.commit_point.specs.Writing.{AreWritten, ComesAfter, Commits, IsElsewhere, IsOldId, entries_of, listed}
@@ -51,12 +51,12 @@ same_files s (x ∷ es) [] a c e name i lt is h k among = absurd h
 same_files s (x ∷ es) (g ∷ gs) a c e name zero lt is h k among = same_file s x g a c name h.0 k.0 (subst (λ (y : HeadSegment). IsAmong (names_of y) name) (sym is) among)
 same_files s (x ∷ es) (g ∷ gs) a c e name (suc i) lt is h k among = same_files s es gs a c e name i (omega (arith, lt)) is h.1 k.1 among
 
-this_kept : (s next : ℕ) (entries : List HeadSegment) (gs : List Lived) (a c : Files) (name : FileName) → HasSegments a s next entries gs → HasSegments c s next entries gs
+this_kept : (s next : ℕ) (entries : List HeadSegment) (gs : List Lived) (a c : Files) (name : FileName) → c (Commit s) ≡ a (Commit s) → HasSegments a s next entries gs → HasSegments c s next entries gs
     → IsFileOf a s name → c name ≡ a name
-this_kept s next entries gs a c name h k (inl is) = ap c is ∙ k.head.file ∙ sym h.head.file ∙ sym (ap a is)
-this_kept s next entries gs a c name h k (inr file) =
+this_kept s next entries gs a c name commit h k (inl is) = ap c is ∙ commit ∙ sym (ap a is)
+this_kept s next entries gs a c name commit h k (inr file) =
     let lists : Lists a s file.0 = file.1 in
-    let same : lists.head ≡ head_of s next entries gs = one_head a s lists.head (head_of s next entries gs) lists.has_head h.head in
+    let same : lists.head ≡ head_of s next h.tail entries gs = one_head a s lists.head (head_of s next h.tail entries gs) lists.has_head h.head in
     let one : Contains entries file.0 = subst (λ (head : Head). Contains head.segments file.0) same lists.listed in
     same_files s entries gs a c file.0 name one.0 one.1 one.2 h.each k.each file.2
 
@@ -93,10 +93,10 @@ was_file s t gs ws files now name lt after same (inr file) =
 
 -- ---- all of them
 
-all_kept : (s next : ℕ) (gs : List Lived) (ws : List (Option Written)) (files now : Files) (before after : Files → Type 0)
-    → Commits s next gs ws files now → Follows (Commits s next gs ws) before after → ComesAfter files s gs ws → AreWritten files s gs ws
+all_kept : (s next : ℕ) (pairs : Pairs) (gs : List Lived) (ws : List (Option Written)) (files now : Files) (before after : Files → Type 0)
+    → Commits s next pairs gs ws files now → Follows (Commits s next pairs gs ws) before after → ComesAfter files s gs ws → AreWritten files s gs ws
     → ((d : Files) → before d → AreWritten d s gs ws) → AreKept files before → AreKept now after
-all_kept s next gs ws files now before after made follows comes was was_each are = record {
+all_kept s next pairs gs ws files now before after made follows comes was was_each are = record {
   kept = λ d image t some name file. by_number t s (λ is. new_kept d image t is name file) (λ other. old_kept d image t other some name file);
   only = λ d image t some. by_number t s (λ is. new_only t is) (λ other. old_only d image t other some);
 }
@@ -104,7 +104,7 @@ all_kept s next gs ws files now before after made follows comes was was_each are
     new_kept : (d : Files) → after d → (t : ℕ) → t ≡ s → (name : FileName) → IsFileOf now t name → d name ≡ now name
     new_kept d image t is name file =
         let step = follows d image in
-        this_kept s next (entries_of s gs ws) (listed gs) now d name (made.spelled was) (step.2.spelled (was_each step.0 step.1)) (subst (λ (n : ℕ). IsFileOf now n name) is file)
+        this_kept s next (entries_of s gs ws) (listed gs) now d name (step.2.commit ∙ sym made.commit) (made.spelled was) (step.2.spelled (was_each step.0 step.1)) (subst (λ (n : ℕ). IsFileOf now n name) is file)
 
     earlier : (t : ℕ) → t ≢ s → IsSome (files (Commit t)) → t < s
     earlier t other some = let below : s ≤ t → ⊥ = λ le. none_is_there (files (Commit t)) (comes.none_from t le) some in omega (arith, below)
@@ -125,8 +125,8 @@ all_kept s next gs ws files now before after made follows comes was was_each are
         let step = follows d image in
         subst IsSome (sym (made.elsewhere (Commit t) other)) (are.only step.0 step.1 t (subst IsSome (step.2.elsewhere (Commit t) other) some))
 
-pub settles : (s next : ℕ) (gs : List Lived) (ws : List (Option Written)) (a b : Option Disk) → Changes (Commits s next gs ws) (told_files a) (told_files b)
-    → Follows (Commits s next gs ws) (MayHold a) (MayHold b) → Settles s gs ws a b
-settles s next gs ws a b changes follows files now told told_now comes was was_each are =
-    let made : Commits s next gs ws files now = subst (λ (o : Option Files). Changes (Commits s next gs ws) (Some files) o) told_now (subst (λ (o : Option Files). Changes (Commits s next gs ws) o (told_files b)) told changes) in
-    all_kept s next gs ws files now (MayHold a) (MayHold b) made follows comes was was_each are
+pub settles : (s next : ℕ) (pairs : Pairs) (gs : List Lived) (ws : List (Option Written)) (a b : Option Disk) → Changes (Commits s next pairs gs ws) (told_files a) (told_files b)
+    → Follows (Commits s next pairs gs ws) (MayHold a) (MayHold b) → Settles s gs ws a b
+settles s next pairs gs ws a b changes follows files now told told_now comes was was_each are =
+    let made : Commits s next pairs gs ws files now = subst (λ (o : Option Files). Changes (Commits s next pairs gs ws) (Some files) o) told_now (subst (λ (o : Option Files). Changes (Commits s next pairs gs ws) o (told_files b)) told changes) in
+    all_kept s next pairs gs ws files now (MayHold a) (MayHold b) made follows comes was was_each are

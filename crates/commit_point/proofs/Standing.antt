@@ -14,7 +14,7 @@ use Rattle.ix_outside.specs.declared.step.Step.TheVariants.{Wrote, Synced, Renam
 use Rattle.segment_core.specs.LiveRows.{Lived}
 use Rattle.commit_point.specs.declared.heads.HeadSegment.{HeadSegment}
 use Rattle.commit_point.specs.declared.written.Written.{Written}
-use Rattle.commit_point.specs.Holds.{KeepsCommits, Lists}
+use Rattle.commit_point.specs.Holds.{Pairs, KeepsCommits, Lists}
 use Rattle.commit_point.specs.Publishing.{File, IsNoneOf, puts_all, syncs_all, writes_all}
 use Rattle.commit_point.proofs.PublishLaws.{reads_of_stop}
 use Rattle.commit_point.specs.Spelling.{commit_file}
@@ -73,19 +73,19 @@ rename_makes s old = (refl, (λ part found. by part found), (tt, (λ part none. 
     by part (inl is) = subst MakesCommits (sym is) refl
     by part (inr is) = subst MakesCommits (sym is) refl
 
-all_make : (s next : ℕ) (gs : List Lived) (ws : List (Option Written)) (old : Disk) → AreTaken Makes (commit_steps s next gs ws) old
-all_make s next gs ws old =
-    let pending : List File = (Pending s, commit_file (new_head s next gs ws)) ∷ [] in
+all_make : (s next : ℕ) (pairs : Pairs) (gs : List Lived) (ws : List (Option Written)) (old : Disk) → AreTaken Makes (commit_steps s next pairs gs ws) old
+all_make s next pairs gs ws old =
+    let pending : List File = (Pending s, commit_file (new_head s next pairs gs ws)) ∷ [] in
     let first = taken (puts_all (commit_files s gs ws)) old in
     taken_both Makes (puts_all (commit_files s gs ws)) (puts_all pending ++ (Renamed (Pending s) (Commit s) ∷ Settled ∷ [])) old
     (puts_make (commit_files s gs ws) old (no_commits s gs ws))
     (taken_both Makes (puts_all pending) (Renamed (Pending s) (Commit s) ∷ Settled ∷ []) first (puts_make pending first (tt, tt))
     (rename_makes s (taken (puts_all pending) first)))
 
-pub only_commits : (s next : ℕ) (gs : List Lived) (ws : List (Option Written)) (a b : Option Disk) → Stopped s next gs ws a b → Told OnlyCommits a b
-only_commits s next gs ws a b stopped =
-    told_onto (λ old now. Stops (commit_steps s next gs ws) old now) OnlyCommits a b
-    (λ x y stops. stops_by Makes (commit_steps s next gs ws) x y (all_make s next gs ws x) stops) stopped
+pub only_commits : (s next : ℕ) (pairs : Pairs) (gs : List Lived) (ws : List (Option Written)) (a b : Option Disk) → Stopped s next pairs gs ws a b → Told OnlyCommits a b
+only_commits s next pairs gs ws a b stopped =
+    told_onto (λ old now. Stops (commit_steps s next pairs gs ws) old now) OnlyCommits a b
+    (λ x y stops. stops_by Makes (commit_steps s next pairs gs ws) x y (all_make s next pairs gs ws x) stops) stopped
 
 -- ---- what keeps the commits that stand
 
@@ -207,10 +207,10 @@ module _ (s : ℕ) (gs : List Lived) (ws : List (Option Written)) where
       by part (inr is) =
           subst (λ (p : Step). KeepsStanding p old) (sym is) (still (HalfRenamed (Pending s) (Commit s)) old refl)
 
-  all_keep : (next : ℕ) (old : Disk) → IsNoneOf (commit_files s gs ws) (Commit s) → Comes old
-      → AreTaken KeepsStanding (commit_steps s next gs ws) old
-  all_keep next old last comes =
-      let pending : List File = (Pending s, commit_file (new_head s next gs ws)) ∷ [] in
+  all_keep : (next : ℕ) (pairs : Pairs) (old : Disk) → IsNoneOf (commit_files s gs ws) (Commit s) → Comes old
+      → AreTaken KeepsStanding (commit_steps s next pairs gs ws) old
+  all_keep next pairs old last comes =
+      let pending : List File = (Pending s, commit_file (new_head s next pairs gs ws)) ∷ [] in
       let rename : List Step = Renamed (Pending s) (Commit s) ∷ Settled ∷ [] in
       let first = puts_keep (commit_files s gs ws) old (λ other else. none_elsewhere s gs ws other else) last comes in
       let before = taken (puts_all (commit_files s gs ws)) old in
@@ -218,27 +218,27 @@ module _ (s : ℕ) (gs : List Lived) (ws : List (Option Written)) where
       taken_both KeepsStanding (puts_all (commit_files s gs ws)) (puts_all pending ++ rename) old first.0
       (taken_both KeepsStanding (puts_all pending) rename before second.0 (last_keep (taken (puts_all pending) before) second.1))
 
-pub keeps_made : (s next : ℕ) (gs : List Lived) (ws : List (Option Written)) (a b : Option Disk) → IsNoneOf (commit_files s gs ws) (Commit s)
-    → Stopped s next gs ws a b → (was : Files) → told_files a ≡ Some was → ComesAfter was s gs ws → Told KeepsMade a b
-keeps_made s next gs ws None None last stopped was told comes = tt
-keeps_made s next gs ws None (Some y) last stopped was told comes = absurd stopped
-keeps_made s next gs ws (Some x) None last stopped was told comes = absurd stopped
-keeps_made s next gs ws (Some x) (Some y) last stopped was told comes =
+pub keeps_made : (s next : ℕ) (pairs : Pairs) (gs : List Lived) (ws : List (Option Written)) (a b : Option Disk) → IsNoneOf (commit_files s gs ws) (Commit s)
+    → Stopped s next pairs gs ws a b → (was : Files) → told_files a ≡ Some was → ComesAfter was s gs ws → Told KeepsMade a b
+keeps_made s next pairs gs ws None None last stopped was told comes = tt
+keeps_made s next pairs gs ws None (Some y) last stopped was told comes = absurd stopped
+keeps_made s next pairs gs ws (Some x) None last stopped was told comes = absurd stopped
+keeps_made s next pairs gs ws (Some x) (Some y) last stopped was told comes =
     let same : was ≡ files x = cc in
-    stops_by KeepsStanding (commit_steps s next gs ws) x y
-    (all_keep s gs ws next x last (subst (λ (f : Files). ComesAfter f s gs ws) same comes)) stopped
+    stops_by KeepsStanding (commit_steps s next pairs gs ws) x y
+    (all_keep s gs ws next pairs x last (subst (λ (f : Files). ComesAfter f s gs ws) same comes)) stopped
 
 -- ---- where it stopped
 
 -- the files have the commit whole, or its commit file is as before
-pub left_files : (s next : ℕ) (gs : List Lived) (ws : List (Option Written)) (a b : Option Disk) → AreNew s next gs ws
-    → Stopped s next gs ws a b → Changes (MayCommit s next gs ws) (told_files a) (told_files b)
-left_files s next gs ws None b new stopped = tt
-left_files s next gs ws (Some x) None new stopped = absurd stopped
-left_files s next gs ws (Some x) (Some y) new stopped =
-    may_of s next gs ws (files x) (files y) new
-    (reads_of_stop (commit_files s gs ws) (Pending s) (Commit s) (commit_file (new_head s next gs ws)) x y
+pub left_files : (s next : ℕ) (pairs : Pairs) (gs : List Lived) (ws : List (Option Written)) (a b : Option Disk) → AreNew s next pairs gs ws
+    → Stopped s next pairs gs ws a b → Changes (MayCommit s next pairs gs ws) (told_files a) (told_files b)
+left_files s next pairs gs ws None b new stopped = tt
+left_files s next pairs gs ws (Some x) None new stopped = absurd stopped
+left_files s next pairs gs ws (Some x) (Some y) new stopped =
+    may_of s next pairs gs ws (files x) (files y) new
+    (reads_of_stop (commit_files s gs ws) (Pending s) (Commit s) (commit_file (new_head s next pairs gs ws)) x y
     (can_publish s next gs ws new.can.ids) stopped)
 
-pub left_same : (s next : ℕ) (gs : List Lived) (ws : List (Option Written)) (a : Option Files) → Changes (MayCommit s next gs ws) a a
-left_same s next gs ws a = stays (MayCommit s next gs ws) a a (λ x. record { elsewhere = λ name not. refl; whole = inl refl }) refl
+pub left_same : (s next : ℕ) (pairs : Pairs) (gs : List Lived) (ws : List (Option Written)) (a : Option Files) → Changes (MayCommit s next pairs gs ws) a a
+left_same s next pairs gs ws a = stays (MayCommit s next pairs gs ws) a a (λ x. record { elsewhere = λ name not. refl; whole = inl refl }) refl

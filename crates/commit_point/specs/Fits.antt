@@ -1,6 +1,8 @@
 -- Which values have a spelling in a commit file: so that one file spells one value.
-use Rattle.std.specs.Prelude.{ℕ, ◌+◌, ◌<◌, ◌≤◌, ◌^◌, List, [], ◌∷◌, length, ⊤}
+use Rattle.std.specs.Prelude.{◌≡◌, ℕ, ◌+◌, ◌<◌, ◌≤◌, ◌^◌, List, [], ◌∷◌, length, ⊤}
 use Rattle.std.specs.List.{AllByRecursion}
+use Rattle.segment_files.specs.Fits.{PairsFit}
+use Rattle.commit_point.specs.declared.heads.CommitFormat.TheVariants.{First}
 use Rattle.commit_point.specs.declared.heads.HeadSegment.{HeadSegment}
 use Rattle.commit_point.specs.declared.heads.Head.{Head}
 
@@ -16,7 +18,7 @@ pub record EntryFits (s : ℕ) (e : HeadSegment) : Type 0 where
   pub some : 1 ≤ e.written
   pub not_later : e.written ≤ s
 
--- a commit file: ids rise below the next id, which is from 1 to 2^62
+-- a commit file: ids rise below the next id, which is from 1 to 2^62; names rise, and in the first form none stands
 pub record HeadFits (head : Head) : Type 0 where
   pub some : 1 ≤ head.number
   pub number : head.number < 2 ^ 64
@@ -26,3 +28,5 @@ pub record HeadFits (head : Head) : Type 0 where
   pub count : length head.segments < 2 ^ 64
   pub ids : IdsRise 1 head.next_id head.segments
   pub entries : AllByRecursion (EntryFits head.number) head.segments
+  pub pairs : PairsFit head.pairs
+  pub first : head.format ≡ First → head.pairs ≡ []

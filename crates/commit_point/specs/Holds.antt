@@ -13,6 +13,7 @@ use Rattle.live_files.specs.LiveFits.{LiveFits, ValuesFit}
 use Rattle.live_files.specs.LiveSpelling.{live_file, values_file, live_bits, values_of}
 use Rattle.segment_files.specs.Spelling.{rows_file, posts_file}
 use Rattle.commit_point.specs.declared.heads.HeadSegment.{HeadSegment}
+use Rattle.commit_point.specs.declared.heads.CommitFormat.{CommitFormat}
 use Rattle.commit_point.specs.declared.heads.Head.{Head}
 use Rattle.commit_point.specs.Spelling.{commit_file}
 use Rattle.commit_point.specs.Fits.{HeadFits}
@@ -24,6 +25,14 @@ pub record HasHead (files : Files) (s : ℕ) (head : Head) : Type 0 where
   pub file : files (Commit s) ≡ Some (commit_file head)
   pub number : head.number ≡ s
   pub fits : HeadFits head
+
+-- pairs of a name and a text
+abbrev pub Pairs : Type 0
+Pairs = List (List ℕ × List ℕ)
+
+-- the commit file of s is in the grammar, and these pairs stand in it
+abbrev pub HasPairs : Files → ℕ → Pairs → Type 0
+HasPairs files s pairs = (head : Head) × HasHead files s head × (head.pairs ≡ pairs)
 
 -- The four files of a segment that a commit file names spell this segment: its rows and postings, its live bits and its
 -- set numbers. All operations up to s are in it.
@@ -47,18 +56,26 @@ HaveSegments files s [] [] = ⊤
 HaveSegments files s (e ∷ es) (g ∷ gs) = HasSegment files s e g × HaveSegments files s es gs
 HaveSegments files s es gs = ⊥
 
+-- the form of a commit file, and the pairs that stand in it
+abbrev pub Tail : Type 0
+Tail = CommitFormat × Pairs
+
 -- what the commit file of these segments says
-abbrev pub head_of : ℕ → ℕ → List HeadSegment → List Lived → Head
-head_of s next entries segments = record {
+abbrev pub head_of : ℕ → ℕ → Tail → List HeadSegment → List Lived → Head
+head_of s next tail entries segments = record {
   number = s;
   docs = length (all_live segments);
   next_id = next;
   segments = entries;
+  format = tail.0;
+  pairs = tail.1;
 }
 
--- The files of commit s spell these segments, by rising id, as these entries name them, and this next id.
+-- The files of commit s spell these segments, by rising id, as these entries name them, and this next id. What pairs they
+-- have is said apart (HasPairs).
 pub record HasSegments (files : Files) (s next : ℕ) (entries : List HeadSegment) (segments : List Lived) : Type 0 where
-  pub head : HasHead files s (head_of s next entries segments)
+  pub tail : Tail
+  pub head : HasHead files s (head_of s next tail entries segments)
   pub each : HaveSegments files s entries segments
   pub differ : BirthsDiffer segments
 

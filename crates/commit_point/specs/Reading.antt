@@ -14,7 +14,10 @@ use Rattle.live_files.specs.LiveReading.{live_in, values_in}
 use Rattle.segment_files.specs.Reading.{rows_in, posts_in}
 use Rattle.commit_point.specs.declared.heads.HeadSegment.{HeadSegment}
 use Rattle.commit_point.specs.declared.heads.Head.{Head}
-use Rattle.commit_point.specs.Spelling.{commit_mark}
+use Rattle.commit_point.specs.declared.heads.CommitFormat.{CommitFormat}
+use Rattle.commit_point.specs.declared.heads.CommitFormat.TheVariants.{First, Second}
+use Rattle.segment_files.specs.Pairs.{pairs_at}
+use Rattle.commit_point.specs.Spelling.{first_mark, second_mark}
 
 -- ---- the commit file
 
@@ -26,16 +29,30 @@ entry_at s next low bytes = do
   written ← number_where w64 (λ x. nat_le 1 x && nat_le x s) rows.1
   Ok (record { id = id.0; rows = rows.0; written = written.0 }, written.1)
 
+-- The mark of the second form, or else that of the first.
+abbrev pub marked_or : Result (List ℕ) ℕ → List ℕ → Result (CommitFormat × List ℕ) ℕ
+marked_or (Ok rest) bytes = Ok (Second, rest)
+marked_or (Err left) bytes = mark_at first_mark bytes >>= λ rest. Ok (First, rest)
+
+unfoldable pub format_at : List ℕ → Result (CommitFormat × List ℕ) ℕ
+format_at bytes = marked_or (mark_at second_mark bytes) bytes
+
+-- the pairs behind the segments, in the second form
+unfoldable pub tail_at : CommitFormat → List ℕ → Result (List (List ℕ × List ℕ) × List ℕ) ℕ
+tail_at First bytes = Ok ([], bytes)
+tail_at Second bytes = pairs_at bytes
+
 -- the commit file of s
 unfoldable pub head_in : ℕ → List ℕ → Result Head ℕ
 head_in s bytes = do
-  rest ← mark_at commit_mark bytes
-  number ← number_where w64 (λ x. x == s && nat_le 1 x) rest
+  format ← format_at bytes
+  number ← number_where w64 (λ x. x == s && nat_le 1 x) format.1
   docs ← number_at w64 number.1
   next ← number_where w64 (λ x. nat_le 1 x && nat_le x (2 ^ 62)) docs.1
   count ← number_at w64 next.1
   segments ← items_at (entry_at s next.0) (λ (e : HeadSegment). e.id + 1) 1 count.0 count.1
-  ended (record { number = number.0; docs = docs.0; next_id = next.0; segments = segments.0 }) segments.1
+  pairs ← tail_at format.0 segments.1
+  ended (record { number = number.0; docs = docs.0; next_id = next.0; segments = segments.0; format = format.0; pairs = pairs.0 }) pairs.1
 
 -- the commit file of s
 unfoldable pub head_from : Files → ℕ → Result Head Damaged

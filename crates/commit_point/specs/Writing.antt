@@ -15,7 +15,8 @@ use Rattle.commit_point.specs.declared.heads.HeadSegment.{HeadSegment}
 use Rattle.commit_point.specs.declared.heads.Head.{Head}
 use Rattle.commit_point.specs.declared.written.Written.{Written}
 use Rattle.segment_core.specs.Births.{BirthsDiffer}
-use Rattle.commit_point.specs.Holds.{HasSegment, HasSegments, Lists, head_of}
+use Rattle.commit_point.specs.declared.heads.CommitFormat.TheVariants.{Second}
+use Rattle.commit_point.specs.Holds.{Pairs, HasSegment, HasSegments, Lists, head_of}
 use Rattle.commit_point.specs.Publishing.{File, AreThere, publishes}
 use Rattle.commit_point.specs.Spelling.{commit_file}
 
@@ -75,13 +76,13 @@ entries_of s (g ∷ gs) [] = []
 entries_of s (g ∷ gs) (w ∷ ws) = (if is_alive g then entry_of s w g ∷ [] else []) ++ entries_of s gs ws
 
 -- what the commit file says
-abbrev pub new_head : ℕ → ℕ → List Lived → List (Option Written) → Head
-new_head s next gs ws = head_of s next (entries_of s gs ws) (listed gs)
+abbrev pub new_head : ℕ → ℕ → Pairs → List Lived → List (Option Written) → Head
+new_head s next pairs gs ws = head_of s next (Second, pairs) (entries_of s gs ws) (listed gs)
 
 -- What making the commit s does, step by step: the files of its segments, the commit file under its pending name, and
 -- the rename, each on the disk before the next.
-abbrev pub commit_steps : ℕ → ℕ → List Lived → List (Option Written) → List Step
-commit_steps s next gs ws = publishes (commit_files s gs ws) (Pending s) (Commit s) (commit_file (new_head s next gs ws))
+abbrev pub commit_steps : ℕ → ℕ → Pairs → List Lived → List (Option Written) → List Step
+commit_steps s next pairs gs ws = publishes (commit_files s gs ws) (Pending s) (Commit s) (commit_file (new_head s next pairs gs ws))
 
 -- ---- what can be written
 
@@ -158,14 +159,14 @@ SameElsewhere s Old old new = (name : FileName) → IsElsewhere s Old name → n
 
 -- The commit s was made of these segments. Each byte that was written is fixed: nothing is left under the pending
 -- name, and every other file is as it was. It spells the segments where what was written of them before stands.
-pub record Commits (s next : ℕ) (gs : List Lived) (ws : List (Option Written)) (old new : Files) : Type 0 where
+pub record Commits (s next : ℕ) (pairs : Pairs) (gs : List Lived) (ws : List (Option Written)) (old new : Files) : Type 0 where
   pub spelled : AreWritten old s gs ws → HasSegments new s next (entries_of s gs ws) (listed gs)
-  pub commit : new (Commit s) ≡ Some (commit_file (new_head s next gs ws))
+  pub commit : new (Commit s) ≡ Some (commit_file (new_head s next pairs gs ws))
   pub files : AreThere (commit_files s gs ws) new
   pub pending : new (Pending s) ≡ None
   pub elsewhere : SameElsewhere s (IsOldId gs ws) old new
 
 -- a crash while the commit s is made: it is there whole, or the commit file is as before
-pub record MayCommit (s next : ℕ) (gs : List Lived) (ws : List (Option Written)) (old new : Files) : Type 0 where
+pub record MayCommit (s next : ℕ) (pairs : Pairs) (gs : List Lived) (ws : List (Option Written)) (old new : Files) : Type 0 where
   pub elsewhere : SameElsewhere s (IsOldId gs ws) old new
-  pub whole : (new (Commit s) ≡ old (Commit s)) ⊎ Commits s next gs ws old new
+  pub whole : (new (Commit s) ≡ old (Commit s)) ⊎ Commits s next pairs gs ws old new

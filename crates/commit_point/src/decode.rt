@@ -5,13 +5,14 @@ ghost use Rattle.commit_point.specs.declared.heads.Head.{Head};
 ghost use Rattle.ix_base.specs.Codec.{GivesExactly, Gives, items_at};
 ghost use Rattle.ix_base.specs.FileReading.{GivesFile, placed};
 ghost use Rattle.commit_point.specs.Fits.{HeadFits};
-ghost use Rattle.commit_point.specs.Reading.{entry_at, head_in};
+ghost use Rattle.commit_point.specs.Reading.{entry_at, head_in, tail_at};
 ghost use Rattle.commit_point.specs.Spelling.{commit_file};
 
-use crate::heads::{Head, HeadSegment};
-use crate::marks::commit_mark_at;
+use crate::heads::{CommitFormat, Head, HeadSegment};
+use crate::marks::format_of;
 use ix_base::codec::{Broken, BrokenField, u32_at, u64_at};
-use ix_base::{FileFault, FileName, List};
+use ix_base::{Fields, FileFault, FileName, List};
+use segment_files::pairs_of;
 use std::alloc::Global;
 
 /// A segment of a commit file: its id is after the last one and below the next one.
@@ -67,6 +68,17 @@ fn entry_list(
     Ok((segments, rest))
 }
 
+/// The pairs behind the segments, in the second form, and the bytes after them.
+#[tactic(auto, unfolding(crate::specs::Reading::tail_at))]
+fn tail_of(alloc: Global, format: CommitFormat, bytes: &[u8]) -> Result<(Fields, &[u8]), Broken>
+    ensures { Gives (λ x. (x.0, x.1.now)) result (tail_at format bytes.now) }
+{
+    match format {
+        CommitFormat::First => Ok((Fields::none(alloc), bytes)),
+        CommitFormat::Second => pairs_of(alloc, bytes),
+    }
+}
+
 /// The greatest next id of a commit.
 const LAST_ID: u64 = 1 << 62;
 
@@ -75,7 +87,7 @@ const LAST_ID: u64 = 1 << 62;
 fn head_of(alloc: Global, bytes: &[u8], number: u64) -> Result<Head, Broken>
     ensures { Gives (λ head. head) result (head_in number bytes.now) }
 {
-    let own = commit_mark_at(bytes)?;
+    let (format, own) = format_of(bytes)?;
     let (own_number, rest) = u64_at(own)?;
     if own_number != number || number == 0 {
         return Err(Broken::At(own.len()));
@@ -87,6 +99,7 @@ fn head_of(alloc: Global, bytes: &[u8], number: u64) -> Result<Head, Broken>
     }
     let (count, rest) = u64_at(rest)?;
     let (segments, rest) = entry_list(alloc, count, rest, number, next_id)?;
+    let (pairs, rest) = tail_of(alloc, format, rest)?;
     if !rest.is_empty() {
         return Err(Broken::At(rest.len()));
     }
@@ -95,6 +108,8 @@ fn head_of(alloc: Global, bytes: &[u8], number: u64) -> Result<Head, Broken>
         docs,
         next_id,
         segments: List::from_vec(segments),
+        format,
+        pairs,
     })
 }
 

@@ -131,6 +131,30 @@ fn is_listed<S: Store>(alloc: Global, store: &mut S, number: u64) -> Result<bool
     }
 }
 
+/// Reads the commit file of this number, which a list has shown. One that is gone since then is damaged
+/// at 0.
+pub fn listed_head<S: Store>(alloc: Global, store: &mut S, number: u64) -> Result<Head, OpenFault>
+    // What is read is what the file spells.
+    ensures found { IfOk result (λ head. (files : Files) × Was (told_files (S.disk store.old)) files
+        × HasHead files number head) }
+    // What the file spells is read, unless the store fails or memory runs out.
+    ensures only { (files : Files) (head : Head) → told_files (S.disk store.old) ≡ Some files
+        → HasHead files number head → IfOk result (λ read. read ≡ head) }
+    ensures whole { (files : Files) (head : Head) → told_files (S.disk store.old) ≡ Some files
+        → HasHead files number head → IfErr result IsOutside }
+    // Which place is the first broken one.
+    ensures damaged { (damaged : Damaged) → result ≡ Err (OpenFault.Damaged damaged)
+        → (files : Files) × Was (told_files (S.disk store.old)) files
+        × (head_from files number ≡ Err damaged) }
+    ensures listed { (other : ℕ) → result ≡ Err (OpenFault.NoSuch other) → ⊥ }
+    ensures reads { S.disk store.new ≡ S.disk store.old }
+    ensures later { S.fault_count store.old ≤ S.fault_count store.new }
+    ensures failed { result ≡ Err OpenFault.Store
+        → Rose (S.fault_count store.old) (S.fault_count store.new) }
+{
+    read_head(alloc, store, number)
+}
+
 /// Reads the commit file of this number. It returns `NoSuch` where the store's list lacks the
 /// number.
 pub fn head<S: Store>(alloc: Global, store: &mut S, number: u64) -> Result<Head, OpenFault>

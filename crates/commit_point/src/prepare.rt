@@ -3,7 +3,7 @@ ghost use Rattle.std.specs.Prelude.{◌≡◌, ◌<◌, ◌^◌, ◌++◌, true,
 ghost use Rattle.std.specs.List.{AllByRecursion};
 ghost use Rattle.ix_base.specs.Inversion.{IsPostings};
 ghost use Rattle.segment_core.specs.LiveRows.{IsWhole, all_live};
-ghost use Rattle.segment_files.specs.Fits.{DocumentFits, PostingsFit, RowsBelow};
+ghost use Rattle.segment_files.specs.Fits.{DocumentFits, PairsFit, PostingsFit, RowsBelow};
 ghost use Rattle.live_files.specs.LiveFits.{LiveFits, ValuesFit};
 ghost use Rattle.live_files.specs.LiveSpelling.{live_bits, values_of};
 ghost use Rattle.commit_point.specs.Encoding.{own_entries, own_files, AreWhole, IsEncoded, IsEncodedAlive, AreEncoded, HaveSpelling};
@@ -11,9 +11,9 @@ ghost use Rattle.commit_point.specs.Spelling.{commit_file};
 ghost use Rattle.commit_point.specs.Writing.{is_same, is_alive, version, row_files, live_files, files_of, entry_of, entries_of, commit_files, listed, new_head, CanWrite};
 
 use crate::encode::encode_commit;
-use crate::heads::{Head, HeadSegment};
+use crate::heads::{CommitFormat, Head, HeadSegment};
 use crate::written::Written;
-use ix_base::{FileName, List, NoMemory};
+use ix_base::{Fields, FileName, List, NoMemory};
 use live_files::{encode_liv, encode_val};
 use segment_core::LiveSegment;
 use segment_files::{encode_pst, encode_row};
@@ -240,24 +240,26 @@ fn files(
     Ok(files)
 }
 
-/// The commit of this number of these segments, whose next id this is, as bytes: out of memory also
-/// where a `u64` can't say how many rows are live.
+/// The commit of this number of these segments, whose next id this is, with these pairs, as bytes:
+/// out of memory also where a `u64` can't say how many rows are live.
 pub(crate) fn prepare(
     alloc: Global,
     number: u64,
     next_id: u64,
+    pairs: &Fields,
     segments: &[LiveSegment],
     written: &[Option<Written>],
 ) -> Result<Prepared, NoMemory>
     requires count { length written.now ≡ length segments.now }
     requires can { AllByRecursion (CanWrite number) segments.now }
     ensures head { IfOk result (λ commit.
-        commit.head ≡ new_head number next_id segments.now written.now) }
-    ensures bytes { let head = new_head number next_id segments.now written.now in
+        commit.head ≡ new_head number next_id pairs.now segments.now written.now) }
+    ensures bytes { let head = new_head number next_id pairs.now segments.now written.now in
         IfOk result (λ commit. commit.bytes ≡ commit_file head) }
     ensures files { IfOk result (λ commit.
         commit.files ≡ commit_files number segments.now written.now) }
     ensures spelling { OnOk result (HaveSpelling segments.now written.now) }
+    ensures pairs { OnOk result (PairsFit pairs.now) }
 {
     let docs = live_rows(segments).ok_or(NoMemory)?;
     let files = files(alloc, number, segments, written)?;
@@ -267,6 +269,8 @@ pub(crate) fn prepare(
         docs,
         next_id,
         segments: List::from_vec(entries),
+        format: CommitFormat::Second,
+        pairs: pairs.clone_in(alloc)?,
     };
     let bytes = encode_commit(alloc, &head)?;
     Ok(Prepared {

@@ -1,8 +1,9 @@
 //! The files of one commit, cut at every length and changed byte by byte.
 use crate::tests_files::{
     Bytes, COMMIT, COMMIT_FIELDS, LIVE, LIVE_FIELDS, POSTS, POSTS_FIELDS, ROWS, ROWS_FIELDS,
-    SMALL_POSTS, SMALL_POSTS_FIELDS, SMALL_ROWS, SMALL_ROWS_FIELDS, SMALL_VALUES,
-    SMALL_VALUES_FIELDS, VALUES, VALUES_FIELDS, exchanged, full, shown, small, store_of,
+    SECOND_COMMIT, SECOND_COMMIT_FIELDS, SMALL_POSTS, SMALL_POSTS_FIELDS, SMALL_ROWS,
+    SMALL_ROWS_FIELDS, SMALL_VALUES, SMALL_VALUES_FIELDS, VALUES, VALUES_FIELDS, exchanged, full,
+    shown, small, store_of,
 };
 use commit_point::{OpenFault, head, open_commit, read_commit};
 use ix_base::{Damaged, FileName};
@@ -120,9 +121,10 @@ fn wrong_file(alloc: Global, bytes: Bytes<'_>, files: &[File]) -> Option<(FileNa
     None
 }
 
-/// The files of the commit with all kinds of fields.
-const FILES: [File; 5] = [
+/// The files of the commit with all kinds of fields, its commit file in both forms.
+const FILES: [File; 6] = [
     (FileName::Commit(2), &COMMIT, &COMMIT_FIELDS),
+    (FileName::Commit(2), &SECOND_COMMIT, &SECOND_COMMIT_FIELDS),
     (FileName::Rows(1), &ROWS, &ROWS_FIELDS),
     (FileName::Posts(1), &POSTS, &POSTS_FIELDS),
     (FileName::Live(1, 2), &LIVE, &LIVE_FIELDS),
@@ -149,10 +151,12 @@ fn cut_files_of_the_smallest_commit(rt: HostRuntime) {
 /// Changes of a file: the place of a byte, what it becomes, and the broken place that is told then.
 type Changes = &'static [(usize, u8, u64)];
 
-/// Mark, number, number of live rows, next id (too great, and that of the segment), count of
+/// In the first form: mark (that of no form, and that of the second, whose count of pairs is not
+/// there), number, number of live rows, next id (too great, and that of the segment), count of
 /// segments, id, rows and commit of the entry, and one byte more.
 const COMMIT_CHANGES: Changes = &[
-    (7, 0x32, 0),
+    (7, 0x33, 0),
+    (7, 0x32, 60),
     (15, 3, 8),
     (23, 2, 16),
     (24, 0x40, 24),
@@ -166,6 +170,19 @@ const COMMIT_CHANGES: Changes = &[
     (59, 0, 52),
     (59, 3, 52),
     (60, 0, 60),
+];
+
+/// In the second form: mark (that of no form, and that of the first, in which nothing stands behind
+/// the segments), count of segments (one more, and none, so that the entry's first bytes are the count
+/// of pairs), commit of the entry, count of pairs, and one byte more.
+const SECOND_COMMIT_CHANGES: Changes = &[
+    (7, 0x33, 0),
+    (7, 0x31, 60),
+    (39, 2, 60),
+    (39, 0, 44),
+    (59, 3, 52),
+    (63, 1, 64),
+    (64, 0, 64),
 ];
 
 /// Mark, id, number of rows, birth, no UTF-8 in the key, a name without bytes and longer than names
@@ -238,9 +255,11 @@ const VALUES_CHANGES: Changes = &[
     (56, 0, 56),
 ];
 
-/// The files of the commit with all kinds of fields, and the changes of each.
-const CHANGED: [(FileName, &[u8], Changes); 5] = [
+/// The files of the commit with all kinds of fields, its commit file in both forms, and the changes of
+/// each.
+const CHANGED: [(FileName, &[u8], Changes); 6] = [
     (FileName::Commit(2), &COMMIT, COMMIT_CHANGES),
+    (FileName::Commit(2), &SECOND_COMMIT, SECOND_COMMIT_CHANGES),
     (FileName::Rows(1), &ROWS, ROWS_CHANGES),
     (FileName::Posts(1), &POSTS, POSTS_CHANGES),
     (FileName::Live(1, 2), &LIVE, LIVE_CHANGES),

@@ -9,11 +9,18 @@ use std::alloc::Global;
 use std::fmt::Write;
 use std::test::Fail;
 
-/// `segments_2`: one segment of one row.
+/// `segments_2`: one segment of one row, in the first form.
 pub(crate) const COMMIT: [u8; 60] = [
     0x49, 0x58, 0x43, 0x4f, 0x4d, 0x30, 0x30, 0x31, 0, 0, 0, 0, 0, 0, 0, 2, 0, 0, 0, 0, 0, 0, 0, 1,
     0, 0, 0, 0, 0, 0, 0, 2, 0, 0, 0, 0, 0, 0, 0, 1, 0, 0, 0, 0, 0, 0, 0, 1, 0, 0, 0, 1, 0, 0, 0, 0,
     0, 0, 0, 2,
+];
+
+/// The same commit file in the second form, as it is written where the commit has no pairs.
+pub(crate) const SECOND_COMMIT: [u8; 64] = [
+    0x49, 0x58, 0x43, 0x4f, 0x4d, 0x30, 0x30, 0x32, 0, 0, 0, 0, 0, 0, 0, 2, 0, 0, 0, 0, 0, 0, 0, 1,
+    0, 0, 0, 0, 0, 0, 0, 2, 0, 0, 0, 0, 0, 0, 0, 1, 0, 0, 0, 0, 0, 0, 0, 1, 0, 0, 0, 1, 0, 0, 0, 0,
+    0, 0, 0, 2, 0, 0, 0, 0,
 ];
 
 /// `seg_1.row`: the key `m1`, a text, an exact text and a number.
@@ -69,6 +76,9 @@ pub(crate) const SMALL_VALUES: [u8; 36] = [
 
 /// Where the fields of each file begin.
 pub(crate) const COMMIT_FIELDS: [u64; 8] = [0, 8, 16, 24, 32, 40, 48, 52];
+
+/// Where the fields of the same file in the second form begin: the last is the count of pairs.
+pub(crate) const SECOND_COMMIT_FIELDS: [u64; 9] = [0, 8, 16, 24, 32, 40, 48, 52, 60];
 
 pub(crate) const ROWS_FIELDS: [u64; 14] = [0, 8, 16, 20, 28, 34, 38, 46, 56, 60, 67, 73, 81, 89];
 

@@ -4,9 +4,12 @@ ghost use Rattle.ix_base.specs.Inversion.{IsPostings};
 ghost use Rattle.segment_files.specs.Fits.{BirthsRise, RowsBelow};
 ghost use Rattle.commit_point.specs.Writing.{CanWrite, WrittenUpTo};
 
-use crate::tests_files::{Bytes, small};
-use commit_point::{CommitRefused, Head, Written, write_commit};
-use ix_base::{Document, FileName, List, Name, Postings, Row, Spots, Term, TermPostings, Text};
+use crate::tests::with_pairs;
+use crate::tests_files::{Bytes, SECOND_COMMIT, exchanged, small};
+use commit_point::{CommitRefused, Head, Written, head, open_commit, write_commit};
+use ix_base::{
+    Document, Fields, FileName, List, Name, Postings, Row, Spots, Term, TermPostings, Text,
+};
 use ix_memory::{FuseStore, SteadyStore};
 use ix_outside::Store;
 use live_docs::LiveDocs;
@@ -101,11 +104,12 @@ fn written_with(alloc: Global, v: u64, rows: u32) -> Result<Option<Written>, Fai
     Ok(Some(Written { v, live }))
 }
 
-/// Writes a commit of one segment.
+/// Writes a commit of one segment, with these pairs.
 fn write_one<S: Store>(
     alloc: Global,
     store: &mut S,
     number: u64,
+    pairs: &Fields,
     segment: LiveSegment,
     written: Option<Written>,
 ) -> Result<Head, CommitRefused>
@@ -115,7 +119,8 @@ fn write_one<S: Store>(
     requires written { WrittenUpTo number written }
 {
     let segments = slice::from_ref(&segment);
-    write_commit(alloc, store, number, 2, segments, slice::from_ref(&written))
+    let written = slice::from_ref(&written);
+    write_commit(alloc, store, number, 2, pairs, segments, written)
 }
 
 /// Writes a commit of two segments, of which the second is new.
@@ -135,13 +140,23 @@ fn write_two<S: Store>(
 {
     let segments = [kept, fresh];
     let written = [was, None];
-    write_commit(alloc, store, number, 3, &segments, &written)
+    let none = Fields::none(alloc);
+    write_commit(alloc, store, number, 3, &none, &segments, &written)
 }
 
-/// The commit 2 of one new segment of one row.
-fn first<S: Store>(alloc: Global, store: &mut S) -> Result<Option<Head>, Fail> {
+/// The commit 2 of one new segment of one row, with these pairs.
+fn first_with<S: Store>(
+    alloc: Global,
+    store: &mut S,
+    pairs: &Fields,
+) -> Result<Option<Head>, Fail> {
     let segment = one_row(alloc, 1, 1, live_of(alloc, 1, 2, false)?)?;
-    Ok(write_one(alloc, store, 2, segment, None).ok())
+    Ok(write_one(alloc, store, 2, pairs, segment, None).ok())
+}
+
+/// The same without pairs.
+fn first<S: Store>(alloc: Global, store: &mut S) -> Result<Option<Head>, Fail> {
+    first_with(alloc, store, &Fields::none(alloc))
 }
 
 /// The commit 4 of the segment of the first commit, whose row is dead now if told so, and of a new
@@ -157,7 +172,7 @@ fn second<S: Store>(alloc: Global, store: &mut S, dead: bool) -> Result<Option<H
 fn killed<S: Store>(alloc: Global, store: &mut S) -> Result<Option<Head>, Fail> {
     let segment = two_rows(alloc, live_of(alloc, 2, 4, true)?)?;
     let was = written_with(alloc, 2, 2)?;
-    Ok(write_one(alloc, store, 4, segment, was).ok())
+    Ok(write_one(alloc, store, 4, &Fields::none(alloc), segment, was).ok())
 }
 
 /// Whether the file is there.
@@ -208,7 +223,26 @@ fn a_first_commit_byte_for_byte(rt: HostRuntime) -> Result<(), Fail> {
     let head = first(alloc, &mut store)?.ok_or("memory")?;
     let listed = listed(alloc, &mut store, &head)?;
     assert!(rt; listed.as_str() == "2 1 2: 1 1 2; 5 files");
-    assert!(rt; first_other(alloc, &mut store, small()) == None);
+    let files = exchanged(small(), FileName::Commit(2), &SECOND_COMMIT);
+    assert!(rt; first_other(alloc, &mut store, files) == None);
+    Ok(())
+}
+
+/// The pairs of a commit are read back from its file, and the commit is whole with them.
+#[test]
+fn pairs_are_read_back(rt: HostRuntime) -> Result<(), Fail> {
+    let alloc = rt.alloc();
+    let mut store = SteadyStore::new(alloc);
+    let given = with_pairs(alloc).ok_or("the bytes are a commit file")?;
+    first_with(alloc, &mut store, &given)?.ok_or("memory")?;
+    let found = head(alloc, &mut store, 2)
+        .ok()
+        .ok_or("the commit is there")?;
+    let pairs = found.pairs.as_slice();
+    assert!(rt; pairs.len() == 2);
+    assert!(rt; (pairs[0].0.as_str(), pairs[0].1.as_str()) == ("key", "x"));
+    assert!(rt; (pairs[1].0.as_str(), pairs[1].1.as_str()) == ("s", ""));
+    assert!(rt; open_commit(alloc, &mut store, 2).is_ok());
     Ok(())
 }
 

@@ -1,8 +1,8 @@
 //! A store of three commits, with files of none.
 ghost use Rattle.ix_base.specs.FileNames.{IsFileName};
 
-use commit_point::{Head, HeadSegment, encode_commit};
-use ix_base::{FileName, List};
+use commit_point::{CommitFormat, Head, HeadSegment, encode_commit};
+use ix_base::{Fields, FileName, List};
 use ix_memory::MemoryStore;
 use ix_outside::Store;
 use std::alloc::Global;
@@ -28,6 +28,8 @@ pub(crate) fn commit_file(
         docs: 1,
         next_id: 10,
         segments: List::from_vec(Vec::from_slice(alloc, entries)?),
+        format: CommitFormat::Second,
+        pairs: Fields::none(alloc),
     };
     Ok(encode_commit(alloc, &head)?)
 }

@@ -58,14 +58,14 @@ is_read p = Ok p
 
 not_broken : (files : Files) (s next : ℕ) (es : List HeadSegment) (gs : List Lived) (d : Damaged) → HasSegments files s next es gs → reading files s ≡ Err d → ⊥
 not_broken files s next es gs d has broken =
-    let read : reading files s ≡ is_read (head_of s next es gs, gs) = has_reads files s next es gs has in
+    let read : reading files s ≡ is_read (head_of s next has.tail es gs, gs) = has_reads files s next es gs has in
     cc
 
 broken_not : (files : Files) (s : ℕ) (d : Damaged) → IsLawfulCommit files s → reading files s ≡ Err d → ⊥
 broken_not files s d lawful broken = not_broken files s lawful.0 lawful.2.holds.holds.entries lawful.2.holds.holds.segments d lawful.2.holds.holds.spelled broken
 
 there_at : (files : Files) (s : ℕ) (d : Difference) → DiffersAt files s d → IsSome (files (Commit s))
-there_at files s d at = head_there files s (head_of s at.next at.entries at.segments) at.has.head
+there_at files s d at = head_there files s (head_of s at.next at.has.tail at.entries at.segments) at.has.head
 
 -- ---- one difference
 

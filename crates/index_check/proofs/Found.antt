@@ -1,16 +1,18 @@
 -- What the check of one commit comes to.
 use Rattle.std.proofs.Common.{◌≡◌, ◌⊎◌, inl, inr, ◌∙◌, ℕ, ◌+◌, ◌≤◌, Bool, true, false, eqb, [], ◌∷◌, ◌++◌, Option, Some, None, refl, sym, ap, subst, arith}
-use Rattle.std.specs.Prelude.{◌||◌, Contains, MatchOption}
+use Rattle.std.specs.Prelude.{◌||◌, Contains, IfOk, MatchOption, Result, Ok, Err}
 use Rattle.std.specs.BTreeSet.{contains}
 use Rattle.std.specs.List.{AllByRecursion, list_any}
 use Rattle.std.specs.Ordering.{nat_cmp}
 use Rattle.std.proofs.lemmas.Bool.{cases_lt}
 use Rattle.std.proofs.lemmas.List.{append-nil}
+use Rattle.ix_base.specs.declared.damaged.Damaged.{Damaged}
 use Rattle.ix_outside.specs.Files.{Files, Was}
 use Rattle.segment_core.specs.LiveRows.{Lived}
 use Rattle.segment_core.specs.Segments.{IsInverted}
-use Rattle.commit_point.specs.Holds.{AreInverted, HasSegments, HaveSegments, IsAboveIds, Lists, head_of}
+use Rattle.commit_point.specs.Holds.{AreInverted, HasHead, HasSegments, HaveSegments, IsAboveIds, Lists, head_of}
 use Rattle.commit_point.proofs.Laws.{one_head}
+use Rattle.commit_point.specs.Reading.{head_from, reading}
 use Rattle.commit_point.specs.declared.heads.Head.{Head}
 use Rattle.commit_point.specs.declared.heads.HeadSegment.{HeadSegment}
 use Rattle.commit_point.specs.declared.open.Opened.{Opened}
@@ -18,6 +20,7 @@ use Rattle.index_check.specs.Difference.{DiffersAt, HaveOther, HasOther, IsTaken
 use Rattle.index_check.specs.Earlier.{IsBefore, IsBehindListed, IsBelow, IsComparedOr, IsLeastAbove, IsLeastId, IsOther, IsSame}
 use Rattle.index_check.specs.Sound.{IsLawfulCommit}
 use Rattle.index_check.specs.declared.earlier.Earlier.{Earlier}
+use Rattle.index_check.specs.declared.fault.CheckFault.{CheckFault}
 use Rattle.index_check.specs.declared.fault.Difference.{Difference}
 use Rattle.index_check.proofs.Shared.{inverted_front, listed_sound}
 use Rattle.index_check.proofs.SomeRows.{some_rows}
@@ -31,6 +34,25 @@ pub read_there : (told : Option Files) (files : Files) (s : ℕ) (opened : Opene
 read_there told files s opened is found =
     subst (λ (f : Files). HasSegments f s opened.next_id opened.entries opened.segments) (same_files told files found.0 is found.1) found.2
 
+-- the head that was read last is that of the commit file, where the store tells its files
+pub head_read : (told next : Option Files) (s : ℕ) (r : Result Head CheckFault) → next ≡ told
+    → IfOk r (λ head. (files : Files) × Was next files × HasHead files s head) → (files : Files) → told ≡ Some files → IfOk r (HasHead files s)
+head_read told next s (Ok head) same found files is =
+    subst (λ (f : Files). HasHead f s head) (same_files told files found.0 is (subst (λ (o : Option Files). Was o found.0) same found.1)) found.2
+head_read told next s (Err fault) same found files is = tt
+
+-- a commit file that is broken is the first broken place of its commit
+pub head_broken : (told next : Option Files) (s : ℕ) (d : Damaged) → next ≡ told
+    → (files : Files) × Was next files × (head_from files s ≡ Err d) → (files : Files) × Was told files × (reading files s ≡ Err d)
+unfolding reading
+head_broken told next s d same found =
+    (found.0, subst (λ (o : Option Files). Was o found.0) same found.1, rw found.2 refl)
+
+-- what holds anyway holds where a value was returned
+pub any_ok : {T E : Type 0} (r : Result T E) (P : Type 0) → P → IfOk r (λ x. P)
+any_ok (Ok x) P p = p
+any_ok (Err e) P p = tt
+
 -- ---- the ids of earlier commits
 
 abbrev HasRead : Files → ℕ → Opened → Type 0
@@ -38,7 +60,7 @@ HasRead files s opened = HasSegments files s opened.next_id opened.entries opene
 
 own_entry : (files : Files) (s : ℕ) (opened : Opened) (e : HeadSegment) → HasRead files s opened → Lists files s e → Contains opened.entries e
 own_entry files s opened e has listed =
-    let same : listed.head ≡ head_of s opened.next_id opened.entries opened.segments = one_head files s listed.head (head_of s opened.next_id opened.entries opened.segments) listed.has_head has.head in
+    let same : listed.head ≡ head_of s opened.next_id has.tail opened.entries opened.segments = one_head files s listed.head (head_of s opened.next_id has.tail opened.entries opened.segments) listed.has_head has.head in
     subst (λ (h : Head). Contains h.segments e) same listed.listed
 
 later_listed : (files : Files) (s t id : ℕ) → s ≤ t → IsBehindListed files s id → IsBehindListed files t id
@@ -56,7 +78,7 @@ next_least files s old new opened has known least = record { above = above; reac
     reached : (old ≡ 0) ⊎ IsBehindListed files s old → (new ≡ old) ⊎ ((e : HeadSegment) × Contains opened.entries e × (new ≡ e.id + 1)) → (new ≡ 0) ⊎ IsBehindListed files (s + 1) new
     reached (inl none) (inl is) = inl (is ∙ none)
     reached (inr some) (inl is) = inr (later_listed files s (s + 1) new (omega arith) (subst (IsBehindListed files s) (sym is) some))
-    reached p (inr own) = inr (record { number = s; entry = own.0; earlier = omega arith; listed = record { head = head_of s opened.next_id opened.entries opened.segments; has_head = has.head; listed = own.1 }; id_is = own.2 })
+    reached p (inr own) = inr (record { number = s; entry = own.0; earlier = omega arith; listed = record { head = head_of s opened.next_id has.tail opened.entries opened.segments; has_head = has.head; listed = own.1 }; id_is = own.2 })
 
 -- ---- a commit that is sound
 

@@ -5,9 +5,8 @@ ghost use Rattle.ix_base.specs.declared.damaged.Damaged.{Damaged};
 ghost use Rattle.ix_outside.specs.Causes.{Rose};
 ghost use Rattle.ix_outside.specs.Disk.{told_files};
 ghost use Rattle.ix_outside.specs.Files.{Files, Was};
-ghost use Rattle.segment_core.specs.LiveRows.{all_live};
-ghost use Rattle.commit_point.specs.Holds.{HasHead, HasSegments, head_of};
-ghost use Rattle.commit_point.specs.Reading.{reading};
+ghost use Rattle.commit_point.specs.Holds.{HasHead, HasSegments};
+ghost use Rattle.commit_point.specs.Reading.{head_from, reading};
 ghost use Rattle.index_check.specs.Difference.{DiffersAt};
 ghost use Rattle.index_check.specs.Earlier.{CanSpell, IsBefore, IsOther, IsSame};
 ghost use Rattle.index_check.specs.Sound.{IsLawfulCommit};
@@ -17,10 +16,9 @@ use crate::comparing::other_postings;
 use crate::earlier::Earlier;
 use crate::fault::{CheckFault, Difference};
 use crate::next_id::next_id_difference;
-use commit_point::{Head, OpenFault, Opened, read_commit};
+use commit_point::{Head, OpenFault, Opened, listed_head, read_commit};
 use ix_base::NoMemory;
 use ix_outside::Store;
-use segment_core::LiveSegment;
 use std::alloc::Global;
 
 /// Checks the commit of this number, which a list has shown, and gives what its commit file says.
@@ -54,7 +52,7 @@ pub fn check_commit<S: Store>(
         return Err(CheckFault::Differs(difference));
     }
     earlier.add(&opened)?;
-    Ok(head_of(opened))
+    head_of(alloc, store, number)
 }
 
 /// Reads the commit of this number.
@@ -97,27 +95,23 @@ fn difference_in(
     other_postings(alloc, opened.segments.as_slice(), &earlier.compared)
 }
 
-/// What the commit file of a commit says.
-fn head_of(opened: Opened) -> Head
-    requires { length (all_live opened.segments) < 2 ^ 64 }
-    ensures { result ≡ head_of opened.number opened.next_id opened.entries opened.segments }
+/// What the commit file of this number says.
+fn head_of<S: Store>(alloc: Global, store: &mut S, number: u64) -> Result<Head, CheckFault>
+    ensures found { IfOk result (λ head. (files : Files) × Was (told_files (S.disk store.old)) files
+        × HasHead files number head) }
+    ensures damaged { (damaged : Damaged) → result ≡ Err (CheckFault.Damaged damaged)
+        → (files : Files) × Was (told_files (S.disk store.old)) files
+        × (head_from files number ≡ Err damaged) }
+    ensures differs { (d : Difference) → result ≡ Err (CheckFault.Differs d) → ⊥ }
+    ensures reads { S.disk store.new ≡ S.disk store.old }
+    ensures later { S.fault_count store.old ≤ S.fault_count store.new }
+    ensures failed { result ≡ Err CheckFault.Store
+        → Rose (S.fault_count store.old) (S.fault_count store.new) }
 {
-    Head {
-        number: opened.number,
-        docs: live_rows(opened.segments.as_slice()),
-        next_id: opened.next_id,
-        segments: opened.entries,
+    match listed_head(alloc, store, number) {
+        Ok(head) => Ok(head),
+        Err(OpenFault::Store) => Err(CheckFault::Store),
+        Err(OpenFault::Damaged(damaged)) => Err(CheckFault::Damaged(damaged)),
+        Err(OpenFault::NoSuch { number: _ } | OpenFault::NoMemory) => Err(CheckFault::NoMemory),
     }
-}
-
-/// How many rows of the segments are live.
-fn live_rows(segments: &[LiveSegment]) -> u64
-    requires { length (all_live segments.now) < 2 ^ 64 }
-    ensures { result ≡ length (all_live segments.now) }
-{
-    let mut rows: u64 = 0;
-    for segment in segments {
-        rows += u64::from(segment.live().live_count());
-    }
-    rows
 }

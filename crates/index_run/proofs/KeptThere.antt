@@ -73,7 +73,7 @@ opened_of_last law g last size merge number spelled d kept =
     (segments_there g.files d last.number last.entries last.segments
     (λ e listed name among.
     same name e (record {
-      head = head_of last.number last.next_id last.entries last.segments;
+      head = head_of last.number last.next_id spelled.tail last.entries last.segments;
       has_head = spelled.head;
       listed = listed;
     }) among)

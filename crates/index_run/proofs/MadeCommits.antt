@@ -316,7 +316,7 @@ before_next first log numbers w old mid new next same before =
 
 -- what the commit made of the files
 abbrev IsWritten : State → Files → Files → Type 0
-IsWritten w = commit.Commits w.published.upto w.published.next_id w.published.segments w.written
+IsWritten w = commit.Commits w.published.upto w.published.next_id [] w.published.segments w.written
 
 -- a state without segments
 abbrev emptied : State → State

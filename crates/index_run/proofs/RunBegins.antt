@@ -31,7 +31,7 @@ listed_below : (files : Files) (s next : ℕ) (entries : List HeadSegment) (segm
     → HasSegments files s next entries segments → Lists files s e → e.id < next
 listed_below files s next entries segments e has lists =
     let P : HeadSegment → Type 0 = λ x. x.id < next in
-    let same = one_head files s lists.head (head_of s next entries segments) lists.has_head has.head in
+    let same = one_head files s lists.head (head_of s next has.tail entries segments) lists.has_head has.head in
     let listed : Contains entries e = subst (λ (h : Head). Contains h.segments e) same lists.listed in
     let all = ids_below 1 next entries has.head.fits.ids in
     All-contains P entries e (All-from_recursion P entries all) listed

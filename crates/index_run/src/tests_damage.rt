@@ -42,7 +42,7 @@ fn cut_files(rt: HostRuntime) -> Result<(), Fail> {
     let alloc = rt.alloc();
     let whole = one_document(&rt, alloc)?;
     let stores = cuts(alloc, &whole)?;
-    assert!(rt; stores.len() == 60 + 50 + 57 + 29 + 36);
+    assert!(rt; stores.len() == 64 + 50 + 57 + 29 + 36);
     are_told(&rt, alloc, stores)
 }
 

@@ -17,7 +17,7 @@ use Rattle.row_fates.specs.Fate.{renumbered}
 use Rattle.segment_core.specs.LiveRows.{Lived, all_live, live, live_rows, with_numbers}
 use Rattle.segment_core.specs.Segments.{IsInverted}
 use Rattle.commit_point.specs.declared.written.Written.{Written}
-use Rattle.commit_point.specs.Holds.{AreInverted, AreRowsOf, HasSegment, HaveSegments}
+use Rattle.commit_point.specs.Holds.{AreInverted, AreRowsOf, HasSegment, HaveSegments, Pairs}
 use Rattle.commit_point.specs.Settling as settling
 use Rattle.commit_point.specs.Writing as commit
 use Rattle.commit_point.specs.Writing.{AreWritten, CanCommit, ComesAfter, CanWrite, IsOldId, SegmentIdsRise, WrittenUpTo, entries_of, entry_of, is_alive, listed, version}
@@ -146,6 +146,12 @@ pub at_state : (P : List Lived → List (Option Written) → Type 0) (gs : List 
 at_state P gs ws s same_segments same_written fact =
     subst (λ (xs : List Lived). P xs s.written) same_segments (subst (λ (xs : List (Option Written)). P gs xs) same_written fact)
 
+-- the same of a commit without pairs
+pub at_none : (P : Pairs → List Lived → List (Option Written) → Type 0) (pairs : Pairs) (gs : List Lived) (ws : List (Option Written)) (s : State)
+    → pairs ≡ [] → gs ≡ s.published.segments → ws ≡ s.written → P pairs gs ws → P [] s.published.segments s.written
+at_none P pairs gs ws s none same_segments same_written fact =
+    at_state (P []) gs ws s same_segments same_written (subst (λ (ps : Pairs). P ps gs ws) none fact)
+
 pub is_on : (gs : List Lived) (ws made : List (Option Written)) (s new : State) → gs ≡ s.published.segments → ws ≡ s.written
     → made ≡ renewed s.published.upto gs ws → new ≡ record (on_commit s) { written = made } → new ≡ on_commit s
 is_on gs ws made s new same_segments same_written is new_is =
@@ -194,7 +200,7 @@ pub same_below : (s : State) → IsReady s → (old new : Files)
 same_below s ready old new same = λ name other. same name (elsewhere s ready name other)
 
 pub commits : (s new : State) (files now : Files) → IsReady s → new ≡ on_commit s
-    → commit.Commits s.published.upto s.published.next_id s.published.segments s.written files now → Commits s new files now
+    → commit.Commits s.published.upto s.published.next_id [] s.published.segments s.written files now → Commits s new files now
 commits s new files now ready is made = record {
   made = made;
   stands = λ stored.

@@ -44,7 +44,7 @@ pub crashes_hold : CrashesHold
 crashes_hold s files now rows may stored has = by may.whole
   where
     by : (now (Commit s.published.upto) ≡ files (Commit s.published.upto))
-        ⊎ commit.Commits s.published.upto s.published.next_id s.published.segments s.written files now
+        ⊎ commit.Commits s.published.upto s.published.next_id [] s.published.segments s.written files now
         → (now (Commit s.published.upto) ≡ files (Commit s.published.upto)) ⊎ HoldsInverted now s.published.upto s.published.next_id rows
     by (inl same) = inl same
     by (inr made) = inr (holds_of s rows now (made.spelled stored) has)
@@ -69,7 +69,7 @@ listed_below old new files now ready commits goes t e lists = by (eqb_tells t ol
     by (inl is) =
         let spelled = commits.made.spelled goes.stored in
         let head = subst (λ (n : ℕ). HasHead now n lists.head) is.1 lists.has_head in
-        let same = one_head now s lists.head (head_of s old.published.next_id (entries_of s old.published.segments old.written) (listed old.published.segments)) head spelled.head in
+        let same = one_head now s lists.head (head_of s old.published.next_id spelled.tail (entries_of s old.published.segments old.written) (listed old.published.segments)) head spelled.head in
         of_all (λ (x : HeadSegment). x.id < old.published.next_id) (entries_of s old.published.segments old.written) e
         (ids_below 1 old.published.next_id (entries_of s old.published.segments old.written) spelled.head.fits.ids)
         (subst (λ (h : Head). Contains h.segments e) same lists.listed)

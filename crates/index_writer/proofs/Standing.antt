@@ -172,7 +172,7 @@ pub commits_stand : CommitsStand
 commits_stand old new files now is commits stored =
     subst (StandsOnLast now) (sym is) (record {
       own = only_of entries now;
-      of_last = only_of_commit entries now s (λ e c. record { head = head_of s next entries segments; has_head = spelled.head; listed = c });
+      of_last = only_of_commit entries now s (λ e c. record { head = head_of s next spelled.tail entries segments; has_head = spelled.head; listed = c });
       stored = stand_in entries now s old.published.segments (renewed s old.published.segments old.written) (subst (IsStored now) is (commits.stands stored)) (named_by_commit s old.published.segments old.written entries (λ e c. c));
     })
   where
@@ -209,7 +209,7 @@ named_by_open files t (e ∷ es) (g ∷ gs) all have within =
 pub opened_stand : OpenedStand
 opened_stand files last size merge has = record {
   own = only_of last.entries files;
-  of_last = only_of_commit last.entries files last.number (λ e c. record { head = head_of last.number last.next_id last.entries last.segments; has_head = has.head; listed = c });
+  of_last = only_of_commit last.entries files last.number (λ e c. record { head = head_of last.number last.next_id has.tail last.entries last.segments; has_head = has.head; listed = c });
   stored = stand_in last.entries files last.number last.segments (written_of last.entries last.segments) ((opened_go_on files last).stored size merge has.each) (named_by_open files last.number last.entries last.segments last.entries has.each (λ e c. c));
 }
 

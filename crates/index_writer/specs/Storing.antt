@@ -44,14 +44,14 @@ on_commit s = record s {
 abbrev pub SameBelow : ℕ → ℕ → Files → Files → Type 0
 SameBelow s next = SameElsewhere s (λ id. id < next)
 
--- A writer committed: the files have the commit, and what is on the store of its segments stands in them.
+-- A writer committed: the files have the commit, without pairs, and what is on the store of its segments stands in them.
 pub record Commits (old new : State) (files now : Files) : Type 0 where
-  pub made : commit.Commits old.published.upto old.published.next_id old.published.segments old.written files now
+  pub made : commit.Commits old.published.upto old.published.next_id [] old.published.segments old.written files now
   pub stands : IsStored files old → IsStored now new
 
 -- a crash while a writer commits: the commit is there whole, or its commit file is as before
 abbrev pub MayCommit : State → Files → Files → Type 0
-MayCommit s = commit.MayCommit s.published.upto s.published.next_id s.published.segments s.written
+MayCommit s = commit.MayCommit s.published.upto s.published.next_id [] s.published.segments s.written
 
 -- The writer can go on from these files: no commit is above its last one, none lists an id that is new since that one,
 -- and what is on the store of its segments stands.

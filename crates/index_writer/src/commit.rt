@@ -1,5 +1,5 @@
 //! The commit of what is in the segments.
-ghost use Rattle.std.specs.Prelude.{◌≡◌, ◌≤◌, ◌<◌, ◌^◌, ◌↔◌, length, IsSome};
+ghost use Rattle.std.specs.Prelude.{◌≡◌, ◌≤◌, ◌<◌, ◌^◌, ◌↔◌, length, IsSome, []};
 ghost use Rattle.std.specs.Prelude.{IsTrue, Some, None, IfOk, OnOk, OnErr, Err, true, false};
 ghost use Rattle.ix_base.specs.declared.document.Row.{Row};
 ghost use Rattle.std.specs.Prelude.{List as ListOf};
@@ -10,6 +10,7 @@ ghost use Rattle.ix_outside.specs.Crash.{MayHold};
 ghost use Rattle.ix_outside.specs.Disk.{Told, told_files};
 ghost use Rattle.ix_outside.specs.Files.{Files, Changes};
 ghost use Rattle.ix_outside.specs.Images.{Follows, Reaches};
+ghost use Rattle.commit_point.specs.Holds.{HasPairs};
 ghost use Rattle.commit_point.specs.Steps.{KeepsMade, OnlyCommits};
 ghost use Rattle.index_writer.specs.Ready.{HasRows, IsSound};
 ghost use Rattle.index_writer.specs.Storing.{Commits, GoesOn, MayCommit, SameBelow, Settles, on_commit, renewed};
@@ -19,7 +20,7 @@ use crate::round::CommitInfo;
 use crate::state::State;
 use crate::writer::IndexWriter;
 use commit_point::{CommitRefused, Written, version, write_commit};
-use ix_base::{List, NoMemory};
+use ix_base::{Fields, List, NoMemory};
 use ix_outside::{Store, StoreFault};
 use segment_core::LiveSegment;
 use std::alloc::Global;
@@ -45,6 +46,10 @@ impl<S: Store> IndexWriter<S> {
             → OnOk result (HasRows self.new.state rows) }
         ensures made { self.old.state.published.next_id ≤ 2 ^ 62
             → OnOk result (Changes (Commits self.old.state self.new.state)
+            (told_files (S.disk self.old.store)) (told_files (S.disk self.new.store))) }
+        // No pairs stand in its commit file.
+        ensures pairs { self.old.state.published.next_id ≤ 2 ^ 62 → OnOk result
+            (Changes (λ old now. HasPairs now self.old.state.published.upto [])
             (told_files (S.disk self.old.store)) (told_files (S.disk self.new.store))) }
         ensures elsewhere { OnErr result (Changes
             (SameBelow self.old.state.published.upto self.old.state.since)
@@ -93,7 +98,16 @@ impl<S: Store> IndexWriter<S> {
         let written = self.state.written.as_slice();
         let renewed = renewed(alloc, number, segments, written)?;
         let next_id = self.state.published.next_id;
-        match write_commit(alloc, &mut self.store, number, next_id, segments, written) {
+        let none = Fields::none(alloc);
+        match write_commit(
+            alloc,
+            &mut self.store,
+            number,
+            next_id,
+            &none,
+            segments,
+            written,
+        ) {
             Ok(head) => {
                 self.state.go_on(renewed);
                 Ok(CommitInfo {

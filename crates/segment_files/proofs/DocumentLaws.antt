@@ -43,7 +43,7 @@ rise_back : {V : Type 0} (low : List ℕ) (pairs : List (List ℕ × V)) → ris
 rise_back low [] e = tt
 rise_back low (p ∷ ps) e = let h = and_parts (text_lt low p.0) (rise_after p.0 (names ps)) e in (h.0, rise_back p.0 ps h.1)
 
-rise_from : {V : Type 0} (pairs : List (List ℕ × V)) → names_rise (names pairs) ≡ true → AllGood Comes own_name None pairs
+pub rise_from : {V : Type 0} (pairs : List (List ℕ × V)) → names_rise (names pairs) ≡ true → AllGood Comes own_name None pairs
 rise_from [] e = tt
 rise_from (p ∷ ps) e = (refl, rise_back p.0 ps e)
 
@@ -158,7 +158,7 @@ fields_again taken pairs rest short good =
     ap (fields_at taken) regrouped ∙ rw (u32_again (length pairs) (flat_map field pairs ++ rest) short) (items_again (field_at taken) own_name field (FieldGood taken) (field_again taken) None pairs rest good)
 
 -- names rise in what is read, and are free, whatever the bytes are
-named_ok : (test : List ℕ → Bool) (bytes : List ℕ) (x : List ℕ × List ℕ) → name_where test bytes ≡ Ok x → test x.0 ≡ true
+pub named_ok : (test : List ℕ → Bool) (bytes : List ℕ) (x : List ℕ × List ℕ) → name_where test bytes ≡ Ok x → test x.0 ≡ true
 named_ok test bytes x e =
     let b = bind_ok (name_at bytes) (λ n. cond (test n.0) (Ok n) (Err (length bytes))) x e in
     let g = passes (test b.0.0) (length bytes) b.0 x b.2 in

@@ -1,5 +1,6 @@
 pub mod Readers
 pub mod DocumentLaws
+pub mod PairLaws
 pub mod RowLaws
 pub mod Chains
 pub mod PlacesRead

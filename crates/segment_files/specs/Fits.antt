@@ -18,6 +18,12 @@ pub record FieldFits (pair : List ℕ × List ℕ) : Type 0 where
   pub name : IsName pair.0
   pub text : IsText pair.1
 
+-- pairs by rising names
+pub record PairsFit (pairs : List (List ℕ × List ℕ)) : Type 0 where
+  pub count : length pairs < 2 ^ 32
+  pub each : AllByRecursion FieldFits pairs
+  pub rise : names_rise (map (λ pair. pair.0) pairs) ≡ true
+
 pub record NumberFits (pair : List ℕ × ℤ) : Type 0 where
   pub name : IsName pair.0
   pub value : FitsSigned w64 pair.1

@@ -5,3 +5,4 @@ pub mod Reading
 pub mod ReadLists
 pub mod Placing
 pub mod Sizes
+pub mod Pairs

@@ -18,7 +18,9 @@ fn put_field(out: &mut Vec<u8>, pair: &(Name, Text)) -> Result<(), NoMemory>
     Ok(())
 }
 
-fn put_fields(out: &mut Vec<u8>, pairs: &Fields) -> Result<(), NoMemory>
+/// Appends how many pairs there are, and then each of them: its name and its text. After an error a
+/// prefix of that may stand there.
+pub fn put_fields(out: &mut Vec<u8>, pairs: &Fields) -> Result<(), NoMemory>
     ensures bytes { OnOk result (out.new.items ≡ out.old.items ++ fields pairs.now) }
     ensures fits { OnOk result (AllByRecursion FieldFits pairs.now) }
     ensures count { length pairs.now < 2 ^ 32 }

@@ -10,14 +10,17 @@ mod marks;
 mod posts;
 mod put_places;
 mod read_documents;
+mod read_pairs;
 mod read_places;
 mod read_posts;
 mod read_terms;
 mod sizes;
 
 pub use decode::decode_row;
+pub use documents::put_fields;
 pub use encode::encode_row;
 pub use posts::encode_pst;
 pub use read_documents::name_of;
+pub use read_pairs::pairs_of;
 pub use read_posts::decode_pst;
 pub use sizes::{behind_postings, behind_rows};

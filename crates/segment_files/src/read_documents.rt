@@ -32,7 +32,7 @@ pub fn name_of(alloc: Global, bytes: &[u8]) -> Result<(Name, &[u8]), Broken>
 }
 
 /// Whether the name comes after the last of these.
-fn comes_next<V>(pairs: &[(Name, V)], name: &Name) -> bool
+pub(crate) fn comes_next<V>(pairs: &[(Name, V)], name: &Name) -> bool
     ensures { result ≡ comes_after (left_by (λ pair. Some pair.0) None pairs.now) name.now }
 {
     match pairs.last() {

@@ -135,7 +135,7 @@ pub fn changes(alloc: Global, whole: &MemoryStore) -> Result<Vec<Damage>, Fail> 
         (Commit, 0, b"IXROW001", Commit, 0),
         (Posts, 0, b"IXPST002", Posts, 0),
         // A byte more.
-        (Commit, 60, &[0], Commit, 60),
+        (Commit, 64, &[0], Commit, 64),
         (Rows, 50, &[0], Rows, 50),
         (Posts, 57, &[0], Posts, 57),
         (Live, 29, &[0], Live, 29),
@@ -156,11 +156,12 @@ pub fn counts(alloc: Global, whole: &MemoryStore) -> Result<Vec<Damage>, Fail> {
     use Part::*;
     let four: &'static [u8] = &[0xff, 0xff, 0xff, 0xff];
     let eight: &'static [u8] = &[0xff, 0xff, 0xff, 0xff, 0xff, 0xff, 0xff, 0xff];
-    let cases: [Change; 18] = [
+    let cases: [Change; 19] = [
         (Commit, 16, eight, Commit, 16),
         (Commit, 36, four, Commit, 60),
         (Commit, 32, eight, Commit, 60),
         (Commit, 48, four, Rows, 16),
+        (Commit, 60, four, Commit, 64),
         (Rows, 16, four, Rows, 16),
         (Rows, 28, four, Rows, 28),
         (Rows, 34, four, Rows, 38),

@@ -41,7 +41,7 @@ impl Part {
     /// Where its fields begin.
     pub fn fields(self) -> &'static [u64] {
         match self {
-            Part::Commit => &[0, 8, 16, 24, 32, 40, 48, 52],
+            Part::Commit => &[0, 8, 16, 24, 32, 40, 48, 52, 60],
             Part::Rows => &[0, 8, 16, 20, 28, 34, 38, 42],
             Part::Posts => &[0, 8, 16, 20, 28, 35, 41, 45, 49, 53],
             Part::Live | Part::Values => &[0, 8, 16, 24, 28],
@@ -51,7 +51,7 @@ impl Part {
     /// How many bytes it has.
     pub fn len(self) -> usize {
         match self {
-            Part::Commit => 60,
+            Part::Commit => 64,
             Part::Rows => 50,
             Part::Posts => 57,
             Part::Live => 29,

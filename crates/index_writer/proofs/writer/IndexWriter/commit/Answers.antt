@@ -1,4 +1,4 @@
-use Rattle.std.proofs.Common.{◌∙◌, List, Option, length, refl, sym, ap, subst, inl, arith}
+use Rattle.std.proofs.Common.{◌∙◌, List, [], Option, length, refl, sym, ap, subst, inl, arith}
 use Rattle.std.specs.Prelude.{IsSome}
 use Rattle.ix_base.specs.declared.file_name.FileName.TheVariants.{Commit}
 use Rattle.ix_outside.proofs.CallLaws.{leaves_none}
@@ -9,6 +9,7 @@ use Rattle.ix_outside.specs.Images.{Reaches}
 use Rattle.segment_core.specs.LiveRows.{Lived, all_live}
 use Rattle.commit_point.specs.declared.heads.Head.{Head}
 use Rattle.commit_point.specs.declared.written.Written.{Written}
+use Rattle.commit_point.specs.Holds.{HasPairs, Pairs}
 use Rattle.commit_point.specs.Settling as settling
 use Rattle.commit_point.proofs.StepLaws.{goes_none}
 use Rattle.commit_point.specs.Steps.{KeepsMade, KeepsStanding, MakesCommits}
@@ -16,7 +17,7 @@ use Rattle.commit_point.specs.Writing as commit
 use Rattle.index_writer.specs.declared.state.State.{State}
 use Rattle.index_writer.specs.Ready.{HasRows, IsReady}
 use Rattle.index_writer.specs.Storing.{Commits, MayCommit, SameBelow}
-use Rattle.index_writer.proofs.Committing.{at_state, comes, commits, counted, is_on, less_of, on_err, on_ready, same_below, settles, tells_renamed, unmade}
+use Rattle.index_writer.proofs.Committing.{at_none, at_state, comes, commits, counted, is_on, less_of, on_err, on_ready, same_below, settles, tells_renamed, unmade}
 use Rattle.index_writer.proofs.writer.IndexWriter.commit.Goals as goal
 
 pub returns-then-self-clause-crash : goal.returns-then-self-clause-crash
@@ -72,10 +73,10 @@ returns-in-Err-clause-standing g c = λ was told goes.
 pub returns-in-Err-clause-left : goal.returns-in-Err-clause-left
 returns-in-Err-clause-left g c room =
     let s = c.args.self.now.state in
-    at_state
-    (λ (gs : List Lived) (ws : List (Option Written)). Changes (commit.MayCommit s.published.upto s.published.next_id gs ws)
-    (told_files (g.S.Store.disk c.args.self.now.store)) (told_files (g.S.Store.disk c.write_commit.new.store))) _ _ s
-    c.as_slice-segments.ensures c.as_slice-written.ensures (c.in-Err.ensures.left room)
+    at_none
+    (λ (ps : Pairs) (gs : List Lived) (ws : List (Option Written)). Changes (commit.MayCommit s.published.upto s.published.next_id ps gs ws)
+    (told_files (g.S.Store.disk c.args.self.now.store)) (told_files (g.S.Store.disk c.write_commit.new.store))) _ _ _ s
+    c.none.ensures c.as_slice-segments.ensures c.as_slice-written.ensures (c.in-Err.ensures.left room)
 
 pub returns-in-Ok-clause-sound : goal.returns-in-Ok-clause-sound
 returns-in-Ok-clause-sound g c still =
@@ -103,9 +104,16 @@ returns-in-Ok-clause-made g c room =
     let before = told_files (g.S.Store.disk c.args.self.now.store) in
     let after = told_files (g.S.Store.disk c.write_commit.new.store) in
     let on = is_on _ _ c.in_ok-renewed.renewed s new c.as_slice-segments.ensures c.as_slice-written.ensures c.in_ok-renewed.ensures c.go_on.ensures in
-    let made = at_state (λ (gs : List Lived) (ws : List (Option Written)). Changes (commit.Commits s.published.upto s.published.next_id gs ws) before after) _ _ s c.as_slice-segments.ensures c.as_slice-written.ensures (c.in-Ok.ensures.ok room) in
-    onto (commit.Commits s.published.upto s.published.next_id s.published.segments s.written) (Commits s new) before after
+    let made = at_none (λ (ps : Pairs) (gs : List Lived) (ws : List (Option Written)). Changes (commit.Commits s.published.upto s.published.next_id ps gs ws) before after) _ _ _ s c.none.ensures c.as_slice-segments.ensures c.as_slice-written.ensures (c.in-Ok.ensures.ok room) in
+    onto (commit.Commits s.published.upto s.published.next_id [] s.published.segments s.written) (Commits s new) before after
     (λ files now. commits s new files now (c.requires.sound c.if-self.false) on) made
+
+pub returns-in-Ok-clause-pairs : goal.returns-in-Ok-clause-pairs
+returns-in-Ok-clause-pairs g c room =
+    let s = c.args.self.now.state in
+    let before = told_files (g.S.Store.disk c.args.self.now.store) in
+    let after = told_files (g.S.Store.disk c.write_commit.new.store) in
+    subst (λ (ps : Pairs). Changes (λ old now. HasPairs now s.published.upto ps) before after) c.none.ensures (c.in-Ok.ensures.pairs room)
 
 pub returns-in-Ok-clause-acknowledged : goal.returns-in-Ok-clause-acknowledged
 returns-in-Ok-clause-acknowledged g c room image holds =
@@ -116,8 +124,8 @@ returns-in-Ok-clause-acknowledged g c room image holds =
       before.0,
       before.1,
       commits s new before.0 image (c.requires.sound c.if-self.false) on
-          (at_state (λ (gs : List Lived) (ws : List (Option Written)). commit.Commits s.published.upto s.published.next_id gs ws before.0 image) _ _ s
-          c.as_slice-segments.ensures c.as_slice-written.ensures before.2),
+          (at_none (λ (ps : Pairs) (gs : List Lived) (ws : List (Option Written)). commit.Commits s.published.upto s.published.next_id ps gs ws before.0 image) _ _ _ s
+          c.none.ensures c.as_slice-segments.ensures c.as_slice-written.ensures before.2),
     )
 
 pub returns-in-Ok-clause-settled : goal.returns-in-Ok-clause-settled
