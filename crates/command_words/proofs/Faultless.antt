@@ -38,7 +38,10 @@ run_threads = (
   built_well option.Threads option.Threads (λ e. refl) (codes "4" ∷ []) false refl,
   (
     built_well option.Threads option.Buffer (λ e. apart e) (codes "1000" ∷ []) false refl,
-    (built_well option.Threads option.Merge (λ e. apart e) (codes "8" ∷ []) false refl, (help_well option.Threads, tt)),
+    (
+      built_well option.Threads option.Merge (λ e. apart e) (codes "8" ∷ []) false refl,
+      (built_well option.Threads option.Keep (λ e. apart e) [] false tt, (help_well option.Threads, tt)),
+    ),
   ),
 )
 
@@ -47,7 +50,10 @@ run_buffer = (
   built_well option.Buffer option.Threads (λ e. apart e) (codes "4" ∷ []) false refl,
   (
     built_well option.Buffer option.Buffer (λ e. refl) (codes "1000" ∷ []) false refl,
-    (built_well option.Buffer option.Merge (λ e. apart e) (codes "8" ∷ []) false refl, (help_well option.Buffer, tt)),
+    (
+      built_well option.Buffer option.Merge (λ e. apart e) (codes "8" ∷ []) false refl,
+      (built_well option.Buffer option.Keep (λ e. apart e) [] false tt, (help_well option.Buffer, tt)),
+    ),
   ),
 )
 
@@ -56,7 +62,10 @@ run_merge = (
   built_well option.Merge option.Threads (λ e. apart e) (codes "4" ∷ []) false refl,
   (
     built_well option.Merge option.Buffer (λ e. apart e) (codes "1000" ∷ []) false refl,
-    (built_well option.Merge option.Merge (λ e. refl) (codes "8" ∷ []) false refl, (help_well option.Merge, tt)),
+    (
+      built_well option.Merge option.Merge (λ e. refl) (codes "8" ∷ []) false refl,
+      (built_well option.Merge option.Keep (λ e. apart e) [] false tt, (help_well option.Merge, tt)),
+    ),
   ),
 )
 
@@ -110,12 +119,12 @@ all_given true true false e = absurd cc
 all_given true false c e = absurd cc
 all_given false b c e = absurd cc
 
-made_run : (t b m : Option ℕ) → is_some t ≡ true → is_some b ≡ true → is_some m ≡ true
-    → is_some (option_and_then (λ threads. option_and_then (λ buffer. option_map (λ merge. command.Run threads buffer merge) m) b) t) ≡ true
-made_run None b m t_is b_is m_is = t_is
-made_run (Some t) None m t_is b_is m_is = b_is
-made_run (Some t) (Some b) None t_is b_is m_is = m_is
-made_run (Some t) (Some b) (Some m) t_is b_is m_is = refl
+made_run : (t b m k : Option ℕ) → is_some t ≡ true → is_some b ≡ true → is_some m ≡ true
+    → is_some (option_and_then (λ threads. option_and_then (λ buffer. option_map (λ merge. command.Run threads buffer merge k) m) b) t) ≡ true
+made_run None b m k t_is b_is m_is = t_is
+made_run (Some t) None m k t_is b_is m_is = b_is
+made_run (Some t) (Some b) None k t_is b_is m_is = m_is
+made_run (Some t) (Some b) (Some m) k t_is b_is m_is = refl
 
 made_make : (s l c : Option ℕ) → is_some s ≡ true → is_some l ≡ true → is_some c ≡ true
     → is_some (option_and_then (λ seed. option_and_then (λ lines. option_map (λ callers. command.Make seed lines callers) c) l) s) ≡ true
@@ -131,7 +140,7 @@ IsCommand s = (words : List Text) → level_fault s [] nothing_held words false 
 run_command : (words : List Text) → level_fault run [] nothing_held words false [] ≡ [] → is_some (run_in (rows_after run.rules [] words)) ≡ true
 run_command words fine =
     let rows = rows_after run.rules [] words in
-    made_run (number_of option.Threads rows) (number_of option.Buffer rows) (number_of option.Merge rows)
+    made_run (number_of option.Threads rows) (number_of option.Buffer rows) (number_of option.Merge rows) (number_of option.Keep rows)
     (by_default option.Threads run_threads refl words fine) (by_default option.Buffer run_buffer refl words fine) (by_default option.Merge run_merge refl words fine)
 
 make_command : (words : List Text) → level_fault make [] nothing_held words false [] ≡ [] → is_some (make_in (rows_after make.rules [] words)) ≡ true

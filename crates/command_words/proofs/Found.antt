@@ -1,5 +1,5 @@
 -- What clap found is the command that the words are.
-use Rattle.std.proofs.Common.{◌≡◌, ◌∙◌, List, [], true, Option, Some, None, Result, Ok, Err, refl, sym, ap, subst}
+use Rattle.std.proofs.Common.{◌≡◌, ◌∙◌, List, [], true, Option, Some, None, Result, sym, ap, subst}
 use Rattle.std.specs.Prelude.{IfOk, option_and_then}
 use Rattle.std.specs.Option.{ok_or}
 use Rattle.clap.proofs.OnLiterals.{clap_on_literals}

@@ -49,6 +49,7 @@ high_fits : (which : NumberOption) → high_of which < 2 ^ 64
 high_fits option.Threads = omega arith
 high_fits option.Buffer = omega arith
 high_fits option.Merge = omega arith
+high_fits option.Keep = omega arith
 high_fits option.Commit = omega arith
 high_fits option.Seed = omega arith
 high_fits option.Lines = omega arith

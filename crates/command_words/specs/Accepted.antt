@@ -28,10 +28,10 @@ ranged_number name low high rows = option_and_then (number_text low high) (one_o
 abbrev pub number_of : NumberOption → List Row → Option ℕ
 number_of one rows = ranged_number (name_of one) (low_of one) (high_of one) rows
 
--- `run`, where each of its options has a number
+-- `run`, where each of its options with a default has a number
 abbrev pub run_in : List Row → Option Command
 run_in rows = option_and_then (λ threads. option_and_then (λ buffer.
-    option_map (λ merge. command.Run threads buffer merge)
+    option_map (λ merge. command.Run threads buffer merge (number_of option.Keep rows))
     (number_of option.Merge rows)) (number_of option.Buffer rows)) (number_of option.Threads rows)
 
 -- `make`, where each of its options has a number
@@ -58,8 +58,9 @@ accepted words = unless_fault (fault_of program words) (subcommand_of program wo
 
 -- each number is in its option's range
 abbrev pub InRange : Command → Type 0
-InRange (command.Run threads buffer merge) =
+InRange (command.Run threads buffer merge keep) =
     IsNumberOf option.Threads threads × IsNumberOf option.Buffer buffer × IsNumberOf option.Merge merge
+    × IfSome keep (IsNumberOf option.Keep)
 InRange (command.Ask commit) = IfSome commit (IsNumberOf option.Commit)
 InRange command.List = Unit
 InRange command.Check = Unit

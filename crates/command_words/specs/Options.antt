@@ -9,6 +9,7 @@ abbrev pub name_of : NumberOption → Text
 name_of option.Threads = codes "threads"
 name_of option.Buffer = codes "buffer"
 name_of option.Merge = codes "merge"
+name_of option.Keep = codes "keep"
 name_of option.Commit = codes "commit"
 name_of option.Seed = codes "seed"
 name_of option.Lines = codes "lines"
@@ -19,6 +20,7 @@ abbrev pub low_of : NumberOption → ℕ
 low_of option.Threads = 1
 low_of option.Buffer = 1
 low_of option.Merge = 2
+low_of option.Keep = 1
 low_of option.Commit = 0
 low_of option.Seed = 0
 low_of option.Lines = 1
@@ -29,6 +31,7 @@ abbrev pub high_of : NumberOption → ℕ
 high_of option.Threads = 16
 high_of option.Buffer = 65536
 high_of option.Merge = 64
+high_of option.Keep = 1000
 high_of option.Commit = 9223372036854775807
 high_of option.Seed = 2147483647
 high_of option.Lines = 1000000

@@ -22,11 +22,15 @@ by_default text rule = record rule { defaults = text ∷ [] }
 abbrev pub always : Rule → Rule
 always rule = record rule { required = true }
 
-abbrev pub run : App
-run = with_rule (with_rule (with_rule (new_app (codes "run"))
+-- `run` with those of its options that have a default
+abbrev pub run_with_defaults : App
+run_with_defaults = with_rule (with_rule (with_rule (new_app (codes "run"))
     (by_default (codes "4") (number_rule option.Threads)))
     (by_default (codes "1000") (number_rule option.Buffer)))
     (by_default (codes "8") (number_rule option.Merge))
+
+abbrev pub run : App
+run = with_rule run_with_defaults (number_rule option.Keep)
 
 abbrev pub ask : App
 ask = with_rule (new_app (codes "ask")) (number_rule option.Commit)

@@ -27,7 +27,7 @@ abbrev pub IsUse : NumberOption → Use → Type 0
 IsUse which one = (one.0 ≡ name_of which) × IsNumeral 10 one.1 × IsNumberOf which (digits_value 10 one.1)
 
 abbrev pub IsRunUse : Use → Type 0
-IsRunUse one = IsUse option.Threads one ⊎ (IsUse option.Buffer one ⊎ IsUse option.Merge one)
+IsRunUse one = IsUse option.Threads one ⊎ (IsUse option.Buffer one ⊎ (IsUse option.Merge one ⊎ IsUse option.Keep one))
 
 abbrev pub IsAskUse : Use → Type 0
 IsAskUse one = IsUse option.Commit one
@@ -43,13 +43,14 @@ EachOnce uses = AllPairs (λ one later. one.0 ≢ later.0) uses
 abbrev pub given : NumberOption → List Use → Option ℕ
 given which uses = option_map (λ one. digits_value 10 one.1) (find (λ one. bytes_eq one.0 (name_of which)) uses)
 
--- an option of `run` that isn't given has its default
+-- an option of `run` that isn't given has its default, and the last of them no number
 abbrev pub RunAccepted : Type 0
 RunAccepted = (uses : List Use) → All IsRunUse uses → EachOnce uses
     → accepted (codes "run" ∷ words_of uses) ≡ Some (command.Run
     (unwrap_or (given option.Threads uses) 4)
     (unwrap_or (given option.Buffer uses) 1000)
-    (unwrap_or (given option.Merge uses) 8))
+    (unwrap_or (given option.Merge uses) 8)
+    (given option.Keep uses))
 
 -- `ask` without its option has no number
 abbrev pub AskAccepted : Type 0

@@ -11,6 +11,8 @@ pub enum Command {
         buffer: u32,
         /// How many segments are merged into one, from 2 to 64.
         merge: u32,
+        /// How many of the last commits are kept, from 1 to 1,000, or none for all.
+        keep: Option<u32>,
     },
     /// Searches a commit.
     Ask {

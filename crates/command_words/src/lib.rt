@@ -2,7 +2,7 @@
 //!
 //! | Subcommand | Options (range, number where not given) |
 //! |---|---|
-//! | `run` | `--threads` 1..=16 (4), `--buffer` 1..=65536 (1000), `--merge` 2..=64 (8) |
+//! | `run` | `--threads` 1..=16 (4), `--buffer` 1..=65536 (1000), `--merge` 2..=64 (8), `--keep` 1..=1000 (none: all commits stay) |
 //! | `ask` | `--commit` 0..=9223372036854775807 (none: the last commit) |
 //! | `list` | none |
 //! | `check` | none |

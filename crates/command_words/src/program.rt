@@ -28,9 +28,18 @@ pub fn program<'a>(alloc: Global) -> Result<Command<'a>, AllocError>
         .subcommand(make)
 }
 
-/// `run`, with a default for each option.
+/// `run`, whose last option has no default.
 fn run_command<'a>(alloc: Global) -> Result<Command<'a>, AllocError>
     ensures app { IfOk result (λ command. app_of command ≡ spec.run) }
+    ensures local { IfOk result (λ command. (out-Command command).has_globals ≡ false) }
+{
+    let keep = number_option(alloc, NumberOption::Keep);
+    run_with_defaults(alloc)?.arg(keep)
+}
+
+/// `run` with its options that have a default.
+fn run_with_defaults<'a>(alloc: Global) -> Result<Command<'a>, AllocError>
+    ensures app { IfOk result (λ command. app_of command ≡ spec.run_with_defaults) }
     ensures local { IfOk result (λ command. (out-Command command).has_globals ≡ false) }
 {
     let threads = number_option(alloc, NumberOption::Threads).default_value("4");

@@ -3,7 +3,8 @@ ghost use Rattle.std.specs.Prelude.{◌≡◌, IfOk, IfSome, option_and_then, So
 ghost use Rattle.clap.specs.Matches.{found_of};
 ghost use Rattle.clap.specs.Simple.{subcommand_rows_of};
 ghost use Rattle.clap.specs.Walk.{rows_of};
-ghost use Rattle.command_words.specs.Accepted.{accepted, command_in, run_in, make_in, InRange};
+ghost use Rattle.command_words.specs.Accepted.{accepted, command_in, run_in, make_in, number_of, InRange};
+ghost use Rattle.command_words.specs.Options.{IsNumberOf};
 
 use crate::command::{Command, WordsFault};
 use crate::number_option::NumberOption;
@@ -72,7 +73,17 @@ fn run_from(options: &ArgMatches) -> Option<Command>
         threads: threads as u32,
         buffer: buffer as u32,
         merge: merge as u32,
+        keep: keep_from(options),
     })
+}
+
+/// How many of the last commits `run` keeps, where that is given.
+fn keep_from(options: &ArgMatches) -> Option<u32>
+    ensures keep { result ≡ number_of NumberOption.Keep (rows_of (found_of options.now)) }
+    ensures range { IfSome result (IsNumberOf NumberOption.Keep) }
+{
+    let keep = number(options, NumberOption::Keep)?;
+    Some(keep as u32)
 }
 
 /// `make` with its numbers.

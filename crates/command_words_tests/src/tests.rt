@@ -17,8 +17,17 @@ fn answer(alloc: Global, line: &str) -> Result<String, Fail> {
                 threads,
                 buffer,
                 merge,
+                keep: None,
             },
         ) => write!(text, "run {threads} {buffer} {merge}")?,
+        Ok(
+            Command::Run {
+                threads,
+                buffer,
+                merge,
+                keep: Some(number),
+            },
+        ) => write!(text, "run {threads} {buffer} {merge} keep {number}")?,
         Ok(Command::Ask { commit: None }) => text.push_str("ask")?,
         Ok(
             Command::Ask {
@@ -53,6 +62,14 @@ fn accepted(rt: HostRuntime) -> Result<(), Fail> {
         ("run --threads 02", "run 2 1000 8"),
         ("run --threads +2", "run 2 1000 8"),
         ("run --threads=+2 --", "run 2 1000 8"),
+        ("run --keep 1", "run 4 1000 8 keep 1"),
+        ("run --keep 1000", "run 4 1000 8 keep 1000"),
+        ("run --keep=5", "run 4 1000 8 keep 5"),
+        ("run --merge 2 --keep 7 --threads 1", "run 1 1000 2 keep 7"),
+        (
+            "run --keep 7 --merge 64 --buffer 65536 --threads 16",
+            "run 16 65536 64 keep 7",
+        ),
         ("ask", "ask"),
         ("ask --commit 0", "ask 0"),
         (
@@ -112,13 +129,22 @@ fn refused(rt: HostRuntime) -> Result<(), Fail> {
         "run --buffer 65537",
         "run --merge 1",
         "run --merge 65",
+        "run --keep",
+        "run --keep=",
+        "run --keep 0",
+        "run --keep 1001",
+        "run --keep -1",
+        "run --keep 4294967297",
         "run --threads 2 --threads 2",
+        "run --keep 5 --keep 5",
+        "run --keep --threads 2",
         "run --commit 1",
         "run --seed 1",
         "ask --commit 9223372036854775808",
         "ask --commit 18446744073709551616",
         "ask --commit 1 --commit 1",
         "ask --threads 2",
+        "ask --keep 1",
         "list --commit 1",
         "list extra",
         "check --commit 1",
@@ -132,6 +158,7 @@ fn refused(rt: HostRuntime) -> Result<(), Fail> {
         "make --seed 1 --lines 1000001 --callers 1",
         "make --seed 1 --lines 1 --callers 0",
         "make --seed 1 --lines 1 --callers 257",
+        "make --seed 1 --lines 1 --callers 1 --keep 1",
     ];
     for line in cases {
         let found = answer(alloc, line)?;

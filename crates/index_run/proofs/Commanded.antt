@@ -1,5 +1,5 @@
 -- What a command comes to, by what it read and what it did.
-use Rattle.std.proofs.Common.{◌≡◌, ◌∙◌, ℕ, ◌<◌, ◌^◌, List, [], ◌∷◌, Some, Ok, Err, Result, Vec, refl, sym, ap, subst}
+use Rattle.std.proofs.Common.{◌≡◌, ◌∙◌, ℕ, ◌<◌, ◌^◌, List, [], ◌∷◌, Some, None, Ok, Err, Result, Vec, refl, sym, ap, subst}
 use Rattle.std.specs.Prelude.{Option, IfOk, IfErr, IsErrAnd}
 use Rattle.std.specs.declared.alloc.Global.{Global}
 use Rattle.commit_point.specs.Holds.{Holds, HoldsInverted}
@@ -23,7 +23,7 @@ use Rattle.op_script.specs.declared.script.Line.{Line}
 use Rattle.report_text.specs.Faults.{status_of}
 use Rattle.report_text.specs.declared.fault.Fault.{Fault}
 use Rattle.report_text.specs.declared.fault.Fault.TheVariants as fault
-use Rattle.run_log.specs.Headline.{CanEnd, CanRun, Given, IsLast, Runs, Stops}
+use Rattle.run_log.specs.Headline.{CanEnd, CanRun, Given, IsLast}
 use Rattle.store_answers.specs.Answers.{answers_text}
 use Rattle.store_answers.specs.Asking.{IsAsked, LacksAsked}
 use Rattle.store_answers.specs.Listing.{AreListed}
@@ -36,9 +36,11 @@ use Rattle.index_run.specs.Causes.{IsOneOf, stop_status}
 use Rattle.index_run.specs.Commands.{HasScript, form_text}
 use Rattle.index_run.specs.Damage.{FindsDamage}
 use Rattle.index_run.specs.Endings.{Caused, Met}
-use Rattle.index_run.specs.Promises.{AnswersQuestions, ChecksCommits, Does, IsCheckOf, IsListOf, ListsCommits, RunsScript}
+use Rattle.index_run.specs.Keeping.{RunsBy, StopsBy}
+use Rattle.index_run.specs.Promises.{AnswersQuestions, CanKeep, ChecksCommits, Does, IsCheckOf, IsListOf, ListsCommits, RunsScript}
 use Rattle.index_run.proofs.Finish.{stops_none}
 use Rattle.index_run.proofs.Listed.{err_and_listed, err_listed, listed_onto}
+use Rattle.index_run.proofs.Pruning.{stops_by}
 
 abbrev Bytes : Type 0
 Bytes = Vec ℕ Global
@@ -55,42 +57,44 @@ same_read {T} parse bytes given read one other = ap these (sym one ∙ other)
 -- ---- a script
 
 -- The lines were done, and they are the script.
-pub script_done : (IsScript : List Line → Type 0) (form : Form) (lines : List Line) (input : Option (List ℕ))
+pub script_done : (keep : Option ℕ) (IsScript : List Line → Type 0) (form : Form) (lines : List Line) (input : Option (List ℕ))
     (store left : Option Disk) (text : Result Bytes Stop) → ((ls : List Line) → IsScript ls → ls ≡ lines)
     → ((g : Given) → g.lines ≡ lines → told_files store ≡ Some g.files → CanRun g
-    → IfOk text (λ made. Runs g (form_text form g) (λ told. made.items ≡ told) store left))
-    → ((g : Given) → g.lines ≡ lines → told_files store ≡ Some g.files → CanRun g → Stops g store left)
+    → IfOk text (λ made. RunsBy keep g (form_text form g) (λ told. made.items ≡ told) store left))
+    → ((g : Given) → g.lines ≡ lines → told_files store ≡ Some g.files → CanRun g → StopsBy keep g store left)
     → ((g : Given) → told_files store ≡ Some g.files → IsLast g.files g.base → 2 ^ 61 < g.base
     → IsErrAnd text (λ s. IsOneOf (stop_status s) (4 ∷ 7 ∷ 10 ∷ [])))
-    → ((g : Given) → told_files store ≡ Some g.files → IsLast g.files g.base → CanEnd g
+    → ((g : Given) → told_files store ≡ Some g.files → IsLast g.files g.base → CanEnd g → CanKeep keep g.files
     → IfErr text (λ s. IsOneOf (stop_status s) (4 ∷ 7 ∷ [])))
-    → RunsScript IsScript (form_text form) (record { input = input; store = store; left = left; text = text })
-script_done IsScript form lines input store left text same runs stops high whole = record {
+    → RunsScript keep IsScript (form_text form) (record { input = input; store = store; left = left; text = text })
+script_done keep IsScript form lines input store left text same runs stops high whole = record {
   runs = λ g is can. runs g (same g.lines is.script) is.stored can;
   stops = λ g is can. stops g (same g.lines is.script) is.stored can;
   high = λ g is above.
       err_and_listed text (4 ∷ 7 ∷ 10 ∷ []) (4 ∷ 5 ∷ 7 ∷ 10 ∷ []) (refl, (refl, (refl, tt)))
       (high g is.stored is.last above);
-  whole = λ g is can.
-      err_listed text (4 ∷ 7 ∷ []) (4 ∷ 5 ∷ 7 ∷ []) (refl, (refl, tt)) (whole g is.stored is.last can);
+  whole = λ g is can keeps.
+      err_listed text (4 ∷ 7 ∷ []) (4 ∷ 5 ∷ 7 ∷ []) (refl, (refl, tt)) (whole g is.stored is.last can keeps);
 }
 
 -- No script was read or made: where there was one, the source failed or memory ran out.
-pub script_undone : (IsScript : List Line → Type 0) (form : Form) (input : Option (List ℕ)) (store left : Option Disk) (s : Stop)
+pub script_undone : (keep : Option ℕ) (IsScript : List Line → Type 0) (form : Form) (input : Option (List ℕ))
+    (store left : Option Disk) (s : Stop)
     → left ≡ store → ((ls : List Line) → IsScript ls → IsOneOf (stop_status s) (4 ∷ 5 ∷ []))
-    → RunsScript IsScript (form_text form) (record { input = input; store = store; left = left; text = Err s })
-script_undone IsScript form input store left s still outside = record {
+    → RunsScript keep IsScript (form_text form) (record { input = input; store = store; left = left; text = Err s })
+script_undone keep IsScript form input store left s still outside = record {
   runs = λ g is can. tt;
-  stops = λ g is can. stops_none g store left still is.stored can;
+  stops = λ g is can. stops_by keep g store left (stops_none g store left still is.stored can);
   high = λ g is above. listed_onto (stop_status s) (4 ∷ 5 ∷ []) (4 ∷ 5 ∷ 7 ∷ 10 ∷ []) (refl, (refl, tt)) (outside g.lines is.script);
-  whole = λ g is can. listed_onto (stop_status s) (4 ∷ 5 ∷ []) (4 ∷ 5 ∷ 7 ∷ []) (refl, (refl, tt)) (outside g.lines is.script);
+  whole = λ g is can keeps.
+      listed_onto (stop_status s) (4 ∷ 5 ∷ []) (4 ∷ 5 ∷ 7 ∷ []) (refl, (refl, tt)) (outside g.lines is.script);
 }
 
 -- the script that was read is the one that the input is
-pub is_read : (bytes_of : Option (List ℕ)) (threads buffer merge : ℕ) (lines : List Line)
+pub is_read : (bytes_of : Option (List ℕ)) (threads buffer merge : ℕ) (keep : Option ℕ) (lines : List Line)
     → ((bytes : List ℕ) → bytes_of ≡ Some bytes → script bytes ≡ Ok lines)
-    → (ls : List Line) → HasScript (Run threads buffer merge) bytes_of ls → ls ≡ lines
-is_read bytes_of threads buffer merge lines read ls is = same_read script is.0 ls lines is.2 (read is.0 is.1)
+    → (ls : List Line) → HasScript (Run threads buffer merge keep) bytes_of ls → ls ≡ lines
+is_read bytes_of threads buffer merge keep lines read ls is = same_read script is.0 ls lines is.2 (read is.0 is.1)
 
 -- ---- questions
 
@@ -164,8 +168,8 @@ checked_done input store left text still checks differs whole = record {
 
 pub does_nothing : (c : Command) (input : Option (List ℕ)) (store left : Option Disk) → left ≡ store
     → Does c (record { input = input; store = store; left = left; text = Err stop.NoMemory })
-does_nothing (Run threads buffer merge) input store left still =
-    script_undone (HasScript (Run threads buffer merge) input) Report input store left stop.NoMemory still (λ ls is. refl)
+does_nothing (Run threads buffer merge keep) input store left still =
+    script_undone keep (HasScript (Run threads buffer merge keep) input) Report input store left stop.NoMemory still (λ ls is. refl)
 does_nothing (Ask commit) input store left still =
     asked_undone commit input store left stop.NoMemory still (λ bytes asked told is. refl)
 does_nothing command.List input store left still = record {
@@ -180,20 +184,20 @@ does_nothing command.Check input store left still = record {
   same = still;
 }
 does_nothing (Make seed count callers) input store left still =
-    script_undone (HasScript (Make seed count callers) input) Summary input store left stop.NoMemory still (λ ls is. refl)
+    script_undone None (HasScript (Make seed count callers) input) Summary input store left stop.NoMemory still (λ ls is. refl)
 
 -- ---- the cause of a fault in a run
 
-pub caused_run : (threads buffer merge : ℕ) (met : Met) (f : Fault) → IsOneOf (status_of f) (4 ∷ 7 ∷ 8 ∷ 10 ∷ [])
+pub caused_run : (threads buffer merge : ℕ) (keep : Option ℕ) (met : Met) (f : Fault) → IsOneOf (status_of f) (4 ∷ 7 ∷ 8 ∷ 10 ∷ [])
     → (f ≡ fault.Store → Rose met.store_before met.store_after)
     → ((d : Damaged) → f ≡ fault.Damaged d
-    → FindsDamage (Run threads buffer merge) met.input (told_files met.store) (told_files met.left) d)
-    → ((b : ℕ) → f ≡ fault.Base b → IsHighBase (told_files met.store) b) → Caused (Run threads buffer merge) met f
-caused_run threads buffer merge met fault.Words h store damaged base = absurd cc
-caused_run threads buffer merge met (fault.BadLine bad) h store damaged base = absurd cc
-caused_run threads buffer merge met fault.Source h store damaged base = absurd cc
-caused_run threads buffer merge met fault.Store h store damaged base = store refl
-caused_run threads buffer merge met (fault.Damaged d) h store damaged base = damaged d refl
-caused_run threads buffer merge met (fault.NoSuch number) h store damaged base = absurd cc
-caused_run threads buffer merge met (fault.Base b) h store damaged base = base b refl
-caused_run threads buffer merge met (fault.Differs file at found wanted) h store damaged base = absurd cc
+    → FindsDamage (Run threads buffer merge keep) met.input (told_files met.store) (told_files met.left) d)
+    → ((b : ℕ) → f ≡ fault.Base b → IsHighBase (told_files met.store) b) → Caused (Run threads buffer merge keep) met f
+caused_run threads buffer merge keep met fault.Words h store damaged base = absurd cc
+caused_run threads buffer merge keep met (fault.BadLine bad) h store damaged base = absurd cc
+caused_run threads buffer merge keep met fault.Source h store damaged base = absurd cc
+caused_run threads buffer merge keep met fault.Store h store damaged base = store refl
+caused_run threads buffer merge keep met (fault.Damaged d) h store damaged base = damaged d refl
+caused_run threads buffer merge keep met (fault.NoSuch number) h store damaged base = absurd cc
+caused_run threads buffer merge keep met (fault.Base b) h store damaged base = base b refl
+caused_run threads buffer merge keep met (fault.Differs file at found wanted) h store damaged base = absurd cc

@@ -1,11 +1,11 @@
 -- How a call ends that stopped.
 use Rattle.std.proofs.Common.{◌≡◌, ℕ, List, [], ◌∷◌, refl, sym, subst}
-use Rattle.std.specs.Prelude.{IfOk, Option, Result, Ok}
+use Rattle.std.specs.Prelude.{IfOk, Option, Some, None, Result, Ok}
 use Rattle.command_words.specs.declared.command.Command.{Command}
 use Rattle.ix_outside.specs.Causes.{Rose}
 use Rattle.ix_outside.specs.Disk.{Disk}
 use Rattle.op_script.specs.declared.script.Line.{Line}
-use Rattle.run_log.specs.Headline.{Given, Runs}
+use Rattle.run_log.specs.Headline.{Given}
 use Rattle.report_text.specs.Faults.{fault_text, status_of}
 use Rattle.report_text.specs.declared.fault.Fault.{Fault}
 use Rattle.report_text.specs.declared.fault.Fault.TheVariants as fault
@@ -13,6 +13,7 @@ use Rattle.index_run.specs.declared.stop.Stop.{Stop}
 use Rattle.index_run.specs.declared.stop.Stop.TheVariants as stop
 use Rattle.index_run.specs.Causes.{IsOneOf, stop_status}
 use Rattle.index_run.specs.Endings.{Caused, CausedBy, EndsBy, Met}
+use Rattle.index_run.specs.Keeping.{RunsBy}
 
 pub of_stop : (P : ℕ → Type 0) (status : ℕ) (s : Stop) → status ≡ stop_status s → P (stop_status s) → P status
 of_stop P status s is h = subst P (sym is) h
@@ -31,9 +32,10 @@ pub at_ok : {T E : Type 0} (result : Result T E) (x : T) (P : T → Type 0) → 
 at_ok result x P is h = subst (λ r. IfOk r P) is h
 
 -- what is said of the text that was made, said of what was written
-pub runs_onto : (g : Given) (text : List Line → List ℕ) (wrote told : List ℕ → Type 0) (old new : Option Disk)
-    → ((made : List ℕ) → wrote made → told made) → Runs g text wrote old new → Runs g text told old new
-runs_onto g text wrote told old new onto r = record {
+pub runs_onto : (keep : Option ℕ) (g : Given) (text : List Line → List ℕ) (wrote told : List ℕ → Type 0)
+    (old new : Option Disk)
+    → ((made : List ℕ) → wrote made → told made) → RunsBy keep g text wrote old new → RunsBy keep g text told old new
+runs_onto None g text wrote told old new onto r = record {
   log = r.log;
   numbering = r.numbering;
   written = onto (text r.log) r.written;
@@ -43,6 +45,15 @@ runs_onto g text wrote told old new onto r = record {
   again = r.again;
   own_images = r.own_images;
   own_crash = r.own_crash;
+}
+runs_onto (Some keep) g text wrote told old new onto r = record {
+  log = r.log;
+  numbering = r.numbering;
+  written = onto (text r.log) r.written;
+  files = r.files;
+  images = r.images;
+  crash = r.crash;
+  again = r.again;
 }
 
 -- ---- a call in which nothing failed

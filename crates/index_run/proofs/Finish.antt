@@ -12,7 +12,7 @@ use Rattle.ix_outside.proofs.CallLaws.{leaves_less, leaves_none}
 use Rattle.ix_outside.specs.Crash.{MayHold}
 use Rattle.ix_outside.specs.Disk.{Disk, Told, files as read_files, told_files}
 use Rattle.ix_outside.specs.Files.{Files}
-use Rattle.commit_point.specs.Holds.{HoldsInverted, KeepsCommits}
+use Rattle.commit_point.specs.Holds.{AreKept, HoldsInverted, KeepsCommits}
 use Rattle.commit_point.proofs.StepLaws.{goes_none}
 use Rattle.commit_point.specs.Steps.{KeepsStanding, OnlyCommits}
 use Rattle.index_writer.specs.declared.fault.WriterFault.{WriterFault}
@@ -41,14 +41,15 @@ use Rattle.index_run.specs.Beginning.{BeginsOn, CanBeginOn, IsBase}
 use Rattle.index_run.specs.Causes.{IsOneOf, LeavesStore, stop_by, stop_status}
 use Rattle.index_run.specs.Commands.{IsMade, form_text}
 use Rattle.index_run.specs.Damage.{ReadsDamaged}
-use Rattle.index_run.specs.Doing.{IsOnGiven}
+use Rattle.index_run.specs.Doing.{CanBegin, IsOnGiven}
+use Rattle.index_run.specs.Keeping.{AreSpelled}
 use Rattle.index_run.specs.Driving.{IsCut, IsDocs, IsOver, Run, base_of}
 use Rattle.index_run.proofs.OutcomeLaws.{asked_by, outcomes_weaker, texts_with_none}
 use Rattle.index_run.specs.Outcomes.{AreOutcomes, IsAskedBy, rows_of}
 use Rattle.index_run.specs.Telling.{CanTell, TellsDamaged, is_committed}
 use Rattle.index_run.proofs.DiskAfter.{some_onto, the_files}
 use Rattle.index_run.proofs.Listed.{at_err}
-use Rattle.index_run.proofs.RunEnds.{crash_some, each_some, ends_again, ends_files, ends_images, ends_own, keeps_some, own_some, reads}
+use Rattle.index_run.proofs.RunEnds.{begins_image, crash_some, each_some, ends_again, ends_files, ends_images, ends_own, keeps_some, own_some, reads, spells}
 use Rattle.index_run.proofs.Searchable.{SearchesAt, can_read, can_search, is_asked, no_rows, searches_last}
 use Rattle.index_run.proofs.Summarised.{commits_counted, last_above, last_in, summarised}
 
@@ -190,6 +191,27 @@ over_keeps g r lines outcomes w now told on o = record {
   standing = o.disk.standing g.files told on.goes_on;
   each = each_some g r.first o.log r.start now on o.disk.crash;
 }
+
+-- each commit is kept then, where each was kept at the beginning
+pub over_settled : (g : Given) (r : Run) (lines : List Line) (outcomes : List Outcome) (w : State) (now : Option Disk)
+    → told_files r.start ≡ Some g.files → IsOnGiven g r.first → IsOver r lines outcomes w now → IsKept g r.start
+    → (f : Files) → told_files now ≡ Some f → AreKept f (MayHold now)
+over_settled g r lines outcomes w now told on o are f told_now =
+    o.disk.settled g.files f told told_now on.goes_on (begins_image g r.first r.start on are) are
+
+-- the commits that are there have their files as before, or new ones
+pub over_spelled : (g : Given) (r : Run) (lines : List Line) (outcomes : List Outcome) (w : State) (now : Option Disk)
+    (f : Files) → told_files r.start ≡ Some g.files → IsLast g.files g.base → CanBegin r.first → BeginsOn g r.first
+    → IsOver r lines outcomes w now → told_files now ≡ Some f → AreSpelled g.files f
+over_spelled g r lines outcomes w now f told last begun here o told_now =
+    subst (AreSpelled g.files) same found.2
+  where
+    found : (d : Files) × (told_files now ≡ Some d) × AreSpelled g.files d
+    found = the_files (told_files now) (AreSpelled g.files)
+        (spells g r.first w o.log r.start now told last begun here.number here.stored o.disk)
+
+    same : found.0 ≡ f
+    same = let both = sym found.1 ∙ told_now in cc
 
 -- what became of the lines, by what was given
 outcomes_given : (g : Given) (r : Run) (log lines : List Line) (outcomes : List Outcome) → IsOnGiven g r.first

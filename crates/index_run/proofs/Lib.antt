@@ -21,6 +21,7 @@ pub mod Searchable
 pub mod Summarised
 pub mod Listed
 pub mod Finish
+pub mod Pruning
 pub mod Commanded
 pub mod Promised
 pub mod Ended

@@ -1,16 +1,18 @@
 -- Statuses that are among some, and among more.
 use Rattle.std.proofs.Common.{◌≡◌, ◌⊎◌, ◌∙◌, inl, inr, ℕ, Bool, true, false, ◌||◌, eqb, ne_eqb, List, [], ◌∷◌, Result, Ok, Err, refl, sym, ap, subst}
-use Rattle.std.specs.Prelude.{IfErr, IsErrAnd}
+use Rattle.std.specs.Prelude.{IfErr, IsErrAnd, OnOk}
 use Rattle.std.specs.List.{AllByRecursion, list_any}
 use Rattle.commit_point.specs.Loading.{IsOutside as AskedOutside}
 use Rattle.commit_point.specs.declared.fault.OpenFault.{OpenFault}
+use Rattle.commit_pruning.specs.Pruning.{IsOutside as PrunedOutside}
+use Rattle.commit_pruning.specs.declared.fault.PruningFault.{PruningFault}
 use Rattle.index_check.specs.Sound.{IsOutside as CheckedOutside}
 use Rattle.index_check.specs.declared.fault.CheckFault.{CheckFault}
 use Rattle.index_check.specs.declared.fault.CheckFault.TheVariants as checking
 use Rattle.index_check.specs.declared.fault.Difference.{Difference}
 use Rattle.store_answers.specs.Listing.{IsOutside as ListedOutside}
 use Rattle.store_answers.specs.declared.listing.ListFault.{ListFault}
-use Rattle.index_run.specs.Causes.{IsOneOf, stop_by_check, stop_by_list, stop_status, stop_to_ask}
+use Rattle.index_run.specs.Causes.{IsOneOf, stop_by_check, stop_by_list, stop_by_pruning, stop_status, stop_to_ask}
 use Rattle.index_run.specs.declared.stop.Stop.{Stop}
 use Rattle.index_run.proofs.LogNumbers.{nat_or}
 
@@ -57,7 +59,18 @@ pub err_always : {T : Type 0} (result : Result T Stop) (P : Stop → Type 0) →
 err_always (Ok x) P h = tt
 err_always (Err s) P h = h s
 
+-- what is true anyway
+pub ok_always : {T : Type 0} (result : Result T Stop) (P : Type 0) → P → OnOk result P
+ok_always (Ok x) P h = h
+ok_always (Err s) P h = tt
+
 -- ---- the outside
+
+-- only the store or memory stops pruning where what it reads is whole
+pub outside_pruned : (fault : PruningFault) (s : Stop) → s ≡ stop_by_pruning fault → PrunedOutside fault
+    → IsOneOf (stop_status s) (4 ∷ 7 ∷ [])
+outside_pruned fault s is (inl e) = subst (λ (x : Stop). IsOneOf (stop_status x) (4 ∷ 7 ∷ [])) (sym (is ∙ ap stop_by_pruning e)) refl
+outside_pruned fault s is (inr e) = subst (λ (x : Stop). IsOneOf (stop_status x) (4 ∷ 7 ∷ [])) (sym (is ∙ ap stop_by_pruning e)) refl
 
 -- only the store or memory stops what is said to be whole
 pub outside_asked : (fault : OpenFault) (s : Stop) → s ≡ stop_to_ask fault → AskedOutside fault

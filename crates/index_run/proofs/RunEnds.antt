@@ -4,6 +4,7 @@ use Rattle.std.proofs.Common.{take, Some, None, refl, sym, ap, subst, ◌∙◌,
 use Rattle.std.specs.Prelude.{Option, IsSome, IsSomeAnd}
 use Rattle.std.specs.List.{AllByRecursion}
 use Rattle.std.proofs.lemmas.List.{append-nil, length-append}
+use Rattle.std.proofs.lemmas.Bool.{cases_lt}
 use Rattle.ix_base.specs.declared.document.Row.{Row}
 use Rattle.ix_base.specs.declared.file_name.FileName.TheVariants.{Commit}
 use Rattle.ix_outside.specs.Calls.{LeavesOnly}
@@ -12,7 +13,7 @@ use Rattle.ix_outside.specs.Crash.{MayHold}
 use Rattle.ix_outside.specs.Disk.{Disk, told_files}
 use Rattle.ix_outside.specs.Files.{Files, Changes, then}
 use Rattle.ix_outside.specs.Images.{Reaches}
-use Rattle.commit_point.specs.Holds.{AreKept, Holds, HoldsInverted, IsLawful, KeepsCommits}
+use Rattle.commit_point.specs.Holds.{AreKept, Holds, HoldsInverted, IsLawful, KeepsCommits, head_of}
 use Rattle.op_script.specs.declared.script.Line.{Line}
 use Rattle.index_writer.specs.declared.state.State.{State}
 use Rattle.index_writer.specs.Ready.{IsStored}
@@ -25,6 +26,7 @@ use Rattle.commit_point.proofs.KeptLaws.{kept_through}
 use Rattle.run_log.proofs.OnlyLaws.{only_image, only_itself}
 use Rattle.run_log.proofs.AgainLaws.{again}
 use Rattle.index_run.specs.Doing.{CanBegin, IsOnGiven, IsWriterOn}
+use Rattle.index_run.specs.Keeping.{AreSpelled}
 use Rattle.index_run.specs.Leaving.{AreMade, CommitLaws, HasFront, HasSomeFront, IsDiskAfter, IsNextCommit}
 use Rattle.index_run.specs.Leaving.{IsMade, Stands, first_numbers}
 use Rattle.index_run.proofs.LogNumbers.{numbers_front, numbers_whole}
@@ -118,7 +120,7 @@ has_all g first w log old new on high has goes stands =
     (has_first g first log [] (length log) w.since old new on (omega arith) high has goes stands.front)
 
 -- an image of the store at the beginning
-begins_image : (g : Given) (first : State) (start : Option Disk) → IsOnGiven g first → IsKept g start → (d : Files)
+pub begins_image : (g : Given) (first : State) (start : Option Disk) → IsOnGiven g first → IsKept g start → (d : Files)
     → MayHold start d → GoesOn d first
 begins_image g first start on are d image =
     let has = only_image g.files (MayHold start) are d image in
@@ -306,4 +308,35 @@ reads g first w log start now told is_on number next stored disk =
     let stands = Stands first log (first_numbers first log (length log)) w in
     some_onto (told_files now) (stands g.files) (λ f. (s : ℕ) → IsOneOf g.base log s → ReadsCommit f s)
     (λ f h. reads_there g first w log f is_on number next stored h)
+    (changed stands (told_files start) (told_files now) g.files told disk.files)
+
+-- ---- what commit files spell
+
+spells_there : (g : Given) (first w : State) (log : List Line) (now : Files) → IsLast g.files g.base → CanBegin first
+    → first.published.upto ≡ g.base → IsStored g.files first
+    → Stands first log (first_numbers first log (length log)) w g.files now → AreSpelled g.files now
+spells_there g first w log now last begun number stored stands s there = elim (made.only s there) [
+  | inl was ↦ inl (stands.front.before (Commit s) (low was))
+  | inr among ↦
+      let this = each_at (IsMade first log w.since g.files now) (first_numbers first log (length log)) s made.each among in
+      inr (head_of s this.id this.entries this.segments, this.spelled.head)
+]
+  where
+    made : AreMade first log (first_numbers first log (length log)) w.since g.files now
+    made = stands.front.made stored
+
+    low : IsSome (g.files (Commit s)) → s ≤ first.last
+    low was = elim (cases_lt g.base s) [
+      | inl above ↦ absurd (let gone = last.none_above s above in cc)
+      | inr le ↦ omega (arith, le, number, begun.last)
+    ]
+
+-- each commit that is there has its commit file as it was, or a new one
+pub spells : (g : Given) (first w : State) (log : List Line) (start now : Option Disk) → told_files start ≡ Some g.files
+    → IsLast g.files g.base → CanBegin first → first.published.upto ≡ g.base → IsStored g.files first
+    → IsDiskAfter first log (length log) w start now → IsSomeAnd (told_files now) (AreSpelled g.files)
+spells g first w log start now told last begun number stored disk =
+    let stands = Stands first log (first_numbers first log (length log)) w in
+    some_onto (told_files now) (stands g.files) (AreSpelled g.files)
+    (λ f h. spells_there g first w log f last begun number stored h)
     (changed stands (told_files start) (told_files now) g.files told disk.files)

@@ -18,6 +18,7 @@ use Rattle.searcher.specs.Searching.{IsDamagedIn}
 use Rattle.store_answers.specs.Asking.{IsDamagedAsked}
 use Rattle.store_answers.specs.Listing.{IsBrokenCommit, IsFirstBroken}
 use Rattle.index_run.specs.Beginning.{IsBase}
+use Rattle.index_run.specs.Keeping.{FindsStaying}
 use Rattle.index_run.specs.declared.telling.Form.{Form}
 use Rattle.index_run.specs.declared.telling.Form.TheVariants.{Report, Summary}
 
@@ -72,17 +73,18 @@ ChecksDifferent told file at found wanted = (files : Files) → told ≡ Some fi
 
 -- A command finds a file that is in the grammar and not as it has to be.
 abbrev pub FindsDifference : Command → Option Files → FileName → ℕ → ℕ → ℕ → Type 0
-FindsDifference (Run threads buffer merge) told file at found wanted = ⊥
+FindsDifference (Run threads buffer merge keep) told file at found wanted = ⊥
 FindsDifference (Ask commit) told file at found wanted = ⊥
 FindsDifference command.List told file at found wanted = ⊥
 FindsDifference command.Check told file at found wanted = ChecksDifferent told file at found wanted
 FindsDifference (Make seed count callers) told file at found wanted = ⊥
 
--- A command finds a file first broken at this place: of a commit that its run reads, of the commit that is asked for, or
--- of those that are listed or checked.
+-- A command finds a file first broken at this place: of a commit that its run reads or keeps, of the commit that is asked
+-- for, or of those that are listed or checked.
 abbrev pub FindsDamage : Command → Option (List ℕ) → Option Files → Option Files → Damaged → Type 0
-FindsDamage (Run threads buffer merge) input old new damaged = (lines : List Line) × ((bytes : List ℕ) × Was input bytes
-    × (script bytes ≡ Ok lines)) × ReadsDamaged Report lines old new damaged
+FindsDamage (Run threads buffer merge keep) input old new damaged = ((lines : List Line) × ((bytes : List ℕ)
+    × Was input bytes × (script bytes ≡ Ok lines)) × ReadsDamaged Report lines old new damaged)
+    ⊎ ((k : ℕ) × (keep ≡ Some k) × FindsStaying k new damaged)
 FindsDamage (Make seed count callers) input old new damaged =
     ReadsDamaged Summary (made_script seed count callers) old new damaged
 FindsDamage (Ask commit) input old new damaged = IsDamagedAsked old commit damaged

@@ -27,7 +27,7 @@ pub record Met : Type 0 where
 
 -- the commit of this number is asked for, by its number or as the last one, and there is none
 abbrev pub MissesCommit : Command → Option Files → ℕ → Type 0
-MissesCommit (Run threads buffer merge) told number = ⊥
+MissesCommit (Run threads buffer merge keep) told number = ⊥
 MissesCommit (Ask commit) told number = (number ≡ unwrap_or commit 0) × ((files : Files) → told ≡ Some files → LacksAsked files commit)
 MissesCommit command.List told number = ⊥
 MissesCommit command.Check told number = ⊥
@@ -35,7 +35,7 @@ MissesCommit (Make seed count callers) told number = ⊥
 
 -- the last commit's number is this one and too high for a run
 abbrev pub MeetsHighBase : Command → Option Files → ℕ → Type 0
-MeetsHighBase (Run threads buffer merge) told base = IsHighBase told base
+MeetsHighBase (Run threads buffer merge keep) told base = IsHighBase told base
 MeetsHighBase (Ask commit) told base = ⊥
 MeetsHighBase command.List told base = ⊥
 MeetsHighBase command.Check told base = ⊥

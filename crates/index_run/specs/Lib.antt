@@ -1,3 +1,4 @@
+pub mod Keeping
 pub mod Commands
 pub mod Causes
 pub mod Outcomes

@@ -1,13 +1,14 @@
 -- What each command promises.
-use Rattle.std.specs.Prelude.{◌≡◌, ◌<◌, ◌^◌, ℕ, List, [], ◌∷◌, Option, Some, Result, Ok, IfOk, IfErr, IsErrAnd}
+use Rattle.std.specs.Prelude.{◌≡◌, ◌<◌, ◌^◌, ℕ, List, [], ◌∷◌, Option, Some, None, Result, Ok, IfOk, IfErr, IsErrAnd, IsSome, ⊤}
 use Rattle.std.specs.Global.{Vec}
 use Rattle.std.specs.List.{flat_map}
 use Rattle.command_words.specs.declared.command.Command.{Command}
 use Rattle.command_words.specs.declared.command.Command.TheVariants.{Ask, Make, Run}
 use Rattle.command_words.specs.declared.command.Command.TheVariants as command
-use Rattle.commit_point.specs.Holds.{Holds, HoldsInverted}
+use Rattle.commit_point.specs.Holds.{HasHead, Holds, HoldsInverted}
 use Rattle.commit_point.specs.declared.heads.Head.{Head}
 use Rattle.ix_base.specs.declared.document.Row.{Row}
+use Rattle.ix_base.specs.declared.file_name.FileName.TheVariants.{Commit}
 use Rattle.index_check.specs.Difference.{DiffersIn}
 use Rattle.index_check.specs.Sound.{AreHeads, AreLawful}
 use Rattle.index_check.specs.declared.fault.Difference.{Difference}
@@ -16,12 +17,13 @@ use Rattle.ix_outside.specs.Files.{Files}
 use Rattle.op_script.specs.Questions.{questions}
 use Rattle.op_script.specs.declared.questions.Question.{Question}
 use Rattle.op_script.specs.declared.script.Line.{Line}
-use Rattle.run_log.specs.Headline.{CanEnd, CanRun, Given, IsGiven, Runs, Stops}
+use Rattle.run_log.specs.Headline.{CanEnd, CanRun, Given, IsGiven}
 use Rattle.store_answers.specs.Answers.{answers_text}
 use Rattle.store_answers.specs.Asking.{IsAsked, LacksAsked}
 use Rattle.store_answers.specs.Listing.{AreListed, line_text}
 use Rattle.index_run.specs.Causes.{IsOneOf, stop_status}
 use Rattle.index_run.specs.Commands.{HasScript, run_text}
+use Rattle.index_run.specs.Keeping.{RunsBy, StopsBy}
 use Rattle.index_run.specs.declared.stop.Stop.{Stop}
 
 -- ---- questions
@@ -62,12 +64,17 @@ IsCheckOf files text = AreLawful files × (heads : List Head) × AreHeads files 
 
 -- ---- an end
 
+-- where only so many commits are kept, every commit file is in the grammar
+abbrev pub CanKeep : Option ℕ → Files → Type 0
+CanKeep None files = ⊤
+CanKeep (Some keep) files = (s : ℕ) → IsSome (files (Commit s)) → (head : Head) × HasHead files s head
+
 -- The command can come to its end where nothing fails: a run on a last commit that is in the grammar and leaves room,
--- `ask` of a commit that is there and in the grammar, `list` where every commit file is in the grammar, and `check` where
--- every commit is lawful.
+-- `ask` of a commit that is there and in the grammar, `list` and a run that keeps only so many commits where every commit
+-- file is in the grammar, and `check` where every commit is lawful.
 abbrev pub CanComplete : Command → Option (List ℕ) → Option Disk → Type 0
-CanComplete (Run threads buffer merge) input store =
-    (g : Given) × IsGiven g (HasScript (Run threads buffer merge) input) store × CanEnd g
+CanComplete (Run threads buffer merge keep) input store =
+    (g : Given) × IsGiven g (HasScript (Run threads buffer merge keep) input) store × CanEnd g × CanKeep keep g.files
 CanComplete (Ask commit) input store =
     (a : Asked) × IsAskedOf a commit input store × Holds a.files a.number a.next a.rows
 CanComplete command.List input store =
@@ -85,14 +92,15 @@ pub record Call : Type 0 where
   pub left : Option Disk
   pub text : Result (Vec ℕ) Stop
 
--- A command that ran a script, which is such lines, and made such a text of the log.
-pub record RunsScript (IsScript : List Line → Type 0) (text : Given → List Line → List ℕ) (call : Call) : Type 0 where
+-- A command that ran a script, which is such lines, made such a text of the log, and kept all commits or so many.
+pub record RunsScript (keep : Option ℕ) (IsScript : List Line → Type 0) (text : Given → List Line → List ℕ) (call : Call)
+    : Type 0 where
   pub runs : (g : Given) → IsGiven g IsScript call.store → CanRun g
-      → IfOk call.text (λ made. Runs g (text g) (λ told. made.items ≡ told) call.store call.left)
-  pub stops : (g : Given) → IsGiven g IsScript call.store → CanRun g → Stops g call.store call.left
+      → IfOk call.text (λ made. RunsBy keep g (text g) (λ told. made.items ≡ told) call.store call.left)
+  pub stops : (g : Given) → IsGiven g IsScript call.store → CanRun g → StopsBy keep g call.store call.left
   pub high : (g : Given) → IsGiven g IsScript call.store → 2 ^ 61 < g.base
       → IsErrAnd call.text (λ stop. IsOneOf (stop_status stop) (4 ∷ 5 ∷ 7 ∷ 10 ∷ []))
-  pub whole : (g : Given) → IsGiven g IsScript call.store → CanEnd g
+  pub whole : (g : Given) → IsGiven g IsScript call.store → CanEnd g → CanKeep keep g.files
       → IfErr call.text (λ stop. IsOneOf (stop_status stop) (4 ∷ 5 ∷ 7 ∷ []))
 
 -- A command that answered the questions of its input.
@@ -122,10 +130,10 @@ pub record ChecksCommits (call : Call) : Type 0 where
   pub same : call.left ≡ call.store
 
 abbrev pub Does : Command → Call → Type 0
-Does (Run threads buffer merge) call =
-    RunsScript (HasScript (Run threads buffer merge) call.input) (run_text (Run threads buffer merge)) call
+Does (Run threads buffer merge keep) call =
+    RunsScript keep (HasScript (Run threads buffer merge keep) call.input) (run_text (Run threads buffer merge keep)) call
 Does (Ask commit) call = AnswersQuestions commit call
 Does command.List call = ListsCommits call
 Does command.Check call = ChecksCommits call
 Does (Make seed count callers) call =
-    RunsScript (HasScript (Make seed count callers) call.input) (run_text (Make seed count callers)) call
+    RunsScript None (HasScript (Make seed count callers) call.input) (run_text (Make seed count callers)) call

@@ -7,19 +7,19 @@ ghost use Rattle.commit_point.specs.Holds.{HoldsInverted};
 ghost use Rattle.index_check.specs.Difference.{DiffersIn};
 ghost use Rattle.index_check.specs.declared.fault.Difference.{Difference};
 ghost use Rattle.ix_outside.specs.Causes.{Rose};
-ghost use Rattle.commit_point.specs.Steps.{OnlyCommits};
-ghost use Rattle.ix_outside.specs.Disk.{Told, told_files};
+ghost use Rattle.ix_outside.specs.Disk.{told_files};
 ghost use Rattle.ix_outside.specs.Files.{Files};
 ghost use Rattle.op_script.specs.Language.{most_bytes};
 ghost use Rattle.op_script.specs.declared.questions.Question.{Question};
 ghost use Rattle.op_script.specs.declared.script.BadLine.{BadLine};
 ghost use Rattle.report_text.specs.Faults.{fault_text};
 ghost use Rattle.report_text.specs.declared.fault.Fault.{Fault};
-ghost use Rattle.run_log.specs.Headline.{CanRun, Given, IsGiven, Preserves, Runs, Stops};
+ghost use Rattle.run_log.specs.Headline.{CanRun, Given, IsGiven};
 ghost use Rattle.store_answers.specs.Asking.{LacksAsked};
 ghost use Rattle.index_run.specs.Beginning.{CanBeginOn};
-ghost use Rattle.index_run.specs.Causes.{IsOneOf, LeavesStore, TakesUpTo, WritesBy, WritesFront, stop_status};
-ghost use Rattle.index_run.specs.Commands.{HasScript, IsBad, OnlyReads, ReadsInput, command_of, run_text};
+ghost use Rattle.index_run.specs.Causes.{IsOneOf, LeavesStoreBy, TakesUpTo, WritesBy, WritesFront, stop_status};
+ghost use Rattle.index_run.specs.Commands.{HasScript, IsBad, OnlyReads, ReadsInput, command_of, keep_by, keep_of, run_text};
+ghost use Rattle.index_run.specs.Keeping.{PreservesBy, RunsBy, StepsBy, StopsBy};
 ghost use Rattle.index_run.specs.Endings.{EndsBy};
 ghost use Rattle.index_run.specs.Promises.{Asked, CanComplete, HasQuestions, IsAskedOf, IsCheckOf};
 ghost use Rattle.index_run.specs.Promises.{IsListOf, asked_text};
@@ -130,7 +130,8 @@ pub fn top<R: Threads + Wait + Sync, I: Source, O: Sink, S: Store, G: Gate>(
     ensures unopened { IsOneOf result.status (2 ∷ 3 ∷ 5 ∷ []) → result.store ≡ store }
     // At 2, 3, 5 and 8 to 11 no file changes, where only read at every status, and where no run can
     // begin.
-    ensures untouched { LeavesStore result.status → S.disk result.store ≡ S.disk store }
+    ensures untouched { LeavesStoreBy (keep_by (command_of words.now)) result.status
+        → S.disk result.store ≡ S.disk store }
     ensures reads { (c : Command) → command_of words.now ≡ Some c → OnlyReads c
         → S.disk result.store ≡ S.disk store }
     ensures unbegun { (files : Files) → told_files (S.disk store) ≡ Some files
@@ -147,23 +148,23 @@ pub fn top<R: Threads + Wait + Sync, I: Source, O: Sink, S: Store, G: Gate>(
     // rows by the lines numbered up to theirs, and the run's text is written and nothing else.
     ensures headline { (c : Command) (g : Given) → command_of words.now ≡ Some c
         → IsGiven g (HasScript c (I.left input.old)) (S.disk store) → CanRun g → result.status ≡ 0
-        → Runs g (run_text c g) (λ text. Appends (O.written out.old) (O.written out.new) text)
+        → RunsBy (keep_of c) g (run_text c g) (λ text. Appends (O.written out.old) (O.written out.new) text)
         (S.disk store) (S.disk result.store) }
     // Where the sink fails, the commits are the same, and a prefix of the text was written.
     ensures front { (c : Command) (g : Given) → command_of words.now ≡ Some c
         → IsGiven g (HasScript c (I.left input.old)) (S.disk store) → CanRun g → result.status ≡ 6
-        → Runs g (run_text c g) (λ text. (n : ℕ)
+        → RunsBy (keep_of c) g (run_text c g) (λ text. (n : ℕ)
         × Appends (O.written out.old) (O.written out.new) (take n text))
         (S.disk store) (S.disk result.store) }
     // At every status a crash at any moment leaves the first of the run's commits, each whole.
     ensures stops { (c : Command) (g : Given) → command_of words.now ≡ Some c
         → IsGiven g (HasScript c (I.left input.old)) (S.disk store) → CanRun g
-        → Stops g (S.disk store) (S.disk result.store) }
+        → StopsBy (keep_of c) g (S.disk store) (S.disk result.store) }
     // At every status the commits that were there have their files and bytes, and a commit that was
     // made stays: no step of the call deletes.
-    ensures steps { Told OnlyCommits (S.disk store) (S.disk result.store) }
+    ensures steps { StepsBy (keep_by (command_of words.now)) (S.disk store) (S.disk result.store) }
     ensures kept { (g : Given) → told_files (S.disk store) ≡ Some g.files → CanRun g
-        → Preserves g (S.disk store) (S.disk result.store) }
+        → PreservesBy (keep_by (command_of words.now)) g (S.disk store) (S.disk result.store) }
     // Each question is answered from the commit that is asked for.
     ensures answers { (commit : Option ℕ) (a : Asked)
         → command_of words.now ≡ Some (command.Ask commit)

@@ -2,16 +2,16 @@
 ghost use Rattle.std.specs.Prelude.{◌≡◌, ◌≤◌, ◌<◌, ◌+◌, ◌^◌, ◌∷◌, [], ℕ, List, OnOk, IfOk, IfErr, IsErrAnd, Err, Some, None};
 ghost use Rattle.std.specs.Io.KnownBytes.{IsAtEnd};
 ghost use Rattle.command_words.specs.Accepted.{InRange};
-ghost use Rattle.commit_point.specs.Steps.{OnlyCommits};
-ghost use Rattle.ix_outside.specs.Disk.{Told, told_files};
+ghost use Rattle.ix_outside.specs.Disk.{told_files};
 ghost use Rattle.op_script.specs.Language.{most_bytes};
 ghost use Rattle.op_script.specs.declared.script.BadLine.{BadLine};
 ghost use Rattle.report_text.specs.declared.fault.Fault.{Fault};
-ghost use Rattle.run_log.specs.Headline.{CanRun, Given, Preserves};
+ghost use Rattle.run_log.specs.Headline.{CanRun, Given};
 ghost use Rattle.ix_outside.specs.Files.{Files};
 ghost use Rattle.index_run.specs.Beginning.{CanBeginOn};
-ghost use Rattle.index_run.specs.Causes.{IsOneOf, LeavesStore, TakesUpTo, stop_status};
-ghost use Rattle.index_run.specs.Commands.{IsBad, ReadsInput, command_of};
+ghost use Rattle.index_run.specs.Causes.{IsOneOf, LeavesStoreBy, TakesUpTo, stop_status};
+ghost use Rattle.index_run.specs.Commands.{IsBad, ReadsInput, command_of, keep_by, keep_of};
+ghost use Rattle.index_run.specs.Keeping.{PreservesBy, StepsBy};
 ghost use Rattle.index_run.specs.Endings.{Caused, CausedBy};
 ghost use Rattle.index_run.specs.Promises.{Does};
 
@@ -34,6 +34,7 @@ const MADE: Options = Options {
     threads: 4,
     buffer: 64,
     merge: 4,
+    keep: None,
 };
 
 /// Does a command, and returns the text that it writes, of which nothing is written yet.
@@ -64,12 +65,12 @@ pub fn do_command<R: Threads + Wait + Sync, I: Source, S: Store, G: Gate>(
     ensures bad { (bytes : List ℕ) (bad : BadLine) → I.left input.old ≡ Some bytes
         → IsBad command bytes bad
         → IsErrAnd result.text (λ stop. IsOneOf (stop_status stop) (3 ∷ 4 ∷ 5 ∷ [])) }
-    ensures steps { Told OnlyCommits (S.disk store) (S.disk result.store) }
+    ensures steps { StepsBy (keep_of command) (S.disk store) (S.disk result.store) }
     ensures kept { (g : Given) → told_files (S.disk store) ≡ Some g.files → CanRun g
-        → Preserves g (S.disk store) (S.disk result.store) }
+        → PreservesBy (keep_of command) g (S.disk store) (S.disk result.store) }
     ensures unopened { IfErr result.text (λ stop. IsOneOf (stop_status stop) (3 ∷ 5 ∷ [])
         → result.store ≡ store) }
-    ensures untouched { IfErr result.text (λ stop. LeavesStore (stop_status stop)
+    ensures untouched { IfErr result.text (λ stop. LeavesStoreBy (keep_of command) (stop_status stop)
         → S.disk result.store ≡ S.disk store) }
     ensures unbegun { (files : Files) → told_files (S.disk store) ≡ Some files
         → (CanBeginOn files → ⊥) → S.disk result.store ≡ S.disk store }
@@ -84,11 +85,13 @@ pub fn do_command<R: Threads + Wait + Sync, I: Source, S: Store, G: Gate>(
             threads,
             buffer,
             merge,
+            keep,
         } => {
             let options = Options {
                 threads,
                 buffer,
                 merge,
+                keep,
             };
             match read_lines(alloc, input) {
                 Ok(lines) => do_script(rt, alloc, store, gate, options, Form::Report, lines),
@@ -152,12 +155,13 @@ pub fn come_to<R: Threads + Wait + Sync, I: Source, S: Store, G: Gate>(
     ensures bad { (c : Command) (bytes : List ℕ) (bad : BadLine) → command_of words.now ≡ Some c
         → I.left input.old ≡ Some bytes → IsBad c bytes bad
         → IsErrAnd result.text (λ stop. IsOneOf (stop_status stop) (3 ∷ 4 ∷ 5 ∷ [])) }
-    ensures steps { Told OnlyCommits (S.disk store) (S.disk result.store) }
+    ensures steps { StepsBy (keep_by (command_of words.now)) (S.disk store) (S.disk result.store) }
     ensures kept { (g : Given) → told_files (S.disk store) ≡ Some g.files → CanRun g
-        → Preserves g (S.disk store) (S.disk result.store) }
+        → PreservesBy (keep_by (command_of words.now)) g (S.disk store) (S.disk result.store) }
     ensures unopened { IfErr result.text (λ stop. IsOneOf (stop_status stop) (2 ∷ 3 ∷ 5 ∷ [])
         → result.store ≡ store) }
-    ensures untouched { IfErr result.text (λ stop. LeavesStore (stop_status stop)
+    ensures untouched { IfErr result.text (λ stop.
+        LeavesStoreBy (keep_by (command_of words.now)) (stop_status stop)
         → S.disk result.store ≡ S.disk store) }
     ensures unbegun { (files : Files) → told_files (S.disk store) ≡ Some files
         → (CanBeginOn files → ⊥) → S.disk result.store ≡ S.disk store }

@@ -1,9 +1,10 @@
 //! Why a run stopped before its end.
 ghost use Rattle.std.specs.Prelude.{◌≡◌};
-ghost use Rattle.index_run.specs.Causes.{stop_by, stop_of};
+ghost use Rattle.index_run.specs.Causes.{stop_by, stop_by_pruning, stop_of};
 ghost use Rattle.index_run.specs.declared.stop.Stop.TheVariants as stop;
 
 use commit_point::OpenFault;
+use commit_pruning::PruningFault;
 use index_writer::WriterFault;
 use ix_base::NoMemory;
 use report_text::Fault;
@@ -37,6 +38,18 @@ impl From<WriterFault> for Stop {
         match fault {
             WriterFault::Store => Stop::Fault(Fault::Store),
             WriterFault::Closed | WriterFault::NoMemory => Stop::NoMemory,
+        }
+    }
+}
+
+impl From<PruningFault> for Stop {
+    ghost from_gives = { λ fault reason. reason ≡ stop_by_pruning fault };
+
+    fn from(fault: PruningFault) -> Stop {
+        match fault {
+            PruningFault::Store => Stop::Fault(Fault::Store),
+            PruningFault::Damaged(damaged) => Stop::Fault(Fault::Damaged(damaged)),
+            PruningFault::NoMemory => Stop::NoMemory,
         }
     }
 }

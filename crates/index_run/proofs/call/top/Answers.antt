@@ -1,8 +1,8 @@
 use Rattle.std.proofs.Common.{◌≡◌, ◌∙◌, ℕ, List, [], ◌∷◌, take, Err, ap, subst}
 use Rattle.std.specs.Io.KnownBytes.{Appends}
-use Rattle.run_log.specs.Headline.{Runs}
-use Rattle.index_run.specs.Causes.{IsOneOf, LeavesStore, WritesBy, WritesFront, stop_status}
-use Rattle.index_run.specs.Commands.{command_of, run_text}
+use Rattle.index_run.specs.Causes.{IsOneOf, LeavesStoreBy, WritesBy, WritesFront, stop_status}
+use Rattle.index_run.specs.Commands.{command_of, keep_by, keep_of, run_text}
+use Rattle.index_run.specs.Keeping.{RunsBy}
 use Rattle.index_run.specs.Endings.{Met}
 use Rattle.index_run.specs.Promises.{Call, IsCheckOf, IsListOf, asked_text}
 use Rattle.index_run.proofs.Ended.{at_ok, complete_by, ends_by, of_stop, runs_onto}
@@ -37,9 +37,9 @@ returns-in-Ok-clause-headline g c = λ command given words is can zero.
       text = c.come_to-text.result.text;
     } in
     let Wrote : List ℕ → Type 0 = λ text. Appends (g.O.Sink.written c.args.out.now) (g.O.Sink.written c.write_text-status.new.out) text in
-    runs_onto given (run_text command given) (λ told. c.in-Ok.text.items ≡ told) Wrote call.store call.left
+    runs_onto (keep_of command) given (run_text command given) (λ told. c.in-Ok.text.items ≡ told) Wrote call.store call.left
     (λ text e. subst Wrote (c.as_slice.ensures.value ∙ e) (c.write_text-status.ensures.text.whole zero))
-    (at_ok c.come_to-text.result.text c.in-Ok.text (λ made. Runs given (run_text command given) (λ told. made.items ≡ told) call.store call.left) c.in-Ok.is
+    (at_ok c.come_to-text.result.text c.in-Ok.text (λ made. RunsBy (keep_of command) given (run_text command given) (λ told. made.items ≡ told) call.store call.left) c.in-Ok.is
     (does_run command call (c.come_to-text.ensures.does command words) given is can))
 
 pub returns-in-Ok-clause-front : goal.returns-in-Ok-clause-front
@@ -51,9 +51,9 @@ returns-in-Ok-clause-front g c = λ command given words is can six.
       text = c.come_to-text.result.text;
     } in
     let Wrote : List ℕ → Type 0 = λ text. (n : ℕ) × Appends (g.O.Sink.written c.args.out.now) (g.O.Sink.written c.write_text-status.new.out) (take n text) in
-    runs_onto given (run_text command given) (λ told. c.in-Ok.text.items ≡ told) Wrote call.store call.left
+    runs_onto (keep_of command) given (run_text command given) (λ told. c.in-Ok.text.items ≡ told) Wrote call.store call.left
     (λ text e. subst Wrote (c.as_slice.ensures.value ∙ e) (c.write_text-status.ensures.text.front six))
-    (at_ok c.come_to-text.result.text c.in-Ok.text (λ made. Runs given (run_text command given) (λ told. made.items ≡ told) call.store call.left) c.in-Ok.is
+    (at_ok c.come_to-text.result.text c.in-Ok.text (λ made. RunsBy (keep_of command) given (run_text command given) (λ told. made.items ≡ told) call.store call.left) c.in-Ok.is
     (does_run command call (c.come_to-text.ensures.does command words) given is can))
 
 pub returns-in-Ok-clause-stops : goal.returns-in-Ok-clause-stops
@@ -181,5 +181,5 @@ returns-in-Err-clause-reads g c = λ command words only. does_read command _ (c.
 pub returns-in-Err-clause-untouched : goal.returns-in-Err-clause-untouched
 returns-in-Err-clause-untouched g c = λ listed.
     at_err c.come_to-text.result.text c.in-Err.stop
-    (λ s. LeavesStore (stop_status s) → g.S.Store.disk c.come_to-text.result.store ≡ g.S.Store.disk c.args.store) c.in-Err.is
-    c.come_to-text.ensures.untouched (subst LeavesStore c.tell-status.ensures.status listed)
+    (λ s. LeavesStoreBy (keep_by (command_of c.args.words.now)) (stop_status s) → g.S.Store.disk c.come_to-text.result.store ≡ g.S.Store.disk c.args.store) c.in-Err.is
+    c.come_to-text.ensures.untouched (subst (LeavesStoreBy (keep_by (command_of c.args.words.now))) c.tell-status.ensures.status listed)

@@ -1,0 +1,101 @@
+-- What a run promises that gives up old commits at its end, and one that does or doesn't.
+use Rattle.std.specs.Prelude.{◌≡◌, ◌⊎◌, ℕ, zero, suc, List, Option, Some, None, IsSome, IsSomeAnd, count_by}
+use Rattle.ix_base.specs.declared.damaged.Damaged.{Damaged}
+use Rattle.ix_base.specs.declared.file_name.FileName.TheVariants.{Commit}
+use Rattle.ix_outside.specs.Calls.{LeavesOnly}
+use Rattle.ix_outside.specs.Crash.{MayHold}
+use Rattle.ix_outside.specs.Disk.{Disk, Told, told_files}
+use Rattle.ix_outside.specs.Files.{Files}
+use Rattle.commit_point.specs.Holds.{HasHead}
+use Rattle.commit_point.specs.Steps.{OnlyCommits}
+use Rattle.commit_point.specs.declared.heads.Head.{Head}
+use Rattle.commit_pruning.specs.Pruning.{BreaksStaying, IsBrokenCommit, IsPruned, MayBePruned}
+use Rattle.op_script.specs.declared.script.Line.{Line}
+use Rattle.run_log.specs.Headline.{CanRunOn, Given, GivesBack, HasAll, HasRoom, HasSome, Interleaves, IsKept, Preserves}
+use Rattle.run_log.specs.Headline.{Runs, Stops, is_commit}
+
+-- ---- what is left
+
+-- The files are what is left of such files, where all commits but so many of the latest may have been given up.
+abbrev pub Left : ℕ → (Files → Type 0) → Files → Type 0
+Left keep P files = (was : Files) × P was × MayBePruned keep was files
+
+-- Behind a run with so many commit lines: only so many of the latest commits are left, or all where no line commits.
+abbrev pub IsLeft : ℕ → ℕ → Files → Files → Type 0
+IsLeft keep zero was files = files ≡ was
+IsLeft keep (suc commits) was files = (count : ℕ) × IsPruned keep count was files
+
+abbrev pub commit_count : List Line → ℕ
+commit_count lines = count_by (λ (l : Line). is_commit l.act) lines
+
+-- the files are what is left of files that have all of the log's commits
+abbrev pub HasLatest : ℕ → Given → List Line → Files → Type 0
+HasLatest keep g log files = (was : Files) × HasAll g log was × IsLeft keep (commit_count g.lines) was files
+
+-- ---- what a run promises
+
+-- A run that was done, for one order of its numbered lines, its log. What was written of the text that tells of the log
+-- is said by `wrote`. The files that the store tells are what is left of all of the log's commits and of those that were
+-- there. So is every image once the call has ended; a crash at any moment of the call leaves what may be left of the first
+-- ones. And the store is again such as a run asks for.
+pub record RunsKeeping (keep : ℕ) (g : Given) (text : List Line → List ℕ) (wrote : List ℕ → Type 0) (old new : Option Disk)
+    : Type 0 where
+  pub log : List Line
+  pub numbering : Interleaves g.lines log
+  pub written : wrote (text log)
+  pub files : IsSomeAnd (told_files new) (HasLatest keep g log)
+  pub images : IsKept g old → (c : Files) → MayHold new c → Left keep (HasAll g log) c
+  pub crash : IsKept g old → LeavesOnly old new (Left keep (HasSome g log))
+  pub again : IsKept g old → HasRoom g → GivesBack new
+
+-- A run that stopped, or was done: the files, and what a crash leaves, are what may be left of the first ones of its
+-- commits and of those that were there. Where there was room for the lines, the next run can begin on either.
+pub record StopsKeeping (keep : ℕ) (g : Given) (old new : Option Disk) : Type 0 where
+  pub log : List Line
+  pub numbering : Interleaves g.lines log
+  pub files : IsSomeAnd (told_files new) (Left keep (HasSome g log))
+  pub crash : IsKept g old → LeavesOnly old new (Left keep (HasSome g log))
+  pub again : HasRoom g → IsSomeAnd (told_files new) CanRunOn
+  pub restarts : IsKept g old → HasRoom g → LeavesOnly old new CanRunOn
+
+-- the files have the commits that were there, and the first ones of some log's commits
+abbrev pub HasSomeLog : Given → Files → Type 0
+HasSomeLog g files = (log : List Line) × HasSome g log files
+
+-- The files, and what a crash leaves, are what may be left of the commits that were there and of the first ones of some
+-- log's commits.
+pub record PreservesKeeping (keep : ℕ) (g : Given) (old new : Option Disk) : Type 0 where
+  pub kept : IsSomeAnd (told_files new) (Left keep (HasSomeLog g))
+  pub crash : IsKept g old → LeavesOnly old new (Left keep (HasSomeLog g))
+
+-- ---- the same of a run that keeps all commits, or so many
+
+abbrev pub RunsBy : Option ℕ → Given → (List Line → List ℕ) → (List ℕ → Type 0) → Option Disk → Option Disk → Type 0
+RunsBy None = Runs
+RunsBy (Some keep) = RunsKeeping keep
+
+abbrev pub StopsBy : Option ℕ → Given → Option Disk → Option Disk → Type 0
+StopsBy None = Stops
+StopsBy (Some keep) = StopsKeeping keep
+
+abbrev pub PreservesBy : Option ℕ → Given → Option Disk → Option Disk → Type 0
+PreservesBy None = Preserves
+PreservesBy (Some keep) = PreservesKeeping keep
+
+-- where all commits are kept, each step is one by which commits are made
+abbrev pub StepsBy : Option ℕ → Option Disk → Option Disk → Type 0
+StepsBy keep old new = keep ≡ None → Told OnlyCommits old new
+
+-- ---- what pruning asks of the files
+
+-- each commit that is there has its commit file as it was, or a new one that is in the grammar
+abbrev pub AreSpelled : Files → Files → Type 0
+AreSpelled old files = (s : ℕ) → IsSome (files (Commit s)) → (files (Commit s) ≡ old (Commit s)) ⊎ ((head : Head) × HasHead files s head)
+
+-- ---- a broken file
+
+-- The commit file of a commit is first broken at this place; where the store tells its files, it is one that stays where
+-- so many are kept.
+pub record FindsStaying (keep : ℕ) (told : Option Files) (damaged : Damaged) : Type 0 where
+  pub broken : (s : ℕ) × IsBrokenCommit told s damaged
+  pub staying : (files : Files) → told ≡ Some files → BreaksStaying keep files damaged
