@@ -1,8 +1,8 @@
 -- A run over a store of which old commits are given up once it is done.
-use Rattle.std.proofs.Common.{◌≡◌, ◌≢◌, ◌⊎◌, inl, inr, ◌∙◌, ℕ, zero, suc, ◌<◌, ◌≤◌, Bool, true, false, ◌||◌, List, [], ◌∷◌, length, take, Some, None, refl, sym, ap}
+use Rattle.std.proofs.Common.{◌≡◌, ◌≢◌, ◌⊎◌, inl, inr, ◌∙◌, ℕ, zero, suc, ◌<◌, ◌≤◌, Bool, true, false, List, [], ◌∷◌, length, take, Some, None, refl, sym, ap}
 use Rattle.std.proofs.Common.{subst, arith}
 use Rattle.std.specs.Prelude.{Option, IsSome, IsSomeAnd, AllPairs, Contains}
-use Rattle.std.specs.List.{AllByRecursion, list_any}
+use Rattle.std.specs.List.{AllByRecursion}
 use Rattle.ix_base.specs.declared.damaged.Damaged.{Damaged}
 use Rattle.ix_base.specs.declared.document.Row.{Row}
 use Rattle.ix_base.specs.declared.file_name.FileName.{FileName}
@@ -24,14 +24,14 @@ use Rattle.op_script.specs.declared.script.Line.{Line}
 use Rattle.report_text.specs.declared.fault.Fault.TheVariants as fault
 use Rattle.run_log.proofs.OnlyLaws.{none_of}
 use Rattle.run_log.specs.Headline.{CanRun, CanRunOn, Given, GivesBack, HasAll, HasFirst, HasNoCommit, HasRoom, HasSome, IsKept, IsLast, IsNewCommit, Preserves, Runs, Stops}
-use Rattle.run_log.specs.Headline.{commit_numbers, is_commit}
+use Rattle.run_log.specs.Headline.{commit_numbers}
 use Rattle.index_run.proofs.DiskAfter.{some_onto, the_files}
 use Rattle.index_run.proofs.Finish.{keeps_none, stops_none}
 use Rattle.index_run.proofs.Listed.{listed_onto}
 use Rattle.index_run.specs.Causes.{IsOneOf, LeavesStore, LeavesStoreBy, stop_by_pruning, stop_status}
 use Rattle.index_run.specs.declared.stop.Stop.{Stop}
 use Rattle.index_run.specs.declared.stop.Stop.TheVariants as stop
-use Rattle.index_run.specs.Keeping.{AreSpelled, HasLatest, HasSomeLog, IsLeft, Left, PreservesBy, PreservesKeeping, RunsBy, RunsKeeping, StopsBy, StopsKeeping, commit_count}
+use Rattle.index_run.specs.Keeping.{AreSpelled, HasLatest, HasSomeLog, IsLeft, Left, PreservesBy, PreservesKeeping, RunsBy, RunsKeeping, StopsBy, StopsKeeping, has_commit}
 use Rattle.index_run.specs.Promises.{CanKeep}
 
 -- ---- nothing was given up
@@ -66,13 +66,13 @@ stops_by (Some keep) g old new stops = stops_less keep g old new stops
 
 -- without a commit line all commits are left
 pub runs_less : (keep : ℕ) (g : Given) (text : List Line → List ℕ) (wrote : List ℕ → Type 0) (old new : Option Disk)
-    → commit_count g.lines ≡ 0 → Runs g text wrote old new → RunsKeeping keep g text wrote old new
+    → has_commit g.lines ≡ false → Runs g text wrote old new → RunsKeeping keep g text wrote old new
 runs_less keep g text wrote old new none runs = record {
   log = runs.log;
   numbering = runs.numbering;
   written = runs.written;
   files = some_onto (told_files new) (HasAll g runs.log) (HasLatest keep g runs.log)
-      (λ f all. (f, all, subst (λ (n : ℕ). IsLeft keep n f f) (sym none) refl)) runs.files;
+      (λ f all. (f, all, subst (λ (b : Bool). IsLeft keep b f f) (sym none) refl)) runs.files;
   images = λ are c image. left_same keep (HasAll g runs.log) c (runs.images are c image);
   crash = λ are.
       leaves_less old new (HasSome g runs.log) (Left keep (HasSome g runs.log)) (runs.crash are)
@@ -134,6 +134,7 @@ inverted_whole files d s next rows whole h = record {
     entries = h.holds.entries;
     segments = h.holds.segments;
     spelled = record {
+      tail = was.tail;
       head = record {
         file = whole (Commit s) (inl refl) ∙ was.head.file;
         number = was.head.number;
@@ -142,7 +143,7 @@ inverted_whole files d s next rows whole h = record {
       each = segments_whole files d s h.holds.entries h.holds.segments
           (λ e listed name among.
           let lists : Lists files s e =
-          record { head = head_of s next h.holds.entries h.holds.segments; has_head = was.head; listed = listed } in
+          record { head = head_of s next was.tail h.holds.entries h.holds.segments; has_head = was.head; listed = listed } in
           whole name (inr (e, lists, among)))
           was.each;
       differ = was.differ;
@@ -280,19 +281,19 @@ stops_pruned keep g start mid new prunes settles stops = record {
     found : (f : Files) × (told_files mid ≡ Some f) × HasSome g stops.log f
     found = the_files (told_files mid) (HasSome g stops.log) stops.files
 
-pub runs_pruned : (keep commits : ℕ) (g : Given) (text : List Line → List ℕ) (wrote : List ℕ → Type 0)
-    (start mid new : Option Disk) (count : ℕ) → commit_count g.lines ≡ suc commits → Prunes keep mid new
+pub runs_pruned : (keep : ℕ) (g : Given) (text : List Line → List ℕ) (wrote : List ℕ → Type 0)
+    (start mid new : Option Disk) (count : ℕ) → has_commit g.lines ≡ true → Prunes keep mid new
     → Settles g start mid
     → ((f now : Files) → told_files mid ≡ Some f → told_files new ≡ Some now → IsPruned keep count f now)
     → ((f now : Files) → told_files mid ≡ Some f → told_files new ≡ Some now → AreKept f (MayHold mid)
     → AreKept now (MayHold new))
     → Runs g text wrote start mid → RunsKeeping keep g text wrote start new
-runs_pruned keep commits g text wrote start mid new count some prunes settles pruned kept runs = record {
+runs_pruned keep g text wrote start mid new count some prunes settles pruned kept runs = record {
   log = runs.log;
   numbering = runs.numbering;
   written = runs.written;
   files = some_told (HasLatest keep g runs.log) (told_files new) now.0 now.1
-      (found.0, found.2, subst (λ (n : ℕ). IsLeft keep n found.0 now.0) (sym some)
+      (found.0, found.2, subst (λ (b : Bool). IsLeft keep b found.0 now.0) (sym some)
       (count, pruned found.0 now.0 found.1 now.1));
   images = λ are c image. (
       found.0,
@@ -340,7 +341,7 @@ runs_by_none : (keep : Option ℕ) (g : Given) (text : List Line → List ℕ) (
 runs_by_none keep g text wrote old new is runs = subst (λ (k : Option ℕ). RunsBy k g text wrote old new) (sym is) runs
 
 pub runs_all : (keep : Option ℕ) (g : Given) (text : List Line → List ℕ) (wrote : List ℕ → Type 0) (old new : Option Disk)
-    → (keep ≡ None) ⊎ (commit_count g.lines ≡ 0) → Runs g text wrote old new → RunsBy keep g text wrote old new
+    → (keep ≡ None) ⊎ (has_commit g.lines ≡ false) → Runs g text wrote old new → RunsBy keep g text wrote old new
 runs_all keep g text wrote old new (inl is) runs = runs_by_none keep g text wrote old new is runs
 runs_all None g text wrote old new (inr none) runs = runs
 runs_all (Some keep) g text wrote old new (inr none) runs = runs_less keep g text wrote old new none runs
@@ -404,27 +405,6 @@ leaves_all None status leaves = leaves
 leaves_all (Some keep) status leaves =
     listed_onto status (2 ∷ 3 ∷ 5 ∷ 9 ∷ 10 ∷ 11 ∷ []) (2 ∷ 3 ∷ 5 ∷ 8 ∷ 9 ∷ 10 ∷ 11 ∷ [])
     (refl, (refl, (refl, (refl, (refl, (refl, tt)))))) leaves
-
--- whether one of the lines commits, by how many do
-pub none_commits : (lines : List Line) → list_any (λ (l : Line). is_commit l.act) lines ≡ false → commit_count lines ≡ 0
-none_commits [] none = refl
-none_commits (l ∷ lines) none = by (is_commit l.act) refl none (none_commits lines)
-  where
-    by : (b : Bool) → is_commit l.act ≡ b → (b || list_any (λ (x : Line). is_commit x.act) lines) ≡ false
-        → (list_any (λ (x : Line). is_commit x.act) lines ≡ false → commit_count lines ≡ 0) → commit_count (l ∷ lines) ≡ 0
-    by true e h rest = absurd cc
-    by false e h rest = rw e (rest h)
-
-pub some_commits : (lines : List Line) → list_any (λ (l : Line). is_commit l.act) lines ≡ true
-    → (n : ℕ) × (commit_count lines ≡ suc n)
-some_commits [] some = absurd cc
-some_commits (l ∷ lines) some = by (is_commit l.act) refl some (some_commits lines)
-  where
-    by : (b : Bool) → is_commit l.act ≡ b → (b || list_any (λ (x : Line). is_commit x.act) lines) ≡ true
-        → (list_any (λ (x : Line). is_commit x.act) lines ≡ true → (n : ℕ) × (commit_count lines ≡ suc n))
-        → (n : ℕ) × (commit_count (l ∷ lines) ≡ suc n)
-    by true e h rest = (commit_count lines, rw e refl)
-    by false e h rest = let more = rest h in (more.0, rw e more.1)
 
 -- ---- why pruning stopped
 

@@ -319,7 +319,7 @@ spells_there g first w log now last begun number stored stands s there = elim (m
   | inl was ↦ inl (stands.front.before (Commit s) (low was))
   | inr among ↦
       let this = each_at (IsMade first log w.since g.files now) (first_numbers first log (length log)) s made.each among in
-      inr (head_of s this.id this.entries this.segments, this.spelled.head)
+      inr (head_of s this.id this.spelled.tail this.entries this.segments, this.spelled.head)
 ]
   where
     made : AreMade first log (first_numbers first log (length log)) w.since g.files now

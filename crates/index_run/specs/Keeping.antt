@@ -1,5 +1,6 @@
 -- What a run promises that gives up old commits at its end, and one that does or doesn't.
-use Rattle.std.specs.Prelude.{◌≡◌, ◌⊎◌, ℕ, zero, suc, List, Option, Some, None, IsSome, IsSomeAnd, count_by}
+use Rattle.std.specs.Prelude.{◌≡◌, ◌⊎◌, ℕ, Bool, true, false, List, Option, Some, None, IsSome, IsSomeAnd}
+use Rattle.std.specs.List.{list_any}
 use Rattle.ix_base.specs.declared.damaged.Damaged.{Damaged}
 use Rattle.ix_base.specs.declared.file_name.FileName.TheVariants.{Commit}
 use Rattle.ix_outside.specs.Calls.{LeavesOnly}
@@ -20,17 +21,18 @@ use Rattle.run_log.specs.Headline.{Runs, Stops, is_commit}
 abbrev pub Left : ℕ → (Files → Type 0) → Files → Type 0
 Left keep P files = (was : Files) × P was × MayBePruned keep was files
 
--- Behind a run with so many commit lines: only so many of the latest commits are left, or all where no line commits.
-abbrev pub IsLeft : ℕ → ℕ → Files → Files → Type 0
-IsLeft keep zero was files = files ≡ was
-IsLeft keep (suc commits) was files = (count : ℕ) × IsPruned keep count was files
+-- Behind a run of which a line commits only so many of the latest commits are left, and behind another one all.
+abbrev pub IsLeft : ℕ → Bool → Files → Files → Type 0
+IsLeft keep false was files = files ≡ was
+IsLeft keep true was files = (count : ℕ) × IsPruned keep count was files
 
-abbrev pub commit_count : List Line → ℕ
-commit_count lines = count_by (λ (l : Line). is_commit l.act) lines
+-- whether one of the lines commits
+abbrev pub has_commit : List Line → Bool
+has_commit lines = list_any (λ (l : Line). is_commit l.act) lines
 
 -- the files are what is left of files that have all of the log's commits
 abbrev pub HasLatest : ℕ → Given → List Line → Files → Type 0
-HasLatest keep g log files = (was : Files) × HasAll g log was × IsLeft keep (commit_count g.lines) was files
+HasLatest keep g log files = (was : Files) × HasAll g log was × IsLeft keep (has_commit g.lines) was files
 
 -- ---- what a run promises
 

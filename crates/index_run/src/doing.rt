@@ -1,7 +1,6 @@
 //! A script's lines done over a store, and the text that tells of them.
 ghost use Rattle.std.specs.Prelude.{◌≡◌, ◌⊎◌, ◌<◌, ◌≤◌, ◌^◌, ◌∷◌, [], ℕ, List};
 ghost use Rattle.std.specs.Prelude.{IfOk, IfErr, IfSome, IsErrAnd, OnOk, Err, Some};
-ghost use Rattle.std.specs.List.{list_any};
 ghost use Rattle.commit_point.specs.Holds.{AreKept};
 ghost use Rattle.commit_point.specs.Steps.{OnlyCommits};
 ghost use Rattle.ix_outside.specs.Crash.{MayHold};
@@ -14,7 +13,7 @@ ghost use Rattle.index_run.specs.Beginning.{CanBeginOn, IsHighBase};
 ghost use Rattle.index_run.specs.Causes.{IsOneOf, LeavesStore, LeavesStoreBy, stop_status};
 ghost use Rattle.index_run.specs.Commands.{IsMade, form_text};
 ghost use Rattle.index_run.specs.Damage.{ReadsDamaged};
-ghost use Rattle.index_run.specs.Keeping.{AreSpelled, FindsStaying, PreservesBy, RunsBy, StepsBy, StopsBy};
+ghost use Rattle.index_run.specs.Keeping.{AreSpelled, FindsStaying, PreservesBy, RunsBy, StepsBy, StopsBy, has_commit};
 ghost use Rattle.index_run.specs.Promises.{CanKeep};
 ghost use Rattle.run_log.specs.Headline.{CanEnd, CanRun, Given, IsKept, IsLast, Preserves, Runs, Stops, is_commit};
 
@@ -147,7 +146,7 @@ fn is_commit(line: &Line) -> bool
 
 /// Whether one of the lines commits.
 fn has_commit(lines: &[Line]) -> bool
-    ensures { result ≡ list_any (λ line. is_commit line.act) lines.now }
+    ensures { result ≡ has_commit lines.now }
 {
     lines.iter().any(|line| is_commit(line))
 }

@@ -40,6 +40,8 @@ mod tests_fold;
 #[cfg(test)]
 mod tests_gate;
 #[cfg(test)]
+mod tests_keep;
+#[cfg(test)]
 mod tests_large;
 #[cfg(test)]
 mod tests_operations;

@@ -101,6 +101,7 @@ fn summary_by<R: Threads + Wait + Sync>(
         threads,
         buffer: 64,
         merge: 4,
+        keep: None,
     };
     let store = MemoryStore::new(alloc);
     let form = Form::Summary;
