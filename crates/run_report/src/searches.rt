@@ -1,5 +1,5 @@
 //! Search lines, answered from what the store holds of their commits.
-ghost use Rattle.std.specs.Prelude.{◌≡◌, ◌⊎◌, ◌≤◌, ℕ, List, [], true, false, OnOk, IfOk, IfErr, Err, Some};
+ghost use Rattle.std.specs.Prelude.{◌≡◌, ◌⊎◌, ◌≤◌, ◌↔◌, ℕ, List, [], IsTrue, false, OnOk, IfOk, IfErr, Err, Some};
 ghost use Rattle.ix_base.specs.Hits.{hits};
 ghost use Rattle.ix_base.specs.declared.damaged.Damaged.{Damaged};
 ghost use Rattle.ix_base.specs.declared.document.Row.{Row};
@@ -44,7 +44,7 @@ impl SearchedCommit {
 
     /// Whether it has the rows of the commit of this number.
     pub fn serves(&self, number: u64) -> bool
-        ensures { result ≡ true → (self.now.since ≤ number) × (number ≤ self.now.number) }
+        ensures { IsTrue result ↔ (self.now.since ≤ number) × (number ≤ self.now.number) }
     {
         self.since <= number && number <= self.number
     }

@@ -12,7 +12,7 @@ returns-in-Err-clause-whole g c = λ files told holds. elim holds [
 
 pub returns-then-serves-clause-rows : goal.returns-then-serves-clause-rows
 returns-then-serves-clause-rows g c = λ files rows_of told served none holds.
-    let within = c.serves.ensures c.if-serves.true in
+    let within = c.serves.ensures.0 c.if-serves.true in
     (served c.args.number within.0 within.1, served)
 
 pub returns-then-number-eq0-clause-rows : goal.returns-then-number-eq0-clause-rows
