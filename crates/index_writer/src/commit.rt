@@ -98,13 +98,13 @@ impl<S: Store> IndexWriter<S> {
         let written = self.state.written.as_slice();
         let renewed = renewed(alloc, number, segments, written)?;
         let next_id = self.state.published.next_id;
-        let none = Fields::none(alloc);
+        let pairs = Fields::none(alloc);
         match write_commit(
             alloc,
             &mut self.store,
             number,
             next_id,
-            &none,
+            &pairs,
             segments,
             written,
         ) {

@@ -76,7 +76,7 @@ returns-in-Err-clause-left g c room =
     at_none
     (λ (ps : Pairs) (gs : List Lived) (ws : List (Option Written)). Changes (commit.MayCommit s.published.upto s.published.next_id ps gs ws)
     (told_files (g.S.Store.disk c.args.self.now.store)) (told_files (g.S.Store.disk c.write_commit.new.store))) _ _ _ s
-    c.none.ensures c.as_slice-segments.ensures c.as_slice-written.ensures (c.in-Err.ensures.left room)
+    c.none-pairs.ensures c.as_slice-segments.ensures c.as_slice-written.ensures (c.in-Err.ensures.left room)
 
 pub returns-in-Ok-clause-sound : goal.returns-in-Ok-clause-sound
 returns-in-Ok-clause-sound g c still =
@@ -104,7 +104,7 @@ returns-in-Ok-clause-made g c room =
     let before = told_files (g.S.Store.disk c.args.self.now.store) in
     let after = told_files (g.S.Store.disk c.write_commit.new.store) in
     let on = is_on _ _ c.in_ok-renewed.renewed s new c.as_slice-segments.ensures c.as_slice-written.ensures c.in_ok-renewed.ensures c.go_on.ensures in
-    let made = at_none (λ (ps : Pairs) (gs : List Lived) (ws : List (Option Written)). Changes (commit.Commits s.published.upto s.published.next_id ps gs ws) before after) _ _ _ s c.none.ensures c.as_slice-segments.ensures c.as_slice-written.ensures (c.in-Ok.ensures.ok room) in
+    let made = at_none (λ (ps : Pairs) (gs : List Lived) (ws : List (Option Written)). Changes (commit.Commits s.published.upto s.published.next_id ps gs ws) before after) _ _ _ s c.none-pairs.ensures c.as_slice-segments.ensures c.as_slice-written.ensures (c.in-Ok.ensures.ok room) in
     onto (commit.Commits s.published.upto s.published.next_id [] s.published.segments s.written) (Commits s new) before after
     (λ files now. commits s new files now (c.requires.sound c.if-self.false) on) made
 
@@ -113,7 +113,7 @@ returns-in-Ok-clause-pairs g c room =
     let s = c.args.self.now.state in
     let before = told_files (g.S.Store.disk c.args.self.now.store) in
     let after = told_files (g.S.Store.disk c.write_commit.new.store) in
-    subst (λ (ps : Pairs). Changes (λ old now. HasPairs now s.published.upto ps) before after) c.none.ensures (c.in-Ok.ensures.pairs room)
+    subst (λ (ps : Pairs). Changes (λ old now. HasPairs now s.published.upto ps) before after) c.none-pairs.ensures (c.in-Ok.ensures.pairs room)
 
 pub returns-in-Ok-clause-acknowledged : goal.returns-in-Ok-clause-acknowledged
 returns-in-Ok-clause-acknowledged g c room image holds =
@@ -125,7 +125,7 @@ returns-in-Ok-clause-acknowledged g c room image holds =
       before.1,
       commits s new before.0 image (c.requires.sound c.if-self.false) on
           (at_none (λ (ps : Pairs) (gs : List Lived) (ws : List (Option Written)). commit.Commits s.published.upto s.published.next_id ps gs ws before.0 image) _ _ _ s
-          c.none.ensures c.as_slice-segments.ensures c.as_slice-written.ensures before.2),
+          c.none-pairs.ensures c.as_slice-segments.ensures c.as_slice-written.ensures before.2),
     )
 
 pub returns-in-Ok-clause-settled : goal.returns-in-Ok-clause-settled
