@@ -19,7 +19,7 @@ use Rattle.commit_point.specs.declared.heads.Head.{Head}
 use Rattle.commit_point.specs.declared.heads.HeadSegment.{HeadSegment}
 use Rattle.commit_pruning.specs.declared.fault.PruningFault.{PruningFault}
 use Rattle.commit_pruning.specs.declared.fault.PruningFault.TheVariants as pruning
-use Rattle.commit_pruning.specs.Pruning.{AreWhole, IsGivenUp, IsPruned, IsWholeAs, MayBePruned, OnlyDeletes, Stays}
+use Rattle.commit_pruning.specs.Pruning.{AreWhole, IsGivenUp, IsOutside, IsPruned, IsWholeAs, MayBePruned, OnlyDeletes, Stays}
 use Rattle.op_script.specs.declared.script.Line.{Line}
 use Rattle.report_text.specs.declared.fault.Fault.TheVariants as fault
 use Rattle.run_log.proofs.OnlyLaws.{none_of}
@@ -228,7 +228,7 @@ pub record Prunes (keep : ℕ) (mid new : Option Disk) : Type 0 where
   pub crash : (f : Files) → told_files mid ≡ Some f → AreKept f (MayHold mid)
       → LeavesOnly mid new (MayBePruned keep f)
 
-told_on : (P : Disk → Disk → Type 0) (a b : Option Disk) (f : Files) → Told P a b → told_files a ≡ Some f
+pub told_on : (P : Disk → Disk → Type 0) (a b : Option Disk) (f : Files) → Told P a b → told_files a ≡ Some f
     → (now : Files) × (told_files b ≡ Some now)
 told_on P None b f told is = absurd cc
 told_on P (Some x) None f told is = absurd told
@@ -415,6 +415,13 @@ pub pruning_said : (why : PruningFault) (s : Stop) → s ≡ stop_by_pruning why
 pruning_said pruning.Store s is = subst IsSaid (sym is) refl
 pruning_said (pruning.Damaged d) s is = subst IsSaid (sym is) refl
 pruning_said pruning.NoMemory s is = subst IsSaid (sym is) refl
+
+pub pruning_outside : (why : PruningFault) (s : Stop) → s ≡ stop_by_pruning why → IsOutside why
+    → IsOneOf (stop_status s) (4 ∷ 7 ∷ [])
+pruning_outside pruning.Store s is out = subst (λ (x : Stop). IsOneOf (stop_status x) (4 ∷ 7 ∷ [])) (sym is) refl
+pruning_outside (pruning.Damaged d) s is (inl e) = absurd cc
+pruning_outside (pruning.Damaged d) s is (inr e) = absurd cc
+pruning_outside pruning.NoMemory s is out = subst (λ (x : Stop). IsOneOf (stop_status x) (4 ∷ 7 ∷ [])) (sym is) refl
 
 pub pruning_leaves : (why : PruningFault) (s : Stop) (keep : ℕ) → s ≡ stop_by_pruning why
     → LeavesStoreBy (Some keep) (stop_status s) → ⊥
