@@ -1,5 +1,5 @@
 -- A run over a store of which old commits are given up once it is done.
-use Rattle.std.proofs.Common.{◌≡◌, ◌≢◌, ◌⊎◌, inl, inr, ◌∙◌, ℕ, zero, suc, ◌<◌, ◌≤◌, Bool, true, false, List, [], ◌∷◌, length, take, Some, None, refl, sym, ap}
+use Rattle.std.proofs.Common.{◌≡◌, ◌≢◌, ◌⊎◌, inl, inr, ◌∙◌, ℕ, suc, ◌<◌, ◌≤◌, Bool, true, false, List, [], ◌∷◌, length, take, Some, None, refl, sym, ap}
 use Rattle.std.proofs.Common.{subst, arith}
 use Rattle.std.specs.Prelude.{Option, IsSome, IsSomeAnd, AllPairs, Contains}
 use Rattle.std.specs.List.{AllByRecursion}
@@ -19,11 +19,11 @@ use Rattle.commit_point.specs.declared.heads.Head.{Head}
 use Rattle.commit_point.specs.declared.heads.HeadSegment.{HeadSegment}
 use Rattle.commit_pruning.specs.declared.fault.PruningFault.{PruningFault}
 use Rattle.commit_pruning.specs.declared.fault.PruningFault.TheVariants as pruning
-use Rattle.commit_pruning.specs.Pruning.{AreWhole, IsGivenUp, IsOutside, IsPruned, IsWholeAs, MayBePruned, OnlyDeletes, Stays}
+use Rattle.commit_pruning.specs.Pruning.{AreWhole, IsOutside, IsPruned, IsWholeAs, MayBePruned, OnlyDeletes, Stays}
 use Rattle.op_script.specs.declared.script.Line.{Line}
 use Rattle.report_text.specs.declared.fault.Fault.TheVariants as fault
 use Rattle.run_log.proofs.OnlyLaws.{none_of}
-use Rattle.run_log.specs.Headline.{CanRun, CanRunOn, Given, GivesBack, HasAll, HasFirst, HasNoCommit, HasRoom, HasSome, IsKept, IsLast, IsNewCommit, Preserves, Runs, Stops}
+use Rattle.run_log.specs.Headline.{CanRun, CanRunOn, Given, GivesBack, HasAll, HasFirst, HasNoCommit, HasSome, IsKept, IsLast, IsNewCommit, Preserves, Runs, Stops}
 use Rattle.run_log.specs.Headline.{commit_numbers}
 use Rattle.index_run.proofs.DiskAfter.{some_onto, the_files}
 use Rattle.index_run.proofs.Finish.{keeps_none, stops_none}

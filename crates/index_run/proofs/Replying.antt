@@ -1,5 +1,5 @@
 -- What became of one line more, by what it was told.
-use Rattle.std.proofs.Common.{◌≡◌, ◌∙◌, ℕ, suc, ◌+◌, ◌<◌, ◌≤◌, Bool, true, false, cond, List, [], ◌∷◌, ◌++◌, length}
+use Rattle.std.proofs.Common.{◌≡◌, ◌∙◌, ℕ, suc, ◌+◌, ◌<◌, true, false, List, [], ◌∷◌, ◌++◌, length}
 use Rattle.std.proofs.Common.{map, replicate, refl, sym, ap, subst, arith, append-nil, append_assoc}
 use Rattle.std.specs.Prelude.{Some, None, slice_index, slice_set}
 use Rattle.std.proofs.lemmas.List.{length-replicate}
@@ -23,7 +23,7 @@ use Rattle.line_shares.specs.Shares.{AreDone, AreSharesFrom, is_doing, kind_of, 
 use Rattle.line_shares.specs.Shares.{task_of}
 use Rattle.line_shares.specs.Tells.{IsTold, replies_at, tells_in}
 use Rattle.run_log.proofs.CommitLaws.{commits_rise}
-use Rattle.run_log.specs.Headline.{commit_numbers, is_commit, number_of}
+use Rattle.run_log.specs.Headline.{is_commit, number_of}
 use Rattle.run_log.proofs.LogLaws.{each_committed}
 use Rattle.run_log.specs.Numbering.{Rises}
 use Rattle.run_report.specs.declared.outcome.Answer.{Answer}

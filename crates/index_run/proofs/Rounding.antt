@@ -1,12 +1,10 @@
 -- The end of a round.
-use Rattle.std.proofs.Common.{◌≡◌, ◌∙◌, ℕ, ◌+◌, ◌<◌, ◌≤◌, ◌^◌, List, [], ◌∷◌, ◌++◌, length, take, refl, sym, ap, subst, arith, append_assoc}
+use Rattle.std.proofs.Common.{◌≡◌, ◌∙◌, ℕ, ◌+◌, List, [], ◌∷◌, ◌++◌, length, sym, ap, subst, arith}
 use Rattle.std.specs.Prelude.{Bool, true, false, not, is_some, Option, Some, None, Result, Ok, Err, IfOk, OnErr}
 use Rattle.std.specs.List.{AllByRecursion}
 use Rattle.std.proofs.lemmas.List.{append-nil, length-append}
-use Rattle.ix_base.specs.Steps.{after}
 use Rattle.ix_base.specs.declared.document.Operation.{Operation}
 use Rattle.ix_base.specs.declared.document.Operation.TheVariants.{Commit}
-use Rattle.ix_base.specs.declared.document.Row.{Row}
 use Rattle.ix_outside.specs.Calls.{LeavesOnly}
 use Rattle.ix_outside.specs.Crash.{MayHold}
 use Rattle.ix_outside.specs.Disk.{Disk, Told, told_files}
@@ -17,7 +15,6 @@ use Rattle.commit_point.specs.Steps.{KeepsMade, MakesCommits, OnlyCommits}
 use Rattle.op_script.specs.declared.script.Line.{Line}
 use Rattle.round_order.specs.Order.{NoCommit, seconds}
 use Rattle.worker_tasks.specs.declared.share.Share.{Share}
-use Rattle.line_shares.specs.Shares.{AreShares}
 use Rattle.line_shares.proofs.LogLaws.{log_completes, log_grows}
 use Rattle.line_shares.proofs.NumberLaws.{told_go_on}
 use Rattle.line_shares.proofs.ShareLaws.{shares_go_on}

@@ -1,6 +1,6 @@
 -- What is promised of a run's files and images, at its end and where it stops.
 use Rattle.std.proofs.Common.{◌≡◌, ◌⊎◌, inl, inr, ℕ, ◌+◌, ◌*◌, ◌<◌, ◌≤◌, ◌^◌, List, [], ◌∷◌, ◌++◌, length}
-use Rattle.std.proofs.Common.{take, Some, None, refl, sym, ap, subst, ◌∙◌, arith}
+use Rattle.std.proofs.Common.{take, Some, None, sym, ap, subst, ◌∙◌, arith}
 use Rattle.std.specs.Prelude.{Option, IsSome, IsSomeAnd}
 use Rattle.std.specs.List.{AllByRecursion}
 use Rattle.std.proofs.lemmas.List.{append-nil, length-append}
@@ -8,18 +8,18 @@ use Rattle.std.proofs.lemmas.Bool.{cases_lt}
 use Rattle.ix_base.specs.declared.document.Row.{Row}
 use Rattle.ix_base.specs.declared.file_name.FileName.TheVariants.{Commit}
 use Rattle.ix_outside.specs.Calls.{LeavesOnly}
-use Rattle.ix_outside.proofs.CallLaws.{leaves_less, leaves_now, reads_may_hold}
+use Rattle.ix_outside.proofs.CallLaws.{leaves_less}
 use Rattle.ix_outside.specs.Crash.{MayHold}
 use Rattle.ix_outside.specs.Disk.{Disk, told_files}
 use Rattle.ix_outside.specs.Files.{Files, Changes, then}
 use Rattle.ix_outside.specs.Images.{Reaches}
-use Rattle.commit_point.specs.Holds.{AreKept, Holds, HoldsInverted, IsLawful, KeepsCommits, head_of}
+use Rattle.commit_point.specs.Holds.{AreKept, Holds, HoldsInverted, KeepsCommits, head_of}
 use Rattle.op_script.specs.declared.script.Line.{Line}
 use Rattle.index_writer.specs.declared.state.State.{State}
 use Rattle.index_writer.specs.Ready.{IsStored}
-use Rattle.index_writer.specs.Storing.{GoesOn, MayCommit, SameBelow}
+use Rattle.index_writer.specs.Storing.{GoesOn, MayCommit}
 use Rattle.run_log.proofs.CommitLaws.{each_at}
-use Rattle.run_log.specs.Headline.{CanRun, CanRunOn, Given, GivesBack, HasAll, HasFirst, HasNoCommit, HasOnly, HasOwnAll, HasOwnFirst, HasOwnSome, HasSome}
+use Rattle.run_log.specs.Headline.{CanRun, CanRunOn, Given, GivesBack, HasAll, HasFirst, HasOnly, HasOwnAll, HasOwnFirst, HasOwnSome, HasSome}
 use Rattle.run_log.specs.Headline.{IsIn, IsKept, IsLast, IsLastSettled, IsNewCommit, IsOn, IsOwnCommit, IsSettled, KeepsCommit, commit_numbers, rows_at}
 use Rattle.run_report.specs.Searching.{ReadsCommit}
 use Rattle.commit_point.proofs.KeptLaws.{kept_through}
@@ -33,7 +33,7 @@ use Rattle.index_run.proofs.LogNumbers.{numbers_front, numbers_whole}
 use Rattle.index_run.proofs.LogNumbers.{rows_front}
 use Rattle.index_run.proofs.KeptThere.{goes_on_there, segments_kept}
 use Rattle.index_run.proofs.MadeCommits.{all_kept, one_kept}
-use Rattle.index_run.proofs.DiskAfter.{changed, comes_next, crash_commit, some_crash, some_onto, the_files}
+use Rattle.index_run.proofs.DiskAfter.{changed, comes_next, some_crash, some_onto, the_files}
 use Rattle.index_check.proofs.SomeRows.{some_rows}
 
 -- ---- the first of a log's commits

@@ -1,6 +1,6 @@
 -- What came back of a round's workers.
 use Rattle.std.proofs.Common.{◌≡◌, ◌⊎◌, inl, inr, ◌∙◌, ℕ, suc, ◌+◌, ◌<◌, List, [], ◌∷◌, ◌++◌, length, map, drop, refl, sym, ap, subst, arith}
-use Rattle.std.specs.List.{AllByRecursion, AllZip, Any}
+use Rattle.std.specs.List.{AllZip, Any}
 use Rattle.std.specs.Global.{Vec}
 use Rattle.std.specs.Prelude.{Option, None}
 use Rattle.std.proofs.lemmas.List.{append-nil}

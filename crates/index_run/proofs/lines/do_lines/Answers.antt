@@ -1,5 +1,5 @@
-use Rattle.std.proofs.Common.{◌≡◌, ℕ, List, [], refl, sym, subst}
-use Rattle.index_run.specs.Driving.{HasCome, Run, base_of}
+use Rattle.std.proofs.Common.{ℕ, List, [], refl, sym, subst}
+use Rattle.index_run.specs.Driving.{Run, base_of}
 use Rattle.index_run.specs.Outcomes.{AreOutcomes}
 use Rattle.index_run.specs.Replied.{CanTell, IsCounted}
 use Rattle.index_run.proofs.Coming.{can_tell, come_start, cut_start, over_of}

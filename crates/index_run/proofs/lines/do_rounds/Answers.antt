@@ -1,4 +1,4 @@
-use Rattle.std.proofs.Common.{◌≡◌, ◌+◌, ◌≤◌, length, arith}
+use Rattle.std.proofs.Common.{length, arith}
 use Rattle.index_run.specs.Rounds.{doing_lines}
 use Rattle.index_run.proofs.RoundCount.{few_last, few_open}
 use Rattle.index_run.proofs.Rounding.{cut_done, on_fault, on_ok, stopped_cut}

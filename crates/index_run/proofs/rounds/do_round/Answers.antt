@@ -1,4 +1,4 @@
-use Rattle.std.proofs.Common.{◌≡◌, ◌∙◌, ℕ, List, ap, subst, sym}
+use Rattle.std.proofs.Common.{◌∙◌, ℕ, ap, subst, sym}
 use Rattle.line_shares.specs.Shares.{AreShares}
 use Rattle.index_writer.specs.declared.state.State.{State}
 use Rattle.index_writer.specs.declared.writer.IndexWriter.{IndexWriter}

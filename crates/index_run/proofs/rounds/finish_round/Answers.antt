@@ -1,4 +1,4 @@
-use Rattle.std.proofs.Common.{◌≡◌, ◌∙◌, sym, ap, subst}
+use Rattle.std.proofs.Common.{◌∙◌, sym, ap, subst}
 use Rattle.line_shares.specs.Tells.{pairs_since}
 use Rattle.index_run.specs.Driving.{EndsRound}
 use Rattle.index_run.proofs.Rounding.{ended}

@@ -1,5 +1,4 @@
 use Rattle.std.proofs.Common.{◌≡◌, ◌∙◌, ◌≤◌, ◌^◌, false, refl, sym, ap, subst, arith}
-use Rattle.std.specs.Prelude.{Option, Some, None, Ok, Err}
 use Rattle.index_writer.specs.declared.state.State.{State}
 use Rattle.index_run.specs.Driving.{WritesPending}
 use Rattle.index_run.specs.Leaving.{CommitLaws}
