@@ -62,7 +62,8 @@ impl Store for WatchedStore {
     }
 
     fn rename(&mut self, from: FileName, to: FileName) -> Result<(), StoreFault> {
-        self.meeting.before_rename();
+        self.meeting.renamed.fetch_add(1, Ordering::SeqCst);
+        self.meeting.wait_for(&self.meeting.told);
         self.inner.rename(from, to)
     }
 
@@ -109,11 +110,6 @@ impl Meeting {
             thread::yield_now();
         }
         self.late.store(1, Ordering::SeqCst);
-    }
-
-    fn before_rename(&self) {
-        self.renamed.fetch_add(1, Ordering::SeqCst);
-        self.wait_for(&self.told);
     }
 }
 

@@ -58,10 +58,11 @@ impl Call {
         }
     }
 
-    /// Reads a line about the call itself. Returns whether it is one.
+    /// Reads a line that nothing is done for but to note what it says. Returns whether it is one.
     pub(crate) fn read(&mut self, mark: &str, rest: &str) -> Result<bool, Fail> {
         match mark {
             "" => {}
+            "#" => self.store = MemoryStore::new(self.alloc),
             "$" => self.begin(rest)?,
             "&" => self.words = String::from_str(self.alloc, rest)?,
             "*" => self.times = rest.parse::<usize>().ok().ok_or("no number")?,
@@ -105,20 +106,8 @@ impl Call {
         Ok(self.written.push('\n')?)
     }
 
-    /// Does what a line says of the store.
-    fn act<R: Outside>(&mut self, rt: &R, mark: &str, rest: &str) -> Result<(), Fail> {
-        if mark == "#" {
-            self.store = MemoryStore::new(self.alloc);
-            return Ok(());
-        }
-        match rest.parse::<u64>() {
-            Ok(number) => self.act_by(rt, mark, number),
-            Err(_) => self.act_on(rt, mark, rest),
-        }
-    }
-
     /// Makes the call, or does else what the number is for.
-    fn act_by<R: Outside>(&mut self, rt: &R, mark: &str, number: u64) -> Result<(), Fail> {
+    fn act<R: Outside>(&mut self, rt: &R, mark: &str, number: u64) -> Result<(), Fail> {
         match mark {
             "=" => self.make(rt, number)?,
             "stops" => self.stops(rt, number)?,
@@ -207,8 +196,12 @@ pub(crate) fn hold<R: Outside>(rt: &R, text: &str) -> Result<(), Fail> {
     let mut call = Call::new(rt.alloc());
     for line in text.lines() {
         let (mark, rest) = line.split_once(' ').unwrap_or((line, ""));
-        if !call.read(mark, rest)? {
-            call.act(rt, mark, rest)?;
+        if call.read(mark, rest)? {
+            continue;
+        }
+        match rest.parse::<u64>() {
+            Ok(number) => call.act(rt, mark, number)?,
+            Err(_) => call.act_on(rt, mark, rest)?,
         }
     }
     Ok(())

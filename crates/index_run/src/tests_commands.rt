@@ -134,11 +134,6 @@ $ list
 = 0
 "#;
 
-#[test]
-fn questions_and_lists(rt: HostRuntime) -> Result<(), Fail> {
-    hold(&rt, QUESTIONS)
-}
-
 /// Checks of commits: of sound ones, and of such as have files that were changed.
 const CHECKS: &str = r#"# A store without a commit.
 $ check
@@ -225,11 +220,6 @@ $ check
 = 7
 "#;
 
-#[test]
-fn checks(rt: HostRuntime) -> Result<(), Fail> {
-    hold(&rt, CHECKS)
-}
-
 /// Runs with buffers of several sizes, and one with two workers.
 const BUFFERS: &str =
     r#"# A caller without a commit of its own searches the one that the run began on.
@@ -297,11 +287,6 @@ $ run --threads 1 --buffer 65536
 = 0
 "#;
 
-#[test]
-fn reports_whatever_the_buffer(rt: HostRuntime) -> Result<(), Fail> {
-    hold(&rt, BUFFERS)
-}
-
 /// Words that are no command: the input and the store are left alone.
 const REFUSED: &str = r#"# No word.
 $
@@ -344,11 +329,6 @@ files 0
 files 0
 "#;
 
-#[test]
-fn words_that_are_refused(rt: HostRuntime) -> Result<(), Fail> {
-    hold(&rt, REFUSED)
-}
-
 /// Made scripts, with summaries that were worked out by hand.
 const MADE: &str =
     r#"# One caller; no input is read. Then the same over a store that has such documents already.
@@ -379,9 +359,13 @@ $ make --callers=1 --seed=1 --lines=1
 = 0
 "#;
 
+/// Each call ends as its text says.
 #[test]
-fn made(rt: HostRuntime) -> Result<(), Fail> {
-    hold(&rt, MADE)
+fn commands(rt: HostRuntime) -> Result<(), Fail> {
+    for text in [QUESTIONS, CHECKS, BUFFERS, REFUSED, MADE] {
+        hold(&rt, text)?;
+    }
+    Ok(())
 }
 
 /// A made script of 20,000 lines against a plain list of documents.

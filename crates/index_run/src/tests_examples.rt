@@ -62,11 +62,6 @@ $ run --threads 1
 = 0
 "#;
 
-#[test]
-fn examples_twice(rt: HostRuntime) -> Result<(), Fail> {
-    hold(&rt, SCRIPTS)
-}
-
 /// A mailbox is taken in twice, and asked after each time.
 const LETTERS: &str =
     r#"# What `from_mailbox.py` makes of `letters.mbox`, and three questions on the letters.
@@ -124,11 +119,6 @@ $ ask
 > {"commit":16,"hits":[{"key":"lunch-2@example.org","num":{"date":20240301,"read":0}}],"line":3}
 = 0
 "#;
-
-#[test]
-fn letters_twice(rt: HostRuntime) -> Result<(), Fail> {
-    hold(&rt, LETTERS)
-}
 
 /// A catalogue is brought from its earlier to its later state. Then its prices are cut.
 const CATALOGUE: &str = r#"# What `from_catalogue.py` makes of `catalogue.csv`.
@@ -225,7 +215,11 @@ $ run --threads 1
 = 0
 "#;
 
+/// Each example ends as its text says.
 #[test]
-fn catalogue_before_and_after(rt: HostRuntime) -> Result<(), Fail> {
-    hold(&rt, CATALOGUE)
+fn examples_twice(rt: HostRuntime) -> Result<(), Fail> {
+    for text in [SCRIPTS, LETTERS, CATALOGUE] {
+        hold(&rt, text)?;
+    }
+    Ok(())
 }

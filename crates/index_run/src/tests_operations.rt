@@ -113,11 +113,6 @@ $ run --threads 1
 = 0
 "#;
 
-#[test]
-fn reports(rt: HostRuntime) -> Result<(), Fail> {
-    hold(&rt, REPORTS)
-}
-
 /// Runs that begin on what an earlier one left, which was changed in between.
 const DAMAGED: &str =
     r#"# A second run goes on from the commit of the first. Then the commit of the second is cut.
@@ -166,11 +161,6 @@ $ run --threads 1
 > {"at":0,"file":"seg_1.pst","status":8}
 = 8
 "#;
-
-#[test]
-fn sessions_and_damage(rt: HostRuntime) -> Result<(), Fail> {
-    hold(&rt, DAMAGED)
-}
 
 /// Deletes, settings and updates.
 const OPERATIONS: &str = r#"# A delete takes all that hold its term.
@@ -290,11 +280,6 @@ has seg_1.row 4958524f57303031 0000000000000001 00000002 0000000000000001 000000
 has seg_1_3.liv 49584c4956303031 0000000000000001 0000000000000003 00000002 02
 "#;
 
-#[test]
-fn reports_of_operations(rt: HostRuntime) -> Result<(), Fail> {
-    hold(&rt, OPERATIONS)
-}
-
 /// Terms and queries that are just too long, and that just aren't.
 const LONG: &str = r#"# A document with a term of 32,767 bytes is refused, and gets no number.
 $ run --threads 1
@@ -373,11 +358,6 @@ $ run --threads 1
 > {"line":1,"seq":1}
 = 0
 "#;
-
-#[test]
-fn long_terms_and_queries(rt: HostRuntime) -> Result<(), Fail> {
-    hold(&rt, LONG)
-}
 
 /// A delete by a range reads the number that stands when its turn comes, in a segment that a commit has as
 /// in one that the round makes; a search reads that of its commit. Each document is a segment of its own.
@@ -468,7 +448,11 @@ $ ask
 = 0
 "#;
 
+/// Each call ends as its text says.
 #[test]
-fn reports_of_ranges(rt: HostRuntime) -> Result<(), Fail> {
-    hold(&rt, RANGES)
+fn reports(rt: HostRuntime) -> Result<(), Fail> {
+    for text in [REPORTS, DAMAGED, OPERATIONS, LONG, RANGES] {
+        hold(&rt, text)?;
+    }
+    Ok(())
 }
