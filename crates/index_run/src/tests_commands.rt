@@ -105,14 +105,14 @@ $ ask
 > {"commit":0,"status":9}
 = 9
 
-# The second sync of a second run fails. It has listed the store, read the five files of its commit, and written.
+# A write of a second run fails. It has listed the store, read the five files of its commit, and written three more.
 $ run --threads 1
 < {"c":0,"op":"add","doc":{"key":"a1"}}
 < {"c":0,"op":"commit"}
 > {"line":1,"seq":1}
 > {"docs":1,"line":2,"seq":2}
 = 0
-fail 12
+fail 10
 $ run
 < {"c":0,"op":"add","doc":{"key":"a2"}}
 < {"c":0,"op":"commit"}

@@ -3,7 +3,7 @@ use crate::tests_calls::hold;
 use std::test::*;
 
 /// Adds, commits and searches.
-const REPORTS: &str = r#"# An empty script.
+const SEARCHES: &str = r#"# An empty script.
 $ run --threads 1
 = 0
 
@@ -451,7 +451,7 @@ $ ask
 /// Each call ends as its text says.
 #[test]
 fn reports(rt: HostRuntime) -> Result<(), Fail> {
-    for text in [REPORTS, DAMAGED, OPERATIONS, LONG, RANGES] {
+    for text in [SEARCHES, DAMAGED, OPERATIONS, LONG, RANGES] {
         hold(&rt, text)?;
     }
     Ok(())
