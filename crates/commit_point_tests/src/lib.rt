@@ -10,6 +10,4 @@ mod tests_faults;
 #[cfg(test)]
 mod tests_files;
 #[cfg(test)]
-mod tests_live;
-#[cfg(test)]
 mod tests_write;

@@ -1,80 +1,55 @@
-//! Commit files alone.
-use crate::tests_files::{COMMIT, COMMIT_FIELDS, SECOND_COMMIT};
-use commit_point::{CommitFormat, Head, HeadSegment, decode_commit, encode_commit};
-use ix_base::{Fields, FileFault, List};
-use std::alloc::Global;
-use std::test::*;
-
-fn broken_place(alloc: Global, bytes: &[u8]) -> Option<u64> {
-    match decode_commit(alloc, bytes, 2) {
-        Err(FileFault::Damaged(damaged)) => Some(damaged.at),
-        _ => None,
-    }
-}
-
-// The last field that begins at this length or before it.
-fn field_at(len: u64) -> Option<u64> {
-    let mut last = None;
-    for field in &COMMIT_FIELDS {
-        if *field <= len {
-            last = Some(*field);
-        }
-    }
-    last
-}
-
-// The bytes with one of them changed.
-fn changed(alloc: Global, bytes: &[u8], at: usize, to: u8) -> Result<Vec<u8>, Fail> {
-    let mut copy = Vec::from_slice(alloc, bytes)?;
-    if let Some(byte) = copy.get_mut(at) {
-        *byte = to;
-    }
-    Ok(copy)
-}
-
-/// A commit file of one segment in each form, as it stands in bytes.
-const FORMS: [(CommitFormat, &[u8]); 2] = [
-    (CommitFormat::First, &COMMIT),
-    (CommitFormat::Second, &SECOND_COMMIT),
-];
-
-/// Their segment.
-const ONLY: HeadSegment = HeadSegment {
-    id: 1,
-    rows: 1,
-    written: 2,
+//! Commit files alone, and whole commits.
+use crate::tests_files::{
+    COMMIT, EARLIER, FULL, PAIRS, SECOND, SMALL, TWO_LIVE, bytes_of, store_of, told,
 };
+use commit_point::{
+    CommitFormat, Head, HeadSegment, decode_commit, encode_commit, head, open_commit, read_commit,
+};
+use ix_base::{Fields, List};
+use std::alloc::Global;
+use std::fmt::Write;
+use std::test::Fail;
 
-#[test]
-fn spells_one_segment(rt: HostRuntime) -> Result<(), Fail> {
-    let alloc = rt.alloc();
-    for (format, bytes) in FORMS {
-        let head = Head {
-            number: 2,
-            docs: 1,
-            next_id: 2,
-            segments: List::from_vec(vec![in alloc; ONLY]?),
-            format,
-            pairs: Fields::none(alloc),
-        };
-        let commit = encode_commit(alloc, &head).ok().ok_or("memory")?;
-        assert!(rt; commit.as_slice() == bytes);
+/// Appends what a commit file says: the number, the live rows, the next id and the form, of each segment
+/// the id, the rows and which commit wrote its live docs, and the pairs.
+pub(crate) fn put_head(out: &mut String, head: &Head) -> Result<(), Fail> {
+    let (number, docs, next, format) = (head.number, head.docs, head.next_id, head.format);
+    write!(out, "{number} {docs} {next} {format:?}:")?;
+    for segment in head.segments.as_slice() {
+        write!(out, " {} {} {};", segment.id, segment.rows, segment.written)?;
+    }
+    for (name, text) in head.pairs.as_slice() {
+        write!(out, " {}={}", name.as_str(), text.as_str())?;
     }
     Ok(())
 }
 
+/// What a commit file says.
+fn said_of(alloc: Global, file: &str) -> Result<String, Fail> {
+    let (_, fields) = file.split_once(' ').ok_or("no file")?;
+    let head = decode_commit(alloc, &bytes_of(alloc, fields)?, 2)?;
+    let mut said = String::new(alloc);
+    put_head(&mut said, &head)?;
+    Ok(said)
+}
+
+/// Whether what is read of a commit file is spelled as it was.
+fn is_spelled_so(alloc: Global, file: &str) -> Result<bool, Fail> {
+    let (_, fields) = file.split_once(' ').ok_or("no file")?;
+    let bytes = bytes_of(alloc, fields)?;
+    let head = decode_commit(alloc, &bytes, 2)?;
+    Ok(encode_commit(alloc, &head)?.as_slice() == bytes.as_slice())
+}
+
 #[test]
-fn reads_one_segment(rt: HostRuntime) -> Result<(), Fail> {
-    let alloc = rt.alloc();
-    for (format, bytes) in FORMS {
-        let head = decode_commit(alloc, bytes, 2)
-            .ok()
-            .ok_or("the bytes are a commit file")?;
-        assert!(rt; head.docs == 1);
-        assert!(rt; head.next_id == 2);
-        assert!(rt; head.segments.as_slice() == [ONLY].as_slice());
-        assert!(rt; head.format == format);
-        assert!(rt; head.pairs.as_slice().is_empty());
+fn commit_files_are_read_and_spelled(rt: HostRuntime) -> Result<(), Fail> {
+    for (file, said) in [
+        (COMMIT, "2 1 2 First: 1 1 2;"),
+        (SECOND, "2 1 2 Second: 1 1 2;"),
+        (PAIRS, "2 0 1 Second: key=x s="),
+    ] {
+        assert!(rt; said_of(rt.alloc(), file)?.as_str() == said);
+        assert!(rt; is_spelled_so(rt.alloc(), file)?);
     }
     Ok(())
 }
@@ -99,103 +74,47 @@ fn reads_many_segments(rt: HostRuntime) -> Result<(), Fail> {
         format: CommitFormat::Second,
         pairs: Fields::none(alloc),
     };
-    let bytes = encode_commit(alloc, &head).ok().ok_or("memory")?;
+    let bytes = encode_commit(alloc, &head)?;
     assert!(rt; bytes.len() == 44 + 300 * 20);
-    let read = decode_commit(alloc, &bytes, 2)
-        .ok()
-        .ok_or("the bytes are a commit file")?;
+    let read = decode_commit(alloc, &bytes, 2)?;
     assert!(rt; read.segments.as_slice() == head.segments.as_slice());
     Ok(())
 }
 
-#[test]
-fn cut_files_name_the_field(rt: HostRuntime) {
-    let alloc = rt.alloc();
-    for len in 0..60 {
-        assert!(rt; broken_place(alloc, &COMMIT[..len]) == field_at(len as u64));
-    }
+/// What comes of opening the commit of this number of these files.
+fn opened(alloc: Global, files: [&str; 2], number: u64) -> Result<String, Fail> {
+    let mut store = store_of(alloc, files)?;
+    told(alloc, open_commit(alloc, &mut store, number))
 }
 
+/// The commit with all kinds of fields is whole. One whose segment an earlier commit wrote has all operations
+/// up to its number in its live docs, and a row that isn't live doesn't count.
 #[test]
-fn changed_files_name_the_field(rt: HostRuntime) -> Result<(), Fail> {
-    let alloc = rt.alloc();
-    // number 3, next id 1, next id above 2^62, no row, written with commit 3, and one more segment than there is
-    for (at, to, place) in [
-        (15, 3, 8),
-        (31, 1, 40),
-        (24, 0x40, 24),
-        (51, 0, 48),
-        (59, 3, 52),
-        (39, 2, 60),
+fn commits_are_opened(rt: HostRuntime) -> Result<(), Fail> {
+    for (files, number, want) in [
+        (
+            [COMMIT, FULL],
+            2,
+            "next 2, 1 of 2; 1 with 4 terms at 2: m11 size=7",
+        ),
+        (
+            [EARLIER, ""],
+            3,
+            "next 2, 1 of 2; 1 with 0 terms at 3: a11 dead a22",
+        ),
+        ([EARLIER, TWO_LIVE], 3, "segments_3 16"),
     ] {
-        assert!(rt; broken_place(alloc, &changed(alloc, &COMMIT, at, to)?) == Some(place));
+        assert!(rt; opened(rt.alloc(), files, number)?.as_str() == want);
     }
-    let mut longer = Vec::from_slice(alloc, &COMMIT)?;
-    longer.push(0)?;
-    assert!(rt; broken_place(alloc, &longer) == Some(60));
-    Ok(())
-}
-
-/// The smallest commit file with pairs: two names, of which the second has an empty text.
-const WITH_PAIRS: [u8; 66] = [
-    0x49, 0x58, 0x43, 0x4f, 0x4d, 0x30, 0x30, 0x32, 0, 0, 0, 0, 0, 0, 0, 2, 0, 0, 0, 0, 0, 0, 0, 0,
-    0, 0, 0, 0, 0, 0, 0, 1, 0, 0, 0, 0, 0, 0, 0, 0, 0, 0, 0, 2, 0, 0, 0, 3, 0x6b, 0x65, 0x79, 0, 0,
-    0, 1, 0x78, 0, 0, 0, 1, 0x73, 0, 0, 0, 0, 0,
-];
-
-/// Where the fields of that file begin.
-const PAIR_FIELDS: [u64; 10] = [0, 8, 16, 24, 32, 40, 44, 51, 56, 61];
-
-/// The pairs of that file.
-pub(crate) fn with_pairs(alloc: Global) -> Option<Fields> {
-    match decode_commit(alloc, &WITH_PAIRS[..65], 2) {
-        Ok(head) => Some(head.pairs),
-        Err(_) => None,
-    }
-}
-
-#[test]
-fn pairs_are_spelled_and_read(rt: HostRuntime) -> Result<(), Fail> {
-    let alloc = rt.alloc();
-    let bytes = &WITH_PAIRS[..65];
-    let head = decode_commit(alloc, bytes, 2)
-        .ok()
-        .ok_or("the bytes are a commit file")?;
-    assert!(rt; head.format == CommitFormat::Second);
-    let pairs = head.pairs.as_slice();
-    assert!(rt; pairs.len() == 2);
-    assert!(rt; (pairs[0].0.as_str(), pairs[0].1.as_str()) == ("key", "x"));
-    assert!(rt; (pairs[1].0.as_str(), pairs[1].1.as_str()) == ("s", ""));
-    assert!(rt; encode_commit(alloc, &head)?.as_slice() == bytes);
     Ok(())
 }
 
 #[test]
-fn broken_pairs_name_the_field(rt: HostRuntime) -> Result<(), Fail> {
+fn the_smallest_commit_is_whole(rt: HostRuntime) -> Result<(), Fail> {
     let alloc = rt.alloc();
-    for len in 0..65usize {
-        let mut place = 0;
-        for field in &PAIR_FIELDS {
-            if *field <= len as u64 {
-                place = *field;
-            }
-        }
-        assert!(rt; broken_place(alloc, &WITH_PAIRS[..len]) == Some(place));
-    }
-    // A mark of no form, one pair fewer and one more, a name without bytes and one with no UTF-8, a text
-    // longer than the file, a name that falls, and a byte behind the last pair.
-    for (at, to, place) in [
-        (7, 0x33, 0),
-        (43, 1, 56),
-        (43, 3, 65),
-        (47, 0, 44),
-        (48, 0xff, 44),
-        (54, 0xff, 51),
-        (60, 0x61, 56),
-    ] {
-        let other = changed(alloc, &WITH_PAIRS[..65], at, to)?;
-        assert!(rt; broken_place(alloc, &other) == Some(place), "{at}");
-    }
-    assert!(rt; broken_place(alloc, &WITH_PAIRS) == Some(65));
+    let mut store = store_of(alloc, [COMMIT, SMALL])?;
+    assert!(rt; head(alloc, &mut store, 2)?.docs == 1);
+    let read = told(alloc, read_commit(alloc, &mut store, 2))?;
+    assert!(rt; read.as_str() == "next 2, 1 of 2; 1 with 1 terms at 2: a11");
     Ok(())
 }

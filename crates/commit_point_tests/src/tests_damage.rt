@@ -1,321 +1,257 @@
 //! The files of one commit, cut at every length and changed byte by byte.
-use crate::tests_files::{
-    Bytes, COMMIT, COMMIT_FIELDS, LIVE, LIVE_FIELDS, POSTS, POSTS_FIELDS, ROWS, ROWS_FIELDS,
-    SECOND_COMMIT, SECOND_COMMIT_FIELDS, SMALL_POSTS, SMALL_POSTS_FIELDS, SMALL_ROWS,
-    SMALL_ROWS_FIELDS, SMALL_VALUES, SMALL_VALUES_FIELDS, VALUES, VALUES_FIELDS, exchanged, full,
-    shown, small, store_of,
-};
-use commit_point::{OpenFault, head, open_commit, read_commit};
-use ix_base::{Damaged, FileName};
-use ix_memory::MemoryStore;
+use crate::tests_files::{COMMIT, FULL, PAIRS, SECOND, SMALL, bytes_of, store_of, told};
+use commit_point::{open_commit, read_commit};
+use ix_base::FileName;
 use ix_outside::Store;
 use std::alloc::Global;
-use std::test::*;
+use std::test::Fail;
 
-/// The first broken place of a store's commit.
-fn broken_in(alloc: Global, store: &mut MemoryStore) -> Option<Damaged> {
-    match open_commit(alloc, store, 2) {
-        Err(OpenFault::Damaged(damaged)) => Some(damaged),
-        _ => None,
-    }
+/// What comes of opening the commit of these files, of which the one of this name has other bytes.
+fn told_with(alloc: Global, files: [&str; 2], name: &str, bytes: &[u8]) -> Result<String, Fail> {
+    let mut store = store_of(alloc, files)?;
+    let Some(name) = FileName::parse(name) else {
+        return Err("no name")?;
+    };
+    store.write(name, bytes)?;
+    told(alloc, open_commit(alloc, &mut store, 2))
 }
 
-/// The first broken place of a commit with these files.
-fn broken(alloc: Global, bytes: Bytes<'_>) -> Option<Damaged> {
-    match store_of(alloc, bytes) {
-        Ok(mut store) => broken_in(alloc, &mut store),
-        Err(_) => None,
-    }
-}
-
-/// The greatest of the offsets that isn't above the length.
-fn field_at(fields: &[u64], len: u64) -> u64 {
-    let mut at = 0;
-    for field in fields {
-        if *field <= len {
-            at = *field;
+/// Where the field begins in which a file of these fields ends, cut at this length.
+fn field_at(fields: &str, length: usize) -> usize {
+    let (mut at, mut next) = (0usize, 0usize);
+    for field in fields.split(' ') {
+        if next <= length {
+            at = next;
         }
+        next = next.saturating_add(field.len() / 2);
     }
     at
 }
 
-/// These bytes with one of them exchanged, or one more at the end.
-fn changed(alloc: Global, bytes: &[u8], at: usize, to: u8) -> Result<Vec<u8>, Fail> {
-    let mut other = bytes.to_vec(alloc)?;
-    if at < other.len() {
-        other[at] = to;
-    } else {
-        other.push(to)?;
-    }
-    Ok(other)
-}
-
-/// The first length at which a file, cut there, isn't told to be broken in the field that it ends in.
-fn wrong_cut(
-    alloc: Global,
-    bytes: Bytes<'_>,
-    file: FileName,
-    whole: &[u8],
-    fields: &[u64],
-) -> Option<usize> {
-    for len in 0..whole.len() {
-        let at = field_at(fields, len as u64);
-        if broken(alloc, exchanged(bytes, file, &whole[..len])) != Some(Damaged { file, at }) {
-            return Some(len);
+/// The first length at which a file of a commit, cut there, isn't told to be broken in the field that it
+/// ends in.
+fn wrong_cut(alloc: Global, files: [&str; 2], file: &str) -> Result<Option<usize>, Fail> {
+    let (name, fields) = file.split_once(' ').ok_or("no file")?;
+    let whole = bytes_of(alloc, fields)?;
+    for length in 0..whole.len() {
+        let want = format!(in alloc; "{name} {}", field_at(fields, length))?;
+        if told_with(alloc, files, name, &whole[..length])?.as_str() != want.as_str() {
+            return Ok(Some(length));
         }
     }
-    None
+    Ok(None)
 }
 
-/// The first of these changes of a file, each a byte and what it becomes, that isn't told to be broken
-/// at the place beside it.
-fn wrong_change(
+/// The first of some files of a commit of which some cut is told otherwise.
+fn wrongly_cut<'a>(
     alloc: Global,
-    bytes: Bytes<'_>,
-    file: FileName,
-    whole: &[u8],
-    cases: &[(usize, u8, u64)],
-) -> Result<Option<usize>, Fail> {
-    for (i, case) in cases.iter().enumerate() {
-        let other = changed(alloc, whole, case.0, case.1)?;
-        let place = Damaged { file, at: case.2 };
-        if broken(alloc, exchanged(bytes, file, other.as_slice())) != Some(place) {
-            return Ok(Some(i));
+    files: [&str; 2],
+    cut: &'a str,
+) -> Result<Option<(&'a str, usize)>, Fail> {
+    for file in cut.lines() {
+        if let Some(length) = wrong_cut(alloc, files, file)? {
+            return Ok(Some((file, length)));
+        }
+    }
+    Ok(None)
+}
+
+/// Files of a commit, and which of them are cut.
+#[test]
+fn cut_files(rt: HostRuntime) -> Result<(), Fail> {
+    for (files, cut) in [
+        ([COMMIT, FULL], COMMIT),
+        ([SECOND, FULL], SECOND),
+        ([PAIRS, ""], PAIRS),
+        ([COMMIT, FULL], FULL),
+        ([COMMIT, SMALL], SMALL),
+    ] {
+        assert!(rt; wrongly_cut(rt.alloc(), files, cut)? == None);
+    }
+    Ok(())
+}
+
+/// Changes of files: the name, the place of a byte and what it becomes (behind the last one it is one byte
+/// more), the broken place that is told then, and what the change is. These are of the commit with all
+/// kinds of fields, whose commit file is in the first form.
+const CHANGES: &str = "\
+segments_2 7 33 0 the mark of no form
+segments_2 7 32 60 the mark of the second form, whose count of pairs is not there
+segments_2 15 03 8 another number
+segments_2 23 02 16 another number of live rows
+segments_2 24 40 24 a next id that is too great
+segments_2 31 00 24 no next id
+segments_2 31 01 40 the next id that the segment has
+segments_2 39 02 60 one segment more
+segments_2 39 00 40 no segment
+segments_2 47 00 40 no id
+segments_2 47 02 40 an id that isn't below the next one
+segments_2 51 00 48 no row
+segments_2 59 00 52 no commit
+segments_2 59 03 52 a later commit
+segments_2 60 00 60 one byte more
+seg_1.row 0 00 0 another mark
+seg_1.row 15 02 8 another id
+seg_1.row 19 02 16 a row more
+seg_1.row 19 00 16 no row
+seg_1.row 27 00 20 no birth
+seg_1.row 27 03 20 a birth after the commit
+seg_1.row 32 ff 28 no UTF-8 in the key
+seg_1.row 41 00 38 a name without bytes
+seg_1.row 40 01 38 a name that is longer than names are
+seg_1.row 41 ff 38 a name that is longer than the file
+seg_1.row 70 03 82 an exact text that is longer
+seg_1.row 80 02 97 one number more
+seg_1.row 97 00 97 one byte more
+seg_1.pst 5 00 0 another mark
+seg_1.pst 15 02 8 another id
+seg_1.pst 19 02 16 a row more
+seg_1.pst 27 05 147 one term more
+seg_1.pst 27 03 118 one term fewer
+seg_1.pst 31 00 28 a name without bytes
+seg_1.pst 30 01 28 a name that is longer than names are
+seg_1.pst 45 00 42 a term of no row
+seg_1.pst 45 02 58 a term of one row more
+seg_1.pst 49 01 46 a row that there isn't
+seg_1.pst 53 00 50 no position
+seg_1.pst 53 02 62 one position more
+seg_1.pst 62 61 58 a field that comes too early
+seg_1.pst 70 61 58 bytes that come too early
+seg_1.pst 93 61 89 the third term's field comes too early
+seg_1.pst 147 00 147 one byte more
+seg_1_2.liv 7 32 0 another mark
+seg_1_2.liv 15 02 8 another id
+seg_1_2.liv 23 03 16 a later commit
+seg_1_2.liv 23 01 16 an earlier commit
+seg_1_2.liv 27 02 24 a row more
+seg_1_2.liv 27 00 24 no row
+seg_1_2.liv 28 00 28 no live row
+seg_1_2.liv 28 03 28 a bit past the last row
+seg_1_2.liv 29 00 29 one byte more
+seg_1_2.val 7 32 0 another mark
+seg_1_2.val 15 02 8 another id
+seg_1_2.val 23 03 16 a later commit
+seg_1_2.val 27 02 24 a row more
+seg_1_2.val 35 00 36 a count of no number
+seg_1_2.val 35 02 56 a count of one number more
+seg_1_2.val 39 01 36 a row that there isn't
+seg_1_2.val 43 00 40 a name without bytes
+seg_1_2.val 42 01 40 a name that is longer than names are
+seg_1_2.val 43 03 55 a name that is shorter
+seg_1_2.val 44 ff 40 no UTF-8 in the name
+seg_1_2.val 56 00 56 one byte more";
+
+/// Changes of a commit file in the second form without pairs.
+const SECOND_CHANGES: &str = "\
+segments_2 7 33 0 the mark of no form
+segments_2 7 31 60 the mark of the first form, in which nothing stands behind the segments
+segments_2 39 02 60 one segment more
+segments_2 39 00 44 no segment, so that the entry's first bytes are the count of pairs
+segments_2 59 03 52 a later commit
+segments_2 63 01 64 one pair, which is not there
+segments_2 64 00 64 one byte more";
+
+/// Changes of a commit file with pairs.
+const PAIR_CHANGES: &str = "\
+segments_2 7 33 0 the mark of no form
+segments_2 43 01 56 one pair fewer
+segments_2 43 03 65 one pair more
+segments_2 47 00 44 a name without bytes
+segments_2 48 ff 44 no UTF-8 in a name
+segments_2 54 ff 51 a text that is longer than the file
+segments_2 60 61 56 a name that falls
+segments_2 65 00 65 a byte behind the last pair";
+
+/// A change of the smallest commit.
+const SMALL_CHANGE: &str = "seg_1_2.val 35 01 36 one number is counted, and none is there";
+
+/// Changes a byte, or adds one at the end.
+fn change_byte(bytes: &mut Vec<u8>, at: usize, to: u8) -> Result<(), Fail> {
+    if at < bytes.len() {
+        bytes[at] = to;
+    } else {
+        bytes.push(to)?;
+    }
+    Ok(())
+}
+
+/// What comes of opening the commit of these files, of which the one of this name has this byte at this
+/// place.
+fn told_changed(
+    alloc: Global,
+    files: [&str; 2],
+    name: &str,
+    at: usize,
+    to: u8,
+) -> Result<String, Fail> {
+    let mut store = store_of(alloc, files)?;
+    let file = FileName::parse(name).ok_or("no name")?;
+    let mut bytes = store.read(alloc, file)?.ok_or("no such file")?;
+    change_byte(&mut bytes, at, to)?;
+    told_with(alloc, files, name, &bytes)
+}
+
+/// Whether the change of a file of a commit is told as the line says.
+fn is_told(alloc: Global, files: [&str; 2], line: &str) -> Result<bool, Fail> {
+    let mut words = line.split(' ');
+    let name = words.next().ok_or("no name")?;
+    let at = usize::from_str_radix(words.next().ok_or("no place")?, 10)?;
+    let to = u8::from_str_radix(words.next().ok_or("no byte")?, 16)?;
+    let told = told_changed(alloc, files, name, at, to)?;
+    Ok(told.as_str().split_once(' ') == Some((name, words.next().unwrap_or(""))))
+}
+
+/// The first of these changes of a commit that is told otherwise.
+fn told_otherwise<'a>(
+    alloc: Global,
+    files: [&str; 2],
+    changes: &'a str,
+) -> Result<Option<&'a str>, Fail> {
+    for change in changes.lines() {
+        if !is_told(alloc, files, change)? {
+            return Ok(Some(change));
         }
     }
     Ok(None)
 }
 
 #[test]
-fn the_files_are_whole(rt: HostRuntime) -> Result<(), Fail> {
-    let alloc = rt.alloc();
-    let mut store = store_of(alloc, full()).ok().ok_or("memory")?;
-    let opened = open_commit(alloc, &mut store, 2)?;
-    assert!(rt;
-        shown(alloc, &opened)?.as_str() == "next 2, 1 of 2; 1 with 4 terms at 2: m11 size=7"
-    );
-    Ok(())
-}
-
-#[test]
-fn the_smallest_commit_is_whole(rt: HostRuntime) -> Result<(), Fail> {
-    let alloc = rt.alloc();
-    let mut store = store_of(alloc, small()).ok().ok_or("memory")?;
-    assert!(rt; head(alloc, &mut store, 2)?.docs == 1);
-    let opened = read_commit(alloc, &mut store, 2)?;
-    assert!(rt; shown(alloc, &opened)?.as_str() == "next 2, 1 of 2; 1 with 1 terms at 2: a11");
-    Ok(())
-}
-
-/// A file of the commit with all kinds of fields, whole, and where its fields begin.
-type File = (FileName, &'static [u8], &'static [u64]);
-
-/// The first of these files of a commit, cut at some length, that isn't told to be broken in the field
-/// that it ends in, and the length.
-fn wrong_file(alloc: Global, bytes: Bytes<'_>, files: &[File]) -> Option<(FileName, usize)> {
-    for (file, whole, fields) in files {
-        if let Some(len) = wrong_cut(alloc, bytes, *file, whole, fields) {
-            return Some((*file, len));
-        }
-    }
-    None
-}
-
-/// The files of the commit with all kinds of fields, its commit file in both forms.
-const FILES: [File; 6] = [
-    (FileName::Commit(2), &COMMIT, &COMMIT_FIELDS),
-    (FileName::Commit(2), &SECOND_COMMIT, &SECOND_COMMIT_FIELDS),
-    (FileName::Rows(1), &ROWS, &ROWS_FIELDS),
-    (FileName::Posts(1), &POSTS, &POSTS_FIELDS),
-    (FileName::Live(1, 2), &LIVE, &LIVE_FIELDS),
-    (FileName::Values(1, 2), &VALUES, &VALUES_FIELDS),
-];
-
-#[test]
-fn cut_files(rt: HostRuntime) {
-    assert!(rt; wrong_file(rt.alloc(), full(), &FILES) == None);
-}
-
-/// The files of the smallest commit's segment.
-const SMALL_FILES: [File; 3] = [
-    (FileName::Rows(1), &SMALL_ROWS, &SMALL_ROWS_FIELDS),
-    (FileName::Posts(1), &SMALL_POSTS, &SMALL_POSTS_FIELDS),
-    (FileName::Values(1, 2), &SMALL_VALUES, &SMALL_VALUES_FIELDS),
-];
-
-#[test]
-fn cut_files_of_the_smallest_commit(rt: HostRuntime) {
-    assert!(rt; wrong_file(rt.alloc(), small(), &SMALL_FILES) == None);
-}
-
-/// Changes of a file: the place of a byte, what it becomes, and the broken place that is told then.
-type Changes = &'static [(usize, u8, u64)];
-
-/// In the first form: mark (that of no form, and that of the second, whose count of pairs is not
-/// there), number, number of live rows, next id (too great, and that of the segment), count of
-/// segments, id, rows and commit of the entry, and one byte more.
-const COMMIT_CHANGES: Changes = &[
-    (7, 0x33, 0),
-    (7, 0x32, 60),
-    (15, 3, 8),
-    (23, 2, 16),
-    (24, 0x40, 24),
-    (31, 0, 24),
-    (31, 1, 40),
-    (39, 2, 60),
-    (39, 0, 40),
-    (47, 0, 40),
-    (47, 2, 40),
-    (51, 0, 48),
-    (59, 0, 52),
-    (59, 3, 52),
-    (60, 0, 60),
-];
-
-/// In the second form: mark (that of no form, and that of the first, in which nothing stands behind
-/// the segments), count of segments (one more, and none, so that the entry's first bytes are the count
-/// of pairs), commit of the entry, count of pairs, and one byte more.
-const SECOND_COMMIT_CHANGES: Changes = &[
-    (7, 0x33, 0),
-    (7, 0x31, 60),
-    (39, 2, 60),
-    (39, 0, 44),
-    (59, 3, 52),
-    (63, 1, 64),
-    (64, 0, 64),
-];
-
-/// Mark, id, number of rows, birth, no UTF-8 in the key, a name without bytes and longer than names
-/// are, an exact text that is longer, a count of numbers, and one byte more.
-const ROWS_CHANGES: Changes = &[
-    (0, 0, 0),
-    (15, 2, 8),
-    (19, 2, 16),
-    (19, 0, 16),
-    (27, 0, 20),
-    (27, 3, 20),
-    (32, 0xff, 28),
-    (41, 0, 38),
-    (40, 1, 38),
-    (41, 0xff, 38),
-    (70, 3, 82),
-    (80, 2, 97),
-    (97, 0, 97),
-];
-
-/// Mark, id, number of rows, count of terms; the first term: its name without bytes and longer
-/// than names are, its count of rows, a row that there isn't, its count of positions; the second
-/// one: a field and then bytes that come too early; the third one's field; and one byte more.
-const POSTS_CHANGES: Changes = &[
-    (5, 0, 0),
-    (15, 2, 8),
-    (19, 2, 16),
-    (27, 5, 147),
-    (27, 3, 118),
-    (31, 0, 28),
-    (30, 1, 28),
-    (45, 0, 42),
-    (45, 2, 58),
-    (49, 1, 46),
-    (53, 0, 50),
-    (53, 2, 62),
-    (62, 0x61, 58),
-    (70, 0x61, 58),
-    (93, 0x61, 89),
-    (147, 0, 147),
-];
-
-/// Mark, id, commit, number of rows, no live row, a bit past the last row, and one byte more.
-const LIVE_CHANGES: Changes = &[
-    (7, 0x32, 0),
-    (15, 2, 8),
-    (23, 3, 16),
-    (23, 1, 16),
-    (27, 2, 24),
-    (27, 0, 24),
-    (28, 0, 28),
-    (28, 3, 28),
-    (29, 0, 29),
-];
-
-/// Mark, id, commit, number of rows, count of numbers (none, and one more), a row that there
-/// isn't, a name without bytes, longer than names are, shorter, and of no UTF-8, and one byte more.
-const VALUES_CHANGES: Changes = &[
-    (7, 0x32, 0),
-    (15, 2, 8),
-    (23, 3, 16),
-    (27, 2, 24),
-    (35, 0, 36),
-    (35, 2, 56),
-    (39, 1, 36),
-    (43, 0, 40),
-    (42, 1, 40),
-    (43, 3, 55),
-    (44, 0xff, 40),
-    (56, 0, 56),
-];
-
-/// The files of the commit with all kinds of fields, its commit file in both forms, and the changes of
-/// each.
-const CHANGED: [(FileName, &[u8], Changes); 6] = [
-    (FileName::Commit(2), &COMMIT, COMMIT_CHANGES),
-    (FileName::Commit(2), &SECOND_COMMIT, SECOND_COMMIT_CHANGES),
-    (FileName::Rows(1), &ROWS, ROWS_CHANGES),
-    (FileName::Posts(1), &POSTS, POSTS_CHANGES),
-    (FileName::Live(1, 2), &LIVE, LIVE_CHANGES),
-    (FileName::Values(1, 2), &VALUES, VALUES_CHANGES),
-];
-
-#[test]
 fn changed_files(rt: HostRuntime) -> Result<(), Fail> {
-    for (file, whole, cases) in CHANGED {
-        assert!(rt;
-            wrong_change(rt.alloc(), full(), file, whole, cases)? == None,
-            "{file:?}"
-        );
+    for (files, changes) in [
+        ([COMMIT, FULL], CHANGES),
+        ([SECOND, FULL], SECOND_CHANGES),
+        ([PAIRS, ""], PAIR_CHANGES),
+        ([COMMIT, SMALL], SMALL_CHANGE),
+    ] {
+        assert!(rt; told_otherwise(rt.alloc(), files, changes)? == None);
     }
     Ok(())
 }
 
-/// One number is counted, and none is there.
-#[test]
-fn a_count_without_its_number(rt: HostRuntime) -> Result<(), Fail> {
-    let (file, cases) = (FileName::Values(1, 2), [(35, 1, 36)]);
-    assert!(rt; wrong_change(rt.alloc(), small(), file, &SMALL_VALUES, &cases)? == None);
-    Ok(())
+/// What comes of opening the commit without this file, or of reading it without a look at the list.
+fn told_without(alloc: Global, name: &str, listed: bool) -> Result<String, Fail> {
+    let mut store = store_of(alloc, [COMMIT, FULL])?;
+    store.delete(FileName::parse(name).ok_or("no name")?)?;
+    if listed {
+        told(alloc, open_commit(alloc, &mut store, 2))
+    } else {
+        told(alloc, read_commit(alloc, &mut store, 2))
+    }
 }
 
-/// The first broken place of the full commit where this file is gone.
-fn broken_without(alloc: Global, name: FileName) -> Result<Option<Damaged>, Fail> {
-    let mut store = store_of(alloc, full()).ok().ok_or("memory")?;
-    store.delete(name).ok().ok_or("memory")?;
-    Ok(broken_in(alloc, &mut store))
-}
-
+/// A commit of which a file is gone. Where it is the commit file, a list doesn't show the commit, and a read
+/// finds the file absent.
 #[test]
 fn absent_files(rt: HostRuntime) -> Result<(), Fail> {
-    for file in [
-        FileName::Rows(1),
-        FileName::Posts(1),
-        FileName::Live(1, 2),
-        FileName::Values(1, 2),
+    for (name, listed, want) in [
+        ("seg_1.row", true, "seg_1.row 0"),
+        ("seg_1.pst", true, "seg_1.pst 0"),
+        ("seg_1_2.liv", true, "seg_1_2.liv 0"),
+        ("seg_1_2.val", true, "seg_1_2.val 0"),
+        ("segments_2", true, "NoSuch { number: 2 }"),
+        ("segments_2", false, "segments_2 0"),
     ] {
-        let broken = broken_without(rt.alloc(), file)?;
-        assert!(rt; broken == Some(Damaged { file, at: 0 }));
+        assert!(rt; told_without(rt.alloc(), name, listed)?.as_str() == want);
     }
-    Ok(())
-}
-
-/// A commit whose file is gone: a list doesn't show it, and a read finds it absent.
-#[test]
-fn absent_commit_file(rt: HostRuntime) -> Result<(), Fail> {
-    let alloc = rt.alloc();
-    let file = FileName::Commit(2);
-    let mut store = store_of(alloc, full()).ok().ok_or("memory")?;
-    store.delete(file).ok().ok_or("memory")?;
-    let opened = open_commit(alloc, &mut store, 2);
-    assert!(rt; opened.err() == Some(OpenFault::NoSuch { number: 2 }));
-    let read = read_commit(alloc, &mut store, 2);
-    assert!(rt; read.err() == Some(OpenFault::Damaged(Damaged { file, at: 0 })));
     Ok(())
 }

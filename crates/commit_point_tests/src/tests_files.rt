@@ -1,173 +1,118 @@
-//! The files of two commits: in the row of the one there are texts, exact texts and numbers, and a
-//! number was set in it; the other is the smallest there is. These are the files that the formats show.
-use commit_point::Opened;
+//! The files of some commits, as texts, and what is read of them. A file is a line: its name, and its fields
+//! as hexadecimal, with a blank before each field.
+use commit_point::{OpenFault, Opened};
 use ix_base::FileName;
 use ix_memory::MemoryStore;
-use ix_outside::{Store, StoreFault};
+use ix_outside::Store;
 use segment_core::LiveSegment;
 use std::alloc::Global;
 use std::fmt::Write;
+use std::str;
 use std::test::Fail;
 
-/// `segments_2`: one segment of one row, in the first form.
-pub(crate) const COMMIT: [u8; 60] = [
-    0x49, 0x58, 0x43, 0x4f, 0x4d, 0x30, 0x30, 0x31, 0, 0, 0, 0, 0, 0, 0, 2, 0, 0, 0, 0, 0, 0, 0, 1,
-    0, 0, 0, 0, 0, 0, 0, 2, 0, 0, 0, 0, 0, 0, 0, 1, 0, 0, 0, 0, 0, 0, 0, 1, 0, 0, 0, 1, 0, 0, 0, 0,
-    0, 0, 0, 2,
-];
+/// The commit file of the commit 2 with one segment of one row, in the first form.
+pub(crate) const COMMIT: &str = "segments_2 4958434f4d303031 0000000000000002 0000000000000001 \
+    0000000000000002 0000000000000001 0000000000000001 00000001 0000000000000002";
 
-/// The same commit file in the second form, as it is written where the commit has no pairs.
-pub(crate) const SECOND_COMMIT: [u8; 64] = [
-    0x49, 0x58, 0x43, 0x4f, 0x4d, 0x30, 0x30, 0x32, 0, 0, 0, 0, 0, 0, 0, 2, 0, 0, 0, 0, 0, 0, 0, 1,
-    0, 0, 0, 0, 0, 0, 0, 2, 0, 0, 0, 0, 0, 0, 0, 1, 0, 0, 0, 0, 0, 0, 0, 1, 0, 0, 0, 1, 0, 0, 0, 0,
-    0, 0, 0, 2, 0, 0, 0, 0,
-];
+/// The same in the second form, as it is written where the commit has no pairs: their count is the last
+/// field.
+pub(crate) const SECOND: &str = "segments_2 4958434f4d303032 0000000000000002 0000000000000001 \
+    0000000000000002 0000000000000001 0000000000000001 00000001 0000000000000002 00000000";
 
-/// `seg_1.row`: the key `m1`, a text, an exact text and a number.
-pub(crate) const ROWS: [u8; 97] = [
-    0x49, 0x58, 0x52, 0x4f, 0x57, 0x30, 0x30, 0x31, 0, 0, 0, 0, 0, 0, 0, 1, 0, 0, 0, 1, 0, 0, 0, 0,
-    0, 0, 0, 1, 0, 0, 0, 2, 0x6d, 0x31, 0, 0, 0, 1, 0, 0, 0, 4, 0x62, 0x6f, 0x64, 0x79, 0, 0, 0, 6,
-    0x48, 0x69, 0x20, 0x79, 0x6f, 0x75, 0, 0, 0, 1, 0, 0, 0, 3, 0x62, 0x6f, 0x78, 0, 0, 0, 2, 0x69,
-    0x6e, 0, 0, 0, 0, 0, 0, 0, 1, 0, 0, 0, 4, 0x73, 0x69, 0x7a, 0x65, 0xff, 0xff, 0xff, 0xff, 0xff,
-    0xff, 0xff, 0xfe,
-];
+/// The smallest commit file with pairs: two names, of which the second has an empty text.
+pub(crate) const PAIRS: &str = "segments_2 4958434f4d303032 0000000000000002 0000000000000000 \
+    0000000000000001 0000000000000000 00000002 000000036b6579 0000000178 0000000173 00000000";
 
-/// `seg_1.pst`: four terms, of which two are of one field.
-pub(crate) const POSTS: [u8; 147] = [
-    0x49, 0x58, 0x50, 0x53, 0x54, 0x30, 0x30, 0x31, 0, 0, 0, 0, 0, 0, 0, 1, 0, 0, 0, 1, 0, 0, 0, 0,
-    0, 0, 0, 4, 0, 0, 0, 4, 0x62, 0x6f, 0x64, 0x79, 0, 0, 0, 2, 0x68, 0x69, 0, 0, 0, 1, 0, 0, 0, 0,
-    0, 0, 0, 1, 0, 0, 0, 0, 0, 0, 0, 4, 0x62, 0x6f, 0x64, 0x79, 0, 0, 0, 3, 0x79, 0x6f, 0x75, 0, 0,
-    0, 1, 0, 0, 0, 0, 0, 0, 0, 1, 0, 0, 0, 1, 0, 0, 0, 3, 0x62, 0x6f, 0x78, 0, 0, 0, 2, 0x69, 0x6e,
-    0, 0, 0, 1, 0, 0, 0, 0, 0, 0, 0, 1, 0, 0, 0, 0, 0, 0, 0, 3, 0x6b, 0x65, 0x79, 0, 0, 0, 2, 0x6d,
-    0x31, 0, 0, 0, 1, 0, 0, 0, 0, 0, 0, 0, 1, 0, 0, 0, 0,
-];
+/// The files of that segment: the row has the key `m1`, a text, an exact text and a number; there are four
+/// terms, of which two are of one field; the row is live, and the number `size` was set to 7 in it. These
+/// are the files that the formats show.
+pub(crate) const FULL: &str = "\
+seg_1.row 4958524f57303031 0000000000000001 00000001 0000000000000001 000000026d31 00000001 00000004626f6479 \
+    00000006486920796f75 00000001 00000003626f78 00000002696e 0000000000000001 0000000473697a65 fffffffffffffffe
+seg_1.pst 4958505354303031 0000000000000001 00000001 0000000000000004 \
+    00000004626f6479 000000026869 00000001 00000000 00000001 00000000 \
+    00000004626f6479 00000003796f75 00000001 00000000 00000001 00000001 \
+    00000003626f78 00000002696e 00000001 00000000 00000001 00000000 \
+    000000036b6579 000000026d31 00000001 00000000 00000001 00000000
+seg_1_2.liv 49584c4956303031 0000000000000001 0000000000000002 00000001 01
+seg_1_2.val 495856414c303031 0000000000000001 0000000000000002 00000001 \
+    0000000000000001 00000000 0000000473697a65 0000000000000007
+";
 
-/// `seg_1_2.liv`: one live row.
-pub(crate) const LIVE: [u8; 29] = [
-    0x49, 0x58, 0x4c, 0x49, 0x56, 0x30, 0x30, 0x31, 0, 0, 0, 0, 0, 0, 0, 1, 0, 0, 0, 0, 0, 0, 0, 2,
-    0, 0, 0, 1, 1,
-];
+/// The files of the smallest segment: the key `a1` and nothing else, the term of the key, one live row, and
+/// no number that was set.
+pub(crate) const SMALL: &str = "\
+seg_1.row 4958524f57303031 0000000000000001 00000001 0000000000000001 000000026131 00000000 00000000 \
+    0000000000000000
+seg_1.pst 4958505354303031 0000000000000001 00000001 0000000000000001 \
+    000000036b6579 000000026131 00000001 00000000 00000001 00000000
+seg_1_2.liv 49584c4956303031 0000000000000001 0000000000000002 00000001 01
+seg_1_2.val 495856414c303031 0000000000000001 0000000000000002 00000001 0000000000000000
+";
 
-/// `seg_1_2.val`: the number `size` was set to 7.
-pub(crate) const VALUES: [u8; 56] = [
-    0x49, 0x58, 0x56, 0x41, 0x4c, 0x30, 0x30, 0x31, 0, 0, 0, 0, 0, 0, 0, 1, 0, 0, 0, 0, 0, 0, 0, 2,
-    0, 0, 0, 1, 0, 0, 0, 0, 0, 0, 0, 1, 0, 0, 0, 0, 0, 0, 0, 4, 0x73, 0x69, 0x7a, 0x65, 0, 0, 0, 0,
-    0, 0, 0, 7,
-];
+/// The files of the commit 3: one live row, in a segment of the two rows `a1` and `a2` without terms, whose
+/// live bits (the first row is dead) and numbers (none was set) the commit 2 wrote.
+pub(crate) const EARLIER: &str = "\
+segments_3 4958434f4d303031 0000000000000003 0000000000000001 0000000000000002 0000000000000001 \
+    0000000000000001 00000002 0000000000000002
+seg_1.row 4958524f57303031 0000000000000001 00000002 \
+    0000000000000001 000000026131 00000000 00000000 0000000000000000 \
+    0000000000000002 000000026132 00000000 00000000 0000000000000000
+seg_1.pst 4958505354303031 0000000000000001 00000002 0000000000000000
+seg_1_2.liv 49584c4956303031 0000000000000001 0000000000000002 00000002 02
+seg_1_2.val 495856414c303031 0000000000000001 0000000000000002 00000002 0000000000000000
+";
 
-/// `seg_1.row`: the key `a1` and nothing else.
-pub(crate) const SMALL_ROWS: [u8; 50] = [
-    0x49, 0x58, 0x52, 0x4f, 0x57, 0x30, 0x30, 0x31, 0, 0, 0, 0, 0, 0, 0, 1, 0, 0, 0, 1, 0, 0, 0, 0,
-    0, 0, 0, 1, 0, 0, 0, 2, 0x61, 0x31, 0, 0, 0, 0, 0, 0, 0, 0, 0, 0, 0, 0, 0, 0, 0, 0,
-];
+/// Its commit file, but that two rows are live.
+pub(crate) const TWO_LIVE: &str = "segments_3 4958434f4d303031 0000000000000003 0000000000000002 \
+    0000000000000002 0000000000000001 0000000000000001 00000002 0000000000000002";
 
-/// `seg_1.pst`: the term of the key.
-pub(crate) const SMALL_POSTS: [u8; 57] = [
-    0x49, 0x58, 0x50, 0x53, 0x54, 0x30, 0x30, 0x31, 0, 0, 0, 0, 0, 0, 0, 1, 0, 0, 0, 1, 0, 0, 0, 0,
-    0, 0, 0, 1, 0, 0, 0, 3, 0x6b, 0x65, 0x79, 0, 0, 0, 2, 0x61, 0x31, 0, 0, 0, 1, 0, 0, 0, 0, 0, 0,
-    0, 1, 0, 0, 0, 0,
-];
-
-/// `seg_1_2.val`: no number was set.
-pub(crate) const SMALL_VALUES: [u8; 36] = [
-    0x49, 0x58, 0x56, 0x41, 0x4c, 0x30, 0x30, 0x31, 0, 0, 0, 0, 0, 0, 0, 1, 0, 0, 0, 0, 0, 0, 0, 2,
-    0, 0, 0, 1, 0, 0, 0, 0, 0, 0, 0, 0,
-];
-
-/// Where the fields of each file begin.
-pub(crate) const COMMIT_FIELDS: [u64; 8] = [0, 8, 16, 24, 32, 40, 48, 52];
-
-/// Where the fields of the same file in the second form begin: the last is the count of pairs.
-pub(crate) const SECOND_COMMIT_FIELDS: [u64; 9] = [0, 8, 16, 24, 32, 40, 48, 52, 60];
-
-pub(crate) const ROWS_FIELDS: [u64; 14] = [0, 8, 16, 20, 28, 34, 38, 46, 56, 60, 67, 73, 81, 89];
-
-pub(crate) const POSTS_FIELDS: [u64; 28] = [
-    0, 8, 16, 20, 28, 36, 42, 46, 50, 54, 58, 66, 73, 77, 81, 85, 89, 96, 102, 106, 110, 114, 118,
-    125, 131, 135, 139, 143,
-];
-
-pub(crate) const LIVE_FIELDS: [u64; 5] = [0, 8, 16, 24, 28];
-
-pub(crate) const VALUES_FIELDS: [u64; 8] = [0, 8, 16, 24, 28, 36, 40, 48];
-
-pub(crate) const SMALL_ROWS_FIELDS: [u64; 8] = [0, 8, 16, 20, 28, 34, 38, 42];
-
-pub(crate) const SMALL_POSTS_FIELDS: [u64; 10] = [0, 8, 16, 20, 28, 35, 41, 45, 49, 53];
-
-pub(crate) const SMALL_VALUES_FIELDS: [u64; 5] = [0, 8, 16, 24, 28];
-
-/// The bytes of the files of the commit 2, which has one segment.
-#[derive(Clone, Copy)]
-pub(crate) struct Bytes<'a> {
-    pub(crate) commit: &'a [u8],
-    pub(crate) rows: &'a [u8],
-    pub(crate) posts: &'a [u8],
-    pub(crate) live: &'a [u8],
-    pub(crate) values: &'a [u8],
-}
-
-/// The commit whose row has all kinds of fields.
-pub(crate) fn full<'a>() -> Bytes<'a> {
-    Bytes {
-        commit: &COMMIT,
-        rows: &ROWS,
-        posts: &POSTS,
-        live: &LIVE,
-        values: &VALUES,
+/// The bytes of these fields.
+pub(crate) fn bytes_of(alloc: Global, fields: &str) -> Result<Vec<u8>, Fail> {
+    let mut bytes = Vec::new(alloc);
+    for field in fields.split(' ') {
+        for pair in field.as_bytes().chunks(2) {
+            bytes.push(u8::from_str_radix(str::from_utf8(pair)?, 16)?)?;
+        }
     }
+    Ok(bytes)
 }
 
-/// The smallest commit.
-pub(crate) fn small<'a>() -> Bytes<'a> {
-    Bytes {
-        commit: &COMMIT,
-        rows: &SMALL_ROWS,
-        posts: &SMALL_POSTS,
-        live: &LIVE,
-        values: &SMALL_VALUES,
-    }
+/// Writes a file.
+fn put_file(alloc: Global, store: &mut MemoryStore, line: &str) -> Result<(), Fail> {
+    let (name, fields) = line.split_once(' ').ok_or("no file")?;
+    let Some(name) = FileName::parse(name) else {
+        return Err("no name")?;
+    };
+    store.write(name, &bytes_of(alloc, fields)?)?;
+    Ok(())
 }
 
-/// The same, but for the bytes of one file.
-pub(crate) fn exchanged<'a>(bytes: Bytes<'a>, name: FileName, other: &'a [u8]) -> Bytes<'a> {
-    match name {
-        FileName::Rows(_) => Bytes {
-            rows: other,
-            ..bytes
-        },
-        FileName::Posts(_) => Bytes {
-            posts: other,
-            ..bytes
-        },
-        FileName::Live(_, _) => Bytes {
-            live: other,
-            ..bytes
-        },
-        FileName::Values(_, _) => Bytes {
-            values: other,
-            ..bytes
-        },
-        _ => Bytes {
-            commit: other,
-            ..bytes
-        },
-    }
-}
-
-/// A store with these files.
-pub(crate) fn store_of(alloc: Global, bytes: Bytes<'_>) -> Result<MemoryStore, StoreFault> {
+/// A store with these files, of which a later one takes the place of an earlier one.
+pub(crate) fn store_of(alloc: Global, files: [&str; 2]) -> Result<MemoryStore, Fail> {
     let mut store = MemoryStore::new(alloc);
-    store.write(FileName::Rows(1), bytes.rows)?;
-    store.write(FileName::Posts(1), bytes.posts)?;
-    store.write(FileName::Live(1, 2), bytes.live)?;
-    store.write(FileName::Values(1, 2), bytes.values)?;
-    store.write(FileName::Commit(2), bytes.commit)?;
+    for part in files {
+        for line in part.lines() {
+            put_file(alloc, &mut store, line)?;
+        }
+    }
     Ok(store)
 }
 
+/// What comes of reading a commit: what it is, the file that is damaged with the first broken place, or
+/// another fault.
+pub(crate) fn told(alloc: Global, answer: Result<Opened, OpenFault>) -> Result<String, Fail> {
+    match answer {
+        Ok(opened) => shown(alloc, &opened),
+        Err(OpenFault::Damaged(damaged)) => {
+            Ok(format!(in alloc; "{} {}", damaged.file.text().as_str(), damaged.at)?)
+        }
+        Err(fault) => Ok(format!(in alloc; "{fault:?}")?),
+    }
+}
+
 /// A commit that was read back: the next id, and its segments.
-pub(crate) fn shown(alloc: Global, opened: &Opened) -> Result<String, Fail> {
+fn shown(alloc: Global, opened: &Opened) -> Result<String, Fail> {
     let mut out = String::new(alloc);
     write!(out, "next {}", opened.next_id)?;
     for entry in opened.entries.as_slice() {

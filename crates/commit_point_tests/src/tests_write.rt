@@ -4,9 +4,9 @@ ghost use Rattle.ix_base.specs.Inversion.{IsPostings};
 ghost use Rattle.segment_files.specs.Fits.{BirthsRise, RowsBelow};
 ghost use Rattle.commit_point.specs.Writing.{CanWrite, WrittenUpTo};
 
-use crate::tests::with_pairs;
-use crate::tests_files::{Bytes, SECOND_COMMIT, exchanged, small};
-use commit_point::{CommitRefused, Head, Written, head, open_commit, write_commit};
+use crate::tests::put_head;
+use crate::tests_files::{PAIRS, SECOND, SMALL, bytes_of};
+use commit_point::{CommitRefused, Head, Written, decode_commit, head, open_commit, write_commit};
 use ix_base::{
     Document, Fields, FileName, List, Name, Postings, Row, Spots, Term, TermPostings, Text,
 };
@@ -15,8 +15,9 @@ use ix_outside::Store;
 use live_docs::LiveDocs;
 use segment_core::{LiveSegment, Segment};
 use std::alloc::Global;
+use std::fmt::Write;
 use std::slice;
-use std::test::*;
+use std::test::Fail;
 
 /// The postings of one row, whose key is `a1`.
 fn key_postings(alloc: Global) -> Result<Postings, Fail>
@@ -144,21 +145,6 @@ fn write_two<S: Store>(
     write_commit(alloc, store, number, 3, &none, &segments, &written)
 }
 
-/// The commit 2 of one new segment of one row, with these pairs.
-fn first_with<S: Store>(
-    alloc: Global,
-    store: &mut S,
-    pairs: &Fields,
-) -> Result<Option<Head>, Fail> {
-    let segment = one_row(alloc, 1, 1, live_of(alloc, 1, 2, false)?)?;
-    Ok(write_one(alloc, store, 2, pairs, segment, None).ok())
-}
-
-/// The same without pairs.
-fn first<S: Store>(alloc: Global, store: &mut S) -> Result<Option<Head>, Fail> {
-    first_with(alloc, store, &Fields::none(alloc))
-}
-
 /// The commit 4 of the segment of the first commit, whose row is dead now if told so, and of a new
 /// one.
 fn second<S: Store>(alloc: Global, store: &mut S, dead: bool) -> Result<Option<Head>, Fail> {
@@ -168,64 +154,131 @@ fn second<S: Store>(alloc: Global, store: &mut S, dead: bool) -> Result<Option<H
     Ok(write_two(alloc, store, 4, kept, was, fresh).ok())
 }
 
-/// The commit 4 of a segment of two rows that the commit 2 wrote, of which the first is dead now.
-fn killed<S: Store>(alloc: Global, store: &mut S) -> Result<Option<Head>, Fail> {
-    let segment = two_rows(alloc, live_of(alloc, 2, 4, true)?)?;
-    let was = written_with(alloc, 2, 2)?;
-    Ok(write_one(alloc, store, 4, &Fields::none(alloc), segment, was).ok())
+/// Writes a commit:
+/// - `first`, the commit 2 of one new segment of one row, with these pairs;
+/// - `second`, the commit 4 of that segment and of a new one, and `dead`, where the first one's row is dead;
+/// - `killed`, the commit 4 of a segment of two rows that the commit 2 wrote, of which the first is dead now.
+fn write_named<S: Store>(
+    alloc: Global,
+    store: &mut S,
+    commit: &str,
+    pairs: &Fields,
+) -> Result<Option<Head>, Fail> {
+    match commit {
+        "first" => {
+            let segment = one_row(alloc, 1, 1, live_of(alloc, 1, 2, false)?)?;
+            Ok(write_one(alloc, store, 2, pairs, segment, None).ok())
+        }
+        "killed" => {
+            let segment = two_rows(alloc, live_of(alloc, 2, 4, true)?)?;
+            let was = written_with(alloc, 2, 2)?;
+            Ok(write_one(alloc, store, 4, pairs, segment, was).ok())
+        }
+        _ => second(alloc, store, commit == "dead"),
+    }
 }
 
-/// Whether the file is there.
-fn has<S: Store>(alloc: Global, store: &mut S, name: FileName) -> bool {
-    matches!(store.read(alloc, name), Ok(Some(_)))
-}
-
-/// The first of the files of the first commit that hasn't these bytes.
-fn first_other<S: Store>(alloc: Global, store: &mut S, bytes: Bytes<'_>) -> Option<FileName> {
-    for (name, bytes) in [
-        (FileName::Commit(2), bytes.commit),
-        (FileName::Rows(1), bytes.rows),
-        (FileName::Posts(1), bytes.posts),
-        (FileName::Live(1, 2), bytes.live),
-        (FileName::Values(1, 2), bytes.values),
-    ] {
-        if !holds(alloc, store, name, bytes) {
-            return Some(name);
+/// How many calls of an empty store a commit takes. With fewer it isn't written.
+fn calls_of(alloc: Global, commit: &str) -> Result<u64, Fail> {
+    for passes in 0..20u64 {
+        let mut store = FuseStore::new(SteadyStore::new(alloc), passes);
+        if write_named(alloc, &mut store, commit, &Fields::none(alloc))?.is_some() {
+            return Ok(passes);
         }
     }
-    None
+    Ok(20)
 }
 
-/// Whether the file has these bytes.
-fn holds<S: Store>(alloc: Global, store: &mut S, name: FileName, bytes: &[u8]) -> bool {
-    match store.read(alloc, name) {
-        Ok(Some(found)) => found.as_slice() == bytes,
-        _ => false,
-    }
+/// Writes a commit, and appends what it says and how many calls it takes.
+fn put_write<S: Store>(
+    alloc: Global,
+    out: &mut String,
+    store: &mut S,
+    commit: &str,
+) -> Result<(), Fail> {
+    let head = write_named(alloc, store, commit, &Fields::none(alloc))?.ok_or("memory")?;
+    put_head(out, &head)?;
+    write!(out, " {} calls", calls_of(alloc, commit)?)?;
+    Ok(())
 }
 
-/// A commit: its number, rows and next id, and of each segment the id, the rows, and which commit
-/// wrote its live docs. Then how many files there are.
-fn listed<S: Store>(alloc: Global, store: &mut S, head: &Head) -> Result<String, Fail> {
-    let mut out = String::new(alloc);
-    write!(out, "{} {} {}:", head.number, head.docs, head.next_id)?;
-    for segment in head.segments.as_slice() {
-        write!(out, " {} {} {};", segment.id, segment.rows, segment.written)?;
+/// Appends the names of the files that are there.
+fn put_names<S: Store>(alloc: Global, out: &mut String, store: &mut S) -> Result<(), Fail> {
+    let mut names = store.list(alloc)?;
+    names.sort_unstable();
+    for name in &names {
+        write!(out, " {}", name.text().as_str())?;
     }
-    write!(out, " {} files", store.list(alloc)?.len())?;
-    Ok(out)
+    Ok(())
+}
+
+/// What comes of writing these commits, one after another: what the last one says, the calls that it
+/// takes, and the files that are there then.
+fn told_writes(alloc: Global, commits: &str) -> Result<String, Fail> {
+    let mut store = SteadyStore::new(alloc);
+    let mut told = String::new(alloc);
+    for commit in commits.split(' ') {
+        told.clear();
+        put_write(alloc, &mut told, &mut store, commit)?;
+    }
+    put_names(alloc, &mut told, &mut store)?;
+    Ok(told)
+}
+
+/// Commits, one after another, and what comes of them. The first one writes and syncs four files and the
+/// pending one, renames that, and syncs the directory. Of the second nothing is written of the segment
+/// that is as it was. Where a row was killed, live bits and set numbers alone are written. A segment
+/// without a live row isn't listed.
+const WRITES: &str = "\
+first: 2 1 2 Second: 1 1 2; 12 calls segments_2 seg_1.row seg_1.pst seg_1_2.liv seg_1_2.val
+first second: 4 2 3 Second: 1 1 2; 2 1 4; 12 calls segments_2 segments_4 \
+    seg_1.row seg_2.row seg_1.pst seg_2.pst seg_1_2.liv seg_2_4.liv seg_1_2.val seg_2_4.val
+killed: 4 1 2 Second: 1 2 4; 8 calls segments_4 seg_1_4.liv seg_1_4.val
+dead: 4 1 3 Second: 2 1 4; 12 calls segments_4 seg_2.row seg_2.pst seg_2_4.liv seg_2_4.val";
+
+#[test]
+fn commits_their_calls_and_their_files(rt: HostRuntime) -> Result<(), Fail> {
+    for line in WRITES.lines() {
+        let (commits, want) = line.split_once(": ").ok_or("no commit")?;
+        assert!(rt;
+            told_writes(rt.alloc(), commits)?.as_str() == want,
+            "{commits}"
+        );
+    }
+    Ok(())
+}
+
+/// Whether the store has this file, byte for byte.
+fn has<S: Store>(alloc: Global, store: &mut S, file: &str) -> Result<bool, Fail> {
+    let (name, fields) = file.split_once(' ').ok_or("no file")?;
+    let found = store.read(alloc, FileName::parse(name).ok_or("no name")?)?;
+    let bytes = bytes_of(alloc, fields)?;
+    Ok(found.ok_or("no such file")?.as_slice() == bytes.as_slice())
 }
 
 #[test]
 fn a_first_commit_byte_for_byte(rt: HostRuntime) -> Result<(), Fail> {
     let alloc = rt.alloc();
     let mut store = SteadyStore::new(alloc);
-    let head = first(alloc, &mut store)?.ok_or("memory")?;
-    let listed = listed(alloc, &mut store, &head)?;
-    assert!(rt; listed.as_str() == "2 1 2: 1 1 2; 5 files");
-    let files = exchanged(small(), FileName::Commit(2), &SECOND_COMMIT);
-    assert!(rt; first_other(alloc, &mut store, files) == None);
+    write_named(alloc, &mut store, "first", &Fields::none(alloc))?.ok_or("memory")?;
+    assert!(rt; has(alloc, &mut store, SECOND)?);
+    for file in SMALL.lines() {
+        assert!(rt; has(alloc, &mut store, file)?, "{file}");
+    }
     Ok(())
+}
+
+/// The pairs of the commit file that has some.
+fn some_pairs(alloc: Global) -> Result<Fields, Fail> {
+    let (_, fields) = PAIRS.split_once(' ').ok_or("no file")?;
+    Ok(decode_commit(alloc, &bytes_of(alloc, fields)?, 2)?.pairs)
+}
+
+/// What the commit file of the store says.
+fn said_of_head<S: Store>(alloc: Global, store: &mut S) -> Result<String, Fail> {
+    let mut said = String::new(alloc);
+    put_head(&mut said, &head(alloc, store, 2)?)?;
+    Ok(said)
 }
 
 /// The pairs of a commit are read back from its file, and the commit is whole with them.
@@ -233,99 +286,9 @@ fn a_first_commit_byte_for_byte(rt: HostRuntime) -> Result<(), Fail> {
 fn pairs_are_read_back(rt: HostRuntime) -> Result<(), Fail> {
     let alloc = rt.alloc();
     let mut store = SteadyStore::new(alloc);
-    let given = with_pairs(alloc).ok_or("the bytes are a commit file")?;
-    first_with(alloc, &mut store, &given)?.ok_or("memory")?;
-    let found = head(alloc, &mut store, 2)
-        .ok()
-        .ok_or("the commit is there")?;
-    let pairs = found.pairs.as_slice();
-    assert!(rt; pairs.len() == 2);
-    assert!(rt; (pairs[0].0.as_str(), pairs[0].1.as_str()) == ("key", "x"));
-    assert!(rt; (pairs[1].0.as_str(), pairs[1].1.as_str()) == ("s", ""));
+    write_named(alloc, &mut store, "first", &some_pairs(alloc)?)?.ok_or("memory")?;
+    let said = said_of_head(alloc, &mut store)?;
+    assert!(rt; said.as_str() == "2 1 2 Second: 1 1 2; key=x s=");
     assert!(rt; open_commit(alloc, &mut store, 2).is_ok());
-    Ok(())
-}
-
-/// It writes and syncs four files and the pending one, renames that, and syncs the directory.
-#[test]
-fn a_first_commit_takes_twelve_calls(rt: HostRuntime) -> Result<(), Fail> {
-    let alloc = rt.alloc();
-    for (passes, done) in [(11, false), (12, true)] {
-        let mut store = FuseStore::new(SteadyStore::new(alloc), passes);
-        assert!(rt; first(alloc, &mut store)?.is_some() == done);
-    }
-    Ok(())
-}
-
-/// Nothing is written of a segment that is as it was.
-#[test]
-fn a_second_commit_takes_twelve_calls(rt: HostRuntime) -> Result<(), Fail> {
-    let alloc = rt.alloc();
-    for (passes, done) in [(11, false), (12, true)] {
-        let mut store = FuseStore::new(SteadyStore::new(alloc), passes);
-        assert!(rt; second(alloc, &mut store, false)?.is_some() == done);
-    }
-    Ok(())
-}
-
-/// Whether all of these files are there.
-fn has_all<S: Store>(alloc: Global, store: &mut S, names: &[FileName]) -> bool {
-    for name in names {
-        if !has(alloc, store, *name) {
-            return false;
-        }
-    }
-    true
-}
-
-#[test]
-fn a_second_commit_writes_the_new_segment(rt: HostRuntime) -> Result<(), Fail> {
-    let alloc = rt.alloc();
-    let mut store = SteadyStore::new(alloc);
-    first(alloc, &mut store)?.ok_or("memory")?;
-    let head = second(alloc, &mut store, false)?.ok_or("memory")?;
-    let listed = listed(alloc, &mut store, &head)?;
-    assert!(rt; listed.as_str() == "4 2 3: 1 1 2; 2 1 4; 10 files");
-    let written = [
-        FileName::Rows(2),
-        FileName::Posts(2),
-        FileName::Live(2, 4),
-        FileName::Values(2, 4),
-    ];
-    assert!(rt; has_all(alloc, &mut store, &written));
-    Ok(())
-}
-
-/// Live bits and set numbers alone are written where a row is dead now.
-#[test]
-fn a_killed_row_takes_eight_calls(rt: HostRuntime) -> Result<(), Fail> {
-    let alloc = rt.alloc();
-    for (passes, done) in [(7, false), (8, true)] {
-        let mut store = FuseStore::new(SteadyStore::new(alloc), passes);
-        assert!(rt; killed(alloc, &mut store)?.is_some() == done);
-    }
-    Ok(())
-}
-
-#[test]
-fn a_killed_row_is_written_alone(rt: HostRuntime) -> Result<(), Fail> {
-    let alloc = rt.alloc();
-    let mut store = SteadyStore::new(alloc);
-    let head = killed(alloc, &mut store)?.ok_or("memory")?;
-    let listed = listed(alloc, &mut store, &head)?;
-    assert!(rt; listed.as_str() == "4 1 2: 1 2 4; 3 files");
-    let written = [FileName::Live(1, 4), FileName::Values(1, 4)];
-    assert!(rt; has_all(alloc, &mut store, &written));
-    Ok(())
-}
-
-#[test]
-fn a_segment_without_a_live_row_is_not_listed(rt: HostRuntime) -> Result<(), Fail> {
-    let alloc = rt.alloc();
-    let mut store = SteadyStore::new(alloc);
-    let head = second(alloc, &mut store, true)?.ok_or("memory")?;
-    let listed = listed(alloc, &mut store, &head)?;
-    assert!(rt; listed.as_str() == "4 1 3: 2 1 4; 5 files");
-    assert!(rt; !has(alloc, &mut store, FileName::Live(1, 4)));
     Ok(())
 }

@@ -28,7 +28,7 @@ mod tests;
 #[cfg(test)]
 mod tests_beside;
 #[cfg(test)]
-mod tests_check;
+mod tests_calls;
 #[cfg(test)]
 mod tests_commands;
 #[cfg(test)]
@@ -48,11 +48,7 @@ mod tests_operations;
 #[cfg(test)]
 mod tests_program;
 #[cfg(test)]
-mod tests_ranges;
-#[cfg(test)]
 mod tests_refusals;
-#[cfg(test)]
-mod tests_rounds;
 #[cfg(test)]
 mod tests_stops;
 #[cfg(test)]

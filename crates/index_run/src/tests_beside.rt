@@ -1,12 +1,11 @@
 //! Commits that are written while the workers of the next round run.
-use crate::tests::{
-    ADD_A1, ADD_A2, COMMIT, Done, ended, one_document, run_script, run_watched, run_words,
-};
+use crate::tests::{ended, run_watched};
 use crate::tests_fold::check_run;
+use crate::tests_threads::lines_of;
 use ix_base::FileName;
 use ix_memory::MemoryStore;
 use ix_outside::{Gate, Store, StoreFault};
-use plain_fold::{Act, Kept, Leaf, Line, Options, Query, Term, document_of};
+use plain_fold::{Kept, Options};
 use std::alloc::Global;
 use std::sync::Arc;
 use std::sync::atomic::{AtomicU64, Ordering};
@@ -16,21 +15,27 @@ use std::thread;
 /// How often a wait looks before it is over.
 const MOST_TURNS: u64 = 4_000_000;
 
-/// Hears of a store's calls before they are done.
-trait Watch: Drop {
-    fn before_sync(&self);
+/// A document, a commit, and a document behind it.
+const SCRIPT: &str = r#"{"c":0,"op":"add","doc":{"key":"a1"}}
+{"c":0,"op":"commit"}
+{"c":0,"op":"add","doc":{"key":"a2"}}
+"#;
 
-    fn before_rename(&self);
-}
+const REPORT: &str = r#"{"line":1,"seq":1}
+{"docs":1,"line":2,"seq":2}
+{"line":3,"seq":3}
+"#;
 
-/// A store whose calls are watched. It tells nothing of what it holds.
+/// A store whose renames meet a line, and of whose syncs each lets other threads go on for so many turns.
+/// It tells nothing of what it holds.
 #[derive(Drop)]
-struct WatchedStore<W> {
+struct WatchedStore {
     inner: MemoryStore,
-    watch: Arc<W>,
+    meeting: Arc<Meeting>,
+    slow: u64,
 }
 
-impl<W: Watch> Store for WatchedStore<W> {
+impl Store for WatchedStore {
     ghost use Rattle.std.specs.Prelude.{None};
 
     ghost disk = { λ _. None };
@@ -50,12 +55,15 @@ impl<W: Watch> Store for WatchedStore<W> {
     }
 
     fn sync(&mut self, name: FileName) -> Result<(), StoreFault> {
-        self.watch.before_sync();
+        for _ in 0..self.slow {
+            thread::yield_now();
+        }
         self.inner.sync(name)
     }
 
     fn rename(&mut self, from: FileName, to: FileName) -> Result<(), StoreFault> {
-        self.watch.before_rename();
+        self.meeting.renamed.fetch_add(1, Ordering::SeqCst);
+        self.meeting.wait_for(&self.meeting.told);
         self.inner.rename(from, to)
     }
 
@@ -83,21 +91,14 @@ struct Meeting {
 }
 
 impl Meeting {
-    fn new() -> Meeting {
+    /// A meeting of which line 3 was told so often.
+    fn new(told: u64) -> Meeting {
         Meeting {
             tried: AtomicU64::new(0),
             renamed: AtomicU64::new(0),
-            told: AtomicU64::new(0),
+            told: AtomicU64::new(told),
             late: AtomicU64::new(0),
         }
-    }
-
-    /// How often line 3 was tried before it was told, how often there was a rename, and whether one of
-    /// them waited in vain.
-    fn heard(&self) -> (u64, u64, bool) {
-        let told = self.told.load(Ordering::SeqCst);
-        let is_late = self.late.load(Ordering::SeqCst) != 0;
-        (told, self.renamed.load(Ordering::SeqCst), is_late)
     }
 
     /// Waits until the number isn't 0, for so many turns at most.
@@ -128,64 +129,30 @@ impl Gate for Meeting {
     }
 }
 
-impl Watch for Meeting {
-    fn before_sync(&self) {}
-
-    fn before_rename(&self) {
-        self.renamed.fetch_add(1, Ordering::SeqCst);
-        self.wait_for(&self.told);
-    }
-}
-
 /// A commit is written while a worker of the next round runs: its rename waits for the line behind it,
-/// and the line for the rename. Where the workers wait for the commit, or it for them, one is late.
+/// and the line for the rename. Where the workers wait for the commit, or it for them, one is late. Line 3
+/// is tried once before it is told, and there is one rename.
 #[test]
 fn commit_beside_round(rt: HostRuntime) -> Result<(), Fail> {
-    let alloc = rt.alloc();
-    let meeting = Arc::new(alloc, Meeting::new())?;
+    let meeting = Arc::new(rt.alloc(), Meeting::new(0))?;
     let store = WatchedStore {
-        inner: MemoryStore::new(alloc),
-        watch: Arc::try_clone(&meeting)?,
+        inner: MemoryStore::new(rt.alloc()),
+        meeting: Arc::try_clone(&meeting)?,
+        slow: 0,
     };
-    let script = [ADD_A1, COMMIT, ADD_A2];
-    let done = run_watched(&rt, alloc, "1", &script, store, &*meeting)?;
-    assert!(rt; meeting.heard() == (1, 1, false));
-    let report =
-        "{\"line\":1,\"seq\":1}\n{\"docs\":1,\"line\":2,\"seq\":2}\n{\"line\":3,\"seq\":3}\n";
-    let _store = ended(&rt, done, 0, report);
+    let done = run_watched(&rt, "run --threads 1", SCRIPT.as_bytes(), store, &*meeting)?;
+    let _store = ended(&rt, done, 0, REPORT);
+    assert!(rt; meeting.told.load(Ordering::SeqCst) == 1);
+    assert!(rt; meeting.renamed.load(Ordering::SeqCst) == 1);
+    assert!(rt; meeting.late.load(Ordering::SeqCst) == 0);
     Ok(())
-}
-
-/// Each sync lets other threads go on for many turns.
-#[derive(Drop)]
-struct Slow;
-
-impl Watch for Slow {
-    fn before_sync(&self) {
-        for _ in 0..400u64 {
-            thread::yield_now();
-        }
-    }
-
-    fn before_rename(&self) {}
 }
 
 /// Sixteen callers, each by a worker of its own, over a store whose syncs take long: 320 lines, in which
 /// 32 commits end their rounds. The report is the one that is folded from its numbers.
 #[test]
 fn sixteen_beside_slow_syncs(rt: HostRuntime) -> Result<(), Fail> {
-    let alloc = rt.alloc();
-    let mut lines = Vec::new(alloc);
-    for at in 0..320u64 {
-        let act = match at / 16 % 10 {
-            4 => Act::Delete(Term::Key((at + 3) % 48)),
-            7 => Act::Commit,
-            8 => Act::Search(Query::One(Leaf::All)),
-            _ => Act::Add(document_of(at % 48)),
-        };
-        let caller = at % 16;
-        lines.push(Line { caller, act })?;
-    }
+    let lines = lines_of(rt.alloc(), 16, 320, "aaaa3aacsa")?;
     let options = Options {
         case: 16,
         threads: 16,
@@ -194,40 +161,13 @@ fn sixteen_beside_slow_syncs(rt: HostRuntime) -> Result<(), Fail> {
     };
     let nothing = Kept {
         number: 0,
-        documents: Vec::new(alloc),
+        documents: Vec::new(rt.alloc()),
     };
     let store = WatchedStore {
-        inner: MemoryStore::new(alloc),
-        watch: Arc::new(alloc, Slow)?,
+        inner: MemoryStore::new(rt.alloc()),
+        meeting: Arc::new(rt.alloc(), Meeting::new(1))?,
+        slow: 400,
     };
-    let _left = check_run(&rt, alloc, options, lines.as_slice(), &nothing, store)?;
-    Ok(())
-}
-
-/// The second sync of a second session fails, while a line behind its commit is told or where there is
-/// none: the run ends with the store's fault, and the first session's commit stays alone.
-#[test]
-fn a_commit_that_fails(rt: HostRuntime) -> Result<(), Fail> {
-    let alloc = rt.alloc();
-    let behind: [&[&str]; 2] = [&[ADD_A2, COMMIT], &[ADD_A2, COMMIT, ADD_A1]];
-    for script in behind {
-        // The list, five reads, the writes of the segment's four files and the sync of its rows come
-        // before.
-        let calls = vec![in alloc; 12u64]?;
-        let store = one_document(&rt, alloc)?.failing(calls);
-        let done = run_script(&rt, alloc, script, store)?;
-        let store = ended(&rt, done, 7, "{\"status\":7,\"why\":\"store\"}\n");
-        let none = Vec::new(alloc);
-        let listed: Done<MemoryStore> = run_words(
-            &rt,
-            alloc,
-            &["list"],
-            &[],
-            store,
-            none,
-            Vec::new(alloc),
-        )?;
-        let _store = ended(&rt, listed, 0, "{\"commit\":2,\"docs\":1}\n");
-    }
+    let _left = check_run(&rt, options, lines.as_slice(), &nothing, store)?;
     Ok(())
 }

@@ -1,7 +1,6 @@
 //! Many small runs whose scripts are drawn from a seed: each case has two or three of them over one
 //! store, and each of their reports is folded from its numbers on a plain list of documents.
-use crate::tests::{Done, run_words};
-use ix_base::NoMemory;
+use crate::tests::{EVERYTHING, Outside, run};
 use ix_memory::MemoryStore;
 use ix_outside::Store;
 use plain_fold::{
@@ -9,25 +8,7 @@ use plain_fold::{
     numbers_in, report_of, script_of,
 };
 use std::alloc::Global;
-use std::sync::Wait;
 use std::test::*;
-use std::thread::Threads;
-
-/// A run of the script over the store, with these options.
-fn run_with<R: Threads + Wait + Sync, S: Store>(
-    rt: &R,
-    alloc: Global,
-    options: Options,
-    script: &str,
-    store: S,
-) -> Result<Done<S>, NoMemory> {
-    let threads = format!(in alloc; "--threads={}", options.threads)?;
-    let buffer = format!(in alloc; "--buffer={}", options.buffer)?;
-    let merge = format!(in alloc; "--merge={}", options.merge)?;
-    let words = ["run", threads.as_str(), buffer.as_str(), merge.as_str()];
-    let none = Vec::new(alloc);
-    run_words(rt, alloc, &words, &[script], store, none, Vec::new(alloc))
-}
 
 /// Compares the report of a run with the one that is folded from its numbers. Returns the last commit
 /// after it.
@@ -47,16 +28,19 @@ fn check_report(
 
 /// Runs the lines over the store, whose last commit this is, and compares the whole report with the one
 /// that is folded from its numbers. Returns the last commit after it, and the store.
-pub(crate) fn check_run<R: Threads + Wait + Sync, S: Store>(
+pub(crate) fn check_run<R: Outside, S: Store>(
     rt: &R,
-    alloc: Global,
     options: Options,
     lines: &[Line],
     begun: &Kept,
     store: S,
 ) -> Result<(Kept, S), Fail> {
-    let script = script_of(alloc, lines)?;
-    let done = run_with(rt, alloc, options, script.as_str(), store)?;
+    let (threads, buffer, merge) = (options.threads, options.buffer, options.merge);
+    let words = format!(in rt.alloc();
+        "run --threads={threads} --buffer={buffer} --merge={merge}"
+    )?;
+    let script = script_of(rt.alloc(), lines)?;
+    let done = run(rt, words.as_str(), script.as_bytes(), store)?;
     let report = str::from_utf8(done.written.as_slice())
         .ok()
         .ok_or("no text")?;
@@ -64,35 +48,25 @@ pub(crate) fn check_run<R: Threads + Wait + Sync, S: Store>(
         let case = options.case;
         return Err(Fail::new(format_args!("case {case}: stopped with {report}")));
     }
-    let last = check_report(alloc, options, lines, begun, report)?;
+    let last = check_report(rt.alloc(), options, lines, begun, report)?;
     Ok((last, done.store))
 }
 
 /// Asks by these words for all documents of a commit, and compares the answer. Returns the store.
-fn check_asked<R: Threads + Wait + Sync>(
+fn check_asked<R: Outside>(
     rt: &R,
-    alloc: Global,
     case: u64,
-    words: &[&str],
+    words: &str,
     commit: &Kept,
     store: MemoryStore,
 ) -> Result<MemoryStore, Fail> {
-    let none = Vec::new(alloc);
-    let done = run_words(
-        rt,
-        alloc,
-        words,
-        &["\"all\"\n"],
-        store,
-        none,
-        Vec::new(alloc),
-    )?;
+    let done = run(rt, words, EVERYTHING.as_bytes(), store)?;
     let answer = str::from_utf8(done.written.as_slice())
         .ok()
         .ok_or("no text")?;
     let wanted = match commit.number {
-        0 => String::from_str(alloc, "{\"commit\":0,\"status\":9}\n")?,
-        _ => answer_text(alloc, commit, Query::One(Leaf::All), 1)?,
+        0 => String::from_str(rt.alloc(), "{\"commit\":0,\"status\":9}\n")?,
+        _ => answer_text(rt.alloc(), commit, Query::One(Leaf::All), 1)?,
     };
     compare(case, answer, wanted.as_str())?;
     Ok(done.store)
@@ -100,12 +74,8 @@ fn check_asked<R: Threads + Wait + Sync>(
 
 /// The runs of a case over one store. Then each of their last commits is asked for: the last one
 /// without its number, those before by it.
-fn check_case<R: Threads + Wait + Sync>(
-    rt: &R,
-    alloc: Global,
-    case: u64,
-    threads: &[u64],
-) -> Result<(), Fail> {
+fn check_case<R: Outside>(rt: &R, case: u64, threads: &[u64]) -> Result<(), Fail> {
+    let alloc = rt.alloc();
     let mut draws = Draws::new(case);
     let mut store = MemoryStore::new(alloc);
     let mut last = Kept {
@@ -117,41 +87,25 @@ fn check_case<R: Threads + Wait + Sync>(
         let options = draws.options(case, threads);
         let lines = draws.lines(alloc)?;
         let begun = last;
-        (last, store) = check_run(rt, alloc, options, lines.as_slice(), &begun, store)?;
+        (last, store) = check_run(rt, options, lines.as_slice(), &begun, store)?;
         before.push(begun)?;
     }
-    store = check_asked(rt, alloc, case, &["ask"], &last, store)?;
+    store = check_asked(rt, case, "ask", &last, store)?;
     for commit in before.iter() {
-        let number = commit.number;
-        let option = format!(in alloc; "--commit={number}")?;
-        store = check_asked(rt, alloc, case, &["ask", option.as_str()], commit, store)?;
+        let words = format!(in alloc; "ask --commit={}", commit.number)?;
+        store = check_asked(rt, case, words.as_str(), commit, store)?;
     }
     Ok(())
 }
 
-/// Runs by one thread, in which the numbers follow the lines.
+/// Runs by one thread, in which the numbers follow the lines; by two to four; and by one and several over
+/// one store.
 #[test]
-fn by_one_thread(rt: HostRuntime) -> Result<(), Fail> {
+fn by_one_thread_and_several(rt: HostRuntime) -> Result<(), Fail> {
     for case in 0..40 {
-        check_case(&rt, rt.alloc(), case, &[1])?;
-    }
-    Ok(())
-}
-
-/// Runs by two to four threads.
-#[test]
-fn by_several_threads(rt: HostRuntime) -> Result<(), Fail> {
-    for case in 40..80 {
-        check_case(&rt, rt.alloc(), case, &[2, 3, 4])?;
-    }
-    Ok(())
-}
-
-/// Runs by one thread and by several over one store.
-#[test]
-fn by_one_and_several(rt: HostRuntime) -> Result<(), Fail> {
-    for case in 80..120 {
-        check_case(&rt, rt.alloc(), case, &[1, 2, 4])?;
+        check_case(&rt, case, &[1])?;
+        check_case(&rt, case + 40, &[2, 3, 4])?;
+        check_case(&rt, case + 80, &[1, 2, 4])?;
     }
     Ok(())
 }

@@ -1,28 +1,26 @@
-//! Whole runs that are watched, and what they leave in the store.
-use crate::tests::{ADD_A1, COMMIT, run_script, run_watched};
-use ix_memory::{MemoryStore, RecordingGate};
-use ix_outside::Store;
-use std::alloc::Global;
-use std::sync::Wait;
+//! Whole runs that are watched line by line.
+use crate::tests::{ADD_A1, FIRST, Outside, ended, run, run_watched};
+use ix_memory::{CountingGate, MemoryStore, RecordingGate};
+use plain_fold::deletes_and_report;
 use std::test::*;
-use std::thread::Threads;
 
 /// A run that the recorder watches: an add, a term that is too long, a commit, a search and an add
 /// of another caller. It goes on from a commit that has the number 100.
-fn watched_run<R: Threads + Wait + Sync>(
-    rt: &R,
-    alloc: Global,
-    gate: &RecordingGate,
-) -> Result<u8, Fail> {
-    let adds = ADD_A1.repeat(alloc, 99)?;
-    let first = run_script(rt, alloc, &[adds.as_str(), COMMIT], MemoryStore::new(alloc))?;
+fn watched_run<R: Outside>(rt: &R, gate: &RecordingGate) -> Result<u8, Fail> {
+    let alloc = rt.alloc();
+    let adds = ADD_A1.repeat(alloc, 98)?;
+    let script = format!(in alloc; "{adds}{FIRST}")?;
+    let first = run(rt, "run", script.as_bytes(), MemoryStore::new(alloc))?;
     let letters = "a".repeat(alloc, 32767)?;
-    let script = [
-        "{\"c\":0,\"op\":\"add\",\"doc\":{\"key\":\"a1\"}}\n{\"c\":0,\"op\":\"add\",\"doc\":{\"key\":\"a2\",\"text\":{\"body\":\"",
-        letters.as_str(),
-        "\"}}}\n{\"c\":0,\"op\":\"commit\"}\n{\"c\":0,\"op\":\"search\",\"query\":\"all\"}\n{\"c\":1,\"op\":\"add\",\"doc\":{\"key\":\"b1\"}}\n",
-    ];
-    Ok(run_watched(rt, alloc, "1", &script, first.store, gate)?.status)
+    let script = format!(in alloc;
+        r#"{ADD_A1}{{"c":0,"op":"add","doc":{{"key":"a2","text":{{"body":"{letters}"}}}}}}
+{{"c":0,"op":"commit"}}
+{{"c":0,"op":"search","query":"all"}}
+{{"c":1,"op":"add","doc":{{"key":"b1"}}}}
+"#
+    )?;
+    let words = "run --threads 1";
+    Ok(run_watched(rt, words, script.as_bytes(), first.store, gate)?.status)
 }
 
 /// The gate hears of each write and commit line before it is tried, and of each number once: not of
@@ -30,7 +28,7 @@ fn watched_run<R: Threads + Wait + Sync>(
 #[test]
 fn the_gate_hears_of_each_line(rt: HostRuntime) -> Result<(), Fail> {
     let gate = RecordingGate::new();
-    assert!(rt; watched_run(&rt, rt.alloc(), &gate)? == 0);
+    assert!(rt; watched_run(&rt, &gate)? == 0);
     assert!(rt; gate.count() == 7);
     let heard = [
         (1, 0),
@@ -48,27 +46,15 @@ fn the_gate_hears_of_each_line(rt: HostRuntime) -> Result<(), Fail> {
     Ok(())
 }
 
-/// A run without a commit leaves no file, an empty commit one, and a commit with rows five.
+/// More deletes than one writer's part of a queue holds: the numbers run on without a gap, and the gate
+/// hears twice of the line that found no room before it is tried, and of each other line once.
 #[test]
-fn files_of_a_run(rt: HostRuntime) -> Result<(), Fail> {
-    let alloc = rt.alloc();
-    let cases: [(&[&str], usize); 5] = [
-        (&[], 0),
-        (&["{\"c\":0,\"op\":\"add\",\"doc\":{\"key\":\"a1\"}}\n"], 0),
-        (&["{\"c\":0,\"op\":\"commit\"}\n"], 1),
-        (
-            &["{\"c\":0,\"op\":\"add\",\"doc\":{\"key\":\"a1\"}}\n{\"c\":0,\"op\":\"commit\"}\n"],
-            5,
-        ),
-        (
-            &["{\"c\":0,\"op\":\"commit\"}\n{\"c\":256,\"op\":\"commit\"}"],
-            0,
-        ),
-    ];
-    for (script, files) in cases {
-        let mut done = run_script(&rt, alloc, script, MemoryStore::new(alloc))?;
-        let names = done.store.list(alloc).ok().ok_or("a list that fails")?;
-        assert!(rt; names.len() == files);
-    }
+fn more_than_one_round_holds(rt: HostRuntime) -> Result<(), Fail> {
+    let gate = CountingGate::new(4161);
+    let (script, report) = deletes_and_report(rt.alloc())?;
+    let store = MemoryStore::new(rt.alloc());
+    let done = run_watched(&rt, "run --threads 4", script.as_bytes(), store, &gate)?;
+    let _store = ended(&rt, done, 0, report.as_str());
+    assert!(rt; gate.counts() == (2, 1) && gate.all() == 4163);
     Ok(())
 }

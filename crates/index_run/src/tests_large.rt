@@ -1,8 +1,8 @@
 //! Large runs. One has 2,000 documents and two files of a megabyte; its report is computed from the
 //! numbers of its lines, and is the same where all documents are merged into one segment. One has a
-//! document of 3,600 names, one 300 commits, one 300 segments, and one 10,000 documents, of which
+//! document of 3,600 names, one 300 segments, and one 10,000 documents, of which
 //! 300 queries delete 3,000.
-use crate::tests::{ADD_A1, ALL, COMMIT, ended, run_script, run_words};
+use crate::tests::{EVERYTHING, FIRST, Outside, ended, run};
 use commit_point::head;
 use ix_base::FileName;
 use ix_memory::MemoryStore;
@@ -11,35 +11,29 @@ use plain_fold::{
     TwoRuns, asked_four_times, members, script_and_report, script_of_names, ten_thousand,
     three_hundred,
 };
-use std::alloc::Global;
-use std::process::Abort;
-use std::sync::Wait;
 use std::test::*;
-use std::thread::Threads;
-
-/// How many bytes the rows of a segment have.
-fn bytes_of_rows(alloc: Global, store: &mut MemoryStore, id: u64) -> Result<usize, Fail> {
-    let rows = store.read(alloc, FileName::Rows(id));
-    let rows = rows.ok().ok_or("a read that fails")?;
-    Ok(rows.ok_or("an absent file")?.len())
-}
 
 /// The report, a file of more than a megabyte, and answers of more than 200,000 bytes.
 #[test]
 fn many_documents(rt: HostRuntime) -> Result<(), Fail> {
-    let alloc = rt.alloc();
-    let (script, report) = script_and_report(alloc)?;
-    let done = run_script(&rt, alloc, &[script.as_str()], MemoryStore::new(alloc))?;
+    let (script, report) = script_and_report(rt.alloc())?;
+    let store = MemoryStore::new(rt.alloc());
+    let done = run(&rt, "run --threads 1", script.as_bytes(), store)?;
     let mut store = ended(&rt, done, 0, report.as_str());
-    assert!(rt;
-        bytes_of_rows(alloc, &mut store, 2)? > 1_000_000,
-        "a small file"
-    );
-    let (questions, answers) = asked_four_times(alloc)?;
-    let (none, input) = (Vec::new(alloc), [questions.as_str()]);
-    let asked = run_words(&rt, alloc, &["ask"], &input, store, none, Vec::new(alloc))?;
+    let rows = store
+        .read(rt.alloc(), FileName::Rows(2))?
+        .ok_or("an absent file")?;
+    assert!(rt; rows.len() > 1_000_000, "a small file");
+    let (questions, answers) = asked_four_times(rt.alloc())?;
+    let asked = run(&rt, "ask", questions.as_bytes(), store)?;
     let _store = ended(&rt, asked, 0, answers.as_str());
     Ok(())
+}
+
+/// How many segments the commit of this number has, and how many rows.
+fn sizes<R: Outside>(rt: &R, store: &mut MemoryStore, number: u64) -> Result<(usize, u64), Fail> {
+    let commit = head(rt.alloc(), store, number).ok().ok_or("a fault")?;
+    Ok((commit.segments.len(), commit.docs))
 }
 
 /// The same script with `--merge 2` and steps of up to 2,000 rows: the report is the same, and the later
@@ -47,17 +41,11 @@ fn many_documents(rt: HostRuntime) -> Result<(), Fail> {
 /// round.
 #[test]
 fn many_documents_merged(rt: HostRuntime) -> Result<(), Fail> {
-    let alloc = rt.alloc();
-    let (script, report) = script_and_report(alloc)?;
-    let words = ["run", "--threads", "1", "--buffer", "2000", "--merge", "2"];
-    let none = Vec::new(alloc);
-    let store = MemoryStore::new(alloc);
-    let script = [script.as_str()];
-    let done = run_words(&rt, alloc, &words, &script, store, none, Vec::new(alloc))?;
+    let (script, report) = script_and_report(rt.alloc())?;
+    let words = "run --threads 1 --buffer 2000 --merge 2";
+    let done = run(&rt, words, script.as_bytes(), MemoryStore::new(rt.alloc()))?;
     let mut store = ended(&rt, done, 0, report.as_str());
-    let last = head(alloc, &mut store, 2004).ok().ok_or("a fault")?;
-    assert!(rt; last.docs == 1998);
-    assert!(rt; last.segments.len() == 1);
+    assert!(rt; sizes(&rt, &mut store, 2004)? == (1, 1998));
     Ok(())
 }
 
@@ -66,12 +54,10 @@ fn many_documents_merged(rt: HostRuntime) -> Result<(), Fail> {
 fn many_names(rt: HostRuntime) -> Result<(), Fail> {
     let alloc = rt.alloc();
     let num = members(alloc, "n", "-5")?;
-    let add = script_of_names(alloc, num.as_str())?;
-    let script = [add.as_str(), "{\"c\":0,\"op\":\"commit\"}\n"];
-    let first = run_script(&rt, alloc, &script, MemoryStore::new(alloc))?;
-    let search =
-        "{\"c\":0,\"op\":\"search\",\"query\":{\"bool\":{\"must\":[{\"phrase\":[\"t2199\",\"a b\"]},{\"term\":[\"e2199\",\"x\"]}]}}}\n";
-    let second = run_script(&rt, alloc, &[search], first.store)?;
+    let mut script = script_of_names(alloc, num.as_str())?;
+    script.push_str("{\"c\":0,\"op\":\"commit\"}\n")?;
+    let first = run(&rt, "run", script.as_bytes(), MemoryStore::new(alloc))?;
+    let second = run(&rt, "run", BY_NAMES.as_bytes(), first.store)?;
     let found = format!(in alloc;
         "{{\"commit\":2,\"hits\":[{{\"key\":\"m\",\"num\":{{{num}}}}}],\"line\":1}}\n"
     )?;
@@ -79,47 +65,31 @@ fn many_names(rt: HostRuntime) -> Result<(), Fail> {
     Ok(())
 }
 
-/// 300 commits; the next run begins on the last of them.
-#[test]
-fn many_commits(rt: HostRuntime) -> Result<(), Fail> {
-    let alloc = rt.alloc();
-    let commits = "{\"c\":0,\"op\":\"commit\"}\n".repeat(alloc, 300)?;
-    let script = [
-        "{\"c\":0,\"op\":\"add\",\"doc\":{\"key\":\"m\"}}\n",
-        commits.as_str(),
-    ];
-    let first = run_script(&rt, alloc, &script, MemoryStore::new(alloc))?;
-    let search = "{\"c\":0,\"op\":\"search\",\"query\":\"all\"}\n";
-    let second = run_script(&rt, alloc, &[search], first.store)?;
-    let found = "{\"commit\":301,\"hits\":[{\"key\":\"m\",\"num\":{}}],\"line\":1}\n";
-    let _store = ended(&rt, second, 0, found);
-    Ok(())
-}
+/// A search by the last names.
+const BY_NAMES: &str =
+    r#"{"c":0,"op":"search","query":{"bool":{"must":[{"phrase":["t2199","a b"]},{"term":["e2199","x"]}]}}}
+"#;
 
 /// Both runs of a script with these words, and a question for all documents, against what they are to
 /// write. Returns how many segments the commit of this number has, which the first run made.
-fn two_runs<R: Threads + Wait + Sync + Abort>(
+fn two_runs<R: Outside>(
     rt: &R,
-    alloc: Global,
-    first: &[&str],
-    second: &[&str],
+    first: &str,
+    second: &str,
     runs: &TwoRuns,
     number: u64,
 ) -> Result<usize, Fail> {
-    let (store, script) = (MemoryStore::new(alloc), [runs.script.as_str()]);
-    let (none, more) = (Vec::new(alloc), [ADD_A1, COMMIT, ALL]);
-    let done = run_words(rt, alloc, first, &script, store, none, Vec::new(alloc))?;
+    let done = run(
+        rt,
+        first,
+        runs.script.as_bytes(),
+        MemoryStore::new(rt.alloc()),
+    )?;
     let mut store = ended(rt, done, 0, runs.first.as_str());
-    let segments = head(alloc, &mut store, number)
-        .ok()
-        .ok_or("a fault")?
-        .segments
-        .len();
-    let none = Vec::new(alloc);
-    let done = run_words(rt, alloc, second, &more, store, none, Vec::new(alloc))?;
+    let (segments, _) = sizes(rt, &mut store, number)?;
+    let done = run(rt, second, FIRST.as_bytes(), store)?;
     let store = ended(rt, done, 0, runs.second.as_str());
-    let (none, input) = (Vec::new(alloc), ["\"all\"\n"]);
-    let done = run_words(rt, alloc, &["ask"], &input, store, none, Vec::new(alloc))?;
+    let done = run(rt, "ask", EVERYTHING.as_bytes(), store)?;
     let _store = ended(rt, done, 0, runs.answer.as_str());
     Ok(segments)
 }
@@ -129,16 +99,8 @@ fn two_runs<R: Threads + Wait + Sync + Abort>(
 #[test]
 fn many_segments(rt: HostRuntime) -> Result<(), Fail> {
     let runs = three_hundred(rt.alloc())?;
-    let first = ["run", "--threads", "1", "--buffer", "1", "--merge", "64"];
-    let segments = two_runs(
-        &rt,
-        rt.alloc(),
-        &first,
-        &["run", "--threads", "1"],
-        &runs,
-        301,
-    )?;
-    assert!(rt; segments == 300);
+    let first = "run --threads 1 --buffer 1 --merge 64";
+    assert!(rt; two_runs(&rt, first, "run --threads 1", &runs, 301)? == 300);
     Ok(())
 }
 
@@ -147,9 +109,7 @@ fn many_segments(rt: HostRuntime) -> Result<(), Fail> {
 #[test]
 fn many_operations(rt: HostRuntime) -> Result<(), Fail> {
     let runs = ten_thousand(rt.alloc())?;
-    let first = ["run", "--threads", "1", "--buffer", "6000"];
-    let second = ["run", "--threads", "1", "--merge", "4"];
-    let segments = two_runs(&rt, rt.alloc(), &first, &second, &runs, 10_345)?;
-    assert!(rt; segments == 3);
+    let (first, second) = ("run --threads 1 --buffer 6000", "run --threads 1 --merge 4");
+    assert!(rt; two_runs(&rt, first, second, &runs, 10_345)? == 3);
     Ok(())
 }

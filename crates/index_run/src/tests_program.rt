@@ -1,159 +1,180 @@
 //! The program over real directories: its statuses, and who may use a directory beside whom.
 use crate::program::run_program;
-use crate::tests::ADD_A1;
+use crate::tests::{FIRST, Outside, words_of};
+use crate::tests_calls::Call;
+use ix_base::NoMemory;
 use ix_memory::{MemorySink, MemorySource};
 use ix_outside::{DirStore, LockFile, Store};
-use std::alloc::Global;
 use std::io::{Eprint, Error, ErrorKind};
 use std::process::{ExitCode, Termination};
 use std::rt::Files;
-use std::sync::Wait;
-use std::thread::Threads;
+use std::test::*;
 use std::{fs, io};
 
-/// A line for each document of the last commit.
-const QUESTION: &str = "\"all\"\n";
-
-const SCRIPT: &str =
-    "{\"c\":0,\"op\":\"add\",\"doc\":{\"key\":\"a1\"}}\n{\"c\":0,\"op\":\"commit\"}\n{\"c\":0,\"op\":\"search\",\"query\":\"all\"}\n";
-
-const FIRST_REPORT: &str =
-    "{\"line\":1,\"seq\":1}\n{\"docs\":1,\"line\":2,\"seq\":2}\n{\"commit\":2,\"hits\":[{\"key\":\"a1\",\"num\":{}}],\"line\":3}\n";
-
-const ONE_HIT: &str = "{\"commit\":2,\"hits\":[{\"key\":\"a1\",\"num\":{}}],\"line\":1}\n";
-
-const ONE_COMMIT: &str = "{\"commit\":2,\"docs\":1}\n";
-
-const BAD_LINE: &str = "{\"line\":1,\"status\":3,\"why\":\"json\"}\n";
-
-const NO_WORDS: &str = "{\"status\":2,\"why\":\"words\"}\n";
-
-const NO_STORE: &str = "{\"status\":7,\"why\":\"store\"}\n";
-
-/// A new, empty directory at this path.
-fn make_directory(rt: &HostRuntime, path: &str) -> bool {
-    let _ = fs::remove_dir_all(rt, path);
-    fs::create_dir(rt, path).is_ok()
-}
-
-/// Whether the program with these words, parted by spaces, and this input ends with this status, and
-/// has written this.
-fn ends<R: Files + Threads + Wait + Sync + AllocGlobal + Clone + Drop + Eprint>(
-    rt: &R,
-    words: &str,
-    input: &[u8],
-    status: u8,
-    written: &str,
-) -> bool
-where
-    R::File: LockFile,
-{
-    match split(rt.alloc(), words) {
-        Some(words) => ends_with(rt, Ok(words), input, status, written),
-        None => false,
-    }
-}
-
-/// The words of the text, which are parted by spaces.
-fn split(alloc: Global, text: &str) -> Option<Vec<String>> {
-    let mut words = Vec::new(alloc);
-    for word in text.split_ascii_whitespace() {
-        words.push(String::from_str(alloc, word).ok()?).ok()?;
-    }
-    Some(words)
-}
-
-/// Whether the program with these words and this input ends with this status, and has written this.
-fn ends_with<R: Files + Threads + Wait + Sync + AllocGlobal + Clone + Drop + Eprint>(
+/// How the program with these words and this input ends, and what it has written.
+fn ends<R: Outside + Files + Clone + Drop + Eprint>(
     rt: &R,
     words: io::Result<Vec<String>>,
     input: &[u8],
-    status: u8,
-    written: &str,
-) -> bool
+) -> Result<(ExitCode, Vec<u8>), NoMemory>
 where
     R::File: LockFile,
 {
-    let alloc = rt.alloc();
-    let (Ok(input), Ok(mut sink)) = (input.to_vec(alloc), MemorySink::new(alloc, 10_000)) else {
-        return false;
-    };
-    let mut source = MemorySource::new(alloc, input);
+    let mut source = MemorySource::new(rt.alloc(), input.to_vec(rt.alloc())?);
+    let mut sink = MemorySink::new(rt.alloc(), 10_000)?;
     let end = run_program(rt, words, &mut source, &mut sink);
-    end.report(rt) == ExitCode::from(status) && sink.into_bytes().as_slice() == written.as_bytes()
+    Ok((end.report(rt), sink.into_bytes()))
 }
 
-#[test]
-fn statuses_of_the_program(rt: HostRuntime) {
-    assert!(rt; make_directory(&rt, "index_run_program"));
-    let cases: [(&str, &[u8], u8, &str); 9] = [
-        ("", b"", 2, ""),
-        ("index_run_program", SCRIPT.as_bytes(), 2, NO_WORDS),
-        ("index_run_program rum", SCRIPT.as_bytes(), 2, NO_WORDS),
-        ("index_run_program run", b"{\n", 3, BAD_LINE),
-        ("index_run_program run", SCRIPT.as_bytes(), 0, FIRST_REPORT),
-        ("index_run_program ask", QUESTION.as_bytes(), 0, ONE_HIT),
-        (
-            "index_run_program ask --commit 77",
-            QUESTION.as_bytes(),
-            9,
-            "{\"commit\":77,\"status\":9}\n",
-        ),
-        ("index_run_program list", b"", 0, ONE_COMMIT),
-        ("index_run_nowhere run", SCRIPT.as_bytes(), 7, NO_STORE),
-    ];
-    for (words, input, status, written) in cases {
-        assert!(rt; ends(&rt, words, input, status, written), "{words}");
+/// Calls the program as the text says, which has the marks of `tests_calls` that only a call's lines have, and `=`.
+fn hold<R: Outside + Files + Clone + Drop + Eprint>(rt: &R, text: &str) -> Result<(), Fail>
+where
+    R::File: LockFile,
+{
+    let mut call = Call::new(rt.alloc());
+    for line in text.lines() {
+        let (mark, rest) = line.split_once(' ').unwrap_or((line, ""));
+        if call.read(mark, rest)? {
+            continue;
+        }
+        let status = rest.parse::<u8>().ok().ok_or("another mark")?;
+        let words = words_of(rt.alloc(), call.words.as_str())?;
+        let (code, written) = ends(rt, Ok(words), call.input.as_slice())?;
+        assert!(*rt; code == ExitCode::from(status), "not {line}");
+        assert!(*rt; written.as_slice() == call.written.as_bytes(), "{line}");
     }
-    assert!(rt; fs::exists(&rt, "index_run_program/segments_2").is_ok_and(|there| there));
-    fs::remove_dir_all(&rt, "index_run_program").expect(&rt, "to remove it");
+    Ok(())
 }
 
+/// The words of a command, the status of which each call ends with, over a directory that is empty.
+const STATUSES: &str = r#"# No word, no command, and another one.
+$
+= 2
+$ index_run_program
+< {"c":0,"op":"add","doc":{"key":"a1"}}
+< {"c":0,"op":"commit"}
+< {"c":0,"op":"search","query":"all"}
+> {"status":2,"why":"words"}
+= 2
+$ index_run_program rum
+< {"c":0,"op":"add","doc":{"key":"a1"}}
+< {"c":0,"op":"commit"}
+< {"c":0,"op":"search","query":"all"}
+> {"status":2,"why":"words"}
+= 2
+# A bad line, and a good script.
+$ index_run_program run
+< {
+> {"line":1,"status":3,"why":"json"}
+= 3
+$ index_run_program run
+< {"c":0,"op":"add","doc":{"key":"a1"}}
+< {"c":0,"op":"commit"}
+< {"c":0,"op":"search","query":"all"}
+> {"line":1,"seq":1}
+> {"docs":1,"line":2,"seq":2}
+> {"commit":2,"hits":[{"key":"a1","num":{}}],"line":3}
+= 0
+# Questions about the last commit, and about one that isn't there; and a list.
+$ index_run_program ask
+< "all"
+> {"commit":2,"hits":[{"key":"a1","num":{}}],"line":1}
+= 0
+$ index_run_program ask --commit 77
+< "all"
+> {"commit":77,"status":9}
+= 9
+$ index_run_program list
+> {"commit":2,"docs":1}
+= 0
+# A directory that isn't there.
+$ index_run_nowhere run
+< {"c":0,"op":"add","doc":{"key":"a1"}}
+< {"c":0,"op":"commit"}
+< {"c":0,"op":"search","query":"all"}
+> {"status":7,"why":"store"}
+= 7
+"#;
+
 #[test]
-fn a_directory_that_another_run_uses(rt: HostRuntime) {
-    assert!(rt; make_directory(&rt, "index_run_locked"));
-    assert!(rt;
-        ends(
-            &rt,
-            "index_run_locked run",
-            SCRIPT.as_bytes(),
-            0,
-            FIRST_REPORT
-        )
+fn statuses_of_the_program(rt: HostRuntime) -> Result<(), Fail> {
+    let _ = fs::remove_dir_all(&rt, "index_run_program");
+    fs::create_dir(&rt, "index_run_program")?;
+    hold(&rt, STATUSES)?;
+    assert!(rt; fs::exists(&rt, "index_run_program/segments_2")?);
+    Ok(fs::remove_dir_all(&rt, "index_run_program")?)
+}
+
+/// A run, after which another process uses the directory.
+const BEFORE: &str = r#"$ index_run_locked run
+< {"c":0,"op":"add","doc":{"key":"a1"}}
+< {"c":0,"op":"commit"}
+< {"c":0,"op":"search","query":"all"}
+> {"line":1,"seq":1}
+> {"docs":1,"line":2,"seq":2}
+> {"commit":2,"hits":[{"key":"a1","num":{}}],"line":3}
+= 0
+"#;
+
+/// Calls meanwhile: words and lines are refused as ever, what writes finds no store, and what only reads
+/// answers.
+const MEANWHILE: &str = r#"$ index_run_locked rum
+> {"status":2,"why":"words"}
+= 2
+$ index_run_locked run
+< {
+> {"line":1,"status":3,"why":"json"}
+= 3
+$ index_run_locked run
+< {"c":0,"op":"add","doc":{"key":"a1"}}
+< {"c":0,"op":"commit"}
+< {"c":0,"op":"search","query":"all"}
+> {"status":7,"why":"store"}
+= 7
+$ index_run_locked make --seed 1 --lines 2 --callers 1
+> {"status":7,"why":"store"}
+= 7
+$ index_run_locked ask
+< "all"
+> {"commit":2,"hits":[{"key":"a1","num":{}}],"line":1}
+= 0
+$ index_run_locked list
+> {"commit":2,"docs":1}
+= 0
+"#;
+
+/// A run once it uses it no more.
+const AFTER: &str = r#"$ index_run_locked run
+< {"c":0,"op":"add","doc":{"key":"a1"}}
+> {"line":1,"seq":3}
+= 0
+"#;
+
+#[test]
+fn a_directory_that_another_run_uses(rt: HostRuntime) -> Result<(), Fail> {
+    let _ = fs::remove_dir_all(&rt, "index_run_locked");
+    fs::create_dir(&rt, "index_run_locked")?;
+    hold(&rt, BEFORE)?;
+    let mut other = DirStore::new(
+        rt.clone()?,
+        String::from_str(rt.alloc(), "index_run_locked")?,
     );
-    let path = String::from_str(rt.alloc(), "index_run_locked").expect(&rt, "memory");
-    let mut other = DirStore::new(rt.clone().expect(&rt, "memory"), path);
     assert!(rt; other.list(rt.alloc()).is_ok());
-    let cases: [(&str, &[u8], u8, &str); 6] = [
-        ("index_run_locked rum", b"", 2, NO_WORDS),
-        ("index_run_locked run", b"{\n", 3, BAD_LINE),
-        ("index_run_locked run", SCRIPT.as_bytes(), 7, NO_STORE),
-        (
-            "index_run_locked make --seed 1 --lines 2 --callers 1",
-            b"",
-            7,
-            NO_STORE,
-        ),
-        ("index_run_locked ask", QUESTION.as_bytes(), 0, ONE_HIT),
-        ("index_run_locked list", b"", 0, ONE_COMMIT),
-    ];
-    for (words, input, status, written) in cases {
-        assert!(rt; ends(&rt, words, input, status, written), "{words}");
-    }
+    hold(&rt, MEANWHILE)?;
     drop(other);
-    let next = "{\"line\":1,\"seq\":3}\n";
-    assert!(rt; ends(&rt, "index_run_locked run", ADD_A1.as_bytes(), 0, next));
-    fs::remove_dir_all(&rt, "index_run_locked").expect(&rt, "to remove it");
+    hold(&rt, AFTER)?;
+    Ok(fs::remove_dir_all(&rt, "index_run_locked")?)
 }
 
 #[test]
-fn words_that_cannot_be_read(rt: HostRuntime) {
+fn words_that_cannot_be_read(rt: HostRuntime) -> Result<(), Fail> {
     for (kind, status) in [
         (ErrorKind::OutOfMemory, 4),
         (ErrorKind::InvalidData, 2),
         (ErrorKind::Other, 2),
     ] {
-        let words = Err(Error::from(kind));
-        assert!(rt; ends_with(&rt, words, SCRIPT.as_bytes(), status, ""));
+        let (code, written) = ends(&rt, Err(Error::from(kind)), FIRST.as_bytes())?;
+        assert!(rt; code == ExitCode::from(status) && written.is_empty());
     }
+    Ok(())
 }

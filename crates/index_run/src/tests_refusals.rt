@@ -1,16 +1,12 @@
-//! Runs and a question of which one call of the source, the sink or the store is refused: each such
-//! call in turn, until a run makes none of that number.
+//! Runs and questions of which one call of the source, the sink or the store is refused: each such call in
+//! turn, until a run makes none of that number. And sinks with room for each number of bytes.
 use crate::tests::{
-    ADD_A1, ADD_A2, ALL, COMMIT, Done, FIRST_REPORT, ONE_HIT, ended, one_document, run_bytes,
-    run_into, run_over, run_script,
+    Done, EVERYTHING, FIRST, FIRST_REPORT, NO_STORE, ONE_HIT, Outside, SECOND, ended, one_document,
+    run, run_top,
 };
-use ix_memory::MemoryStore;
-use ix_outside::Store;
-use std::alloc::Global;
-use std::process::Abort;
-use std::sync::Wait;
+use ix_memory::{MemorySink, MemorySource, MemoryStore};
+use ix_outside::{EmptyGate, Store};
 use std::test::*;
-use std::thread::Threads;
 use test_faults::is_first;
 
 /// What is refused.
@@ -26,78 +22,80 @@ enum Refused {
     Question,
 }
 
-/// A document, a commit and a search.
-const SCRIPT: [&str; 3] = [ADD_A1, COMMIT, ALL];
-
 const NO_SOURCE: &str = "{\"status\":5,\"why\":\"source\"}\n";
-
-const NO_STORE: &str = "{\"status\":7,\"why\":\"store\"}\n";
-
-const QUESTION: &str = "\"all\"\n";
-
-const TWO_HITS: &str =
-    "{\"commit\":4,\"hits\":[{\"key\":\"a1\",\"num\":{}},{\"key\":\"a2\",\"num\":{}}],\"line\":1}\n";
 
 const NO_COMMIT: &str = "{\"commit\":4,\"status\":9}\n";
 
-/// A run whose read of this number fails: nothing is in the store. Returns its status.
-fn read_fails<R: Threads + Wait + Sync + Abort>(
+const TWO_HITS: &str = r#"{"commit":4,"hits":[{"key":"a1","num":{}},{"key":"a2","num":{}}],"line":1}
+"#;
+
+/// The first run, with these reads and writes refused.
+fn run_failing<R: Outside>(
     rt: &R,
-    alloc: Global,
-    number: u64,
-) -> Result<u8, Fail> {
-    let (reads, writes) = (vec![in alloc; number]?, Vec::new(alloc));
-    let done = run_over(rt, alloc, &SCRIPT, MemoryStore::new(alloc), reads, writes)?;
-    if done.status == 0 {
-        return Ok(0);
+    reads: Vec<u64>,
+    writes: Vec<u64>,
+) -> Result<Done<MemoryStore>, Fail> {
+    let alloc = rt.alloc();
+    let source = MemorySource::failing(FIRST.as_bytes().to_vec(alloc)?, reads);
+    let sink = MemorySink::failing(alloc, 1_048_576, writes)?;
+    let empty = MemoryStore::new(alloc);
+    Ok(run_top(rt, "run --threads 1", source, sink, empty, &EmptyGate)?)
+}
+
+/// How it ends where the call of this number is refused.
+fn refuse<R: Outside>(rt: &R, what: Refused, number: u64) -> Result<Done<MemoryStore>, Fail> {
+    let calls = vec![in rt.alloc(); number]?;
+    let (words, input) = match what {
+        Refused::Read => return run_failing(rt, calls, Vec::new(rt.alloc())),
+        Refused::Write => return run_failing(rt, Vec::new(rt.alloc()), calls),
+        Refused::Store => ("run --threads 1", SECOND),
+        Refused::Question => ("ask", EVERYTHING),
+    };
+    Ok(run(
+        rt,
+        words,
+        input.as_bytes(),
+        one_document(rt)?.failing(calls),
+    )?)
+}
+
+/// Whether what was refused is told, and has left what it is to leave.
+fn is_told<R: Outside>(rt: &R, what: Refused, done: Done<MemoryStore>) -> Result<bool, Fail> {
+    match what {
+        Refused::Read => Ok(ended(rt, done, 5, NO_SOURCE).list(rt.alloc())?.is_empty()),
+        Refused::Write => is_written(rt, done),
+        Refused::Store => is_whole(rt, ended(rt, done, 7, NO_STORE)),
+        Refused::Question => Ok(files_beside(rt, &mut ended(rt, done, 7, NO_STORE))? == Some(5)),
     }
-    let mut store = ended(rt, done, 5, NO_SOURCE);
-    assert!(*rt; store.list(alloc)?.is_empty(), "read {number}");
-    Ok(5)
 }
 
 /// A run whose sink failed has written the first bytes of its report, and its commit is there.
-fn is_written<R: Threads + Wait + Sync + Abort>(
-    rt: &R,
-    alloc: Global,
-    done: Done<MemoryStore>,
-    len: usize,
-) -> Result<(), Fail> {
+fn is_written<R: Outside>(rt: &R, done: Done<MemoryStore>) -> Result<bool, Fail> {
+    let len = done.written.len();
     let front = FIRST_REPORT.get(..len).ok_or("more than the report")?;
     let store = ended(rt, done, 6, front);
     let _store = ended(
         rt,
-        run_bytes(rt, alloc, &["ask"], QUESTION.as_bytes(), store)?,
+        run(rt, "ask", EVERYTHING.as_bytes(), store)?,
         0,
         ONE_HIT,
     );
-    Ok(())
+    Ok(true)
 }
 
-/// A run whose write of this number fails. Returns its status.
-fn write_fails<R: Threads + Wait + Sync + Abort>(
-    rt: &R,
-    alloc: Global,
-    number: u64,
-) -> Result<u8, Fail> {
-    let (reads, writes) = (Vec::new(alloc), vec![in alloc; number]?);
-    let done = run_over(rt, alloc, &SCRIPT, MemoryStore::new(alloc), reads, writes)?;
-    if done.status == 0 {
-        return Ok(0);
+/// How many files the store has, where those of the first commit are as they were.
+fn files_beside<R: Outside>(rt: &R, store: &mut MemoryStore) -> Result<Option<usize>, Fail> {
+    is_first(rt.alloc(), store, &one_document(rt)?)
+}
+
+/// Whether the files of the first commit are as they were, and the second commit is absent or has both
+/// documents.
+fn is_whole<R: Outside>(rt: &R, store: MemoryStore) -> Result<bool, Fail> {
+    let mut store = store;
+    if files_beside(rt, &mut store)?.is_none() {
+        return Ok(false);
     }
-    let len = done.written.len();
-    is_written(rt, alloc, done, len)?;
-    Ok(6)
-}
-
-/// Whether the commit 4 is absent or has both documents.
-fn second_is_whole<R: Threads + Wait + Sync>(
-    rt: &R,
-    alloc: Global,
-    store: MemoryStore,
-) -> Result<bool, Fail> {
-    let words = ["ask", "--commit", "4"];
-    let done = run_bytes(rt, alloc, &words, QUESTION.as_bytes(), store)?;
+    let done = run(rt, "ask --commit 4", EVERYTHING.as_bytes(), store)?;
     let wanted = if done.status == 9 {
         NO_COMMIT
     } else {
@@ -106,74 +104,14 @@ fn second_is_whole<R: Threads + Wait + Sync>(
     Ok(done.written.as_slice() == wanted.as_bytes())
 }
 
-/// A second run whose call of the store of this number fails: the files of the first commit stay, and
-/// the second commit is absent or whole. Returns its status.
-fn store_fails<R: Threads + Wait + Sync + Abort>(
-    rt: &R,
-    alloc: Global,
-    number: u64,
-) -> Result<u8, Fail> {
-    let whole = one_document(rt, alloc)?;
-    let store = whole.crash(alloc, 0)?.failing(vec![in alloc; number]?);
-    let done = run_script(rt, alloc, &[ADD_A2, COMMIT, ALL], store)?;
-    if done.status == 0 {
-        return Ok(0);
-    }
-    let mut store = ended(rt, done, 7, NO_STORE);
-    assert!(*rt;
-        is_first(alloc, &mut store, &whole)?.is_some(),
-        "call {number}"
-    );
-    assert!(*rt; second_is_whole(rt, alloc, store)?, "call {number}");
-    Ok(7)
-}
-
-/// A question where the call of the store of this number fails: the store is as it was. Returns the
-/// status.
-fn question_fails<R: Threads + Wait + Sync + Abort>(
-    rt: &R,
-    alloc: Global,
-    number: u64,
-) -> Result<u8, Fail> {
-    let whole = one_document(rt, alloc)?;
-    let store = whole.crash(alloc, 0)?.failing(vec![in alloc; number]?);
-    let done = run_bytes(rt, alloc, &["ask"], QUESTION.as_bytes(), store)?;
-    if done.status == 0 {
-        return Ok(0);
-    }
-    let mut store = ended(rt, done, 7, NO_STORE);
-    assert!(*rt;
-        is_first(alloc, &mut store, &whole)? == Some(5),
-        "call {number}"
-    );
-    Ok(7)
-}
-
-/// Refuses the call of this number. Returns the status.
-fn refuse<R: Threads + Wait + Sync + Abort>(
-    rt: &R,
-    alloc: Global,
-    what: Refused,
-    number: u64,
-) -> Result<u8, Fail> {
-    match what {
-        Refused::Read => read_fails(rt, alloc, number),
-        Refused::Write => write_fails(rt, alloc, number),
-        Refused::Store => store_fails(rt, alloc, number),
-        Refused::Question => question_fails(rt, alloc, number),
-    }
-}
-
 /// The first number of a call that a run doesn't make, from 1.
-fn first_free<R: Threads + Wait + Sync + Abort>(
-    rt: &R,
-    alloc: Global,
-    what: Refused,
-) -> Result<u64, Fail> {
+fn first_free<R: Outside>(rt: &R, what: Refused) -> Result<u64, Fail> {
     for number in 1..200u64 {
-        if refuse(rt, alloc, what, number)? == 0 {
+        let done = refuse(rt, what, number)?;
+        if done.status == 0 {
             return Ok(number);
         }
+        assert!(*rt; is_told(rt, what, done)?, "call {number}");
     }
     Err("a run of many calls")?
 }
@@ -183,35 +121,52 @@ fn first_free<R: Threads + Wait + Sync + Abort>(
 /// reads of five files.
 #[test]
 fn each_call_is_refused(rt: HostRuntime) -> Result<(), Fail> {
-    let alloc = rt.alloc();
-    assert!(rt; first_free(&rt, alloc, Refused::Read)? > 2);
-    assert!(rt; first_free(&rt, alloc, Refused::Write)? > 1);
-    assert!(rt; first_free(&rt, alloc, Refused::Store)? > 6 + 12);
-    assert!(rt; first_free(&rt, alloc, Refused::Question)? == 6 + 1);
+    assert!(rt; first_free(&rt, Refused::Read)? > 2);
+    assert!(rt; first_free(&rt, Refused::Write)? > 1);
+    assert!(rt; first_free(&rt, Refused::Store)? > 6 + 12);
+    assert!(rt; first_free(&rt, Refused::Question)? == 6 + 1);
     Ok(())
 }
 
-/// A run over a sink with room for so many bytes.
-fn short_of_room<R: Threads + Wait + Sync + Abort>(
+/// A call after this script, whose sink has room for so many bytes of this text: it has written these, and
+/// ended with 6 where there are more. The commit is there.
+fn fills<R: Outside>(
     rt: &R,
-    alloc: Global,
+    before: &str,
+    words: &str,
+    input: &str,
+    text: &str,
     room: usize,
 ) -> Result<(), Fail> {
-    let empty = MemoryStore::new(alloc);
-    let words = ["run", "--threads", "1"];
-    is_written(
+    let store = run(rt, "run", before.as_bytes(), MemoryStore::new(rt.alloc()))?.store;
+    let source = MemorySource::new(rt.alloc(), input.as_bytes().to_vec(rt.alloc())?);
+    let sink = MemorySink::new(rt.alloc(), room)?;
+    let done = run_top(rt, words, source, sink, store, &EmptyGate)?;
+    let front = text.get(..room).ok_or("more room than text")?;
+    let status = if room < text.len() { 6 } else { 0 };
+    let store = ended(rt, done, status, front);
+    let _store = ended(
         rt,
-        alloc,
-        run_into(rt, alloc, &words, &SCRIPT, empty, room)?,
-        room,
-    )
+        run(rt, "ask", EVERYTHING.as_bytes(), store)?,
+        0,
+        ONE_HIT,
+    );
+    Ok(())
 }
 
-/// A sink that fails after each number of bytes of the report.
+/// A report, answers and a list over sinks that fail after each number of bytes, and over one that takes
+/// all.
 #[test]
-fn reports_without_room(rt: HostRuntime) -> Result<(), Fail> {
-    for room in 0..FIRST_REPORT.len() {
-        short_of_room(&rt, rt.alloc(), room)?;
+fn sinks_with_little_room(rt: HostRuntime) -> Result<(), Fail> {
+    let cases = [
+        ("", "run --threads 1", FIRST, FIRST_REPORT),
+        (FIRST, "ask", EVERYTHING, ONE_HIT),
+        (FIRST, "list", EVERYTHING, "{\"commit\":2,\"docs\":1}\n"),
+    ];
+    for (before, words, input, text) in cases {
+        for room in 0..=text.len() {
+            fills(&rt, before, words, input, text, room)?;
+        }
     }
     Ok(())
 }

@@ -4,7 +4,7 @@ ghost use Rattle.std.specs.Prelude.{◌<◌, ◌≤◌};
 
 use crate::doing::{self, do_script};
 use crate::telling::Form;
-use crate::tests::run_watched;
+use crate::tests::{Outside, run_watched};
 use crate::tests_fold::check_run;
 use ix_memory::{GroupsGate, InOrderGate, MeetingGate, MemoryStore};
 use ix_outside::{EmptyGate, Gate};
@@ -13,21 +13,45 @@ use plain_fold::{
 };
 use script_maker::make_script;
 use std::alloc::Global;
-use std::sync::Wait;
 use std::test::*;
-use std::thread::Threads;
 
 /// A search for all documents.
 const ALL: Act = Act::Search(Query::One(Leaf::All));
 
+/// The lines of so many callers in turn: at each turn each of them does what its letter says, over and over.
+/// It adds a document (`a`), commits (`c`), searches for all (`s`), or deletes the document of a key that is
+/// so far ahead (a digit). There are three keys for each caller.
+pub(crate) fn lines_of(
+    alloc: Global,
+    callers: u64,
+    count: u64,
+    turns: &str,
+) -> Result<Vec<Line>, Fail>
+    requires { (0 < callers) × (callers ≤ 16) }
+{
+    let keys = 3 * callers;
+    let mut letters = turns.bytes().cycle();
+    let mut letter = b'a';
+    let mut lines = Vec::new(alloc);
+    for at in 0..count {
+        let caller = at % callers;
+        if caller == 0 {
+            letter = letters.next().ok_or("no turn")?;
+        }
+        let act = match letter {
+            b'a' => Act::Add(document_of(at % keys)),
+            b'c' => Act::Commit,
+            b's' => ALL,
+            digit => Act::Delete(Term::Key(at.saturating_add(u64::from(digit & 15)) % keys)),
+        };
+        lines.push(Line { caller, act })?;
+    }
+    Ok(lines)
+}
+
 /// Runs the lines by so many threads over an empty store, and compares the report with the one that
 /// is folded from its numbers.
-fn check<R: Threads + Wait + Sync>(
-    rt: &R,
-    alloc: Global,
-    threads: u64,
-    lines: &[Line],
-) -> Result<(), Fail> {
+fn check<R: Outside>(rt: &R, threads: u64, lines: &[Line]) -> Result<(), Fail> {
     let options = Options {
         case: threads,
         threads,
@@ -36,10 +60,10 @@ fn check<R: Threads + Wait + Sync>(
     };
     let nothing = Kept {
         number: 0,
-        documents: Vec::new(alloc),
+        documents: Vec::new(rt.alloc()),
     };
-    let store = MemoryStore::new(alloc);
-    let _left = check_run(rt, alloc, options, lines, &nothing, store)?;
+    let store = MemoryStore::new(rt.alloc());
+    let _left = check_run(rt, options, lines, &nothing, store)?;
     Ok(())
 }
 
@@ -56,12 +80,9 @@ fn two_callers(rt: HostRuntime) -> Result<(), Fail> {
         (0, ALL),
         (1, ALL),
     ];
-    let mut lines = Vec::new(rt.alloc());
-    for (caller, act) in acts {
-        lines.push(Line { caller, act })?;
-    }
+    let lines = acts.map(|(caller, act)| Line { caller, act });
     for threads in [1, 2, 4] {
-        check(&rt, rt.alloc(), threads, lines.as_slice())?;
+        check(&rt, threads, &lines)?;
     }
     Ok(())
 }
@@ -70,86 +91,64 @@ fn two_callers(rt: HostRuntime) -> Result<(), Fail> {
 /// threads: 240 lines in which 24 commits end their rounds.
 #[test]
 fn six_callers(rt: HostRuntime) -> Result<(), Fail> {
-    let mut lines = Vec::new(rt.alloc());
-    for at in 0..240u64 {
-        let act = match at / 6 % 10 {
-            3 => Act::Delete(Term::Key((at + 1) % 18)),
-            7 => Act::Delete(Term::Key((at + 5) % 18)),
-            8 => Act::Commit,
-            9 => ALL,
-            _ => Act::Add(document_of(at % 18)),
-        };
-        let caller = at % 6;
-        lines.push(Line { caller, act })?;
-    }
+    let lines = lines_of(rt.alloc(), 6, 240, "aaa1aaa5cs")?;
     for threads in [1, 2, 4, 16] {
-        check(&rt, rt.alloc(), threads, lines.as_slice())?;
+        check(&rt, threads, lines.as_slice())?;
     }
     Ok(())
 }
 
 /// The summary of the generator's script of 2,000 lines by eight callers, done by so many threads.
-fn summary_by<R: Threads + Wait + Sync>(
-    rt: &R,
-    alloc: Global,
-    threads: u32,
-) -> Result<Vec<u8>, Fail>
+fn summary_by<R: Outside>(rt: &R, threads: u32) -> Result<Vec<u8>, Fail>
     requires { (1 ≤ threads) × (threads ≤ 16) }
 {
-    let script = make_script(alloc, 7, 2000, 8).ok().ok_or("memory")?;
+    let script = make_script(rt.alloc(), 7, 2000, 8)?;
     let options = doing::Options {
         threads,
         buffer: 64,
         merge: 4,
         keep: None,
     };
-    let store = MemoryStore::new(alloc);
-    let form = Form::Summary;
-    let done = do_script(rt, alloc, store, &EmptyGate, options, form, script.lines);
+    let (store, form) = (MemoryStore::new(rt.alloc()), Form::Summary);
+    let done = do_script(
+        rt,
+        rt.alloc(),
+        store,
+        &EmptyGate,
+        options,
+        form,
+        script.lines,
+    );
     Ok(done.text.ok().ok_or("a run that stopped")?)
 }
 
 /// A generated script has one summary, whatever number of threads does it.
 #[test]
 fn one_summary(rt: HostRuntime) -> Result<(), Fail> {
-    let one = summary_by(&rt, rt.alloc(), 1)?;
+    let one = summary_by(&rt, 1)?;
     assert!(rt; one.as_slice().starts_with(b"{\"commits\":39,"));
     for threads in [2u32, 4, 16] {
-        let other = summary_by(&rt, rt.alloc(), threads)?;
+        let other = summary_by(&rt, threads)?;
         assert!(rt; other.as_slice() == one.as_slice(), "another summary");
     }
     Ok(())
 }
 
-/// The report of the script by so many threads, over an empty store, watched by this gate.
-fn watched<R: Threads + Wait + Sync, G: Gate>(
+/// The report of the lines by a thread for each of so many callers, over an empty store, watched by this gate.
+fn watched<R: Outside, G: Gate>(
     rt: &R,
-    alloc: Global,
-    threads: &str,
+    callers: u32,
     lines: &[Line],
     gate: &G,
 ) -> Result<Vec<u8>, Fail> {
-    let script = script_of(alloc, lines)?;
-    let store = MemoryStore::new(alloc);
-    let done = run_watched(rt, alloc, threads, &[script.as_str()], store, gate);
-    let done = done.ok().ok_or("memory")?;
+    let script = script_of(rt.alloc(), lines)?;
+    let words = format!(in rt.alloc(); "run --threads {callers}")?;
+    let store = MemoryStore::new(rt.alloc());
+    let done = run_watched(rt, words.as_str(), script.as_bytes(), store, gate)?;
     if done.status != 0 {
         Err("another status")?;
     }
     Ok(done.written)
-}
-
-/// So many lines by so many callers in turn, each of which adds a document.
-fn adds(alloc: Global, callers: u64, count: u64) -> Result<Vec<Line>, Fail>
-    requires { 0 < callers }
-{
-    let mut lines = Vec::new(alloc);
-    for at in 0..count {
-        let act = Act::Add(document_of(1));
-        let caller = at % callers;
-        lines.push(Line { caller, act })?;
-    }
-    Ok(lines)
 }
 
 /// Two callers meet: the first line of each is under way before the other's is told, and the gate hears
@@ -157,8 +156,8 @@ fn adds(alloc: Global, callers: u64, count: u64) -> Result<Vec<Line>, Fail>
 #[test]
 fn two_callers_meet(rt: HostRuntime) -> Result<(), Fail> {
     let gate = MeetingGate::new();
-    let lines = adds(rt.alloc(), 2, 4)?;
-    let report = watched(&rt, rt.alloc(), "2", lines.as_slice(), &gate)?;
+    let lines = lines_of(rt.alloc(), 2, 4, "a")?;
+    let report = watched(&rt, 2, lines.as_slice(), &gate)?;
     assert!(rt; !gate.is_late());
     assert!(rt;
         report.as_slice()
@@ -179,7 +178,7 @@ fn a_line_that_is_begun_again(rt: HostRuntime) -> Result<(), Fail> {
         (1, Act::Add(document_of(3))),
     ];
     let lines = acts.map(|(caller, act)| Line { caller, act });
-    let report = watched(&rt, rt.alloc(), "2", &lines, &gate)?;
+    let report = watched(&rt, 2, &lines, &gate)?;
     assert!(rt; !gate.is_late());
     for (line, wanted) in [(1, (1, 1)), (2, (1, 1)), (3, (1, 1)), (4, (2, 1))] {
         assert!(rt; gate.counts(line) == wanted);
@@ -193,30 +192,25 @@ fn a_line_that_is_begun_again(rt: HostRuntime) -> Result<(), Fail> {
 
 /// The numbers of 32 lines by so many callers, each of which adds a document by a thread of its own. A
 /// line waits until all callers have begun theirs.
-fn numbers_of_groups<R: Threads + Wait + Sync>(
-    rt: &R,
-    alloc: Global,
-    callers: u32,
-    threads: &str,
-) -> Result<Vec<u64>, Fail>
-    requires { 0 < callers }
+fn numbers_of_groups<R: Outside>(rt: &R, callers: u32) -> Result<Vec<u64>, Fail>
+    requires { (0 < callers) × (callers ≤ 16) }
 {
     let gate = GroupsGate::new(callers);
-    let lines = adds(alloc, u64::from(callers), 32)?;
-    let report = watched(rt, alloc, threads, lines.as_slice(), &gate)?;
+    let lines = lines_of(rt.alloc(), u64::from(callers), 32, "a")?;
+    let report = watched(rt, callers, lines.as_slice(), &gate)?;
     if gate.is_late() {
         Err("a line that waited in vain")?;
     }
     let text = str::from_utf8(report.as_slice()).ok().ok_or("no text")?;
-    Ok(numbers_in(alloc, text)?)
+    Ok(numbers_in(rt.alloc(), text)?)
 }
 
 /// Four callers, and sixteen, meet at each group of their lines: those of each group get the next
 /// numbers. With fewer threads than callers no group is begun as a whole.
 #[test]
 fn callers_meet(rt: HostRuntime) -> Result<(), Fail> {
-    for (callers, threads) in [(4u32, "4"), (16u32, "16")] {
-        let numbers = numbers_of_groups(&rt, rt.alloc(), callers, threads)?;
+    for callers in [4u32, 16] {
+        let numbers = numbers_of_groups(&rt, callers)?;
         assert!(rt; numbers.len() == 32);
         for number in 1..=32u64 {
             let place = place_of(numbers.as_slice(), number).ok_or("a number that is missing")?;

@@ -1,18 +1,284 @@
-//! What no clause says: which errors of the system are faults, and that no size is given up at.
-use crate::opened::{make_directory, puts, reader_at, recorded_at, remove, store_at};
-use crate::recorded_system::Journal;
-use crate::script::{asks, has_memory, tells};
+//! What no clause says: which entries are files of the index, which errors of the system are faults, and
+//! that no size is given up at.
+use crate::script::told;
 use ix_base::FileName;
-use ix_outside::{Store, StoreFault};
-use std::alloc::Global;
-use std::io::ErrorKind;
-use std::{fs, io};
+use ix_outside::{DirStore, Store};
+use std::fs;
+use std::test::Fail;
 
-/// A file of the tests.
-const ROWS: FileName = FileName::Rows(1);
+/// Entries of a directory, and what a store makes of them.
+const ENTRIES: &str = "\
+# A missing directory is a failure at each call, and isn't made.
+remove:
+list: failed
+read seg_1.row: failed
+write seg_1.row rows: failed
+sync seg_1.row: failed
+rename seg_1.row seg_2.row: failed
+delete seg_1.row: failed
+sync_all: failed
+faults: 7
+look: absent
+
+# Names that are none of the index are passed over.
+directory lost:
+file notes x:
+file segments_02 x:
+file lost/segments_3 x:
+list:
+write segments_2 two: ok
+list: segments_2
+faults: 0
+
+# A file of one byte more than a store reads is a failure.
+long seg_1.row:
+read seg_1.row: failed
+faults: 1
+
+# Files alone are listed: no directory, no link, and nothing that is gone meanwhile.
+file segments_1 x:
+directory segments_2:
+file notes x:
+file pending_segments_5 x:
+link segments_3 segments_1:
+file segments_4 x:
+file seg_6.row x:
+fail NotFound look segments_4:
+list: segments_1 pending_segments_5 seg_6.row
+faults: 0
+
+# An entry whose name is no text is a failure.
+file segments_1 x:
+file segments_~ x:
+list: failed
+faults: 1
+
+# An entry whose kind is not told is a failure.
+file segments_1 x:
+file segments_7 x:
+file segments_8 x:
+reader:
+fail PermissionDenied look segments_7:
+list: failed
+faults: 1
+
+# A directory is no file, a link is not followed, and a new file takes the place of a link.
+directory segments_5:
+file target far:
+link seg_1.row target:
+link seg_2.row nothing:
+list:
+read seg_1.row: absent
+delete seg_1.row: ok
+read seg_2.row: absent
+delete seg_2.row: ok
+read segments_5: absent
+delete segments_5: ok
+faults: 0
+sync seg_1.row: failed
+rename seg_1.row seg_3.row: failed
+write segments_5 x: failed
+faults: 3
+write seg_1.row near: ok
+write seg_2.row there: ok
+rename seg_2.row seg_1.row: ok
+read seg_1.row: = there
+look target: = far
+look nothing: absent
+";
+
+#[test]
+fn entries_that_are_no_files(rt: HostRuntime) -> Result<(), Fail> {
+    for case in ENTRIES.split("\n\n") {
+        assert!(rt;
+            told(&rt, "ix_outside_kinds", case)?.as_str().trim_end() == case.trim_end(),
+            "{case}"
+        );
+    }
+    Ok(())
+}
+
+/// Calls of the system that fail, and what a store makes of them.
+const FAULTS: &str = "\
+# A file that may not be looked at isn't absent.
+write seg_1.row one: ok
+sync seg_1.row: ok
+fail PermissionDenied look:
+read seg_1.row: failed
+sync seg_1.row: failed
+rename seg_1.row seg_2.row: failed
+delete seg_2.row: failed
+faults: 4
+fail NotADirectory look:
+read seg_1.row: failed
+sync seg_1.row: failed
+rename seg_1.row seg_2.row: failed
+delete seg_2.row: failed
+faults: 8
+fail Other look:
+read seg_1.row: failed
+sync seg_1.row: failed
+rename seg_1.row seg_2.row: failed
+delete seg_2.row: failed
+faults: 12
+
+# A file that may not be opened isn't absent.
+write seg_1.row one: ok
+sync seg_1.row: ok
+fail PermissionDenied open:
+read seg_1.row: failed
+sync seg_1.row: failed
+rename seg_1.row seg_2.row: ok
+delete seg_2.row: ok
+faults: 2
+fail Other:
+write seg_1.row one: ok
+sync seg_1.row: ok
+fail NotFound open:
+read seg_1.row: failed
+sync seg_1.row: failed
+rename seg_1.row seg_2.row: ok
+delete seg_2.row: ok
+faults: 4
+fail Other:
+write seg_1.row one: ok
+sync seg_1.row: ok
+fail Other open:
+read seg_1.row: failed
+sync seg_1.row: failed
+rename seg_1.row seg_2.row: ok
+delete seg_2.row: ok
+faults: 6
+
+# A directory that may not be opened isn't synced, which is a failure.
+write seg_1.row one: ok
+fail PermissionDenied open ix_outside_faults:
+sync seg_1.row: failed
+sync_all: failed
+
+# The same where it isn't found.
+write seg_1.row one: ok
+fail NotFound open ix_outside_faults:
+sync seg_1.row: failed
+sync_all: failed
+
+# A sync of the directory that fails is a failure.
+write seg_1.row one: ok
+fail Other sync ix_outside_faults:
+sync seg_1.row: failed
+sync_all: failed
+
+# A parent that this process may not open is left to who made the directory.
+write seg_1.row one: ok
+fail PermissionDenied open ..:
+sync seg_1.row: ok
+sync_all: ok
+
+# A parent that isn't found is a failure.
+write seg_1.row one: ok
+fail NotFound open ..:
+sync seg_1.row: failed
+sync_all: failed
+
+# Any other error at opening the parent is a failure.
+write seg_1.row one: ok
+fail Other open ..:
+sync seg_1.row: failed
+sync_all: failed
+
+# A sync of the parent that fails is a failure.
+write seg_1.row one: ok
+fail PermissionDenied sync ..:
+sync seg_1.row: failed
+sync_all: failed
+
+# Where nothing fails both syncs are done.
+write seg_1.row one: ok
+sync seg_1.row: ok
+sync_all: ok
+
+# A file of the largest size is read (this one ends too soon), and one of a byte more is not.
+write seg_1.row one: ok
+sync seg_1.row: ok
+reader:
+watch:
+length 2147483648:
+read seg_1.row: failed
+  open seg_1.row
+  read seg_1.row
+length 2147483649:
+read seg_1.row: failed
+  open seg_1.row
+
+# To be out of memory after an effect is a fault: where files are made.
+write seg_1.row one: ok
+fail OutOfMemory make:
+sync seg_1.row: ok
+rename seg_1.row seg_1.pst: ok
+write seg_1.row two: failed
+delete seg_1.pst: ok
+write seg_1.pst six: failed
+sync_all: ok
+faults: 2
+
+# The same where they are written.
+write seg_1.row one: ok
+fail OutOfMemory write:
+sync seg_1.row: ok
+rename seg_1.row seg_1.pst: ok
+write seg_1.row two: failed
+delete seg_1.pst: ok
+write seg_1.pst six: failed
+sync_all: ok
+faults: 2
+
+# The same where they are removed.
+write seg_1.row one: ok
+fail OutOfMemory remove:
+sync seg_1.row: ok
+rename seg_1.row seg_1.pst: ok
+write seg_1.row two: ok
+delete seg_1.pst: failed
+write seg_1.pst six: failed
+sync_all: ok
+faults: 2
+
+# The same where they are renamed.
+write seg_1.row one: ok
+fail OutOfMemory rename:
+sync seg_1.row: ok
+rename seg_1.row seg_1.pst: failed
+write seg_1.row two: ok
+delete seg_1.pst: ok
+write seg_1.pst six: ok
+sync_all: ok
+faults: 1
+
+# The same where they are synced.
+write seg_1.row one: ok
+fail OutOfMemory sync:
+sync seg_1.row: failed
+rename seg_1.row seg_1.pst: ok
+write seg_1.row two: ok
+delete seg_1.pst: ok
+write seg_1.pst six: ok
+sync_all: failed
+faults: 2
+";
+
+#[test]
+fn errors_of_the_system_that_are_faults(rt: HostRuntime) -> Result<(), Fail> {
+    for case in FAULTS.split("\n\n") {
+        assert!(rt;
+            told(&rt, "ix_outside_faults", case)?.as_str().trim_end() == case.trim_end(),
+            "{case}"
+        );
+    }
+    Ok(())
+}
 
 /// Makes 5,000 empty files of the index in the directory.
-fn make_5000(rt: &HostRuntime, path: &str) -> io::Result<()> {
+fn make_5000(rt: &HostRuntime, path: &str) -> Result<(), Fail> {
     for number in 1..5001u32 {
         let name = format!(in rt.alloc(); "{path}/seg_{number}.row")?;
         fs::write(rt, name.as_str(), b"".as_slice())?;
@@ -32,157 +298,22 @@ fn are_5000(names: &[FileName]) -> bool {
     number == 5000
 }
 
-/// Whether the store lists the 5,000 files.
-fn lists_5000<S: Store>(alloc: Global, store: &mut S) -> bool {
-    match store.list(alloc) {
-        Ok(mut names) => {
-            names.sort_unstable();
-            are_5000(names.as_slice())
-        }
-        Err(_) => false,
-    }
+/// Whether a store lists the 5,000 files.
+fn lists_5000(rt: &HostRuntime, path: &str) -> Result<bool, Fail> {
+    let path = String::from_str(rt.alloc(), path)?;
+    let mut store = DirStore::new(rt.clone()?, path);
+    let mut names = store.list(rt.alloc())?;
+    names.sort_unstable();
+    Ok(are_5000(names.as_slice()))
 }
 
 #[test]
-fn each_of_5000_files_is_listed(rt: HostRuntime) {
+fn each_of_5000_files_is_listed(rt: HostRuntime) -> Result<(), Fail> {
     let path = "ix_outside_5000";
-    assert!(rt; make_directory(&rt, path));
-    assert!(rt; make_5000(&rt, path).is_ok());
-    let Some(mut store) = store_at(&rt, path) else {
-        panic!(rt; "memory");
-    };
-    assert!(rt; lists_5000(rt.alloc(), &mut store));
-    assert!(rt; remove(&rt, path));
-}
-
-#[test]
-fn an_entry_whose_kind_is_not_told_is_a_failure(rt: HostRuntime) {
-    let journal = Journal::new(rt.alloc());
-    journal.tell_entries(b"segments_1\0segments_7\0segments_8\0");
-    let Some(mut store) = reader_at(&rt, ".", &journal) else {
-        panic!(rt; "memory");
-    };
-    assert!(rt; tells(rt.alloc(), &mut store, "list: failed\nfaults: 1\n"));
-}
-
-/// A read, a sync, a rename and a removal.
-const FOUR_CALLS: &str = "\
-read seg_1.row
-sync seg_1.row
-rename seg_1.row seg_2.row
-delete seg_2.row
-";
-
-/// The faults of a read, a rename, a removal and a sync of a file that is there, where calls of this
-/// verb fail with this error.
-fn faults_where(rt: &HostRuntime, path: &str, verb: &'static str, kind: ErrorKind) -> Option<u64> {
-    let journal = Journal::new(rt.alloc());
-    let mut store = recorded_at(rt, path, &journal)?;
-    if !puts(&mut store, ROWS, b"one") {
-        return None;
-    }
-    journal.fail(verb, kind);
-    if !has_memory(rt.alloc(), &mut store, FOUR_CALLS) {
-        return None;
-    }
-    Some(store.faults())
-}
-
-/// Calls that fail, their error, and the faults of the four calls then.
-const DENIED: [(&str, ErrorKind, u64); 6] = [
-    ("look", ErrorKind::PermissionDenied, 4),
-    ("look", ErrorKind::NotADirectory, 4),
-    ("look", ErrorKind::Other, 4),
-    ("open", ErrorKind::PermissionDenied, 2),
-    ("open", ErrorKind::NotFound, 2),
-    ("open", ErrorKind::Other, 2),
-];
-
-#[test]
-fn what_may_not_be_looked_at_or_opened_is_not_absent(rt: HostRuntime) {
-    let path = "ix_outside_denied";
-    for (verb, kind, want) in DENIED {
-        assert!(rt; make_directory(&rt, path));
-        assert!(rt; faults_where(&rt, path, verb, kind) == Some(want), "{verb}");
-    }
-    assert!(rt; remove(&rt, path));
-}
-
-/// What a sync of a file that was written, and then one of the directory, come to where calls of this
-/// verb fail with this error.
-fn syncs_where(
-    rt: &HostRuntime,
-    path: &str,
-    verb: &'static str,
-    kind: ErrorKind,
-) -> Option<[Result<(), StoreFault>; 2]> {
-    let journal = Journal::new(rt.alloc());
-    let mut store = recorded_at(rt, path, &journal)?;
-    store.write(ROWS, b"one").ok()?;
-    journal.fail(verb, kind);
-    Some([store.sync(ROWS), store.sync_all()])
-}
-
-const FAILED: Result<(), StoreFault> = Err(StoreFault::Failed);
-
-/// Calls that fail, their error, and what both syncs come to.
-const NOT_SYNCED: [(&str, ErrorKind, Result<(), StoreFault>); 8] = [
-    (
-        "open ix_outside_entries",
-        ErrorKind::PermissionDenied,
-        FAILED,
-    ),
-    ("open ix_outside_entries", ErrorKind::NotFound, FAILED),
-    ("sync ix_outside_entries", ErrorKind::Other, FAILED),
-    ("open ..", ErrorKind::PermissionDenied, Ok(())),
-    ("open ..", ErrorKind::NotFound, FAILED),
-    ("open ..", ErrorKind::Other, FAILED),
-    ("sync ..", ErrorKind::PermissionDenied, FAILED),
-    ("", ErrorKind::Other, Ok(())),
-];
-
-#[test]
-fn a_directory_that_is_not_synced_is_a_failure(rt: HostRuntime) {
-    let path = "ix_outside_entries";
-    for (verb, kind, want) in NOT_SYNCED {
-        assert!(rt; make_directory(&rt, path));
-        assert!(rt;
-            syncs_where(&rt, path, verb, kind) == Some([want, want]),
-            "{verb}"
-        );
-    }
-    assert!(rt; remove(&rt, path));
-}
-
-/// Whether the directory's store writes the file and syncs it.
-fn writes_rows(rt: &HostRuntime, path: &str) -> bool {
-    match store_at(rt, path) {
-        Some(mut store) => puts(&mut store, ROWS, b"one"),
-        None => false,
-    }
-}
-
-/// Lengths that the file says it has, and a read then.
-const LENGTHS: [(u64, &str); 2] = [
-    (
-        2_147_483_648,
-        "read seg_1.row: failed\n  open seg_1.row\n  read seg_1.row\n",
-    ),
-    (2_147_483_649, "read seg_1.row: failed\n  open seg_1.row\n"),
-];
-
-#[test]
-fn a_file_of_the_largest_size_is_read(rt: HostRuntime) {
-    let path = "ix_outside_limit";
-    assert!(rt; make_directory(&rt, path));
-    assert!(rt; writes_rows(&rt, path));
-    let journal = Journal::new(rt.alloc());
-    let Some(mut reader) = reader_at(&rt, path, &journal) else {
-        panic!(rt; "memory");
-    };
-    for (length, script) in LENGTHS {
-        journal.tell_length(length);
-        assert!(rt; asks(rt.alloc(), &mut reader, &journal, script));
-    }
-    assert!(rt; remove(&rt, path));
+    let _ = fs::remove_dir_all(&rt, path);
+    fs::create_dir(&rt, path)?;
+    make_5000(&rt, path)?;
+    assert!(rt; lists_5000(&rt, path)?);
+    fs::remove_dir_all(&rt, path)?;
+    Ok(())
 }

@@ -2,11 +2,7 @@
 #![tactic(auto)]
 
 #[cfg(test)]
-mod directory_tests;
-#[cfg(test)]
 mod fault_tests;
-#[cfg(test)]
-mod lock_tests;
 #[cfg(test)]
 mod odd_outside;
 #[cfg(test)]

@@ -1,14 +1,18 @@
-//! What no clause says: what the store of a directory asks of the system, and in which order.
-use crate::opened::{has, make_directory, puts, reader_at, recorded_at, remove, store_at};
+//! What no clause says: what the store of a directory asks of the system, in which order, who may use a
+//! directory beside whom, and how large files are written and read.
+use crate::opened::{reader_at, recorded_at};
 use crate::recorded_system::Journal;
-use crate::script::{asks, has_memory, tells};
+use crate::script::told;
 use ix_base::FileName;
-use ix_outside::Store;
-use std::alloc::{AllocError, Global};
-use std::io::ErrorKind;
+use ix_outside::{DirStore, Store};
+use std::alloc::Global;
+use std::fs;
+use std::test::Fail;
 
-/// What a store of the first commits asks.
+/// What is asked of the system, and who may use a directory beside whom.
 const ORDER: &str = "\
+# What a store of the first commits asks of the system.
+watch:
 write seg_1.row old: ok
   open ix_outside_order
   lock ix_outside_order
@@ -52,53 +56,124 @@ faults: 0
 sync seg_1.row: failed
 rename seg_1.row pending_segments_1: failed
 faults: 2
-";
 
-#[test]
-fn what_is_asked_of_the_system_in_which_order(rt: HostRuntime) {
-    let path = "ix_outside_order";
-    assert!(rt; make_directory(&rt, path));
-    let journal = Journal::new(rt.alloc());
-    let Some(mut store) = recorded_at(&rt, path, &journal) else {
-        panic!(rt; "memory");
-    };
-    assert!(rt; asks(rt.alloc(), &mut store, &journal, ORDER));
-    assert!(rt; remove(&rt, path));
-}
-
-/// A write of one more file.
-const SYNCED: &str = "\
+# After 64 files that were not synced a write syncs.
+watch sync:
+fill: ok
+watch:
 write seg_65.row x: ok
   make seg_65.row
   write seg_65.row
   sync seg_65.row
+
+# A read takes the length that is told.
+write seg_1.row longer: ok
+length 4:
+read seg_1.row: = long
+length 7:
+read seg_1.row: failed
+
+# Reads tell that they are out of memory, and after a failed sync each later one fails.
+write seg_1.row one: ok
+fail OutOfMemory open:
+read seg_1.row: no memory
+faults: 0
+fail Other sync:
+sync seg_1.row: failed
+fail Other:
+sync seg_1.row: failed
+sync_all: failed
+faults: 3
+read seg_1.row: = one
+
+# One store at a time changes a directory: a second one may not read, and then not change anything.
+store:
+list:
+other:
+list: failed
+read seg_1.row: failed
+other:
+write seg_1.row one: ok
+sync seg_1.row: ok
+other:
+write seg_1.row two: failed
+sync seg_1.row: failed
+rename seg_1.row seg_2.row: failed
+delete seg_1.row: failed
+sync_all: failed
+faults: 7
+other:
+read seg_1.row: = one
+faults: 0
+close:
+read seg_1.row: = one
+write seg_1.row two: ok
+faults: 7
+
+# A store that only reads takes no lock, so it reads beside one that writes, and it changes nothing.
+write seg_1.row one: ok
+sync seg_1.row: ok
+reader:
+watch:
+list: seg_1.row
+read seg_1.row: = one
+  open seg_1.row
+  read seg_1.row
+faults: 0
+write seg_1.row two: failed
+sync seg_1.row: failed
+rename seg_1.row seg_2.row: failed
+delete seg_1.row: failed
+sync_all: failed
+faults: 5
+other:
+watch none:
+read seg_1.row: = one
+
+# Without its lock a store asks for the lock alone, at each call, and with it for nothing more.
+watch:
+fail Unsupported lock:
+write seg_1.row two: failed
+  open ix_outside_order
+  lock ix_outside_order
+sync seg_1.row: failed
+  open ix_outside_order
+  lock ix_outside_order
+rename seg_1.row seg_2.row: failed
+  open ix_outside_order
+  lock ix_outside_order
+delete seg_1.row: failed
+  open ix_outside_order
+  lock ix_outside_order
+sync_all: failed
+  open ix_outside_order
+  lock ix_outside_order
+list: failed
+  open ix_outside_order
+  lock ix_outside_order
+read seg_1.row: failed
+  open ix_outside_order
+  lock ix_outside_order
+fail Other:
+list:
+  open ix_outside_order
+  lock ix_outside_order
+list:
 ";
 
-/// Whether 64 files are written, none of which is synced.
-fn writes_64<S: Store>(alloc: Global, store: &mut S, journal: &Journal) -> bool {
-    for id in 1..65u64 {
-        if store.write(FileName::Rows(id), b"x") != Ok(()) {
-            return false;
-        }
-    }
-    !journal.take_lines(alloc).as_str().contains("sync")
-}
-
 #[test]
-fn after_64_files_a_write_syncs(rt: HostRuntime) {
-    let path = "ix_outside_many";
-    assert!(rt; make_directory(&rt, path));
-    let journal = Journal::new(rt.alloc());
-    let Some(mut store) = recorded_at(&rt, path, &journal) else {
-        panic!(rt; "memory");
-    };
-    assert!(rt; writes_64(rt.alloc(), &mut store, &journal));
-    assert!(rt; asks(rt.alloc(), &mut store, &journal, SYNCED));
-    assert!(rt; remove(&rt, path));
+fn calls_in_their_order_and_beside_another_store(rt: HostRuntime) -> Result<(), Fail> {
+    for case in ORDER.split("\n\n") {
+        assert!(rt;
+            told(&rt, "ix_outside_order", case)?.as_str().trim_end() == case.trim_end(),
+            "{case}"
+        );
+    }
+    Ok(())
 }
 
 /// The bytes of a file of three megabytes.
-fn large(alloc: Global) -> Result<Vec<u8>, AllocError> {
+fn large(alloc: Global) -> Result<Vec<u8>, Fail> {
     let mut bytes = Vec::new(alloc);
     for place in 0..3_000_000u32 {
         bytes.push((place % 251) as u8)?;
@@ -106,22 +181,11 @@ fn large(alloc: Global) -> Result<Vec<u8>, AllocError> {
     Ok(bytes)
 }
 
-/// Whether a store whose steps are short writes the first large file, and reads it.
-fn writes_in_short_steps(rt: &HostRuntime, path: &str, journal: &Journal, bytes: &[u8]) -> bool {
-    match recorded_at(rt, path, journal) {
-        Some(mut store) => {
-            puts(&mut store, FileName::Rows(1), bytes)
-                && has(rt.alloc(), &mut store, FileName::Rows(1), bytes)
-        }
-        None => false,
-    }
-}
-
-/// Whether a store whose steps are short reads both large files.
-fn reads_in_short_steps(rt: &HostRuntime, path: &str, journal: &Journal, bytes: &[u8]) -> bool {
-    match reader_at(rt, path, journal) {
-        Some(mut store) => has_both(rt.alloc(), &mut store, bytes),
-        None => false,
+/// Whether the file has these bytes.
+fn has<S: Store>(alloc: Global, store: &mut S, name: FileName, want: &[u8]) -> bool {
+    match store.read(alloc, name) {
+        Ok(Some(bytes)) => bytes.as_slice() == want,
+        _ => false,
     }
 }
 
@@ -130,7 +194,24 @@ fn has_both<S: Store>(alloc: Global, store: &mut S, bytes: &[u8]) -> bool {
     has(alloc, store, FileName::Rows(1), bytes) && has(alloc, store, FileName::Pending(2), bytes)
 }
 
-/// Whether the files of the store are the two large ones.
+/// Whether a store whose steps are short writes the first large file, and reads it.
+fn writes_in_short_steps(rt: &HostRuntime, journal: &Journal, bytes: &[u8]) -> Result<bool, Fail> {
+    let mut store = recorded_at(rt, LARGE, journal)?;
+    store.write(FileName::Rows(1), bytes)?;
+    store.sync(FileName::Rows(1))?;
+    Ok(has(rt.alloc(), &mut store, FileName::Rows(1), bytes))
+}
+
+/// Whether a store whose steps are not short writes the second large file, and reads both, and the files of
+/// the store are these two.
+fn writes_in_long_steps(rt: &HostRuntime, bytes: &[u8]) -> Result<bool, Fail> {
+    let path = String::from_str(rt.alloc(), LARGE)?;
+    let mut store = DirStore::new(rt.clone()?, path);
+    store.write(FileName::Pending(2), bytes)?;
+    store.sync(FileName::Pending(2))?;
+    Ok(has_both(rt.alloc(), &mut store, bytes) && lists_both(rt.alloc(), &mut store))
+}
+
 fn lists_both<S: Store>(alloc: Global, store: &mut S) -> bool {
     match store.list(alloc) {
         Ok(mut names) => {
@@ -141,117 +222,24 @@ fn lists_both<S: Store>(alloc: Global, store: &mut S) -> bool {
     }
 }
 
-#[test]
-fn large_files_in_short_steps(rt: HostRuntime) {
-    let path = "ix_outside_large";
-    assert!(rt; make_directory(&rt, path));
-    let bytes = large(rt.alloc()).expect(&rt, "memory");
-    let journal = Journal::new(rt.alloc());
-    assert!(rt; writes_in_short_steps(&rt, path, &journal, bytes.as_slice()));
-    let Some(mut plain) = store_at(&rt, path) else {
-        panic!(rt; "memory");
-    };
-    assert!(rt; puts(&mut plain, FileName::Pending(2), bytes.as_slice()));
-    assert!(rt; reads_in_short_steps(&rt, path, &journal, bytes.as_slice()));
-    assert!(rt; has_both(rt.alloc(), &mut plain, bytes.as_slice()));
-    assert!(rt; lists_both(rt.alloc(), &mut plain));
-    assert!(rt; remove(&rt, path));
+/// Whether a store whose steps are short reads both large files.
+fn reads_in_short_steps(rt: &HostRuntime, journal: &Journal, bytes: &[u8]) -> Result<bool, Fail> {
+    let mut store = reader_at(rt, LARGE, journal)?;
+    Ok(has_both(rt.alloc(), &mut store, bytes))
 }
 
-/// Lengths that the file says it has (0 for its own), and a call then.
-const LENGTHS: [(u64, &str); 3] = [
-    (0, "write seg_1.row longer: ok\n"),
-    (4, "read seg_1.row: = long\n"),
-    (7, "read seg_1.row: failed\n"),
-];
+/// The directory of the large files.
+const LARGE: &str = "ix_outside_large";
 
 #[test]
-fn a_read_takes_the_length_that_is_told(rt: HostRuntime) {
-    let path = "ix_outside_length";
-    assert!(rt; make_directory(&rt, path));
+fn large_files_in_short_steps(rt: HostRuntime) -> Result<(), Fail> {
+    let _ = fs::remove_dir_all(&rt, LARGE);
+    fs::create_dir(&rt, LARGE)?;
+    let bytes = large(rt.alloc())?;
     let journal = Journal::new(rt.alloc());
-    let Some(mut store) = recorded_at(&rt, path, &journal) else {
-        panic!(rt; "memory");
-    };
-    for (length, script) in LENGTHS {
-        journal.tell_length(length);
-        assert!(rt; tells(rt.alloc(), &mut store, script));
-    }
-    assert!(rt; remove(&rt, path));
-}
-
-/// Changes of two files, of which the first one is there.
-const CHANGES: &str = "\
-sync seg_1.row
-rename seg_1.row seg_1.pst
-write seg_1.row two
-delete seg_1.pst
-write seg_1.pst six
-sync_all
-";
-
-/// The faults of changes where calls of this verb are out of memory, if no change is told to be out of
-/// memory itself.
-fn faults_without_memory(rt: &HostRuntime, path: &str, verb: &'static str) -> Option<u64> {
-    let journal = Journal::new(rt.alloc());
-    let mut store = recorded_at(rt, path, &journal)?;
-    store.write(FileName::Rows(1), b"one").ok()?;
-    journal.fail(verb, ErrorKind::OutOfMemory);
-    if !has_memory(rt.alloc(), &mut store, CHANGES) {
-        return None;
-    }
-    Some(store.faults())
-}
-
-/// Calls that are out of memory, and the faults of the changes then.
-const WITHOUT_MEMORY: [(&str, u64); 5] = [
-    ("make", 2),
-    ("write", 2),
-    ("remove", 2),
-    ("rename", 1),
-    ("sync", 2),
-];
-
-#[test]
-fn want_of_memory_after_an_effect_is_a_fault(rt: HostRuntime) {
-    let path = "ix_outside_fault";
-    for (verb, faults) in WITHOUT_MEMORY {
-        assert!(rt; make_directory(&rt, path));
-        assert!(rt;
-            faults_without_memory(&rt, path, verb) == Some(faults),
-            "{verb}"
-        );
-    }
-    assert!(rt; remove(&rt, path));
-}
-
-/// Calls that fail, one after another, their error, and what comes of calls of the store then.
-const PHASES: [(&str, ErrorKind, &str); 4] = [
-    ("", ErrorKind::Other, "write seg_1.row one: ok\n"),
-    (
-        "open",
-        ErrorKind::OutOfMemory,
-        "read seg_1.row: no memory\nfaults: 0\n",
-    ),
-    ("sync", ErrorKind::Other, "sync seg_1.row: failed\n"),
-    (
-        "",
-        ErrorKind::Other,
-        "sync seg_1.row: failed\nsync_all: failed\nfaults: 3\nread seg_1.row: = one\n",
-    ),
-];
-
-#[test]
-fn reads_tell_want_of_memory_and_failed_syncs_are_kept_in_mind(rt: HostRuntime) {
-    let path = "ix_outside_sync";
-    assert!(rt; make_directory(&rt, path));
-    let journal = Journal::new(rt.alloc());
-    let Some(mut store) = recorded_at(&rt, path, &journal) else {
-        panic!(rt; "memory");
-    };
-    for (verb, kind, script) in PHASES {
-        journal.fail(verb, kind);
-        assert!(rt; tells(rt.alloc(), &mut store, script));
-    }
-    assert!(rt; remove(&rt, path));
+    assert!(rt; writes_in_short_steps(&rt, &journal, &bytes)?);
+    assert!(rt; writes_in_long_steps(&rt, &bytes)?);
+    assert!(rt; reads_in_short_steps(&rt, &journal, &bytes)?);
+    fs::remove_dir_all(&rt, LARGE)?;
+    Ok(())
 }

@@ -1,5 +1,4 @@
-//! The system of tests, which writes down what is asked of it, fails where it is told to, and may have
-//! other entries in its directories than there are.
+//! The system of tests, which writes down what is asked of it, and fails where it is told to.
 ghost use Rattle.std.specs.Prelude.{◌≤◌, length, IfOk};
 
 use ix_outside::LockFile;
@@ -15,14 +14,13 @@ use std::rt::Files;
 #[derive(Drop)]
 pub struct Journal {
     lines: RefCell<String>,
-    /// Calls of this verb fail, or of this verb and name.
-    failing: Cell<&'static str>,
+    /// Calls of this verb fail, or of this verb and name. The verb `look` is that of a look at an entry,
+    /// which isn't written down.
+    pub failing: Cell<&'static str>,
     /// The error that they give.
-    kind: Cell<ErrorKind>,
+    pub kind: Cell<ErrorKind>,
     /// How long an open file says that it is: 0 says the truth.
-    length: Cell<u64>,
-    /// The entries that each directory says it has: `None` says the truth.
-    entries: Cell<Option<&'static [u8]>>,
+    pub length: Cell<u64>,
 }
 
 impl Journal {
@@ -33,27 +31,7 @@ impl Journal {
             failing: Cell::new(""),
             kind: Cell::new(ErrorKind::Other),
             length: Cell::new(0),
-            entries: Cell::new(None),
         }
-    }
-
-    /// From now on calls of this verb, or of this verb and name, fail with this error. The verb `look`
-    /// is that of a look at an entry, which isn't written down.
-    pub fn fail(&self, verb: &'static str, kind: ErrorKind) {
-        self.failing.set(verb);
-        self.kind.set(kind);
-    }
-
-    /// From now on an open file says that it is so long.
-    pub fn tell_length(&self, length: u64) {
-        self.length.set(length);
-    }
-
-    /// From now on each directory says that it has entries of these names, each ended by a NUL. Of those
-    /// that end in a digit 2 is a directory, 3 a symbolic link, 4 gone meanwhile, 7 may not be looked at,
-    /// and others are files.
-    pub fn tell_entries(&self, entries: &'static [u8]) {
-        self.entries.set(Some(entries));
     }
 
     /// The lines so far, which it forgets.
@@ -94,50 +72,21 @@ fn last_name(path: &str) -> &str {
     }
 }
 
-/// What an entry of this path is, where directories say what they have.
-fn kind_of(path: &str) -> io::Result<Metadata> {
-    match path.as_bytes().last() {
-        Some(b'2') => Ok(Metadata::of_dir()),
-        Some(b'3') => Ok(Metadata::of_symlink(1)),
-        Some(b'4') => Err(Error::from(ErrorKind::NotFound)),
-        Some(b'7') => Err(Error::from(ErrorKind::PermissionDenied)),
-        _ => Ok(Metadata::of_file(0)),
-    }
-}
-
-/// The entries of a directory.
+/// The entries of a directory. In their names a byte of no UTF-8 stands for each `~`.
 #[derive(Drop)]
-pub enum Entries {
-    /// Those that there are.
-    Real(<HostRuntime as Files>::Dir),
-    /// Those that it says it has.
-    Told(Told),
-}
-
-/// Names, each ended by a NUL, and how many of their bytes were read.
-#[derive(Drop)]
-pub struct Told {
-    names: Vec<u8>,
-    count: usize,
-}
-
-impl Told {
-    fn read(&mut self, buffer: &mut [u8]) -> io::Result<usize>
-        ensures { IfOk result (λ count. count ≤ length buffer.new) }
-    {
-        let mut rest = self.names.as_slice().get(self.count..).unwrap_or(b"");
-        let count = rest.read(buffer)?;
-        self.count = self.count.saturating_add(count);
-        Ok(count)
-    }
+pub struct Entries {
+    entries: <HostRuntime as Files>::Dir,
 }
 
 impl Read for Entries {
     fn read(&mut self, buffer: &mut [u8]) -> io::Result<usize> {
-        match self {
-            Entries::Real(entries) => entries.read(buffer),
-            Entries::Told(told) => told.read(buffer),
+        let count = self.entries.read(buffer)?;
+        for byte in buffer.iter_mut() {
+            if *byte == b'~' {
+                *byte = 0xff;
+            }
         }
+        Ok(count)
     }
 }
 
@@ -151,8 +100,11 @@ pub struct RecordedFile<'a> {
 }
 
 impl RecordedFile<'_> {
-    /// Every second call is interrupted.
-    fn be_interrupted(&mut self) -> io::Result<()> {
+    /// Notes the first read or write, and interrupts every second one.
+    fn begin(&mut self, verb: &'static str) -> io::Result<()> {
+        if self.calls == 0 {
+            self.journal.note(verb, self.name.as_str())?;
+        }
         self.calls = self.calls.saturating_add(1);
         if self.calls % 2 == 1 {
             return Err(Error::from(ErrorKind::Interrupted));
@@ -170,10 +122,7 @@ impl LockFile for RecordedFile<'_> {
 
 impl Read for RecordedFile<'_> {
     fn read(&mut self, buffer: &mut [u8]) -> io::Result<usize> {
-        if self.calls == 0 {
-            self.journal.note("read", self.name.as_str())?;
-        }
-        self.be_interrupted()?;
+        self.begin("read")?;
         let most = buffer.len().min(1000);
         let count = self.file.read(&mut buffer[..most])?;
         Ok(count)
@@ -182,10 +131,7 @@ impl Read for RecordedFile<'_> {
 
 impl Write for RecordedFile<'_> {
     fn write(&mut self, bytes: &[u8]) -> io::Result<usize> {
-        if self.calls == 0 {
-            self.journal.note("write", self.name.as_str())?;
-        }
-        self.be_interrupted()?;
+        self.begin("write")?;
         let most = bytes.len().min(1000);
         let count = self.file.write(&bytes[..most])?;
         Ok(count)
@@ -227,15 +173,8 @@ impl OpenFile for RecordedFile<'_> {
 /// The system, which writes what is asked of it into a journal.
 #[derive(Clone, Drop)]
 pub struct RecordedSystem<'a> {
-    system: HostRuntime,
-    journal: &'a Journal,
-}
-
-impl<'a> RecordedSystem<'a> {
-    /// The system with this journal.
-    pub fn new(system: HostRuntime, journal: &'a Journal) -> Self {
-        RecordedSystem { system, journal }
-    }
+    pub system: HostRuntime,
+    pub journal: &'a Journal,
 }
 
 impl Alloc for RecordedSystem<'_> {
@@ -269,13 +208,9 @@ impl<'a> Files for RecordedSystem<'a> {
     }
 
     fn open_dir(&self, path: &str) -> io::Result<Entries> {
-        let Some(names) = self.journal.entries.get() else {
-            return Ok(Entries::Real(self.system.open_dir(path)?));
-        };
-        Ok(Entries::Told(Told {
-            names: names.to_vec(self.system.alloc())?,
-            count: 0,
-        }))
+        Ok(Entries {
+            entries: self.system.open_dir(path)?,
+        })
     }
 
     fn metadata(&self, path: &str) -> io::Result<Metadata> {
@@ -284,10 +219,7 @@ impl<'a> Files for RecordedSystem<'a> {
 
     fn symlink_metadata(&self, path: &str) -> io::Result<Metadata> {
         self.journal.pass("look", last_name(path))?;
-        match self.journal.entries.get() {
-            Some(_) => kind_of(path),
-            None => self.system.symlink_metadata(path),
-        }
+        self.system.symlink_metadata(path)
     }
 
     fn copy(&self, from: &str, to: &str) -> io::Result<u64> {

@@ -1,3 +1,5 @@
+//! Questions, and what is said of them: the queries with their lines, or the bad line and its reason.
+use crate::tests::text_of;
 use op_script::{ScriptFault, read_queries};
 use std::alloc::Global;
 use std::fmt::Write;
@@ -26,97 +28,58 @@ fn answer(alloc: Global, bytes: &[u8]) -> Result<String, Fail> {
     Ok(text)
 }
 
-/// Inputs, and what is to be said of each.
+/// Inputs, each with what is to be said of it. A query may hold another 42 deep, since each `bool` is three
+/// JSON values deep.
+const QUESTIONS: &str = r#"
+ => 
+ <1 tab><1 cr><1 lf><1 cr><1 lf><1 lf> => 
+"all" => 1 all;
+"all"<1 lf> => 1 all;
+<1 cr><1 lf> <1 tab><1 lf> "all" <1 cr><1 lf><1 lf>{"term":["key","a1"]} => 3 all;5 key:a1;
+{"bool":{"not":[{"term":["key","zz"]}]}}<1 lf>{"bool":{}}<1 lf>{"phrase":["body"," "]} => 1 +|-(key:zz);2 +|-;3 body~ ;
+{"bool":{"should":["all"],"must":[{"phrase":["body","quick fox"]},"all"]}} => 1 +(body~quick fox)(all)|(all)-;
+{"term":["a","b"],"term":["c",""]} => 1 c:;
+{ => 1 Json
+"all => 1 Json
+all => 1 Json
+"all" "all" => 1 Json
+"\ud800" => 1 Json
+"All" => 1 Query
+null => 1 Query
+7 => 1 Query
+["all"] => 1 Query
+{} => 1 Query
+{"query":"all"} => 1 Query
+{"c":0,"op":"search","query":"all"} => 1 Query
+{"c":0,"op":"commit"} => 1 Query
+{"term":["a","b"],"phrase":["c","d"]} => 1 Query
+{"term":["","a"]} => 1 Query
+{"range":["price",-5,9]}<1 lf>{"range":["price",6,5]} => 1 price:-5..9;2 price:6..5;
+{"range":["n",-9223372036854775808,9223372036854775807]} => 1 n:-9223372036854775808..9223372036854775807;
+{"range":["n",0,9223372036854775808]} => 1 Query
+{"range":["n",5]} => 1 Query
+{"range":["n",5,6,7]} => 1 Query
+{"range":["n",1.0,5]} => 1 Query
+{"range":["n",1,"5"]} => 1 Query
+{"range":["",1,5]} => 1 Query
+{"range":[1,1,5]} => 1 Query
+"all"<1 lf><1 lf>{}<1 lf>{ => 3 Query
+"all"<1 lf>{<1 lf>{} => 2 Json
+<1 lf>"all"<1 lf> <1 lf>7 => 4 Query
+<42 {"bool":{"must":[>"all"<42 ]}}> => 1 <42 +(>all<42 )|->;
+<43 {"bool":{"must":[>"all"<43 ]}}> => 1 Json
+"#;
+
 #[test]
 fn questions(rt: HostRuntime) -> Result<(), Fail> {
     let alloc = rt.alloc();
-    let cases = [
-        ("", ""),
-        (" \t\r\n\r\n\n", ""),
-        ("\"all\"", "1 all;"),
-        ("\"all\"\n", "1 all;"),
-        (
-            "\r\n \t\n \"all\" \r\n\n{\"term\":[\"key\",\"a1\"]}",
-            "3 all;5 key:a1;",
-        ),
-        (
-            "{\"bool\":{\"not\":[{\"term\":[\"key\",\"zz\"]}]}}\n{\"bool\":{}}\n{\"phrase\":[\"body\",\" \"]}",
-            "1 +|-(key:zz);2 +|-;3 body~ ;",
-        ),
-        (
-            "{\"bool\":{\"should\":[\"all\"],\"must\":[{\"phrase\":[\"body\",\"quick fox\"]},\"all\"]}}",
-            "1 +(body~quick fox)(all)|(all)-;",
-        ),
-        ("{\"term\":[\"a\",\"b\"],\"term\":[\"c\",\"\"]}", "1 c:;"),
-        ("{", "1 Json"),
-        ("\"all", "1 Json"),
-        ("all", "1 Json"),
-        ("\"all\" \"all\"", "1 Json"),
-        ("\"\\ud800\"", "1 Json"),
-        ("\"All\"", "1 Query"),
-        ("null", "1 Query"),
-        ("7", "1 Query"),
-        ("[\"all\"]", "1 Query"),
-        ("{}", "1 Query"),
-        ("{\"query\":\"all\"}", "1 Query"),
-        ("{\"c\":0,\"op\":\"search\",\"query\":\"all\"}", "1 Query"),
-        ("{\"c\":0,\"op\":\"commit\"}", "1 Query"),
-        (
-            "{\"term\":[\"a\",\"b\"],\"phrase\":[\"c\",\"d\"]}",
-            "1 Query",
-        ),
-        ("{\"term\":[\"\",\"a\"]}", "1 Query"),
-        (
-            "{\"range\":[\"price\",-5,9]}\n{\"range\":[\"price\",6,5]}",
-            "1 price:-5..9;2 price:6..5;",
-        ),
-        (
-            "{\"range\":[\"n\",-9223372036854775808,9223372036854775807]}",
-            "1 n:-9223372036854775808..9223372036854775807;",
-        ),
-        ("{\"range\":[\"n\",0,9223372036854775808]}", "1 Query"),
-        ("{\"range\":[\"n\",5]}", "1 Query"),
-        ("{\"range\":[\"n\",5,6,7]}", "1 Query"),
-        ("{\"range\":[\"n\",1.0,5]}", "1 Query"),
-        ("{\"range\":[\"n\",1,\"5\"]}", "1 Query"),
-        ("{\"range\":[\"\",1,5]}", "1 Query"),
-        ("{\"range\":[1,1,5]}", "1 Query"),
-        ("\"all\"\n\n{}\n{", "3 Query"),
-        ("\"all\"\n{\n{}", "2 Json"),
-        ("\n\"all\"\n \n7", "4 Query"),
-    ];
-    for (text, want) in cases {
-        let found = answer(alloc, text.as_bytes())?;
-        assert!(rt; found.as_str() == want, "at {text}");
+    for line in QUESTIONS.lines() {
+        if let Some((text, want)) = line.rsplit_once(" => ") {
+            let said = answer(alloc, text_of(alloc, text)?.as_bytes())?;
+            assert!(rt; said.as_str() == text_of(alloc, want)?.as_str(), "{line}");
+        }
     }
-    let found = answer(alloc, b"\"all\"\n\"\xff\"")?;
-    assert!(rt; found.as_str() == "2 Json");
-    Ok(())
-}
-
-/// A text between so many others, each of which opens and closes.
-fn within(alloc: Global, depth: u32, open: &str, text: &str, close: &str) -> Result<String, Fail> {
-    let mut whole = String::new(alloc);
-    for _ in 0..depth {
-        whole.push_str(open)?;
-    }
-    whole.push_str(text)?;
-    for _ in 0..depth {
-        whole.push_str(close)?;
-    }
-    Ok(whole)
-}
-
-/// A query may hold another 42 deep, since each `bool` is three JSON values deep.
-#[test]
-fn nested_questions(rt: HostRuntime) -> Result<(), Fail> {
-    let alloc = rt.alloc();
-    let want = within(alloc, 42, "+(", "all", ")|-")?;
-    let want = format!(in alloc; "1 {want};")?;
-    let text = within(alloc, 42, "{\"bool\":{\"must\":[", "\"all\"", "]}}")?;
-    assert!(rt; answer(alloc, text.as_bytes())?.as_str() == want.as_str());
-    let text = within(alloc, 43, "{\"bool\":{\"must\":[", "\"all\"", "]}}")?;
-    assert!(rt; answer(alloc, text.as_bytes())?.as_str() == "1 Json");
+    assert!(rt; answer(alloc, b"\"all\"\n\"\xff\"")?.as_str() == "2 Json");
     Ok(())
 }
 
