@@ -212,11 +212,14 @@ can_run_left keep f left some may can =
     by (inl none) = inl none
     by (inr on) =
         let here : IsLawful f g.base g.next g.rows = subst (λ (x : Files). IsLawful x g.base g.next g.rows) same on.1 in
-        inr (on.0, record {
-          holds = inverted_whole f left g.base g.next g.rows (whole (λ e. absurd (omega (arith, e, on.0)))) here.holds;
-          room = here.room;
-          above = λ t e early lists. here.above t e early (lists_before t e lists);
-        })
+        inr (
+          on.0,
+          record {
+            holds = inverted_whole f left g.base g.next g.rows (whole (λ e. absurd (omega (arith, e, on.0)))) here.holds;
+            room = here.room;
+            above = λ t e early lists. here.above t e early (lists_before t e lists);
+          },
+        )
 
 -- ---- pruning
 
@@ -292,14 +295,17 @@ runs_pruned keep g text wrote start mid new count some prunes settles pruned kep
   log = runs.log;
   numbering = runs.numbering;
   written = runs.written;
-  files = some_told (HasLatest keep g runs.log) (told_files new) now.0 now.1
-      (found.0, found.2, subst (λ (b : Bool). IsLeft keep b found.0 now.0) (sym some)
-      (count, pruned found.0 now.0 found.1 now.1));
+  files = some_told (HasLatest keep g runs.log) (told_files new) now.0 now.1 (
+    found.0,
+    found.2,
+    subst (λ (b : Bool). IsLeft keep b found.0 now.0) (sym some)
+        (count, pruned found.0 now.0 found.1 now.1),
+  );
   images = λ are c image. (
-      found.0,
-      found.2,
-      leaves_now mid new (MayBePruned keep found.0) (prunes.crash found.0 found.1 (settles are found.0 found.1)) c image,
-    );
+    found.0,
+    found.2,
+    leaves_now mid new (MayBePruned keep found.0) (prunes.crash found.0 found.1 (settles are found.0 found.1)) c image,
+  );
   crash = λ are.
       crash_of keep start mid new (HasSome g runs.log) (HasSome g runs.log) (Left keep (HasSome g runs.log)) found.0 prunes
       found.1 (settles are found.0 found.1) (runs.crash are) (λ c first. left_same keep (HasSome g runs.log) c first)

@@ -82,11 +82,11 @@ returns-in-Ok-prune-clause-done g c = λ run same told can.
       crash = c.prune.ensures.crash;
     } in
     let settles : Settles run start mid = λ are f told_mid.
-        subst (λ (r : Result (Vec ℕ) Stop). OnOk r (AreKept f (MayHold mid))) c.in-Ok.is
-        (c.tell_script-text.ensures.settled run f told can are told_mid) in
+    subst (λ (r : Result (Vec ℕ) Stop). OnOk r (AreKept f (MayHold mid))) c.in-Ok.is
+    (c.tell_script-text.ensures.settled run f told can are told_mid) in
     let text = form_text c.args.form run in
     let commits : has_commit run.lines ≡ true =
-        ap has_commit (same ∙ sym c.as_slice.ensures) ∙ sym c.has_commit-commits.ensures ∙ c.if-not-commits.false in
+    ap has_commit (same ∙ sym c.as_slice.ensures) ∙ sym c.has_commit-commits.ensures ∙ c.if-not-commits.false in
     subst (λ (k : Option ℕ). RunsBy k run text (λ said. c.in-Ok.text.items ≡ said) start new) (sym c.in-Some.is)
     (runs_pruned keep run text (λ said. c.in-Ok.text.items ≡ said) start mid new c.in-Ok-prune.field-0 commits prunes settles
     c.in-Ok-prune.ensures.pruned c.in-Ok-prune.ensures.kept
@@ -106,8 +106,8 @@ returns-in-Ok-prune-clause-stops g c = λ run same told can.
       crash = c.prune.ensures.crash;
     } in
     let settles : Settles run start mid = λ are f told_mid.
-        subst (λ (r : Result (Vec ℕ) Stop). OnOk r (AreKept f (MayHold mid))) c.in-Ok.is
-        (c.tell_script-text.ensures.settled run f told can are told_mid) in
+    subst (λ (r : Result (Vec ℕ) Stop). OnOk r (AreKept f (MayHold mid))) c.in-Ok.is
+    (c.tell_script-text.ensures.settled run f told can are told_mid) in
     subst (λ (k : Option ℕ). StopsBy k run start new) (sym c.in-Some.is)
     (stops_pruned keep run start mid new prunes settles (c.tell_script-text.ensures.stops run same told can))
 
@@ -125,8 +125,8 @@ returns-in-Ok-prune-clause-kept g c = λ run told can.
     } in
     let own : Given = record run { lines = c.args.lines } in
     let settles : Settles own start mid = λ are f told_mid.
-        subst (λ (r : Result (Vec ℕ) Stop). OnOk r (AreKept f (MayHold mid))) c.in-Ok.is
-        (c.tell_script-text.ensures.settled own f told can are told_mid) in
+    subst (λ (r : Result (Vec ℕ) Stop). OnOk r (AreKept f (MayHold mid))) c.in-Ok.is
+    (c.tell_script-text.ensures.settled own f told can are told_mid) in
     subst (λ (k : Option ℕ). PreservesBy k run start new) (sym c.in-Some.is)
     (preserves_pruned keep run c.args.lines start new
     (stops_pruned keep own start mid new prunes settles (c.tell_script-text.ensures.stops own refl told can)))
@@ -149,8 +149,8 @@ returns-in-Err-prune-clause-stops g c = λ run same told can.
       crash = c.prune.ensures.crash;
     } in
     let settles : Settles run start mid = λ are f told_mid.
-        subst (λ (r : Result (Vec ℕ) Stop). OnOk r (AreKept f (MayHold mid))) c.in-Ok.is
-        (c.tell_script-text.ensures.settled run f told can are told_mid) in
+    subst (λ (r : Result (Vec ℕ) Stop). OnOk r (AreKept f (MayHold mid))) c.in-Ok.is
+    (c.tell_script-text.ensures.settled run f told can are told_mid) in
     subst (λ (k : Option ℕ). StopsBy k run start new) (sym c.in-Some.is)
     (stops_pruned keep run start mid new prunes settles (c.tell_script-text.ensures.stops run same told can))
 
@@ -168,8 +168,8 @@ returns-in-Err-prune-clause-kept g c = λ run told can.
     } in
     let own : Given = record run { lines = c.args.lines } in
     let settles : Settles own start mid = λ are f told_mid.
-        subst (λ (r : Result (Vec ℕ) Stop). OnOk r (AreKept f (MayHold mid))) c.in-Ok.is
-        (c.tell_script-text.ensures.settled own f told can are told_mid) in
+    subst (λ (r : Result (Vec ℕ) Stop). OnOk r (AreKept f (MayHold mid))) c.in-Ok.is
+    (c.tell_script-text.ensures.settled own f told can are told_mid) in
     subst (λ (k : Option ℕ). PreservesBy k run start new) (sym c.in-Some.is)
     (preserves_pruned keep run c.args.lines start new
     (stops_pruned keep own start mid new prunes settles (c.tell_script-text.ensures.stops own refl told can)))
@@ -184,8 +184,8 @@ returns-in-Err-prune-clause-whole g c = λ run told last can may_keep.
     let mid = g.S.Store.disk c.tell_script-text.result.store in
     let now = told_on OnlyCommits (g.S.Store.disk c.args.store) mid run.files c.tell_script-text.ensures.steps told in
     let spelled : AreSpelled run.files now.0 =
-        subst (λ (r : Result (Vec ℕ) Stop). OnOk r (AreSpelled run.files now.0)) c.in-Ok.is
-        (c.tell_script-text.ensures.spelled run now.0 told last can now.1) in
+    subst (λ (r : Result (Vec ℕ) Stop). OnOk r (AreSpelled run.files now.0)) c.in-Ok.is
+    (c.tell_script-text.ensures.spelled run now.0 told last can now.1) in
     let whole = are_whole c.in-Some.keep run now.0 (subst (λ (k : Option ℕ). CanKeep k run.files) c.in-Some.is may_keep) spelled in
     pruning_outside c.in-Err-prune.fault c.from.result c.from.ensures (c.in-Err-prune.ensures.whole now.0 now.1 whole)
 
