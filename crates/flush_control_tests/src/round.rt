@@ -132,7 +132,7 @@ pub(crate) fn piece_of(
     ensures { IfOk result (IsPieceOf rows.items updates cut) }
 {
     if rows.len() > 5000 {
-        Err("many rows")?;
+        return Err(Fail::from("many rows"));
     }
     let postings = invert(alloc, rows.as_slice())?;
     Ok(Piece {
