@@ -119,10 +119,8 @@ fn stopped<R: Outside>(rt: &R, behind: &str, passes: u64) -> Result<(u8, (usize,
 }
 
 /// Up to the rename the first commit is there alone, once the directory is synced both are, and
-/// between them one or both. A line behind the commit, told while it is written, changes nothing, and a
-/// search of the last commit is answered without a call.
-#[test]
-fn stops_at_each_call_of_a_commit(rt: HostRuntime) -> Result<(), Fail> {
+/// between them one or both.
+fn stops_with<R: Outside>(rt: &R, behind: &str) -> Result<(), Fail> {
     let last = READING_CALLS + WRITING_CALLS;
     for passes in 0..=last {
         let wanted = if passes == last {
@@ -132,11 +130,22 @@ fn stops_at_each_call_of_a_commit(rt: HostRuntime) -> Result<(), Fail> {
         } else {
             (7, (1, 1))
         };
-        for behind in ["", ADD_A1, ALL] {
-            assert!(rt; stopped(&rt, behind, passes)? == wanted, "passes {passes}");
-        }
+        assert!(*rt; stopped(rt, behind, passes)? == wanted, "passes {passes}");
     }
     Ok(())
+}
+
+#[test]
+fn stops_at_each_call_of_a_commit(rt: HostRuntime) -> Result<(), Fail> {
+    stops_with(&rt, "")
+}
+
+/// A line behind the commit, told while it is written, changes nothing; and a search of the last commit is
+/// answered without a call.
+#[test]
+fn stops_at_each_call_beside_a_round_and_a_search(rt: HostRuntime) -> Result<(), Fail> {
+    stops_with(&rt, ADD_A1)?;
+    stops_with(&rt, ALL)
 }
 
 /// Whichever call fails of a second run of three commits, the images have the first of the commits: at most
@@ -162,17 +171,21 @@ fn rises<R: Outside>(rt: &R, words: &str) -> Result<MemoryStore, Fail> {
     Err("a run of many calls")?
 }
 
-/// A run of three commits whose segments are merged two by two, and one that keeps all of its segments.
-/// After the first run's segment come those of two rounds; one that is merged of two is the fourth.
-#[test]
-fn stops_at_each_call_of_three_commits(rt: HostRuntime) -> Result<(), Fail> {
-    for (words, has_merged) in [
-        ("run --threads 1 --buffer 1 --merge 2", true),
-        ("run --threads 1 --buffer 1 --merge 8", false),
-    ] {
-        let mut image = rises(&rt, words)?.crash(rt.alloc(), 0)?;
-        let merged = image.read(rt.alloc(), FileName::Rows(4))?;
-        assert!(rt; merged.is_some() == has_merged, "{words}");
-    }
+/// A second run of three commits that stops at each of its calls. After the first run's segment come those of
+/// two rounds; one that is merged of two is the fourth.
+fn stops_at_each_call<R: Outside>(rt: &R, words: &str, has_merged: bool) -> Result<(), Fail> {
+    let mut image = rises(rt, words)?.crash(rt.alloc(), 0)?;
+    let merged = image.read(rt.alloc(), FileName::Rows(4))?;
+    assert!(*rt; merged.is_some() == has_merged, "{words}");
     Ok(())
+}
+
+#[test]
+fn stops_at_each_call_of_a_run_that_merges(rt: HostRuntime) -> Result<(), Fail> {
+    stops_at_each_call(&rt, "run --threads 1 --buffer 1 --merge 2", true)
+}
+
+#[test]
+fn stops_at_each_call_of_a_run_that_keeps_its_segments(rt: HostRuntime) -> Result<(), Fail> {
+    stops_at_each_call(&rt, "run --threads 1 --buffer 1 --merge 8", false)
 }
