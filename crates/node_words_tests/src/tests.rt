@@ -1,211 +1,238 @@
-//! Operations as words, and words and bytes that are read as entries. Words and bytes stand as hexadecimal.
-use ix_base::{Name, Operation, PhraseText, Queries, Query, Term, Text};
+use ix_base::{Name, NoMemory, Operation, PhraseText, Query, Refusal, Refused, Term, Text};
 use node_words::{Entry, decode, encode};
 use std::alloc::Global;
 use std::fmt::Write;
-use std::str;
-use std::test::Fail;
+use std::test::*;
+
+fn text_of(string: String) -> Result<Text, NoMemory> {
+    Text::new(string).ok_or(NoMemory)
+}
+
+fn text(alloc: Global, string: &str) -> Result<Text, NoMemory> {
+    text_of(String::from_str(alloc, string)?)
+}
+
+fn name(alloc: Global, string: &str) -> Result<Name, NoMemory> {
+    Name::new(text(alloc, string)?).ok_or(NoMemory)
+}
+
+/// A text of so many letters.
+fn letters(alloc: Global, count: usize) -> Result<Text, NoMemory> {
+    let mut string = String::new(alloc);
+    for _ in 0..count {
+        string.push('a')?;
+    }
+    text_of(string)
+}
+
+/// A delete by the term of so many letters.
+fn delete_term(alloc: Global, count: usize) -> Result<Operation, NoMemory> {
+    let field = name(alloc, "body")?;
+    let bytes = letters(alloc, count)?;
+    Ok(Operation::DeleteTerm(Term { field, bytes }))
+}
+
+/// A delete by the phrase of so many letters.
+fn delete_phrase(alloc: Global, count: usize) -> Result<Operation, NoMemory> {
+    let field = name(alloc, "body")?;
+    let phrase = PhraseText::new(letters(alloc, count)?).ok_or(NoMemory)?;
+    Ok(Operation::DeleteQuery(Query::Phrase(field, phrase)))
+}
+
+/// The number of words, or the size of what was refused.
+pub(crate) fn outcome(words: Result<Vec<u64>, Refused>) -> (u64, u64) {
+    match words {
+        Ok(words) => (words.len() as u64, 0),
+        Err(Refused::For(Refusal::Term { size })) => (1, size),
+        Err(Refused::For(Refusal::Query { size })) => (2, size),
+        Err(Refused::NoMemory) => (3, 0),
+    }
+}
+
+fn term_outcome(alloc: Global, count: usize) -> Result<(u64, u64), NoMemory> {
+    let delete = delete_term(alloc, count)?;
+    Ok(outcome(encode(alloc, &delete)))
+}
+
+fn phrase_outcome(alloc: Global, count: usize) -> Result<(u64, u64), NoMemory> {
+    let delete = delete_phrase(alloc, count)?;
+    Ok(outcome(encode(alloc, &delete)))
+}
+
+#[test]
+fn term_limit(rt: HostRuntime) {
+    for (count, want) in [(32766, (4099, 0)), (32767, (1, 32767))] {
+        assert!(rt; term_outcome(rt.alloc(), count) == Ok(want));
+    }
+}
+
+#[test]
+fn query_limit(rt: HostRuntime) {
+    for (count, want) in [(131_059, (16385, 0)), (131_060, (2, 131_073))] {
+        assert!(rt; phrase_outcome(rt.alloc(), count) == Ok(want));
+    }
+}
+
+fn put_term(out: &mut String, start: &str, term: &Term) -> Result<(), NoMemory> {
+    out.push_str(start)?;
+    out.push_str(term.field.as_str())?;
+    out.push(' ')?;
+    out.push_str(term.bytes.as_str())?;
+    Ok(())
+}
+
+fn put_setting(out: &mut String, num: &Name, value: i64) -> Result<(), NoMemory> {
+    let num = num.as_str();
+    match write!(out, " {num} {value}") {
+        Ok(()) => Ok(()),
+        Err(_) => Err(NoMemory),
+    }
+}
+
+/// What an entry asks for, a query left out.
+fn shown(alloc: Global, entry: &Entry) -> Result<String, NoMemory> {
+    let mut out = String::new(alloc);
+    match entry {
+        Entry::Add => out.push_str("add")?,
+        Entry::Update(term) => put_term(&mut out, "update ", term)?,
+        Entry::DeleteTerm(term) => put_term(&mut out, "delete ", term)?,
+        Entry::DeleteQuery(_) => out.push_str("query")?,
+        Entry::SetNumber { term, num, value } => {
+            put_term(&mut out, "set ", term)?;
+            put_setting(&mut out, num, *value)?;
+        }
+        Entry::Commit => out.push_str("commit")?,
+        Entry::Turn => out.push_str("turn")?,
+    }
+    Ok(out)
+}
+
+/// What the words spell, or `none`.
+fn answer(alloc: Global, words: &[u64]) -> Result<String, NoMemory> {
+    match decode(alloc, words)? {
+        Some(entry) => shown(alloc, &entry),
+        None => Ok(String::from_str(alloc, "none")?),
+    }
+}
+
+/// The word that is written so. A test never has other digits.
+fn word_of(digits: &str) -> Result<u64, NoMemory> {
+    match u64::from_str_radix(digits, 16) {
+        Ok(word) => Ok(word),
+        Err(_) => Err(NoMemory),
+    }
+}
 
 /// The words that are written so, each of sixteen digits.
-fn words_in(alloc: Global, text: &str) -> Result<Vec<u64>, Fail> {
+pub(crate) fn words_in(alloc: Global, text: &str) -> Result<Vec<u64>, NoMemory> {
     let mut words = Vec::new(alloc);
     for word in text.split(' ') {
         if !word.is_empty() {
-            words.push(u64::from_str_radix(word, 16)?)?;
+            words.push(word_of(word)?)?;
         }
     }
     Ok(words)
 }
 
-/// Whether these words spell a delete by a query that has these words.
-fn are_kept(alloc: Global, words: &[u64]) -> Result<bool, Fail> {
-    let Some(Entry::DeleteQuery(query)) = decode(alloc, words)? else {
-        return Ok(false);
-    };
-    let same = encode(alloc, &Operation::DeleteQuery(query))?;
-    Ok(same.as_slice() == words)
+fn answer_at(alloc: Global, text: &str) -> Result<String, NoMemory> {
+    let words = words_in(alloc, text)?;
+    answer(alloc, &words)
 }
 
-/// What the words spell, or `none`. Of a query it is told whether it has these words.
-fn shown(alloc: Global, words: &[u64]) -> Result<String, Fail> {
-    let mut out = String::new(alloc);
-    let kept = are_kept(alloc, words)?;
-    let entry = decode(alloc, words)?;
-    match &entry {
-        None => out.push_str("none")?,
-        Some(Entry::Add) => out.push_str("add")?,
-        Some(Entry::Update(term)) => {
-            write!(
-                out,
-                "update {} {}",
-                term.field.as_str(),
-                term.bytes.as_str()
-            )?;
-        }
-        Some(Entry::DeleteTerm(term)) => {
-            write!(
-                out,
-                "delete {} {}",
-                term.field.as_str(),
-                term.bytes.as_str()
-            )?;
-        }
-        Some(Entry::DeleteQuery(_)) => write!(out, "query, kept: {kept}")?,
-        Some(Entry::SetNumber { term, num, value }) => {
-            write!(out, "set {} {}", term.field.as_str(), term.bytes.as_str())?;
-            write!(out, " {} {value}", num.as_str())?;
-        }
-        Some(Entry::Commit) => out.push_str("commit")?,
-        Some(Entry::Turn) => out.push_str("turn")?,
-    }
-    Ok(out)
-}
+/// An entry of each kind, written by hand.
+const SPELLED: [(&str, &str); 8] = [
+    ("0000000100000000", "add"),
+    (
+        "000000020000000d 000000036b657900 0000026131000000",
+        "update key a1",
+    ),
+    (
+        "000000030000000d 000000036b657900 0000026131000000",
+        "delete key a1",
+    ),
+    (
+        "0000000400000025 0300000001010000 0001660000000161 0000000000000001 0200000001660000 0003622063000000",
+        "query",
+    ),
+    (
+        "0000000400000016 04000000016effff fffffffffffe0000 0000000000090000",
+        "query",
+    ),
+    (
+        "000000050000001a 000000036b657900 0000026131000000 016effffffffffff fffe000000000000",
+        "set key a1 n -2",
+    ),
+    ("0000000600000000", "commit"),
+    ("0000000700000000", "turn"),
+];
 
-/// An entry of each kind, written by hand, and words that are one step from a spelling.
-const WORDS: &str = "\
-0000000100000000 => add
-000000020000000d 000000036b657900 0000026131000000 => update key a1
-000000030000000d 000000036b657900 0000026131000000 => delete key a1
-0000000400000025 0300000001010000 0001660000000161 0000000000000001 0200000001660000 0003622063000000 => query, kept: true
-0000000400000016 04000000016effff fffffffffffe0000 0000000000090000 => query, kept: true
-000000050000001a 000000036b657900 0000026131000000 016effffffffffff fffe000000000000 => set key a1 n -2
-0000000600000000 => commit
-0000000700000000 => turn
- => none
-0000000000000000 => none
-0000000800000000 => none
-0000000100000000 0000000000000000 => none
-0000000700000001 0000000000000000 => none
-0000000400000001 0500000000000000 => none
-0000000400000015 04000000006effff fffffffffffe0000 0000000000000000 => none
-000000030000000d 000000036b657900 => none
-000000030000000d 000000036b657900 0000026131000001 => none
-000000030000000e 000000036b657900 0000026131000000 => none
-000000030000000d 00000003ff657900 0000026131000000 => none";
+/// Words that are one step from a spelling.
+const NOT_SPELLED: [&str; 11] = [
+    "",
+    "0000000000000000",
+    "0000000800000000",
+    "0000000100000000 0000000000000000",
+    "0000000700000001 0000000000000000",
+    "0000000400000001 0500000000000000",
+    "0000000400000015 04000000006effff fffffffffffe0000 0000000000000000",
+    "000000030000000d 000000036b657900",
+    "000000030000000d 000000036b657900 0000026131000001",
+    "000000030000000e 000000036b657900 0000026131000000",
+    "000000030000000d 00000003ff657900 0000026131000000",
+];
 
 #[test]
-fn words_by_hand(rt: HostRuntime) -> Result<(), Fail> {
-    for line in WORDS.lines() {
-        let (words, want) = line.split_once(" => ").ok_or("no words")?;
-        let words = words_in(rt.alloc(), words)?;
-        assert!(rt; shown(rt.alloc(), &words)?.as_str() == want, "{line}");
+fn words_by_hand(rt: HostRuntime) {
+    for (text, want) in SPELLED {
+        let Ok(found) = answer_at(rt.alloc(), text) else {
+            panic!(rt; "memory");
+        };
+        assert!(rt; found.as_str() == want, "at {text}");
     }
-    Ok(())
-}
-
-/// A bool of these two lists.
-fn bool_of(alloc: Global, must: Vec<Query>, should: Vec<Query>) -> Query {
-    Query::Bool {
-        must: Queries::from_vec(must),
-        should: Queries::from_vec(should),
-        must_not: Queries::from_vec(Vec::new(alloc)),
-    }
-}
-
-/// So many bools, each the one element of the next, round `All`.
-fn deep(alloc: Global, depth: usize) -> Result<Query, Fail> {
-    let mut query = Query::All;
-    for _ in 0..depth {
-        query = bool_of(alloc, vec![in alloc; query]?, Vec::new(alloc));
-    }
-    Ok(query)
-}
-
-/// A bool of so many queries, each `All`.
-fn wide(alloc: Global, count: usize) -> Result<Query, Fail> {
-    let mut should = Vec::new(alloc);
-    for _ in 0..count {
-        should.push(Query::All)?;
-    }
-    Ok(bool_of(alloc, Vec::new(alloc), should))
-}
-
-/// A delete by the term or the phrase of a text in a field, or by a query that is so deep or so wide.
-fn delete_by(alloc: Global, kind: &str, field: &str, text: String) -> Result<Operation, Fail> {
-    let count = text.len();
-    let field = Name::new(Text::copy_of(alloc, field)?).ok_or("no name")?;
-    let text = Text::new(text).ok_or("too long")?;
-    Ok(match kind {
-        "term" => Operation::DeleteTerm(Term { field, bytes: text }),
-        "phrase" => {
-            let phrase = PhraseText::new(text).ok_or("too long")?;
-            Operation::DeleteQuery(Query::Phrase(field, phrase))
-        }
-        "deep" => Operation::DeleteQuery(deep(alloc, count)?),
-        _ => Operation::DeleteQuery(wide(alloc, count)?),
-    })
-}
-
-/// How many words the operation has, and that it is read back from them if it deletes by a query; or why it
-/// is refused.
-fn said_of(alloc: Global, operation: &Operation) -> Result<String, Fail> {
-    let words = match encode(alloc, operation) {
-        Ok(words) => words,
-        Err(refused) => return Ok(format!(in alloc; "{refused:?}")?),
-    };
-    let kept = if are_kept(alloc, &words)? {
-        ", kept"
-    } else {
-        ""
-    };
-    Ok(format!(in alloc; "{} words{kept}", words.len())?)
-}
-
-/// What is said of a delete by a term, a phrase or a query of this size.
-fn said_of_size(alloc: Global, kind: &str, size: &str) -> Result<String, Fail> {
-    let text = "a".repeat(alloc, usize::from_str_radix(size, 10)?)?;
-    said_of(alloc, &delete_by(alloc, kind, "body", text)?)
-}
-
-/// Deletes by the size of the term, phrase or query, and what is said of each: the largest that have words,
-/// and those of a byte more.
-const SIZES: &str = "\
-term 32766 => 4099 words
-term 32767 => For(Term { size: 32767 })
-phrase 131059 => 16385 words, kept
-phrase 131060 => For(Query { size: 131073 })
-deep 1000 => 1627 words, kept
-wide 131059 => 16385 words, kept
-wide 131060 => For(Query { size: 131073 })";
-
-#[test]
-fn written_limits(rt: HostRuntime) -> Result<(), Fail> {
-    let alloc = rt.alloc();
-    for line in SIZES.lines() {
-        let (given, want) = line.split_once(" => ").ok_or("no size")?;
-        let (kind, size) = given.split_once(' ').ok_or("no size")?;
-        assert!(rt; said_of_size(alloc, kind, size)?.as_str() == want, "{line}");
-    }
-    Ok(())
 }
 
 #[test]
-fn one_delete(rt: HostRuntime) -> Result<(), Fail> {
-    let alloc = rt.alloc();
-    let delete = delete_by(alloc, "term", "key", String::from_str(alloc, "a1")?)?;
-    let want = words_in(alloc, "000000030000000d 000000036b657900 0000026131000000")?;
-    assert!(rt; encode(alloc, &delete)?.as_slice() == want.as_slice());
-    Ok(())
-}
-
-/// The bytes that are written so, of which `3*ab` is the byte `ab` three times.
-fn bytes_in(alloc: Global, text: &str) -> Result<Vec<u8>, Fail> {
-    let mut bytes = Vec::new(alloc);
-    for part in text.split(' ') {
-        let (count, digits) = part.split_once('*').unwrap_or(("1", part));
-        for _ in 0..u32::from_str_radix(count, 10)? {
-            for pair in digits.as_bytes().chunks(2) {
-                bytes.push(u8::from_str_radix(str::from_utf8(pair)?, 16)?)?;
-            }
-        }
+fn no_words_by_hand(rt: HostRuntime) {
+    for text in NOT_SPELLED {
+        let Ok(found) = answer_at(rt.alloc(), text) else {
+            panic!(rt; "memory");
+        };
+        assert!(rt; found.as_str() == "none", "at {text}");
     }
-    Ok(bytes)
 }
 
-/// Whether these bytes are those of an entry of this kind: a head word, and then eight bytes in a word, the
-/// first byte highest, the last word filled with zero bytes.
-fn is_entry(alloc: Global, kind: u8, bytes: &[u8]) -> Result<bool, Fail> {
-    let head = kind as u64 * (1 << 32) + bytes.len() as u64;
+/// A delete of the field `key` by the term `a1`.
+fn delete_of_key(alloc: Global) -> Result<Operation, NoMemory> {
+    let field = name(alloc, "key")?;
+    let bytes = text(alloc, "a1")?;
+    Ok(Operation::DeleteTerm(Term { field, bytes }))
+}
+
+/// Whether the words of the operation are those that are written so.
+fn has_words(alloc: Global, operation: &Operation, text: &str) -> Result<bool, NoMemory> {
+    let want = words_in(alloc, text)?;
+    match encode(alloc, operation) {
+        Ok(words) => Ok(words.as_slice() == want.as_slice()),
+        Err(_) => Ok(false),
+    }
+}
+
+#[test]
+fn one_delete(rt: HostRuntime) {
+    let Ok(delete) = delete_of_key(rt.alloc()) else {
+        panic!(rt; "memory");
+    };
+    let text = "000000030000000d 000000036b657900 0000026131000000";
+    assert!(rt; has_words(rt.alloc(), &delete, text) == Ok(true));
+}
+
+fn spells(alloc: Global, words: &[u64]) -> Result<bool, NoMemory> {
+    Ok(decode(alloc, words)?.is_some())
+}
+
+/// A head word and these bytes, eight in a word, the first byte highest, the last word filled with zero
+/// bytes.
+fn packed(alloc: Global, head: u64, bytes: &[u8]) -> Result<Vec<u64>, NoMemory> {
     let mut words = vec![in alloc; head]?;
     for (place, byte) in bytes.iter().enumerate() {
         if place % 8 == 0 {
@@ -215,70 +242,92 @@ fn is_entry(alloc: Global, kind: u8, bytes: &[u8]) -> Result<bool, Fail> {
             *last |= u64::from(*byte) << (56 - place % 8 * 8);
         }
     }
-    Ok(decode(alloc, &words)?.is_some())
+    Ok(words)
 }
 
-/// The kind and the bytes of an entry of each kind that has some.
-const ENTRIES: &str = "\
-2 000000036b6579 000000026131
-4 01 0000000166 0000000161
-4 02 0000000166 00000003622063
-4 04 000000016e 0000000000000005 0000000000000009
-4 03 00000000 00000001 00 00000001 00
-5 000000036b6579 000000026131 000000016e 0000000000000007";
+/// Whether these bytes are those of an entry of this kind.
+fn is_entry(alloc: Global, kind: u8, bytes: &[u8]) -> Result<bool, NoMemory> {
+    let head = kind as u64 * (1 << 32) + bytes.len() as u64;
+    let words = packed(alloc, head, bytes)?;
+    spells(alloc, &words)
+}
 
-/// The first length at which the bytes of an entry, cut there, are an entry too, or the length of all where
-/// these are none, or where they are one with a zero byte more.
-fn wrong_cut(alloc: Global, entry: &str) -> Result<Option<usize>, Fail> {
-    let (kind, bytes) = entry.split_once(' ').ok_or("no kind")?;
-    let kind = u8::from_str_radix(kind, 10)?;
-    let mut longer = bytes_in(alloc, bytes)?;
-    let whole = longer.len();
-    longer.push(0)?;
-    for length in 0..longer.len() {
-        if is_entry(alloc, kind, &longer[..length])? != (length == whole) {
-            return Ok(Some(length));
+/// Whether no prefix of the bytes is an entry of this kind, except all of them.
+fn is_no_sooner(alloc: Global, kind: u8, bytes: &[u8]) -> Result<bool, NoMemory> {
+    let mut part = Vec::new(alloc);
+    for byte in bytes {
+        if is_entry(alloc, kind, &part)? {
+            return Ok(false);
         }
+        part.push(*byte)?;
     }
-    Ok(if is_entry(alloc, kind, &longer)? {
-        Some(longer.len())
-    } else {
-        None
-    })
+    is_entry(alloc, kind, &part)
 }
+
+/// Whether the bytes with a zero byte after them are an entry of this kind.
+fn is_longer(alloc: Global, kind: u8, bytes: &[u8]) -> Result<bool, NoMemory> {
+    let mut longer = Vec::new(alloc);
+    longer.extend_from_slice(bytes)?;
+    longer.push(0)?;
+    is_entry(alloc, kind, &longer)
+}
+
+/// The bytes of an entry of each kind that has some.
+const ENTRIES: [(u8, &str); 6] = [
+    (2, "\0\0\0\x03key\0\0\0\x02a1"),
+    (4, "\x01\0\0\0\x01f\0\0\0\x01a"),
+    (4, "\x02\0\0\0\x01f\0\0\0\x03b c"),
+    (4, "\x04\0\0\0\x01n\0\0\0\0\0\0\0\x05\0\0\0\0\0\0\0\x09"),
+    (4, "\x03\0\0\0\0\0\0\0\x01\0\0\0\0\x01\0"),
+    (5, "\0\0\0\x03key\0\0\0\x02a1\0\0\0\x01n\0\0\0\0\0\0\0\x07"),
+];
 
 /// Each cut of an entry's bytes is foreign, and so is a byte more.
 #[test]
-fn foreign_cuts(rt: HostRuntime) -> Result<(), Fail> {
-    for entry in ENTRIES.lines() {
-        assert!(rt; wrong_cut(rt.alloc(), entry)? == None, "{entry}");
+fn foreign_cuts(rt: HostRuntime) {
+    for (kind, text) in ENTRIES {
+        assert!(rt; is_no_sooner(rt.alloc(), kind, text.as_bytes()) == Ok(true));
+        assert!(rt; is_longer(rt.alloc(), kind, text.as_bytes()) == Ok(false));
+    }
+}
+
+fn put_letters(out: &mut Vec<u8>, count: u32) -> Result<(), NoMemory> {
+    out.extend_from_slice(&count.to_be_bytes())?;
+    for _ in 0..count {
+        out.push(b'a')?;
     }
     Ok(())
 }
 
-/// Deletes, by a term (kind 3) and by a phrase (kind 4), with the lengths of the name and of the text at
-/// their limits, and whether they are read.
-const LIMITS: &str = "\
-3 00000001 1*61 00000000 => true
-3 00000000 00000001 1*61 => false
-3 000000ff 255*61 00007ffe 32766*61 => true
-3 00000100 256*61 00000001 1*61 => false
-3 00000001 1*61 00007fff 32767*61 => false
-4 02 000000ff 255*61 00007fff 32767*61 => true
-4 02 00000000 00000001 1*61 => false
-4 02 00000100 256*61 00000001 1*61 => false
-4 02 00000004 4*61 0001fff3 131059*61 => true
-4 02 00000004 4*61 0001fff4 131060*61 => false";
+/// Whether a delete by a name and a text of so many letters is read: by a term at kind 3, by a
+/// phrase at kind 4.
+fn is_read(alloc: Global, kind: u8, name: u32, text: u32) -> Result<bool, NoMemory> {
+    let mut bytes = Vec::new(alloc);
+    if kind == 4 {
+        bytes.push(2)?;
+    }
+    put_letters(&mut bytes, name)?;
+    put_letters(&mut bytes, text)?;
+    is_entry(alloc, kind, &bytes)
+}
+
+/// Terms and phrases by the bytes of the name and of the text, at their limits.
+const LIMITS: [(u8, u32, u32, bool); 10] = [
+    (3, 1, 0, true),
+    (3, 0, 1, false),
+    (3, 255, 32766, true),
+    (3, 256, 1, false),
+    (3, 1, 32767, false),
+    (4, 255, 32767, true),
+    (4, 0, 1, false),
+    (4, 256, 1, false),
+    (4, 4, 131_059, true),
+    (4, 4, 131_060, false),
+];
 
 #[test]
-fn read_limits(rt: HostRuntime) -> Result<(), Fail> {
-    let alloc = rt.alloc();
-    for line in LIMITS.lines() {
-        let (entry, want) = line.split_once(" => ").ok_or("no entry")?;
-        let (kind, bytes) = entry.split_once(' ').ok_or("no kind")?;
-        let bytes = bytes_in(alloc, bytes)?;
-        let is_read = is_entry(alloc, u8::from_str_radix(kind, 10)?, &bytes)?;
-        assert!(rt; is_read == (want == "true"), "{line}");
+fn read_limits(rt: HostRuntime) {
+    for (kind, name, text, want) in LIMITS {
+        assert!(rt; is_read(rt.alloc(), kind, name, text) == Ok(want));
     }
-    Ok(())
 }
