@@ -1,4 +1,5 @@
-//! Operations read from texts, and rounds of one piece each: after each of them the segments can be listed.
+//! Rounds of one piece each, for tests of what comes between rounds: after each of them the segments
+//! can be listed.
 ghost use Rattle.std.specs.Prelude.{◌<◌, List as ListOf, IfOk, OnOk};
 ghost use Rattle.flush_control.specs.Published.{IsPublished};
 ghost use Rattle.flush_control.specs.Rounds.{IsRound};
@@ -17,6 +18,14 @@ use std::test::*;
 use std::thread::Threads;
 use test_values::{document_of, key_term, name_of};
 use thread_writer::Piece;
+
+/// An operation: it adds a row with its key, deletes the rows with it, or sets the number `n` in them.
+#[derive(Clone, Copy)]
+pub(crate) enum Act {
+    Add,
+    Delete,
+    Set(i64),
+}
 
 /// An index without segments, with operations up to this number in it.
 pub(crate) fn fresh(alloc: Global, upto: u64) -> Published
@@ -44,7 +53,7 @@ pub(crate) fn untold(alloc: Global, base: u64) -> Told
 }
 
 /// The rows with the key are deleted.
-fn delete_of(alloc: Global, key: &str) -> Result<Entry, Fail>
+pub(crate) fn delete_of(alloc: Global, key: &str) -> Result<Entry, Fail>
     ensures { IfOk result AddsNone }
 {
     let term = key_term(alloc, key)?;
@@ -52,7 +61,7 @@ fn delete_of(alloc: Global, key: &str) -> Result<Entry, Fail>
 }
 
 /// The number `n` is set in the rows with the key.
-fn setting_of(alloc: Global, key: &str, value: i64) -> Result<Entry, Fail>
+pub(crate) fn setting_of(alloc: Global, key: &str, value: i64) -> Result<Entry, Fail>
     ensures { IfOk result AddsNone }
 {
     let term = key_term(alloc, key)?;
@@ -86,61 +95,42 @@ fn tell_entry(told: &mut Told, number: u64, entry: Entry) -> Result<(), Fail>
     Ok(())
 }
 
-/// One more operation, after all others: a row with the key is added, those with it are deleted, or the
-/// number `n` is set in them, to the value that stands in place of the verb.
+/// One more operation, after all others.
 pub(crate) fn tell(
     alloc: Global,
     told: &mut Told,
     number: u64,
-    verb: &str,
+    act: Act,
     key: &str,
 ) -> Result<(), Fail>
     requires { IsTold told.old }
     ensures { OnOk result (IsTold told.new) }
 {
     if number <= told.last {
-        Err("numbers don't rise")?;
+        return Err(Fail::from("numbers don't rise"));
     }
-    match verb {
-        "add" => tell_row(alloc, told, number, key),
-        "delete" => tell_entry(told, number, delete_of(alloc, key)?),
-        _ => tell_entry(told, number, setting_of(alloc, key, verb.parse::<i64>()?)?),
+    match act {
+        Act::Add => tell_row(alloc, told, number, key),
+        Act::Delete => tell_entry(told, number, delete_of(alloc, key)?),
+        Act::Set(value) => tell_entry(told, number, setting_of(alloc, key, value)?),
     }
 }
 
-/// What operations come to that a text has, with their numbers, above `base`, as `3 add a, 5 delete a` or
-/// `6 -4 b`, which sets -4.
-pub(crate) fn told_of(alloc: Global, base: u64, text: &str) -> Result<Told, Fail>
-    ensures { IfOk result IsTold }
-{
-    let mut told = untold(alloc, base);
-    for operation in text.split_terminator(',') {
-        let (number, words) = operation.trim().split_once(' ').ok_or("no number")?;
-        let (verb, key) = words.split_once(' ').ok_or("no verb")?;
-        tell(alloc, &mut told, number.parse::<u64>()?, verb, key)?;
-    }
-    Ok(told)
-}
-
-/// A piece of these rows and updates, which was cut at this number.
-pub(crate) fn piece_of(
-    alloc: Global,
-    rows: Vec<Row>,
-    updates: Updates,
-    cut: u64,
-) -> Result<Piece, Fail>
-    ensures { IfOk result (IsPieceOf rows.items updates cut) }
+/// The rows as a piece, with nothing else in it.
+fn piece_of(alloc: Global, rows: Vec<Row>, cut: u64) -> Result<Vec<Piece>, Fail>
+    ensures { IfOk result (λ pieces. IsPieceOf rows.items cut pieces.items) }
 {
     if rows.len() > 5000 {
         return Err(Fail::from("many rows"));
     }
     let postings = invert(alloc, rows.as_slice())?;
-    Ok(Piece {
+    let piece = Piece {
         worker: 0,
         frozen: Frozen { rows, postings },
-        updates,
+        updates: Updates::new(alloc),
         cut,
-    })
+    };
+    Ok(vec![in alloc; piece]?)
 }
 
 /// Takes the pieces of a round, and applies its packet.
@@ -185,12 +175,22 @@ pub(crate) fn do_round<R: Threads + Sync>(
     if base != index.upto {
         return Err(Fail::from("not behind the last round"));
     }
-    let piece = piece_of(alloc, rows, Updates::new(alloc), base)?;
-    let pieces = vec![in alloc; piece]?;
+    let pieces = piece_of(alloc, rows, base)?;
     let packet = Packet {
         after: base,
         upto: last,
         updates,
     };
     end_round(rt, alloc, index, pieces, &packet)
+}
+
+/// What a round has of these operations, which come after those with numbers up to `base`.
+pub(crate) fn told_of(alloc: Global, base: u64, acts: &[(u64, Act, &str)]) -> Result<Told, Fail>
+    ensures { IfOk result IsTold }
+{
+    let mut told = untold(alloc, base);
+    for (number, act, key) in acts {
+        tell(alloc, &mut told, *number, *act, key)?;
+    }
+    Ok(told)
 }
