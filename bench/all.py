@@ -1,10 +1,12 @@
 #!/usr/bin/env python3
-"""Measures all phases in one table: those of grow.py, text.py, commits.py, ranges.py, threads.py, rounds.py and merges.py.
+"""Measures all phases in one table: those of grow.py, text.py, commits.py, keep.py, ranges.py, threads.py, rounds.py and
+merges.py.
 
 usage: all.py PROGRAM [--quick] [--only WORD] [--times N] [--count]
 """
 import commits
 import grow
+import keep
 import merges
 import ranges
 import rounds
@@ -14,7 +16,7 @@ from tools import main
 
 
 def phases(quick):
-    for module in (grow, text, commits, ranges, threads, rounds, merges):
+    for module in (grow, text, commits, keep, ranges, threads, rounds, merges):
         yield from module.phases(quick)
 
 
