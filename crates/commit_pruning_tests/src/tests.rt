@@ -88,7 +88,7 @@ fn only_commits_that_stay_are_read(rt: HostRuntime) -> Result<(), Fail> {
     let all = names(alloc, &mut store)?;
     let damaged = Damaged {
         file: FileName::Commit(4),
-        at: 40,
+        at: 44,
     };
     assert!(rt; prune(alloc, &mut store, 2) == Err(PruningFault::Damaged(damaged)));
     assert!(rt; names(alloc, &mut store)?.as_slice() == all.as_slice());

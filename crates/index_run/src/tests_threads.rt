@@ -30,14 +30,14 @@ pub(crate) fn lines_of(
     requires { (0 < callers) × (callers ≤ 16) }
 {
     let keys = 3 * callers;
-    let mut letters = turns.bytes().cycle();
-    let mut letter = b'a';
+    let letters = turns.as_bytes();
     let mut lines = Vec::new(alloc);
     for at in 0..count {
         let caller = at % callers;
-        if caller == 0 {
-            letter = letters.next().ok_or("no turn")?;
-        }
+        let turn = (at / callers)
+            .checked_rem(letters.len() as u64)
+            .ok_or("no turn")?;
+        let letter = letters.get(turn as usize).copied().ok_or("no turn")?;
         let act = match letter {
             b'a' => Act::Add(document_of(at % keys)),
             b'c' => Act::Commit,
