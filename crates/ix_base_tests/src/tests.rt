@@ -118,8 +118,11 @@ fn show_operation(out: &mut String, operation: &Operation) -> Result<(), Fail> {
             write!(out, " {num}={value}")?;
             Ok(())
         }
-        Operation::Commit => {
+        Operation::Commit(pairs) => {
             out.push_str("commit")?;
+            for pair in pairs.as_slice() {
+                write!(out, " {}:{}", pair.0.as_str(), pair.1.as_str())?;
+            }
             Ok(())
         }
     }
@@ -206,7 +209,7 @@ fn operation_of(alloc: Global, kind: u32) -> Result<Operation, Fail> {
             num: name_of(alloc, "n")?,
             value: i64::MIN,
         }),
-        _ => Ok(Operation::Commit),
+        _ => Ok(Operation::Commit(letter(alloc)?.text)),
     }
 }
 
@@ -230,7 +233,7 @@ fn copies_of_operations(rt: HostRuntime) -> Result<(), Fail> {
         (2, "key:a1"),
         (3, "+(key:a1)(+|(all)-(body~a b))|(all)-"),
         (4, "tag:x n=-9223372036854775808"),
-        (5, "commit"),
+        (5, "commit body:Quick FOX"),
     ];
     for (kind, want) in cases {
         assert!(rt; shown_copy(rt.alloc(), kind)?.as_str() == want);

@@ -7,7 +7,7 @@ ghost use Rattle.thread_writer.specs.Writing.{IsWriter};
 use crate::{Piece, ThreadWriter, Told};
 use delete_queue::{DeleteQueue, Linked, Reserve};
 use frozen_packet::{Change, Updates};
-use ix_base::{Operation, Query, Term};
+use ix_base::{Fields, Operation, Query, Term};
 use std::alloc::Global;
 use std::fmt::Write;
 use std::test::*;
@@ -43,7 +43,7 @@ fn operation_of(alloc: Global, act: Act, key: &str) -> Result<Operation, Fail> {
         Act::Delete => Ok(Operation::DeleteTerm(key_term(alloc, key)?)),
         Act::DeleteByQuery => Ok(Operation::DeleteQuery(Query::Term(key_term(alloc, key)?))),
         Act::Set => setting_of(alloc, key),
-        Act::Commit => Ok(Operation::Commit),
+        Act::Commit => Ok(Operation::Commit(Fields::none(alloc))),
     }
 }
 
