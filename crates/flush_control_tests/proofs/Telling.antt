@@ -112,19 +112,20 @@ stands_in base last rows updates p told can is cut none = record {
   within = omega (arith, cut, told.order);
 }
 
-pub round_of : (base last : ℕ) (rows : List Row) (updates : Updates) (pieces : List Piece) → (told : AreTold base last rows updates) → IsPieceOf rows base pieces
+pub round_of : (base last : ℕ) (rows : List Row) (updates none : Updates) (piece : Piece) (pieces : List Piece) → (told : AreTold base last rows updates)
+    → pieces ≡ piece ∷ [] → IsPieceOf rows none base piece → as_operations none ≡ []
     → IsRound base told.ops pieces (record { after = base; upto = last; updates = updates })
-round_of base last rows updates pieces told of = record {
+round_of base last rows updates none piece pieces told is of empty = record {
   rise = told.rise;
   up = told.up;
   order = told.order;
   after = refl;
   packet = told.stands;
   pieces =
-      subst (AllByRecursion (StandsIn base told.ops last)) (sym of.is)
-      (stands_in base last rows updates of.piece told of.can of.rows_are of.cut_is of.none, tt);
+      subst (AllByRecursion (StandsIn base told.ops last)) (sym is)
+      (stands_in base last rows updates piece told of.can of.rows_are of.cut_is (ap as_operations of.updates_are ∙ empty), tt);
   rows =
       subst (IsPermutation (piece_rows pieces))
-      (ap piece_rows of.is ∙ (append-nil of.piece.frozen.rows.items ∙ (of.rows_are ∙ told.rows_are)))
+      (ap piece_rows is ∙ (append-nil piece.frozen.rows.items ∙ (of.rows_are ∙ told.rows_are)))
       (IsPermutation-refl (piece_rows pieces));
 }

@@ -1,5 +1,5 @@
 -- A round of a test, told operation by operation.
-use Rattle.std.specs.Prelude.{◌≡◌, ℕ, ◌≤◌, List, [], ◌∷◌}
+use Rattle.std.specs.Prelude.{◌≡◌, ℕ, ◌≤◌, List, []}
 use Rattle.ix_base.specs.declared.document.Operation.{Operation}
 use Rattle.ix_base.specs.declared.document.Row.{Row}
 use Rattle.node_words.specs.declared.entry.Entry.{Entry}
@@ -32,11 +32,9 @@ pub record AddsNone (e : Entry) : Type 0 where
   pub is : entry_for op ≡ e
   pub none : (n : ℕ) → added n op ≡ []
 
--- There is one piece: of these rows, with no updates, and with this cut.
-pub record IsPieceOf (rows : List Row) (cut : ℕ) (pieces : List Piece) : Type 0 where
-  pub piece : Piece
-  pub is : pieces ≡ piece ∷ []
+-- The piece is of these rows and updates, with this cut.
+pub record IsPieceOf (rows : List Row) (updates : Updates) (cut : ℕ) (piece : Piece) : Type 0 where
   pub rows_are : piece.frozen.rows.items ≡ rows
+  pub updates_are : piece.updates ≡ updates
   pub cut_is : piece.cut ≡ cut
-  pub none : as_operations piece.updates ≡ []
   pub can : HasInversion piece

@@ -1,5 +1,4 @@
-//! Rounds of one piece each, for tests of what comes between rounds: after each of them the segments
-//! can be listed.
+//! Operations read from texts, and rounds of one piece each: after each of them the segments can be listed.
 ghost use Rattle.std.specs.Prelude.{◌<◌, List as ListOf, IfOk, OnOk};
 ghost use Rattle.flush_control.specs.Published.{IsPublished};
 ghost use Rattle.flush_control.specs.Rounds.{IsRound};
@@ -18,14 +17,6 @@ use std::test::*;
 use std::thread::Threads;
 use test_values::{document_of, key_term, name_of};
 use thread_writer::Piece;
-
-/// An operation: it adds a row with its key, deletes the rows with it, or sets the number `n` in them.
-#[derive(Clone, Copy)]
-pub(crate) enum Act {
-    Add,
-    Delete,
-    Set(i64),
-}
 
 /// An index without segments, with operations up to this number in it.
 pub(crate) fn fresh(alloc: Global, upto: u64) -> Published
@@ -53,7 +44,7 @@ pub(crate) fn untold(alloc: Global, base: u64) -> Told
 }
 
 /// The rows with the key are deleted.
-pub(crate) fn delete_of(alloc: Global, key: &str) -> Result<Entry, Fail>
+fn delete_of(alloc: Global, key: &str) -> Result<Entry, Fail>
     ensures { IfOk result AddsNone }
 {
     let term = key_term(alloc, key)?;
@@ -61,7 +52,7 @@ pub(crate) fn delete_of(alloc: Global, key: &str) -> Result<Entry, Fail>
 }
 
 /// The number `n` is set in the rows with the key.
-pub(crate) fn setting_of(alloc: Global, key: &str, value: i64) -> Result<Entry, Fail>
+fn setting_of(alloc: Global, key: &str, value: i64) -> Result<Entry, Fail>
     ensures { IfOk result AddsNone }
 {
     let term = key_term(alloc, key)?;
@@ -95,42 +86,61 @@ fn tell_entry(told: &mut Told, number: u64, entry: Entry) -> Result<(), Fail>
     Ok(())
 }
 
-/// One more operation, after all others.
+/// One more operation, after all others: a row with the key is added, those with it are deleted, or the
+/// number `n` is set in them, to the value that stands in place of the verb.
 pub(crate) fn tell(
     alloc: Global,
     told: &mut Told,
     number: u64,
-    act: Act,
+    verb: &str,
     key: &str,
 ) -> Result<(), Fail>
     requires { IsTold told.old }
     ensures { OnOk result (IsTold told.new) }
 {
     if number <= told.last {
-        return Err(Fail::from("numbers don't rise"));
+        Err("numbers don't rise")?;
     }
-    match act {
-        Act::Add => tell_row(alloc, told, number, key),
-        Act::Delete => tell_entry(told, number, delete_of(alloc, key)?),
-        Act::Set(value) => tell_entry(told, number, setting_of(alloc, key, value)?),
+    match verb {
+        "add" => tell_row(alloc, told, number, key),
+        "delete" => tell_entry(told, number, delete_of(alloc, key)?),
+        _ => tell_entry(told, number, setting_of(alloc, key, verb.parse::<i64>()?)?),
     }
 }
 
-/// The rows as a piece, with nothing else in it.
-fn piece_of(alloc: Global, rows: Vec<Row>, cut: u64) -> Result<Vec<Piece>, Fail>
-    ensures { IfOk result (λ pieces. IsPieceOf rows.items cut pieces.items) }
+/// What operations come to that a text has, with their numbers, above `base`, as `3 add a, 5 delete a` or
+/// `6 -4 b`, which sets -4.
+pub(crate) fn told_of(alloc: Global, base: u64, text: &str) -> Result<Told, Fail>
+    ensures { IfOk result IsTold }
+{
+    let mut told = untold(alloc, base);
+    for operation in text.split_terminator(',') {
+        let (number, words) = operation.trim().split_once(' ').ok_or("no number")?;
+        let (verb, key) = words.split_once(' ').ok_or("no verb")?;
+        tell(alloc, &mut told, number.parse::<u64>()?, verb, key)?;
+    }
+    Ok(told)
+}
+
+/// A piece of these rows and updates, which was cut at this number.
+pub(crate) fn piece_of(
+    alloc: Global,
+    rows: Vec<Row>,
+    updates: Updates,
+    cut: u64,
+) -> Result<Piece, Fail>
+    ensures { IfOk result (IsPieceOf rows.items updates cut) }
 {
     if rows.len() > 5000 {
-        return Err(Fail::from("many rows"));
+        Err("many rows")?;
     }
     let postings = invert(alloc, rows.as_slice())?;
-    let piece = Piece {
+    Ok(Piece {
         worker: 0,
         frozen: Frozen { rows, postings },
-        updates: Updates::new(alloc),
+        updates,
         cut,
-    };
-    Ok(vec![in alloc; piece]?)
+    })
 }
 
 /// Takes the pieces of a round, and applies its packet.
@@ -175,22 +185,12 @@ pub(crate) fn do_round<R: Threads + Sync>(
     if base != index.upto {
         return Err(Fail::from("not behind the last round"));
     }
-    let pieces = piece_of(alloc, rows, base)?;
+    let piece = piece_of(alloc, rows, Updates::new(alloc), base)?;
+    let pieces = vec![in alloc; piece]?;
     let packet = Packet {
         after: base,
         upto: last,
         updates,
     };
     end_round(rt, alloc, index, pieces, &packet)
-}
-
-/// What a round has of these operations, which come after those with numbers up to `base`.
-pub(crate) fn told_of(alloc: Global, base: u64, acts: &[(u64, Act, &str)]) -> Result<Told, Fail>
-    ensures { IfOk result IsTold }
-{
-    let mut told = untold(alloc, base);
-    for (number, act, key) in acts {
-        tell(alloc, &mut told, *number, *act, key)?;
-    }
-    Ok(told)
 }

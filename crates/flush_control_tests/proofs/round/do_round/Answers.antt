@@ -7,5 +7,6 @@ use Rattle.flush_control_tests.proofs.round.do_round.Goals as goal
 pub end_round-requires-clause-round : goal.end_round-requires-clause-round
 end_round-requires-clause-round g c _ _ =
     let t = c.args.told in
-    subst (λ (n : ℕ). (ops : List Numbered) × IsRound n ops c.in_ok-pieces.pieces.items (record { after = t.base; upto = t.last; updates = t.updates })) c.if-base-index.false
-    (c.requires.told.ops, round_of t.base t.last t.rows.items t.updates c.in_ok-pieces.pieces.items c.requires.told c.in_ok-pieces.ensures)
+    let pieces = c.in_ok-pieces.pieces.items in
+    subst (λ (n : ℕ). (ops : List Numbered) × IsRound n ops pieces (record { after = t.base; upto = t.last; updates = t.updates })) c.if-base-index.false
+    (c.requires.told.ops, round_of t.base t.last t.rows.items t.updates _ c.in_ok-piece.piece pieces c.requires.told c.in_ok-pieces.ensures.items c.in_ok-piece.ensures c.new.ensures)

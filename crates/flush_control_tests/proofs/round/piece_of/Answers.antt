@@ -5,16 +5,9 @@ use Rattle.flush_control_tests.proofs.round.piece_of.Goals as goal
 
 pub returns : goal.returns
 returns c = record {
-  piece = record {
-    worker = 0;
-    frozen = record { rows = c.args.rows; postings = c.in_ok-postings.postings };
-    updates = c.new.result;
-    cut = c.args.cut;
-  };
-  is = c.in_ok-vec.ensures.items;
   rows_are = refl;
+  updates_are = refl;
   cut_is = refl;
-  none = c.new.ensures;
   can = record {
     inverted = subst (λ (rows : List Row). IsInversion (map (λ (row : Row). row.doc) rows) c.in_ok-postings.postings) c.as_slice.ensures.value c.in_ok-postings.ensures;
     few = omega (arith, c.if-len-gt5000.false, c.len.ensures);
