@@ -4,18 +4,8 @@
 #[cfg(test)]
 mod script_lines;
 #[cfg(test)]
+mod stories;
+#[cfg(test)]
 mod tests;
-#[cfg(test)]
-mod tests_deletes;
-#[cfg(test)]
-mod tests_merging;
-#[cfg(test)]
-mod tests_operations;
-#[cfg(test)]
-mod tests_pruning;
-#[cfg(test)]
-mod tests_reopened;
-#[cfg(test)]
-mod tests_steps;
 #[cfg(test)]
 mod working;

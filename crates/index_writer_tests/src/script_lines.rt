@@ -1,35 +1,12 @@
-//! A tool of the tests: the lines of a script, and the operations that they are.
+//! A tool of the tests: the operations that the lines of a round are.
 
 use ix_base::{Operation, Queries, Query, Term};
 use std::alloc::Global;
 use std::test::*;
 use test_values::{document_of, key_term, name_of};
 
-/// What a line of a script does.
-#[derive(Clone, Copy)]
-pub(crate) enum Act {
-    /// Adds a document with the line's key.
-    Add,
-    /// Deletes the documents with the key, and adds one with it.
-    Update,
-    /// Deletes the documents with the key.
-    Delete,
-    /// Deletes by a query the documents without the key.
-    DeleteOthers,
-    /// Sets the number `n` in the documents with the key.
-    Set(i64),
-    Commit,
-}
-
-/// A line of a script: the seat number of its writer, what it does, and a key.
-pub(crate) type Line<'a> = (usize, Act, &'a str);
-
-pub(crate) type Script<'a> = &'a [Line<'a>];
-
 fn alone(alloc: Global, query: Query) -> Result<Queries, Fail> {
-    let mut queries = Vec::new(alloc);
-    queries.push(query)?;
-    Ok(Queries::from_vec(queries))
+    Ok(Queries::from_vec(vec![in alloc; query]?))
 }
 
 /// The documents without the key.
@@ -41,20 +18,32 @@ fn others_than(alloc: Global, key: &str) -> Result<Query, Fail> {
     })
 }
 
-pub(crate) fn operation_of(alloc: Global, act: Act, key: &str) -> Result<Operation, Fail> {
-    match act {
-        Act::Add => Ok(Operation::Add(document_of(alloc, key)?)),
-        Act::Update => {
+/// The number `n` is set in the documents with the key.
+fn setting_of(alloc: Global, value: i64, key: &str) -> Result<Operation, Fail> {
+    let term = key_term(alloc, key)?;
+    let num = name_of(alloc, "n")?;
+    Ok(Operation::SetNumber { term, num, value })
+}
+
+/// An update deletes the documents with the key, and adds one with it. `add_long` adds a document whose key
+/// has 32,767 letters, and `delete_others` deletes by a query the documents without the key. A number is set
+/// in those with the key.
+pub(crate) fn operation_of(alloc: Global, verb: &str, key: &str) -> Result<Operation, Fail> {
+    match verb {
+        "add" => Ok(Operation::Add(document_of(alloc, key)?)),
+        "add_long" => operation_of_long(alloc),
+        "update" => {
             let term = key_term(alloc, key)?;
             Ok(Operation::Update(term, document_of(alloc, key)?))
         }
-        Act::Delete => Ok(Operation::DeleteTerm(key_term(alloc, key)?)),
-        Act::DeleteOthers => Ok(Operation::DeleteQuery(others_than(alloc, key)?)),
-        Act::Set(value) => Ok(Operation::SetNumber {
-            term: key_term(alloc, key)?,
-            num: name_of(alloc, "n")?,
-            value,
-        }),
-        Act::Commit => Ok(Operation::Commit),
+        "delete" => Ok(Operation::DeleteTerm(key_term(alloc, key)?)),
+        "delete_others" => Ok(Operation::DeleteQuery(others_than(alloc, key)?)),
+        "commit" => Ok(Operation::Commit),
+        value => setting_of(alloc, value.parse::<i64>()?, key),
     }
+}
+
+fn operation_of_long(alloc: Global) -> Result<Operation, Fail> {
+    let key = "k".repeat(alloc, 32_767)?;
+    Ok(Operation::Add(document_of(alloc, key.as_str())?))
 }

@@ -8,18 +8,9 @@ ghost use Rattle.index_writer_tests.specs.Trials.{IsUnderWay, StaysAtWork};
 
 use delete_queue::DeleteQueue;
 use index_writer::{Round, RoundParts};
-use ix_base::{NoMemory, Operation, Refusal};
+use ix_base::{NoMemory, Operation};
 use std::alloc::Global;
 use thread_writer::{Piece, ThreadWriter, Told};
-
-/// What an operation is told. It has a sequence number where it was done.
-#[derive(Clone, Copy, Debug, PartialEq, Eq)]
-pub(crate) enum Answer {
-    Numbered(u64),
-    Refused(Refusal),
-    Closed,
-    NoMemory,
-}
 
 /// A round that was begun as what comes back of it, before its writers did anything.
 pub(crate) fn into_parts(alloc: Global, round: Round) -> Result<RoundParts, NoMemory>
@@ -48,7 +39,7 @@ fn no_pieces(alloc: Global, count: usize) -> Result<Vec<Vec<Piece>>, NoMemory>
 
 /// Does an operation by the writer of this seat number. A full buffer is given off first. Where the
 /// writer's part of the queue has no room, a turn closes the round.
-pub(crate) fn do_line(parts: &mut RoundParts, worker: usize, operation: &Operation) -> Answer
+pub(crate) fn do_line(parts: &mut RoundParts, worker: usize, operation: &Operation) -> Told
     requires parts { (base : ℕ) × IsUnderWay base parts.old }
     requires worker { worker < length parts.old.writers.items }
     ensures { (base : ℕ) → IsUnderWay base parts.old → IsUnderWay base parts.new }
@@ -64,18 +55,18 @@ fn work(
     writer: &mut ThreadWriter,
     gave: &mut Vec<Piece>,
     operation: &Operation,
-) -> Answer
+) -> Told
     requires { IsWriter queue.now writer.old }
     ensures { StaysAtWork queue.now writer.old gave.old.items writer.new gave.new.items }
 {
     if give_off(queue, writer, gave).is_err() {
-        return Answer::NoMemory;
+        return Told::NoMemory;
     }
     let told = writer.do_line(queue, operation);
     if let Told::Full { .. } = told {
         let _ = writer.turn(queue);
     }
-    answer_for(told)
+    told
 }
 
 /// Gives a writer's buffer off where it is full.
@@ -94,15 +85,4 @@ fn give_off(
         gave.push_reserved(piece);
     }
     Ok(())
-}
-
-/// What is told for what the writer answered.
-fn answer_for(told: Told) -> Answer {
-    match told {
-        Told::Numbered(number) => Answer::Numbered(number),
-        Told::RefusedTerm { size } => Answer::Refused(Refusal::Term { size }),
-        Told::RefusedQuery { size } => Answer::Refused(Refusal::Query { size }),
-        Told::Closed | Told::Full { .. } => Answer::Closed,
-        Told::NoMemory => Answer::NoMemory,
-    }
 }

@@ -10,4 +10,4 @@ same_upto {S} old new out is = sym (ap (λ (w : IndexWriter S). w.state.publishe
 pub returns-clause-parts : goal.returns-clause-parts
 returns-clause-parts c =
     subst (λ (base : ℕ). IsUnderWay base c.in_ok-into_parts.field-0) (same_upto c.args.writer.now c.begin_round.new.self true c.in_ok-begin_round.ensures.ok)
-    (c.in_ok-into_parts.ensures c.args.writers c.args.writer.now.state c.in_ok-begin_round.ensures.begun)
+    (c.in_ok-into_parts.ensures 2 c.args.writer.now.state c.in_ok-begin_round.ensures.begun)

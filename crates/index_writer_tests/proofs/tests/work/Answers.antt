@@ -1,4 +1,4 @@
 use Rattle.index_writer_tests.proofs.tests.work.Goals as goal
 
-pub told-requires : goal.told-requires
-told-requires c = (c.requires.0, c.loop-line.invariant c.requires.0 c.requires.1)
+pub told_line-requires : goal.told_line-requires
+told_line-requires c = (c.requires.0, c.loop-line.invariant c.requires.0 c.requires.1)

@@ -1,6 +1,6 @@
 use Rattle.std.proofs.Common.{ℕ, sym, subst}
 use Rattle.commit_point.specs.Holds.{HasSegments}
-use Rattle.index_writer_tests.proofs.tests_reopened.opened_on.Goals as goal
+use Rattle.index_writer_tests.proofs.tests.opened_on.Goals as goal
 
 pub open-requires-clause-last : goal.open-requires-clause-last
 open-requires-clause-last c =
