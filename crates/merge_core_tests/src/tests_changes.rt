@@ -1,6 +1,5 @@
 //! What reaches the rows of a source while a merge reads it, worked out by hand.
 ghost use Rattle.std.specs.Prelude.{◌≡◌, ◌<◌, ℕ, [], ◌∷◌, length, IfOk, OnOk};
-ghost use Rattle.frozen_packet.specs.Updates.{as_operations, NumberedUpTo};
 ghost use Rattle.segment_files.specs.Fits.{BirthsRise};
 ghost use Rattle.merge_core.specs.Merging.{row_count};
 ghost use Rattle.merge_core_tests.specs.Reading.{AreSources, Reads};
@@ -53,60 +52,35 @@ fn source(alloc: Global) -> Result<LiveSegment, Fail>
     }
 }
 
-/// Takes one more entry, under the same number as those before it.
-fn take_more(updates: &mut Updates, entry: Entry) -> Result<(), Fail>
-    requires { NumberedUpTo 10 (as_operations updates.old) }
-    ensures { OnOk result (NumberedUpTo 10 (as_operations updates.new)) }
-{
-    updates.take(10, entry)?;
-    Ok(())
-}
-
-/// The number `n` is set to 5 in the row `b`.
-fn setting(alloc: Global) -> Result<Entry, Fail> {
-    let term = key_term(alloc, "b")?;
-    let num = name_of(alloc, "n")?;
-    let value = 5;
+/// The rows of a key are deleted; or, where a name and a value stand behind the key, that number is set in
+/// them.
+fn entry_of(alloc: Global, words: &str) -> Result<Entry, Fail> {
+    let Some((key, setting)) = words.split_once(' ') else {
+        return Ok(Entry::DeleteTerm(key_term(alloc, words)?));
+    };
+    let (name, value) = setting.split_once(' ').ok_or("no value")?;
+    let value = value.parse::<i64>()?;
+    let term = key_term(alloc, key)?;
+    let num = name_of(alloc, name)?;
     Ok(Entry::SetNumber { term, num, value })
 }
 
-/// The rows `a` and `d` are deleted, and a number is set in `b`.
-fn three_updates(alloc: Global) -> Result<Updates, Fail>
-    ensures { IfOk result (λ updates. NumberedUpTo 10 (as_operations updates)) }
-{
+/// The updates of these entries.
+fn updates_of(alloc: Global, text: &str) -> Result<Updates, Fail> {
     let mut updates = Updates::new(alloc);
-    take_more(&mut updates, Entry::DeleteTerm(key_term(alloc, "a")?))?;
-    take_more(&mut updates, Entry::DeleteTerm(key_term(alloc, "d")?))?;
-    take_more(&mut updates, setting(alloc)?)?;
+    for words in text.split(", ") {
+        updates.take(10, entry_of(alloc, words)?)?;
+    }
     Ok(updates)
 }
 
-/// One of many numbers that are set in the row `b`.
-fn setting_at(alloc: Global, at: u32) -> Result<Entry, Fail> {
-    let mut text = String::new(alloc);
-    write!(text, "n{at}")?;
-    let term = key_term(alloc, "b")?;
-    let num = name_of(alloc, text.as_str())?;
-    let value = 4;
-    Ok(Entry::SetNumber { term, num, value })
-}
-
-/// The same, and forty numbers more are set in `b`.
-fn many_updates(alloc: Global) -> Result<Updates, Fail> {
-    let mut updates = three_updates(alloc)?;
+/// The rows `a` and `d` are deleted, and 41 numbers are set in `b`.
+fn many_entries(alloc: Global) -> Result<String, Fail> {
+    let mut text = String::from_str(alloc, "a, d, b n 5")?;
     for at in 0..40 {
-        take_more(&mut updates, setting_at(alloc, at)?)?;
+        write!(text, ", b n{at} 4")?;
     }
-    Ok(updates)
-}
-
-/// All four rows are deleted.
-fn all_deletes(alloc: Global) -> Result<Updates, Fail> {
-    let mut updates = Updates::new(alloc);
-    for key in ["a", "b", "c", "d"] {
-        take_more(&mut updates, Entry::DeleteTerm(key_term(alloc, key)?))?;
-    }
-    Ok(updates)
+    Ok(text)
 }
 
 /// The updates reach the segment, of which the merge has read some rows.
@@ -171,17 +145,18 @@ fn made_of(
 }
 
 /// The segment that is made of the four rows, if one is.
-fn merged(alloc: Global, updates: &Updates) -> Result<Option<LiveSegment>, Fail> {
+fn merged(alloc: Global, entries: &str) -> Result<Option<LiveSegment>, Fail> {
+    let updates = updates_of(alloc, entries)?;
     let mut segment = source(alloc)?;
-    made_of(alloc, updates, &mut segment)
+    made_of(alloc, &updates, &mut segment)
 }
 
 /// The rows `a`, which was read, and `d`, which wasn't, die while they are merged; numbers are set in `b`
 /// after it was read.
 #[test]
 fn rows_die_between_steps(rt: HostRuntime) -> Result<(), Fail> {
-    let updates = many_updates(rt.alloc())?;
-    let made = merged(rt.alloc(), &updates)?.ok_or("nothing merged")?;
+    let entries = many_entries(rt.alloc())?;
+    let made = merged(rt.alloc(), entries.as_str())?.ok_or("nothing merged")?;
     assert!(rt; shown(rt.alloc(), &made)?.as_str() == "4 41 b2=5 c3");
     Ok(())
 }
@@ -189,7 +164,6 @@ fn rows_die_between_steps(rt: HostRuntime) -> Result<(), Fail> {
 /// All rows die between two steps: there is no segment.
 #[test]
 fn all_rows_die(rt: HostRuntime) -> Result<(), Fail> {
-    let updates = all_deletes(rt.alloc())?;
-    assert!(rt; merged(rt.alloc(), &updates)?.is_none());
+    assert!(rt; merged(rt.alloc(), "a, b, c, d")?.is_none());
     Ok(())
 }
