@@ -1,85 +1,139 @@
 ghost use Rattle.std.specs.Prelude.{◌≡◌, length, IfOk};
 
-use ix_base::codec::{put_i64, put_name, put_u32, put_u64};
 use ix_base::{FileFault, Name, NoMemory};
 use live_docs::LiveDocs;
 use live_files::{decode_liv, decode_val, encode_liv, encode_val, live_docs_of};
 use std::alloc::Global;
-use std::test::*;
+use std::fmt::Write;
+use std::str;
+use std::test::Fail;
 use test_values::name_of;
 
 // The live bits of the segment 1 of one row, which is live, written with the commit 2.
-const LIVE: [u8; 29] = [
-    0x49, 0x58, 0x4c, 0x49, 0x56, 0x30, 0x30, 0x31, 0, 0, 0, 0, 0, 0, 0, 1, 0, 0, 0, 0, 0, 0, 0, 2,
-    0, 0, 0, 1, 1,
-];
+const LIVE: &str = "49584c4956303031 0000000000000001 0000000000000002 00000001 01";
 
 // The set numbers of the same segment: none.
-const VALUES: [u8; 36] = [
-    0x49, 0x58, 0x56, 0x41, 0x4c, 0x30, 0x30, 0x31, 0, 0, 0, 0, 0, 0, 0, 1, 0, 0, 0, 0, 0, 0, 0, 2,
-    0, 0, 0, 1, 0, 0, 0, 0, 0, 0, 0, 0,
-];
+const VALUES: &str = "495856414c303031 0000000000000001 0000000000000002 00000001 0000000000000000";
 
-// Where the fields of both begin.
-const FIELDS: [u64; 5] = [0, 8, 16, 24, 28];
-
-// The last field that begins at this length or before it.
-fn field_at(fields: &[u64], len: u64) -> Option<u64> {
-    let mut last = None;
-    for field in fields {
-        if *field <= len {
-            last = Some(*field);
+// The bytes of these fields, which stand as hexadecimal.
+fn bytes_of(alloc: Global, fields: &str) -> Result<Vec<u8>, Fail> {
+    let mut bytes = Vec::new(alloc);
+    for field in fields.split(' ') {
+        for pair in field.as_bytes().chunks(2) {
+            bytes.push(u8::from_str_radix(str::from_utf8(pair)?, 16)?)?;
         }
     }
-    last
+    Ok(bytes)
 }
 
-// The bytes with one of them changed.
-fn changed(alloc: Global, bytes: &[u8], at: usize, to: u8) -> Result<Vec<u8>, Fail> {
-    let mut copy = Vec::from_slice(alloc, bytes)?;
-    if let Some(byte) = copy.get_mut(at) {
-        *byte = to;
+// Where a file of live bits or of set numbers is broken, of a segment of so many rows.
+fn place_of(alloc: Global, kind: &str, rows: u32, bytes: &[u8]) -> Result<String, Fail> {
+    let fault = if kind == "live" {
+        decode_liv(alloc, bytes, 1, 2, rows).err()
+    } else {
+        decode_val(alloc, bytes, 1, 2, rows).err()
+    };
+    Ok(match fault {
+        Some(FileFault::Damaged(damaged)) => format!(in alloc; "{}", damaged.at)?,
+        Some(FileFault::NoMemory) => String::from_str(alloc, "no memory")?,
+        None => String::from_str(alloc, "whole")?,
+    })
+}
+
+// Where the field begins in which a file of these fields ends, cut at this length.
+fn field_at(fields: &str, length: usize) -> usize {
+    let (mut at, mut next) = (0usize, 0usize);
+    for field in fields.split(' ') {
+        if next <= length {
+            at = next;
+        }
+        next = next.saturating_add(field.len() / 2);
     }
-    Ok(copy)
+    at
 }
 
-fn live_place(alloc: Global, bytes: &[u8], n: u32) -> Option<u64> {
-    match decode_liv(alloc, bytes, 1, 2, n) {
-        Err(FileFault::Damaged(damaged)) => Some(damaged.at),
-        _ => None,
+// The first length at which the file, cut there, isn't told to be broken in the field that it ends in.
+fn wrong_cut(alloc: Global, kind: &str, fields: &str) -> Result<Option<usize>, Fail> {
+    let whole = bytes_of(alloc, fields)?;
+    for length in 0..whole.len() {
+        let place = place_of(alloc, kind, 1, &whole[..length])?;
+        if place.as_str() != format!(in alloc; "{}", field_at(fields, length))?.as_str() {
+            return Ok(Some(length));
+        }
     }
+    Ok(None)
 }
 
-fn values_place(alloc: Global, bytes: &[u8], n: u32) -> Option<u64> {
-    match decode_val(alloc, bytes, 1, 2, n) {
-        Err(FileFault::Damaged(damaged)) => Some(damaged.at),
-        _ => None,
-    }
-}
-
-// What a file with this mark begins with, of the segment 1 of this many rows.
-fn file_of(alloc: Global, mark: &[u8], n: u32) -> Result<Vec<u8>, Fail> {
-    let mut out = Vec::from_slice(alloc, mark)?;
-    put_u64(&mut out, 1)?;
-    put_u64(&mut out, 2)?;
-    put_u32(&mut out, n)?;
-    Ok(out)
-}
-
-// Appends a number that was set in a row.
-fn put_set(alloc: Global, out: &mut Vec<u8>, set: (u32, &str, i64)) -> Result<(), Fail> {
-    let (row, name, value) = set;
-    put_u32(out, row)?;
-    put_name(out, &name_of(alloc, name)?)?;
-    put_i64(out, value)?;
+#[test]
+fn cut_files_name_the_field(rt: HostRuntime) -> Result<(), Fail> {
+    assert!(rt; wrong_cut(rt.alloc(), "live", LIVE)? == None);
+    assert!(rt; wrong_cut(rt.alloc(), "values", VALUES)? == None);
     Ok(())
 }
 
-// The bytes with one more at the end.
-fn longer(alloc: Global, bytes: &[u8]) -> Result<Vec<u8>, Fail> {
-    let mut copy = Vec::from_slice(alloc, bytes)?;
-    copy.push(0)?;
-    Ok(copy)
+/// Files: what they are, the count of rows that is asked for, where the file is broken, in words how, and
+/// its fields.
+const FILES: &str = "\
+# Live bits, changed.
+live 1 0 another mark: 49584c4956303032 0000000000000001 0000000000000002 00000001 01
+live 1 8 another id: 49584c4956303031 0000000000000002 0000000000000002 00000001 01
+live 1 16 another commit: 49584c4956303031 0000000000000001 0000000000000003 00000001 01
+live 1 24 another count of rows: 49584c4956303031 0000000000000001 0000000000000002 00000002 01
+live 1 28 no live row: 49584c4956303031 0000000000000001 0000000000000002 00000001 00
+live 1 28 a bit past the last row: 49584c4956303031 0000000000000001 0000000000000002 00000001 03
+live 1 28 both: 49584c4956303031 0000000000000001 0000000000000002 00000001 02
+live 2 24 another count of rows is asked for: 49584c4956303031 0000000000000001 0000000000000002 00000001 01
+live 1 29 a byte more: 49584c4956303031 0000000000000001 0000000000000002 00000001 01 00
+
+# Set numbers, changed.
+values 1 0 another mark: 495856414c303032 0000000000000001 0000000000000002 00000001 0000000000000000
+values 1 8 another id: 495856414c303031 0000000000000002 0000000000000002 00000001 0000000000000000
+values 1 16 another commit: 495856414c303031 0000000000000001 0000000000000003 00000001 0000000000000000
+values 1 24 another count of rows: 495856414c303031 0000000000000001 0000000000000002 00000002 0000000000000000
+values 1 36 one number more: 495856414c303031 0000000000000001 0000000000000002 00000001 0000000000000001
+values 1 36 very many numbers: 495856414c303031 0000000000000001 0000000000000002 00000001 ff00000000000000
+values 2 24 another count of rows is asked for: 495856414c303031 0000000000000001 0000000000000002 00000001 0000000000000000
+values 1 36 a byte more: 495856414c303031 0000000000000001 0000000000000002 00000001 0000000000000000 00
+
+# Live bits of 19 rows, whole and cut by a byte.
+live 19 whole some rows: 49584c4956303031 0000000000000001 0000000000000002 00000013 7dfe05
+live 19 30 some rows, cut: 49584c4956303031 0000000000000001 0000000000000002 00000013 7dfe
+live 19 whole one row: 49584c4956303031 0000000000000001 0000000000000002 00000013 000004
+live 19 30 one row, cut: 49584c4956303031 0000000000000001 0000000000000002 00000013 0000
+live 19 28 no row: 49584c4956303031 0000000000000001 0000000000000002 00000013 000000
+live 19 30 no row, cut: 49584c4956303031 0000000000000001 0000000000000002 00000013 0000
+live 19 30 a bit past the last row: 49584c4956303031 0000000000000001 0000000000000002 00000013 ffff08
+live 19 30 a bit past the last row, cut: 49584c4956303031 0000000000000001 0000000000000002 00000013 ffff
+live 19 30 the last bit: 49584c4956303031 0000000000000001 0000000000000002 00000013 000080
+live 19 30 the last bit, cut: 49584c4956303031 0000000000000001 0000000000000002 00000013 0000
+
+# Rows rise, and in a row the names.
+values 2 whole a later name: 495856414c303031 0000000000000001 0000000000000002 00000002 0000000000000002 00000000 0000000161 0000000000000001 00000000 0000000162 0000000000000002
+values 2 whole a later row: 495856414c303031 0000000000000001 0000000000000002 00000002 0000000000000002 00000000 0000000162 0000000000000001 00000001 0000000161 0000000000000002
+values 2 53 the same name: 495856414c303031 0000000000000001 0000000000000002 00000002 0000000000000002 00000000 0000000161 0000000000000001 00000000 0000000161 0000000000000002
+values 2 53 an earlier name: 495856414c303031 0000000000000001 0000000000000002 00000002 0000000000000002 00000000 0000000162 0000000000000001 00000000 0000000161 0000000000000002
+values 2 53 an earlier row: 495856414c303031 0000000000000001 0000000000000002 00000002 0000000000000002 00000001 0000000161 0000000000000001 00000000 0000000162 0000000000000002
+values 2 53 a row that there isn't: 495856414c303031 0000000000000001 0000000000000002 00000002 0000000000000002 00000000 0000000161 0000000000000001 00000002 0000000161 0000000000000002
+values 2 36 a first row that there isn't: 495856414c303031 0000000000000001 0000000000000002 00000002 0000000000000002 00000002 0000000161 0000000000000001 00000001 0000000162 0000000000000002";
+
+// Whether the file of a line is broken where the line says.
+fn is_broken_so(alloc: Global, line: &str) -> Result<bool, Fail> {
+    let (said, fields) = line.split_once(": ").ok_or("no file")?;
+    let mut words = said.split(' ');
+    let kind = words.next().ok_or("no kind")?;
+    let rows = u32::from_str_radix(words.next().ok_or("no count")?, 10)?;
+    let place = place_of(alloc, kind, rows, &bytes_of(alloc, fields)?)?;
+    Ok(words.next() == Some(place.as_str()))
+}
+
+#[test]
+fn broken_files_name_the_field(rt: HostRuntime) -> Result<(), Fail> {
+    for line in FILES.lines() {
+        if line.contains(": ") {
+            assert!(rt; is_broken_so(rt.alloc(), line)?, "{line}");
+        }
+    }
+    Ok(())
 }
 
 fn live_bits_of_one_row(alloc: Global) -> Result<Vec<u8>, Fail> {
@@ -90,150 +144,6 @@ fn live_bits_of_one_row(alloc: Global) -> Result<Vec<u8>, Fail> {
 fn values_of_one_row(alloc: Global) -> Result<Vec<u8>, Fail> {
     let docs = LiveDocs::new(alloc, 1, 0).ok().ok_or("memory")?;
     Ok(encode_val(alloc, 1, 2, 1, &docs).ok().ok_or("memory")?)
-}
-
-#[test]
-fn spells_one_live_row(rt: HostRuntime) -> Result<(), Fail> {
-    assert!(rt; live_bits_of_one_row(rt.alloc())?.as_slice() == LIVE.as_slice());
-    assert!(rt; values_of_one_row(rt.alloc())?.as_slice() == VALUES.as_slice());
-    Ok(())
-}
-
-#[test]
-fn reads_one_live_row(rt: HostRuntime) -> Result<(), Fail> {
-    let live = decode_liv(rt.alloc(), &LIVE, 1, 2, 1)
-        .ok()
-        .ok_or("the bytes are live bits")?;
-    assert!(rt; live.as_slice() == [true].as_slice());
-    Ok(())
-}
-
-#[test]
-fn reads_no_set_number(rt: HostRuntime) -> Result<(), Fail> {
-    let values = decode_val(rt.alloc(), &VALUES, 1, 2, 1)
-        .ok()
-        .ok_or("the bytes are set numbers")?;
-    assert!(rt; values.len() == 0);
-    Ok(())
-}
-
-#[test]
-fn cut_files_name_the_field(rt: HostRuntime) {
-    let alloc = rt.alloc();
-    for len in 0..29 {
-        assert!(rt; live_place(alloc, &LIVE[..len], 1) == field_at(&FIELDS, len as u64));
-    }
-    for len in 0..36 {
-        assert!(rt; values_place(alloc, &VALUES[..len], 1) == field_at(&FIELDS, len as u64));
-    }
-}
-
-#[test]
-fn changed_live_bits_name_the_field(rt: HostRuntime) -> Result<(), Fail> {
-    let alloc = rt.alloc();
-    // another mark, id, commit and count of rows, no live row, a bit past the last row, and both
-    let cases = [
-        (7, 0x32, 0),
-        (15, 2, 8),
-        (23, 3, 16),
-        (27, 2, 24),
-        (28, 0, 28),
-        (28, 3, 28),
-        (28, 2, 28),
-    ];
-    for (at, to, place) in cases {
-        assert!(rt; live_place(alloc, &changed(alloc, &LIVE, at, to)?, 1) == Some(place));
-    }
-    assert!(rt; live_place(alloc, &LIVE, 2) == Some(24));
-    assert!(rt; live_place(alloc, &longer(alloc, &LIVE)?, 1) == Some(29));
-    Ok(())
-}
-
-#[test]
-fn changed_values_name_the_field(rt: HostRuntime) -> Result<(), Fail> {
-    let alloc = rt.alloc();
-    // another mark, id, commit and count of rows, one number more, and very many
-    let cases = [
-        (7, 0x32, 0),
-        (15, 2, 8),
-        (23, 3, 16),
-        (27, 2, 24),
-        (35, 1, 36),
-        (28, 0xff, 36),
-    ];
-    for (at, to, place) in cases {
-        assert!(rt; values_place(alloc, &changed(alloc, &VALUES, at, to)?, 1) == Some(place));
-    }
-    assert!(rt; values_place(alloc, &VALUES, 2) == Some(24));
-    assert!(rt; values_place(alloc, &longer(alloc, &VALUES)?, 1) == Some(36));
-    Ok(())
-}
-
-// The live bits of 19 rows.
-fn bits_of(alloc: Global, bits: [u8; 3]) -> Result<Vec<u8>, Fail> {
-    let mut file = file_of(alloc, b"IXLIV001", 19)?;
-    file.extend_from_slice(&bits)?;
-    Ok(file)
-}
-
-// Where such a file is broken, cut at this length.
-fn bits_place(alloc: Global, bits: [u8; 3], length: usize) -> Result<Option<u64>, Fail> {
-    let mut file = bits_of(alloc, bits)?;
-    file.truncate(length);
-    Ok(live_place(alloc, &file, 19))
-}
-
-#[test]
-fn bits_of_19_rows(rt: HostRuntime) -> Result<(), Fail> {
-    let cases = [
-        ([0x7d, 0xfe, 0x05], None),
-        ([0, 0, 0x04], None),
-        ([0, 0, 0], Some(28)),
-        ([0xff, 0xff, 0x08], Some(30)),
-        ([0, 0, 0x80], Some(30)),
-    ];
-    for (bits, place) in cases {
-        assert!(rt; bits_place(rt.alloc(), bits, 31)? == place);
-        assert!(rt; bits_place(rt.alloc(), bits, 30)? == Some(30));
-    }
-    Ok(())
-}
-
-// The set numbers of so many rows.
-fn values_file(alloc: Global, n: u32, sets: &[(u32, &str, i64)]) -> Result<Vec<u8>, Fail> {
-    let mut file = file_of(alloc, b"IXVAL001", n)?;
-    put_u64(&mut file, sets.len() as u64)?;
-    for set in sets {
-        put_set(alloc, &mut file, *set)?;
-    }
-    Ok(file)
-}
-
-// Where a file of these two numbers is broken.
-fn place_of_two(
-    alloc: Global,
-    first: (u32, &str),
-    second: (u32, &str),
-) -> Result<Option<u64>, Fail> {
-    let sets = [(first.0, first.1, 1), (second.0, second.1, 2)];
-    Ok(values_place(alloc, &values_file(alloc, 2, &sets)?, 2))
-}
-
-#[test]
-fn values_rise(rt: HostRuntime) -> Result<(), Fail> {
-    let cases = [
-        ((0, "a"), (0, "b"), None),
-        ((0, "b"), (1, "a"), None),
-        ((0, "a"), (0, "a"), Some(53)),
-        ((0, "b"), (0, "a"), Some(53)),
-        ((1, "a"), (0, "b"), Some(53)),
-        ((0, "a"), (2, "a"), Some(53)),
-        ((2, "a"), (1, "b"), Some(36)),
-    ];
-    for (first, second, place) in cases {
-        assert!(rt; place_of_two(rt.alloc(), first, second)? == place);
-    }
-    Ok(())
 }
 
 // 19 rows, of which four are no longer live, with numbers in three of them, one of which is dead.
@@ -262,15 +172,16 @@ fn many_rows(alloc: Global) -> Result<LiveDocs, Fail>
 }
 
 // The live bits of these rows.
-const MANY_BITS: [u8; 3] = [0x7d, 0xfe, 0x05];
+const MANY_LIVE: &str = "49584c4956303031 0000000000000001 0000000000000002 00000013 7dfe05";
 
-// The numbers that are set in them.
-const MANY_SETS: [(u32, &str, i64); 4] = [
-    (0, "b", 7),
-    (8, "a", -1),
-    (8, "b", 5),
-    (18, "a", i64::MIN),
-];
+// The numbers that are set in them: `b` in the row 0 is 7, `a` and `b` in the row 8 are -1 and 5, and `a` in
+// the row 18 is the least number.
+const MANY_VALUES: &str =
+    "495856414c303031 0000000000000001 0000000000000002 00000013 0000000000000004 \
+    00000000 0000000162 0000000000000007 \
+    00000008 0000000161 ffffffffffffffff \
+    00000008 0000000162 0000000000000005 \
+    00000012 0000000161 8000000000000000";
 
 fn written_bits(alloc: Global) -> Result<Vec<u8>, Fail> {
     let docs = many_rows(alloc)?;
@@ -285,63 +196,61 @@ fn written_values(alloc: Global) -> Result<Vec<u8>, Fail> {
     Ok(encode_val(alloc, 1, 2, 19, &docs).ok().ok_or("memory")?)
 }
 
+// Whether these bytes are those of these fields.
+fn are(alloc: Global, bytes: Vec<u8>, fields: &str) -> Result<bool, Fail> {
+    Ok(bytes.as_slice() == bytes_of(alloc, fields)?.as_slice())
+}
+
+#[test]
+fn one_row_is_written(rt: HostRuntime) -> Result<(), Fail> {
+    assert!(rt; are(rt.alloc(), live_bits_of_one_row(rt.alloc())?, LIVE)?);
+    assert!(rt; are(rt.alloc(), values_of_one_row(rt.alloc())?, VALUES)?);
+    Ok(())
+}
+
 #[test]
 fn many_rows_are_written(rt: HostRuntime) -> Result<(), Fail> {
-    let written = written_bits(rt.alloc())?;
-    assert!(rt; written.as_slice() == bits_of(rt.alloc(), MANY_BITS)?.as_slice());
+    assert!(rt; are(rt.alloc(), written_bits(rt.alloc())?, MANY_LIVE)?);
+    assert!(rt; are(rt.alloc(), written_values(rt.alloc())?, MANY_VALUES)?);
     Ok(())
 }
 
-#[test]
-fn many_values_are_written(rt: HostRuntime) -> Result<(), Fail> {
-    let written = written_values(rt.alloc())?;
-    let file = values_file(rt.alloc(), 19, &MANY_SETS)?;
-    assert!(rt; written.as_slice() == file.as_slice());
-    Ok(())
-}
-
-// Whether 19 rows but four are live.
-fn are_many(live: &[bool]) -> bool {
-    for (row, is_live) in live.iter().enumerate() {
-        let is_dead = row == 1 || row == 7 || row == 8 || row == 17;
-        if *is_live == is_dead {
-            return false;
-        }
+// The live bits that a file has, each as a digit.
+fn read_bits(alloc: Global, fields: &str, rows: u32) -> Result<String, Fail> {
+    let mut shown = String::new(alloc);
+    let bits = decode_liv(alloc, &bytes_of(alloc, fields)?, 1, 2, rows)?;
+    for is_live in &bits {
+        shown.push(if *is_live { '1' } else { '0' })?;
     }
-    live.len() == 19
+    Ok(shown)
 }
 
-fn read_bits(alloc: Global) -> Result<Vec<bool>, Fail> {
-    let file = bits_of(alloc, MANY_BITS)?;
-    let live = decode_liv(alloc, &file, 1, 2, 19);
-    Ok(live.ok().ok_or("the bytes are live bits")?)
-}
-
-// Whether these numbers are set.
-fn are_set(values: &[(u32, Name, i64)]) -> bool {
-    for (found, wanted) in values.iter().zip(MANY_SETS.iter()) {
-        if (found.0, found.2) != (wanted.0, wanted.2) || found.1.as_str() != wanted.1 {
-            return false;
-        }
+// The numbers that a file has: the row, the name and the value of each.
+fn read_values(alloc: Global, fields: &str, rows: u32) -> Result<String, Fail> {
+    let mut shown = String::new(alloc);
+    let values = decode_val(alloc, &bytes_of(alloc, fields)?, 1, 2, rows)?;
+    for (row, name, value) in &values {
+        write!(shown, "{row} {} {value};", name.as_str())?;
     }
-    values.len() == 4
+    Ok(shown)
 }
 
-fn read_values(alloc: Global) -> Result<Vec<(u32, Name, i64)>, Fail> {
-    let file = values_file(alloc, 19, &MANY_SETS)?;
-    let values = decode_val(alloc, &file, 1, 2, 19);
-    Ok(values.ok().ok_or("the bytes are set numbers")?)
-}
-
+/// Live bits of one row and of many.
 #[test]
-fn many_rows_are_read(rt: HostRuntime) -> Result<(), Fail> {
-    assert!(rt; are_many(read_bits(rt.alloc())?.as_slice()));
+fn live_bits_are_read(rt: HostRuntime) -> Result<(), Fail> {
+    for (fields, rows, want) in [(LIVE, 1, "1"), (MANY_LIVE, 19, "1011111001111111101")] {
+        assert!(rt; read_bits(rt.alloc(), fields, rows)?.as_str() == want);
+    }
     Ok(())
 }
 
+/// No number that was set, and some.
 #[test]
-fn many_values_are_read(rt: HostRuntime) -> Result<(), Fail> {
-    assert!(rt; are_set(read_values(rt.alloc())?.as_slice()));
+fn set_numbers_are_read(rt: HostRuntime) -> Result<(), Fail> {
+    let many = "0 b 7;8 a -1;8 b 5;18 a -9223372036854775808;";
+    for (fields, rows, want) in [(VALUES, 1, ""), (MANY_VALUES, 19, many)] {
+        assert!(rt; read_values(rt.alloc(), fields, rows)?.as_str() == want);
+    }
     Ok(())
 }
 
