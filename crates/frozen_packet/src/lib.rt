@@ -7,8 +7,6 @@ mod deleted_terms;
 mod gathering;
 mod laws;
 mod packet;
-#[cfg(test)]
-mod tests;
 mod updates;
 
 pub use deleted_terms::DeletedTerms;
