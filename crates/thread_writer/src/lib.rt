@@ -10,8 +10,6 @@ mod laws;
 mod line;
 mod piece;
 mod take;
-#[cfg(test)]
-mod tests;
 mod told;
 mod writer;
 

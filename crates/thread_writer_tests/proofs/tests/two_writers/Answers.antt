@@ -1,7 +1,7 @@
 use Rattle.std.proofs.Common.{arith}
 use Rattle.std.proofs.lemmas.Grind.{common_steps}
 use Rattle.delete_queue.specs.Seats.{IsSeatOf}
-use Rattle.thread_writer.proofs.tests.two_writers.Goals as goal
+use Rattle.thread_writer_tests.proofs.tests.two_writers.Goals as goal
 
 pub returns-clause-first : goal.returns-clause-first
 returns-clause-first c =

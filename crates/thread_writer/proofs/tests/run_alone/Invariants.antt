@@ -1,5 +1,0 @@
-use Rattle.thread_writer.specs.Writing.{IsWriter}
-use Rattle.thread_writer.proofs.tests.run_alone.Given as goal
-
-abbrev pub invariant-loop-line : goal.invariant-loop-line
-invariant-loop-line l = IsWriter l.queue l.writer

@@ -1,0 +1,250 @@
+//! Writers of a small queue, against what was worked out by hand.
+ghost use Rattle.std.specs.Prelude.{◌<◌, IfOk, OnOk, length};
+ghost use Rattle.thread_writer.specs.Writing.{IsWriter};
+
+use delete_queue::{DeleteQueue, Linked, Reserve};
+use frozen_packet::{Change, Updates};
+use ix_base::{Operation, Query};
+use std::alloc::Global;
+use std::fmt::Write;
+use std::test::*;
+use test_values::{document_of, key_term, name_of};
+use thread_writer::{Piece, ThreadWriter, Told};
+
+fn setting_of(alloc: Global, key: &str) -> Result<Operation, Fail> {
+    let term = key_term(alloc, key)?;
+    let num = name_of(alloc, "n")?;
+    let value = 4;
+    Ok(Operation::SetNumber { term, num, value })
+}
+
+fn update_of(alloc: Global, key: &str) -> Result<Operation, Fail> {
+    let term = key_term(alloc, key)?;
+    Ok(Operation::Update(term, document_of(alloc, key)?))
+}
+
+fn operation_of(alloc: Global, verb: &str, key: &str) -> Result<Operation, Fail> {
+    match verb {
+        "add" => Ok(Operation::Add(document_of(alloc, key)?)),
+        "update" => update_of(alloc, key),
+        "delete" | "turn" => Ok(Operation::DeleteTerm(key_term(alloc, key)?)),
+        "query" => Ok(Operation::DeleteQuery(Query::Term(key_term(alloc, key)?))),
+        "set" => setting_of(alloc, key),
+        "commit" => Ok(Operation::Commit),
+        _ => Err("no such operation")?,
+    }
+}
+
+/// The same, of a key that may be given as the count of its letters, behind a `*`.
+fn operation_in(alloc: Global, verb: &str, key: &str) -> Result<Operation, Fail> {
+    match key.strip_prefix('*') {
+        Some(letters) => {
+            let key = "a".repeat(alloc, letters.parse::<usize>()?)?;
+            operation_of(alloc, verb, key.as_str())
+        }
+        None => operation_of(alloc, verb, key),
+    }
+}
+
+/// A queue of two seats, and their writers, whose buffers hold two documents each.
+fn two_writers(alloc: Global) -> Result<(DeleteQueue, ThreadWriter, ThreadWriter), Fail>
+    ensures first { IfOk result (λ r. IsWriter r.0 r.1) }
+    ensures second { IfOk result (λ r. IsWriter r.0 r.2) }
+{
+    let (queue, mut seats) = DeleteQueue::make(alloc, 0, 2, &mut Reserve::new(alloc))?;
+    let second = ThreadWriter::make(alloc, seats.pop().ok_or("a seat")?, 2);
+    let first = ThreadWriter::make(alloc, seats.pop().ok_or("a seat")?, 2);
+    Ok((queue, first, second))
+}
+
+fn show_told(out: &mut String, told: Told) -> Result<(), Fail> {
+    match told {
+        Told::Numbered(number) => Ok(write!(out, " {number}")?),
+        Told::RefusedTerm { size } => Ok(write!(out, " term {size}")?),
+        Told::RefusedQuery { size } => Ok(write!(out, " query {size}")?),
+        Told::Closed => Ok(out.push_str(" closed")?),
+        Told::Full { need, left } => Ok(write!(out, " full {need} {left}")?),
+        Told::NoMemory => Ok(out.push_str(" memory")?),
+    }
+}
+
+fn show_turn(out: &mut String, linked: Linked) -> Result<(), Fail> {
+    match linked {
+        Linked::At(number) => Ok(write!(out, " turn {number}")?),
+        _ => Ok(out.push_str(" no turn")?),
+    }
+}
+
+fn show_updates(out: &mut String, updates: &Updates) -> Result<(), Fail> {
+    for (key, number) in updates.deletes().as_map() {
+        write!(out, " -{}{number}", key.term().bytes.as_str())?;
+    }
+    for query in updates.queries() {
+        write!(out, " ?{}", query.number)?;
+    }
+    for change in updates.changes() {
+        match change {
+            Change::Set(setting) => write!(out, " {}{}", setting.num.as_str(), setting.number)?,
+            Change::Delete(delete) => write!(out, " ?{}", delete.number)?,
+        }
+    }
+    Ok(())
+}
+
+/// A piece: its worker, its rows with their births, its deletes, those by query and its settings
+/// with their numbers, and the cut.
+fn show_piece(out: &mut String, piece: &Piece) -> Result<(), Fail> {
+    write!(out, " [{}:", piece.worker)?;
+    for row in piece.frozen.rows.as_slice() {
+        write!(out, " {}{}", row.doc.key.as_str(), row.birth)?;
+    }
+    out.push(';')?;
+    show_updates(out, &piece.updates)?;
+    Ok(write!(out, "; {}]", piece.cut)?)
+}
+
+/// Shows the piece that a writer gives off, if there is one.
+fn take(queue: &DeleteQueue, writer: &mut ThreadWriter, out: &mut String) -> Result<(), Fail>
+    requires { IsWriter queue.now writer.old }
+    ensures writer { OnOk result (IsWriter queue.now writer.new) }
+    ensures room { OnOk result (length writer.new.rows < writer.new.size) }
+{
+    match writer.take_pieces(queue)? {
+        Some(piece) => show_piece(out, &piece),
+        None => Ok(()),
+    }
+}
+
+/// Does an operation, and shows what it is told. Where `turn` finds no room in the seat, a turn follows.
+fn do_line(
+    alloc: Global,
+    queue: &DeleteQueue,
+    writer: &mut ThreadWriter,
+    verb: &str,
+    key: &str,
+    out: &mut String,
+) -> Result<(), Fail>
+    requires writer { IsWriter queue.now writer.old }
+    requires room { length writer.old.rows < writer.old.size }
+    ensures { OnOk result (IsWriter queue.now writer.new) }
+{
+    let operation = operation_in(alloc, verb, key)?;
+    let told = writer.do_line(queue, &operation);
+    show_told(out, told)?;
+    match told {
+        Told::Full { .. } if verb == "turn" => show_turn(out, writer.turn(queue)),
+        _ => Ok(()),
+    }
+}
+
+/// Does a line by a writer: what it does, and a key. A full buffer is given off after it, and shown; so none
+/// is full before.
+fn step(
+    alloc: Global,
+    queue: &DeleteQueue,
+    writer: &mut ThreadWriter,
+    words: &str,
+    out: &mut String,
+) -> Result<(), Fail>
+    requires { IsWriter queue.now writer.old }
+    ensures { OnOk result (IsWriter queue.now writer.new) }
+{
+    let (verb, key) = words.split_once(' ').unwrap_or((words, ""));
+    take(queue, writer, out)?;
+    do_line(alloc, queue, writer, verb, key, out)?;
+    take(queue, writer, out)
+}
+
+/// Does a line by one of two writers: `0` stands before the lines of the first one.
+fn step_of(
+    alloc: Global,
+    queue: &DeleteQueue,
+    first: &mut ThreadWriter,
+    second: &mut ThreadWriter,
+    line: &str,
+    out: &mut String,
+) -> Result<(), Fail>
+    requires first { IsWriter queue.now first.old }
+    requires second { IsWriter queue.now second.old }
+    ensures first { OnOk result (IsWriter queue.now first.new) }
+    ensures second { OnOk result (IsWriter queue.now second.new) }
+{
+    match line.split_once(' ') {
+        Some(("0", words)) => step(alloc, queue, first, words, out),
+        Some((_, words)) => step(alloc, queue, second, words, out),
+        None => Err("no writer")?,
+    }
+}
+
+/// What two writers of a new queue are told and give off, and how many documents are in the first one's
+/// buffer at the end.
+fn run(alloc: Global, lines: &str) -> Result<String, Fail> {
+    let (queue, mut first, mut second) = two_writers(alloc)?;
+    let mut out = String::new(alloc);
+    for line in lines.split(", ") {
+        step_of(alloc, &queue, &mut first, &mut second, line, &mut out)?;
+    }
+    write!(out, " rest {}", first.hand_back().rest.rows())?;
+    Ok(out)
+}
+
+/// Lines of two writers, and what they are told and give off.
+const CASES: &str = "\
+# A buffer of two documents is given off when it is full, with the deletes since it was begun.
+0 add a, 0 add b, 0 add c, 0 delete a, 0 add d, 0 update c = 1 2 [0: a1 b2;; 2] 3 4 5 [0: c3 d5; -a4; 5] 6 rest 1
+
+# Each of two writers' pieces has what both linked since its buffer was begun.
+0 add k, 1 delete k, 0 add m, 1 update m, 0 set k, 0 query k, 1 add x \
+    = 1 2 3 [0: k1 m3; -k2; 3] 4 5 6 7 [1: m4 x7; -k2 -m4 ?6 n5; 7] rest 0
+
+# A document that was staged when the queue was closed takes a place, and is in no row.
+0 add a, 1 commit, 0 delete b, 0 add b, 0 commit = 1 2 closed closed [0: a1;; 2] closed rest 0
+
+# An operation of each kind at its limit, and one letter beyond.
+0 add *32766 = 1 rest 1
+0 update *32766 = 1 rest 1
+0 delete *32766 = 1 rest 0
+0 set *32766 = 1 rest 0
+0 query *131060 = 1 rest 0
+0 commit = 1 rest 0
+0 add *32767 = term 32767 rest 0
+0 update *32767 = term 32767 rest 0
+0 delete *32767 = term 32767 rest 0
+0 set *32767 = term 32767 rest 0
+0 query *131061 = query 131073 rest 0
+";
+
+#[test]
+fn writers_of_a_queue(rt: HostRuntime) -> Result<(), Fail> {
+    for case in CASES.lines() {
+        if let Some((lines, wanted)) = case.split_once(" =") {
+            assert!(rt; run(rt.alloc(), lines)?.as_str() == wanted, "{}", case);
+        }
+    }
+    Ok(())
+}
+
+/// A seat that is filled by 4,159 deletes, each of four words with its next word.
+fn full_seat(alloc: Global) -> Result<String, Fail> {
+    let mut lines = "0 delete abcde, ".repeat(alloc, 4159)?;
+    lines.push_str("0 update abcdef, 0 turn abcdef, 0 add a")?;
+    run(alloc, lines.as_str())
+}
+
+/// What the deletes are told, and then what a seat without room tells, the turn that ends it, and two
+/// documents that are in no row.
+fn told_when_full(alloc: Global) -> Result<String, Fail> {
+    let mut told = String::new(alloc);
+    for number in 1..4160 {
+        write!(told, " {number}")?;
+    }
+    told.push_str(" full 5 4 full 5 4 turn 4159 closed [0:; -abcde4159; 4159] rest 0")?;
+    Ok(told)
+}
+
+#[test]
+fn seat_without_room(rt: HostRuntime) -> Result<(), Fail> {
+    let told = full_seat(rt.alloc())?;
+    assert!(rt; told.as_str() == told_when_full(rt.alloc())?.as_str());
+    Ok(())
+}
