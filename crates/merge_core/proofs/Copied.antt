@@ -1,12 +1,12 @@
 -- Rows that are copied and counted, step by step.
-use Rattle.std.proofs.Common.{◌≡◌, ◌∙◌, ℕ, zero, suc, ◌+◌, ◌-◌, ◌<◌, ◌≤◌, List, [], ◌∷◌, ◌++◌, Option, Some, length, map, take, get_or, ◌⊎◌, inl, inr, refl, sym, ap, subst, arith}
+use Rattle.std.proofs.Common.{◌≡◌, ◌∙◌, ℕ, zero, suc, ◌+◌, ◌-◌, ◌<◌, ◌≤◌, List, [], ◌∷◌, ◌++◌, Some, length, map, take, get_or, ◌⊎◌, inl, inr, refl, sym, ap, subst, arith}
 use Rattle.std.specs.List.{slice_get}
-use Rattle.std.proofs.lemmas.List.{length-append, length-map, length_push, map-append, map_more}
+use Rattle.std.proofs.lemmas.List.{length-append, length_push, map-append, map_more}
 use Rattle.ix_base.specs.declared.document.Row.{Row}
 use Rattle.segment_core.specs.LiveRows.{Lived, stored_rows}
 use Rattle.merge_postings.specs.Steps.{IsMergedUpto}
 use Rattle.merge_postings.specs.declared.partly.PartlyMerged.{PartlyMerged}
-use Rattle.merge_core.specs.Merging.{Sources, row_count}
+use Rattle.merge_core.specs.Merging.{row_count}
 use Rattle.merge_core.specs.Numbers.{movings}
 use Rattle.merge_core.specs.Reading.{Counts, HasRead, HasReadWithin, IsCopied, IsStep, row_of}
 use Rattle.merge_core.specs.declared.merge.Merge.{Merge}

@@ -12,3 +12,6 @@ pub mod Copied
 pub mod Picked
 pub mod Summing
 pub mod Renumbered
+pub mod AtMost
+pub mod NextBirths
+pub mod NumbersUpto

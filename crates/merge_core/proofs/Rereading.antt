@@ -1,5 +1,5 @@
 -- What a merge has read, at a later moment.
-use Rattle.std.proofs.Common.{◌≡◌, ◌∙◌, ℕ, ◌+◌, List, [], ◌∷◌, Option, Some, length, map, take, refl, sym, ap, subst}
+use Rattle.std.proofs.Common.{◌≡◌, ◌∙◌, ℕ, List, [], ◌∷◌, Option, length, take, refl, sym, ap, subst}
 use Rattle.ix_base.specs.declared.document.Row.{Row}
 use Rattle.segment_core.specs.declared.segment.Segment.{Segment}
 use Rattle.segment_core.specs.LiveRows.{Lived}
@@ -7,7 +7,7 @@ use Rattle.merge_postings.specs.Renumbering.{Moving}
 use Rattle.merge_postings.specs.Steps.{IsMergedUpto}
 use Rattle.merge_core.specs.Merging.{AreLater}
 use Rattle.merge_core.specs.Numbers.{movings}
-use Rattle.merge_core.specs.Reading.{AreNumbered, ReadingStays, row_of}
+use Rattle.merge_core.specs.Reading.{AreNumbered, ReadingStays}
 use Rattle.merge_core.specs.declared.origin.Origin.{Origin}
 use Rattle.merge_core.proofs.Later.{are_later_then, later_length, rises_before, same_stored}
 use Rattle.merge_core.proofs.Staging.{can_later, same_rows_of}

@@ -11,7 +11,7 @@ suc_sum f (y ∷ ys) zero x lt is = subst (λ z. sum_by f (y ∷ []) ≡ 0 + f z
 suc_sum f (y ∷ ys) (suc i) x lt is =
     omega (arith, sum_by-cons f y (take (suc i) ys), sum_by-cons f y (take i ys), suc_sum f ys i x (omega arith) is)
 
-next_sum : {X : Type 0} (f : X → ℕ) (xs : List X) (i : ℕ) (x : X) → i < length xs → x ≡ get_or xs i x → sum_by f (take (i + 1) xs) ≡ sum_by f (take i xs) + f x
+pub next_sum : {X : Type 0} (f : X → ℕ) (xs : List X) (i : ℕ) (x : X) → i < length xs → x ≡ get_or xs i x → sum_by f (take (i + 1) xs) ≡ sum_by f (take i xs) + f x
 next_sum f xs i x lt is = rw add-one (suc_sum f xs i x lt is)
 
 -- the room behind so many of the parts

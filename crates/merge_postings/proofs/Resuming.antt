@@ -8,7 +8,7 @@ use Rattle.std.proofs.lemmas.Slice.Eq.{bytes_eq-Decides}
 use Rattle.std.proofs.lemmas.List.Elements.{recursion_from_All}
 use Rattle.std.proofs.lemmas.List.{get_or_default}
 use Rattle.std.proofs.lemmas.List.Folds.{list_any-append}
-use Rattle.ix_base.proofs.GroupedLaws.{or_false, or_assoc}
+use Rattle.ix_base.proofs.GroupedLaws.{or_false}
 use Rattle.ix_base.specs.Inversion.{IsPostings, posted, posted_at}
 use Rattle.ix_base.specs.declared.document.Term.{Term}
 use Rattle.ix_base.specs.declared.postings.Postings.{Postings}

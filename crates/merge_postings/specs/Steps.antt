@@ -1,5 +1,5 @@
 -- Postings of sources that are merged up to one of their terms.
-use Rattle.std.specs.Prelude.{◌≡◌, ℕ, List, [], ◌∷◌, ◌++◌, ◌||◌, Option, Some, None, length, take}
+use Rattle.std.specs.Prelude.{◌≡◌, ℕ, List, ◌∷◌, ◌++◌, ◌||◌, Option, Some, None, length, take}
 use Rattle.std.specs.List.{AllByRecursion}
 use Rattle.ix_base.specs.Inversion.{IsPostings, posted}
 use Rattle.ix_base.specs.declared.document.Term.{Term}

@@ -1,11 +1,12 @@
 //! Sources that wait to be walked further.
-ghost use Rattle.std.specs.Prelude.{◌≡◌, ◌||◌, ℕ, true, false, OnOk, IfSome};
-ghost use Rattle.ix_base.specs.Inversion.{IsPostings};
+ghost use Rattle.std.specs.Prelude.{◌≡◌, ◌↔◌, ◌||◌, ℕ, true, false, OnOk, IfSome, IsTrue};
+ghost use Rattle.ix_base.specs.Inversion.{IsPostings, term_cmp};
 ghost use Rattle.merge_postings.specs.Gathering.{is_gathered};
 ghost use Rattle.merge_postings.specs.Renumbering.{moved_at, NumbersRise};
 ghost use Rattle.merge_postings.specs.Walk.{waiting, IsBelow};
 
 use crate::gathered::Gathered;
+use crate::key::{compare_texts, key_of};
 use analysis::compare_terms;
 use ix_base::{NoMemory, Term, TermPostings};
 use std::cmp::Ordering;
@@ -19,16 +20,21 @@ pub(crate) struct Head<'a> {
     numbers: &'a [Option<u32>],
     /// The place of the source among all.
     place: usize,
+    /// The key of the next entry's term.
+    key: u64,
 }
 
 impl<'a> Model for Head<'a> {
+    ghost use Rattle.merge_postings.specs.Keys.{HasKey};
     ghost use Rattle.merge_postings.specs.Walk.{CanWait, Waiting};
 
     ghost Value = { Waiting };
 
     ghost view = { λ h. record { first = h.first.now; rest = h.rest.now; numbers = h.numbers.now } };
 
-    ghost invariant = { λ h. CanWait (record { first = h.first.now; rest = h.rest.now; numbers = h.numbers.now }) };
+    ghost invariant = { λ h.
+        CanWait (record { first = h.first.now; rest = h.rest.now; numbers = h.numbers.now })
+        × HasKey h.key h.first.now.term.bytes };
 }
 
 impl<'a> Head<'a> {
@@ -48,6 +54,7 @@ impl<'a> Head<'a> {
             rest,
             numbers,
             place,
+            key: key_of(&first.term.bytes),
         })
     }
 
@@ -74,12 +81,37 @@ impl<'a> Head<'a> {
         gathered.add(&self.first.rows, self.numbers)
     }
 
+    /// How the term of its next entry is ordered to the other's.
+    fn compare(&self, other: &Head<'_>) -> Ordering
+        ensures { result ≡ term_cmp self.now.first.term other.now.first.term }
+    {
+        let left = self.term();
+        let right = other.term();
+        if left.field.as_str() == right.field.as_str() {
+            return compare_texts(&left.bytes, self.key, &right.bytes, other.key);
+        }
+        compare_terms(left, right)
+    }
+
+    /// Whether its next term is the other's.
+    pub(crate) fn has_term_of(&self, other: &Head<'_>) -> bool
+        ensures { IsTrue result ↔ (self.now.first.term ≡ other.now.first.term) }
+    {
+        if self.key != other.key {
+            return false;
+        }
+        match self.compare(other) {
+            Ordering::Equal => true,
+            _ => false,
+        }
+    }
+
     /// Whether it is taken after this one.
     pub(crate) fn is_after(&self, other: &Head<'_>) -> bool
         ensures after { result ≡ true → ¬ IsBelow self.now.first.term other.now.first.term }
         ensures before { result ≡ false → ¬ IsBelow other.now.first.term self.now.first.term }
     {
-        match compare_terms(self.term(), other.term()) {
+        match self.compare(other) {
             Ordering::Less => false,
             Ordering::Equal => self.place > other.place,
             Ordering::Greater => true,

@@ -7,10 +7,8 @@ ghost use Rattle.merge_postings.specs.Walk.{StartFrom, AreQueued, StartUpto, IsP
 
 use crate::head::Head;
 use crate::source::Source;
-use analysis::compare_terms;
 use ix_base::{NoMemory, Term};
 use std::alloc::Global;
-use std::cmp::Ordering;
 
 /// The place at which this source comes among these, found by halving.
 fn place_of(queue: &[Head<'_>], head: &Head<'_>) -> usize
@@ -74,17 +72,18 @@ pub(crate) fn queue_beyond<'a>(
     Ok(queue)
 }
 
-/// Takes the last source out, if its first term is this one.
-pub(crate) fn take_last<'a>(queue: &mut Vec<Head<'a>>, term: &Term) -> Option<Head<'a>>
-    ensures some { IfSome result (λ head. queue.old.items ≡ queue.new.items ++ head ∷ []) }
-    ensures term { IfSome result (λ head. head.first.term ≡ term.now) }
+/// Takes the last source out, if its first term is this one's.
+pub(crate) fn take_last<'a>(queue: &mut Vec<Head<'a>>, head: &Head<'a>) -> Option<Head<'a>>
+    ensures some { IfSome result (λ last. queue.old.items ≡ queue.new.items ++ last ∷ []) }
+    ensures term { IfSome result (λ last. last.first.term ≡ head.now.first.term) }
     ensures none { IfNone result (queue.new.items ≡ queue.old.items) }
     ensures other { IfNone result ((front : List Waiting) (w : Waiting)
-        → queue.old.items ≡ front ++ w ∷ [] → w.first.term ≢ term.now) }
+        → queue.old.items ≡ front ++ w ∷ [] → w.first.term ≢ head.now.first.term) }
 {
-    let head = queue.last()?;
-    match compare_terms(head.term(), term) {
-        Ordering::Equal => queue.pop(),
-        _ => None,
+    let last = queue.last()?;
+    if last.has_term_of(head) {
+        queue.pop()
+    } else {
+        None
     }
 }

@@ -1,4 +1,4 @@
-use Rattle.std.proofs.Common.{◌≡◌, ◌∙◌, ◌+◌, ℕ, List, length, take, sym, ap, arith}
+use Rattle.std.proofs.Common.{◌≡◌, ◌∙◌, ◌+◌, List, length, take, ap, arith}
 use Rattle.std.specs.List.{filter_map, slice_get}
 use Rattle.segment_core.specs.LiveRows.{Lived}
 use Rattle.segment_core.specs.declared.segment.Segment.{Segment}

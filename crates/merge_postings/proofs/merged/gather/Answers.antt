@@ -1,4 +1,4 @@
-use Rattle.std.proofs.Common.{◌∙◌, ◌++◌, ◌∷◌, [], List, refl, sym, subst}
+use Rattle.std.proofs.Common.{◌++◌, ◌∷◌, [], List, refl, sym, subst}
 use Rattle.merge_postings.specs.Gathering.{is_gathered}
 use Rattle.merge_postings.specs.Walk.{AreQueued, TakenAll, Waiting}
 use Rattle.merge_postings.proofs.Queued.{front_queued}
@@ -18,7 +18,7 @@ returns-in_default c =
     let old : List Waiting = c.args.queue.now.items ++ c.args.head.now ∷ [] in
     subst (λ (ws : List Waiting). TakenAll c.args.head.now.first.term old ws (is_gathered c.heads.gathered)) (sym c.in_default.ensures.none)
     (all_taken c.args.head.now.first.term old c.heads.queue.items (is_gathered c.heads.gathered) c.heads.invariant
-    (λ front w is named. c.in_default.ensures.other front w is (named ∙ sym c.term.ensures)))
+    (λ front w is named. c.in_default.ensures.other front w is named))
 
 pub pass-requires-in-heads : goal.pass-requires-in-heads
 pass-requires-in-heads c = front_queued c.take_last.new.queue.items c.in-Some.other (subst AreQueued c.in-Some.ensures.some c.heads.invariant.queued)
@@ -29,5 +29,5 @@ heads-smaller c = less_left c.in-Some.other c.heads.queue.items c.take_last.new.
 pub heads-preserved : goal.heads-preserved
 heads-preserved c =
     more_taken c.args.head.now.first.term (c.args.queue.now.items ++ c.args.head.now ∷ []) c.heads.queue.items c.take_last.new.queue.items c.pass-in-heads.new.queue.items c.in-Some.other
-    (is_gathered c.heads.gathered) (is_gathered c.pass-in-heads.new.gathered) c.heads.invariant c.in-Some.ensures.some (c.in-Some.ensures.term ∙ c.term.ensures)
+    (is_gathered c.heads.gathered) (is_gathered c.pass-in-heads.new.gathered) c.heads.invariant c.in-Some.ensures.some c.in-Some.ensures.term
     c.in_ok-pass-2.ensures.places c.in_ok-pass-2.ensures.back

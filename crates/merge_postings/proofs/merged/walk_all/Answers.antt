@@ -1,5 +1,4 @@
-use Rattle.std.proofs.Common.{◌≡◌, ◌∙◌, ◌++◌, ◌∷◌, [], List, rules, sym, subst}
-use Rattle.merge_postings.specs.Renumbering.{Moving}
+use Rattle.std.proofs.Common.{◌≡◌, [], List, rules, subst}
 use Rattle.merge_postings.specs.Steps.{Walked}
 use Rattle.merge_postings.specs.Walk.{Waiting}
 use Rattle.merge_postings.proofs.Fronts.{front_then}

@@ -1,6 +1,5 @@
-use Rattle.std.proofs.Common.{◌≡◌, ◌∙◌, ◌++◌, ◌∷◌, [], List, rules, sym, subst}
+use Rattle.std.proofs.Common.{◌≡◌, ◌∙◌, [], List, rules, sym, subst}
 use Rattle.ix_base.specs.declared.document.Term.{Term}
-use Rattle.merge_postings.specs.Renumbering.{Moving}
 use Rattle.merge_postings.specs.Steps.{Walked, WalkedUpto}
 use Rattle.merge_postings.specs.Walk.{AreQueued, Waiting}
 use Rattle.merge_postings.proofs.Fronts.{front_then}

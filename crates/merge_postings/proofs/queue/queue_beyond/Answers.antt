@@ -1,7 +1,7 @@
 use Rattle.std.proofs.lemmas.List.Elements.{All-from_recursion}
 use Rattle.std.proofs.Common.{sym, subst}
 use Rattle.merge_postings.specs.Renumbering.{CanMove}
-use Rattle.merge_postings.proofs.Resuming.{all_resumed, more_resumed}
+use Rattle.merge_postings.proofs.Resuming.{more_resumed}
 use Rattle.merge_postings.proofs.queue.queue_beyond.Goals as goal
 
 pub loop-place-preserved : goal.loop-place-preserved

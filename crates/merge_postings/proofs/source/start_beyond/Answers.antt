@@ -1,7 +1,4 @@
-use Rattle.std.proofs.Common.{◌≡◌, ◌∙◌, ◌+◌, ◌-◌, ◌/◌, ◌<◌, ℕ, length, get_or, sym, ap, subst, arith}
-use Rattle.std.specs.declared.cmp.Ordering.{Ordering}
-use Rattle.std.specs.declared.cmp.Ordering.TheVariants.{Less}
-use Rattle.ix_base.specs.Inversion.{term_cmp}
+use Rattle.std.proofs.Common.{◌∙◌, ◌+◌, ◌-◌, ◌/◌, ◌<◌, ℕ, length, subst, arith}
 use Rattle.ix_base.specs.declared.postings.TermPostings.{TermPostings}
 use Rattle.merge_postings.specs.Walk.{IsBelow}
 use Rattle.merge_postings.proofs.Resuming.{middle_above, middle_reached}

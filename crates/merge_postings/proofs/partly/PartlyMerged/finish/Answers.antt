@@ -1,6 +1,5 @@
 use Rattle.std.proofs.Common.{◌≡◌, ◌∙◌, [], List, sym, subst}
 use Rattle.ix_base.specs.Inversion.{IsPostings}
-use Rattle.ix_base.specs.declared.postings.Postings.{Postings}
 use Rattle.ix_base.specs.declared.postings.TermPostings.{TermPostings}
 use Rattle.merge_postings.specs.Renumbering.{Moving}
 use Rattle.merge_postings.specs.Steps.{AreResumed, Walked}

@@ -1,9 +1,7 @@
-use Rattle.std.proofs.Common.{◌≡◌, ◌∙◌, ◌++◌, ◌∷◌, [], List, Some, refl, sym, subst}
-use Rattle.ix_base.specs.declared.postings.TermPostings.{TermPostings}
+use Rattle.std.proofs.Common.{◌≡◌, ◌∙◌, List, Some, refl, sym, subst}
 use Rattle.merge_postings.specs.Renumbering.{Moving}
-use Rattle.merge_postings.specs.Steps.{AreResumed, IsMergedUpto, Walked, WalkedUpto}
+use Rattle.merge_postings.specs.Steps.{AreResumed, Walked, WalkedUpto}
 use Rattle.merge_postings.specs.Walk.{Waiting}
-use Rattle.merge_postings.specs.declared.partly.PartlyMerged.{PartlyMerged}
 use Rattle.merge_postings.proofs.Resuming.{walked_from, walked_upto}
 use Rattle.merge_postings.proofs.partly.PartlyMerged.merge_more.Goals as goal
 

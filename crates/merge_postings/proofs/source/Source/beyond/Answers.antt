@@ -1,4 +1,4 @@
-use Rattle.std.proofs.Common.{sym, subst}
+use Rattle.std.proofs.Common.{subst}
 use Rattle.std.proofs.lemmas.List.{take_rest}
 use Rattle.merge_postings.specs.Renumbering.{Moving}
 use Rattle.merge_postings.specs.Steps.{IsResumed}

@@ -1,0 +1,56 @@
+//! Texts compared by their first eight bytes.
+ghost use Rattle.std.specs.Prelude.{◌≡◌, ◌+◌, ◌*◌, ◌<◌, ◌^◌, slice_index};
+ghost use Rattle.std.specs.Cmp.Lexicographic.{slice_cmp};
+ghost use Rattle.std.specs.Ordering.{nat_cmp};
+ghost use Rattle.merge_postings.specs.Keys.{HasKey};
+
+use ix_base::Text;
+use std::cmp::Ordering;
+
+/// A number with one byte more behind it: 0 where there is none at this place.
+fn with_byte(number: u64, bytes: &[u8], at: usize) -> u64
+    requires { number < 2 ^ 56 }
+    ensures value { result ≡ number * 256 + slice_index bytes.now at }
+    ensures below { result < (number + 1) * 256 }
+{
+    let byte = match bytes.get(at) {
+        Some(byte) => *byte,
+        None => 0,
+    };
+    number * 256 + u64::from(byte)
+}
+
+/// The first eight bytes of a text as a number, the first one the highest.
+pub(crate) fn key_of(text: &Text) -> u64
+    ensures { HasKey result text.now }
+{
+    let bytes = text.as_str().as_bytes();
+    let one = with_byte(0, bytes, 0);
+    let two = with_byte(one, bytes, 1);
+    let three = with_byte(two, bytes, 2);
+    let four = with_byte(three, bytes, 3);
+    let five = with_byte(four, bytes, 4);
+    let six = with_byte(five, bytes, 5);
+    let seven = with_byte(six, bytes, 6);
+    with_byte(seven, bytes, 7)
+}
+
+/// How texts with these keys are ordered. They are looked at only where their keys are one.
+pub(crate) fn compare_texts(left: &Text, left_key: u64, right: &Text, right_key: u64) -> Ordering
+    requires left { HasKey left_key left.now }
+    requires right { HasKey right_key right.now }
+    ensures { result ≡ slice_cmp nat_cmp left.now right.now }
+{
+    if left_key < right_key {
+        return Ordering::Less;
+    }
+    if right_key < left_key {
+        return Ordering::Greater;
+    }
+    let left = left.as_str();
+    let right = right.as_str();
+    if left.len() == right.len() && left.len() <= 8 {
+        return Ordering::Equal;
+    }
+    left.cmp(right)
+}
