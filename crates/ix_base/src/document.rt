@@ -21,7 +21,6 @@ pub struct Term {
 /// A document. Its key is found as a term of the field `key`, each text of `exact` as one term,
 /// each text of `text` by its folded words; `num` holds its numbers. No name of `text` or `exact`
 /// is `key`, and none stands in both.
-#[derive(Drop)]
 pub struct Document {
     pub key: Text,
     pub text: Fields,
@@ -55,7 +54,6 @@ pub struct Hit {
 }
 
 /// An operation on an index.
-#[derive(Drop)]
 pub enum Operation {
     /// Adds the document.
     Add(Document),
@@ -69,6 +67,34 @@ pub enum Operation {
     SetNumber { term: Term, num: Name, value: i64 },
     /// Makes a commit of the operations numbered up to its own.
     Commit,
+}
+
+impl Drop for Document {
+    fn drop(self) {
+        let Document {
+            key: _key,
+            text: _text,
+            exact: _exact,
+            num: _num,
+        } = self;
+    }
+}
+
+impl Drop for Operation {
+    fn drop(self) {
+        match self {
+            Operation::Add(_doc) => {}
+            Operation::Update(_term, _doc) => {}
+            Operation::DeleteTerm(_term) => {}
+            Operation::DeleteQuery(_query) => {}
+            Operation::SetNumber {
+                term: _term,
+                num: _num,
+                value: _,
+            } => {}
+            Operation::Commit => {}
+        }
+    }
 }
 
 impl Term {
