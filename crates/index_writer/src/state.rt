@@ -1,11 +1,12 @@
 //! What a writer knows of its index.
+ghost use Rattle.std.specs.Prelude.{◌≡◌};
 
 use commit_point::Written;
 use flush_control::Published;
 use ix_base::List;
+use segment_core::LiveSegment;
 
 /// What a writer knows of its index.
-#[derive(Drop)]
 pub struct State {
     /// The segments, those without a live row too, the id that the next one takes, the number of the
     /// last operation that is in them, and the merge that runs, if one does. A segment stays until a
@@ -30,4 +31,38 @@ pub struct State {
     /// Whether the writer is closed: after a fault of its store, or where memory ran out at the end of
     /// a round.
     pub closed: bool,
+}
+
+impl Drop for State {
+    fn drop(self) {
+        let _published = self.into_published();
+    }
+}
+
+impl State {
+    /// The segments. A merge that runs is dropped.
+    pub(crate) fn into_segments(self) -> List<LiveSegment>
+        ensures { result ≡ self.published.segments }
+    {
+        let Published { segments, .. } = self.into_published();
+        segments
+    }
+
+    /// All but what is on the store.
+    fn into_published(self) -> Published
+        ensures { result ≡ self.published }
+    {
+        let State {
+            published,
+            written: _written,
+            last: _,
+            since: _,
+            buffer: _,
+            merge: _,
+            out: _,
+            pending: _,
+            closed: _,
+        } = self;
+        published
+    }
 }

@@ -171,9 +171,7 @@ impl<S> IndexWriter<S> {
         ensures segments { result.1 ≡ self.state.published.segments }
     {
         let IndexWriter { store, state, .. } = self;
-        let State { published, .. } = state;
-        let Published { segments, .. } = published;
-        (store, segments)
+        (store, state.into_segments())
     }
 }
 
