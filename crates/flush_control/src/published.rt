@@ -21,7 +21,6 @@ use thread_writer::Piece;
 /// The segments of an index, by rising id, the id that the next one takes, the number up to which
 /// operations are in them, the merge that runs, and what is still to be let go of the segments that
 /// merges replaced.
-#[derive(Drop)]
 pub struct Published {
     pub segments: List<LiveSegment>,
     pub next_id: u64,
@@ -33,7 +32,27 @@ pub struct Published {
     pub gone: Released,
 }
 
+impl Drop for Published {
+    fn drop(self) {
+        let _segments = self.into_segments();
+    }
+}
+
 impl Published {
+    /// The segments. A merge that runs is dropped.
+    pub fn into_segments(self) -> List<LiveSegment>
+        ensures { result ≡ self.segments }
+    {
+        let Published {
+            segments,
+            next_id: _,
+            upto: _,
+            merge: _merge,
+            gone: _gone,
+        } = self;
+        segments
+    }
+
     /// Takes the pieces of a round: each becomes a segment, in their order, unless its updates leave
     /// none of its rows, or it has none. Then it is no segment and takes no id. The operations up to
     /// a piece's cut are in its segment; `upto` stays, and a merge runs on. After an error all is as

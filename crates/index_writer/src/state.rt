@@ -35,7 +35,7 @@ pub struct State {
 
 impl Drop for State {
     fn drop(self) {
-        let _published = self.into_published();
+        let _segments = self.into_segments();
     }
 }
 
@@ -43,14 +43,6 @@ impl State {
     /// The segments. A merge that runs is dropped.
     pub(crate) fn into_segments(self) -> List<LiveSegment>
         ensures { result ≡ self.published.segments }
-    {
-        let Published { segments, .. } = self.into_published();
-        segments
-    }
-
-    /// All but what is on the store.
-    fn into_published(self) -> Published
-        ensures { result ≡ self.published }
     {
         let State {
             published,
@@ -63,6 +55,6 @@ impl State {
             pending: _,
             closed: _,
         } = self;
-        published
+        published.into_segments()
     }
 }

@@ -125,87 +125,102 @@ fn show_operation(out: &mut String, operation: &Operation) -> Result<(), Fail> {
     }
 }
 
-/// What a copy of a text, of a name and of a phrase have.
-fn copied_text(alloc: Global, text: &Text) -> Result<String, Fail> {
-    let copy = text.clone_in(alloc)?;
-    Ok(String::from_str(alloc, copy.as_str())?)
+fn copied_name(alloc: Global, name: &str) -> Result<Name, Fail> {
+    Ok(name_of(alloc, name)?.clone_in(alloc)?)
 }
 
-fn copied_name(alloc: Global, name: &str) -> Result<String, Fail> {
-    let copy = name_of(alloc, name)?.clone_in(alloc)?;
-    Ok(String::from_str(alloc, copy.as_str())?)
-}
-
-fn copied_phrase(alloc: Global, phrase: &str) -> Result<String, Fail> {
-    let copy = phrase_of(alloc, phrase)?.clone_in(alloc)?;
-    Ok(String::from_str(alloc, copy.as_text().as_str())?)
+fn copied_phrase(alloc: Global, phrase: &str) -> Result<PhraseText, Fail> {
+    Ok(phrase_of(alloc, phrase)?.clone_in(alloc)?)
 }
 
 #[test]
 fn copies_of_texts(rt: HostRuntime) -> Result<(), Fail> {
-    let alloc = rt.alloc();
-    let text = Text::copy_of(alloc, "Stra\u{DF}e")?;
-    assert!(rt; copied_text(alloc, &text)?.as_str() == "Stra\u{DF}e");
-    assert!(rt; copied_name(alloc, "body")?.as_str() == "body");
-    assert!(rt; copied_phrase(alloc, "quick fox")?.as_str() == "quick fox");
+    let text = text_of(rt.alloc(), "Stra\u{DF}e")?.clone_in(rt.alloc())?;
+    assert!(rt; text.as_str() == "Stra\u{DF}e");
     Ok(())
+}
+
+#[test]
+fn copies_of_names(rt: HostRuntime) -> Result<(), Fail> {
+    assert!(rt; copied_name(rt.alloc(), "body")?.as_str() == "body");
+    assert!(rt; copied_phrase(rt.alloc(), "quick fox")?.as_text().as_str() == "quick fox");
+    Ok(())
+}
+
+fn letters(alloc: Global, count: usize) -> Result<Text, Fail> {
+    let text = "a".repeat(alloc, count)?;
+    text_of(alloc, text.as_str())
+}
+
+/// Whether so many letters are a name.
+fn is_name(alloc: Global, count: usize) -> Result<bool, Fail> {
+    Ok(Name::new(letters(alloc, count)?).is_some())
 }
 
 #[test]
 fn names_have_1_to_255_bytes(rt: HostRuntime) -> Result<(), Fail> {
-    let alloc = rt.alloc();
-    for (count, want) in [(0, false), (1, true), (255, true), (256, false)] {
-        let text = text_of(alloc, "a".repeat(alloc, count)?.as_str())?;
-        assert!(rt; Name::new(text).is_some() == want, "a name of {count}");
+    for count in [0, 1, 255, 256] {
+        assert!(rt;
+            is_name(rt.alloc(), count)? == (0 < count && count < 256),
+            "{count}"
+        );
     }
     Ok(())
 }
 
-/// What a copy of the document has.
-fn shown_document(alloc: Global, doc: &Document) -> Result<String, Fail> {
-    let mut out = String::new(alloc);
-    show_document(&mut out, &doc.clone_in(alloc)?)?;
-    Ok(out)
+/// Shows what a copy of the document has.
+fn show_copied(alloc: Global, out: &mut String, doc: &Document) -> Result<(), Fail> {
+    let copy = doc.clone_in(alloc)?;
+    show_document(out, &copy)
 }
 
-/// What a copy of a row has: its document and its birth.
-fn shown_row(alloc: Global, row: &Row) -> Result<String, Fail> {
+/// Shows what a copy of a row has: its document and its birth.
+fn show_row(alloc: Global, out: &mut String, row: &Row) -> Result<(), Fail> {
     let copy = row.clone_in(alloc)?;
-    let mut out = shown_document(alloc, &copy.doc)?;
-    write!(out, " birth {}", copy.birth)?;
-    Ok(out)
+    show_document(out, &copy.doc)?;
+    Ok(write!(out, " birth {}", copy.birth)?)
 }
 
-fn short_row(alloc: Global, birth: u64) -> Result<Row, Fail> {
+fn show_letter(alloc: Global, out: &mut String) -> Result<(), Fail> {
+    let doc = letter(alloc)?;
+    show_copied(alloc, out, &doc)
+}
+
+fn show_short_row(alloc: Global, out: &mut String) -> Result<(), Fail> {
     let doc = document_of(alloc, "a2")?;
-    Ok(Row { birth, doc })
+    show_row(alloc, out, &Row { birth: 9, doc })
 }
 
 #[test]
 fn copies_of_documents(rt: HostRuntime) -> Result<(), Fail> {
-    let alloc = rt.alloc();
-    let want = "a1 text body=Quick FOX exact tag=x num price=-7";
-    assert!(rt; shown_document(alloc, &letter(alloc)?)?.as_str() == want);
-    let row = short_row(alloc, 9)?;
-    assert!(rt; shown_row(alloc, &row)?.as_str() == "a2 text exact num birth 9");
+    let mut out = String::new(rt.alloc());
+    show_letter(rt.alloc(), &mut out)?;
+    show_short_row(rt.alloc(), &mut out)?;
+    let want = "a1 text body=Quick FOX exact tag=x num price=-7a2 text exact num birth 9";
+    assert!(rt; out.as_str() == want);
     Ok(())
+}
+
+fn update(alloc: Global) -> Result<Operation, Fail> {
+    let doc = document_of(alloc, "a2")?;
+    Ok(Operation::Update(term_of(alloc, "tag", "x")?, doc))
+}
+
+fn setting(alloc: Global) -> Result<Operation, Fail> {
+    let term = term_of(alloc, "tag", "x")?;
+    let num = name_of(alloc, "n")?;
+    let value = i64::MIN;
+    Ok(Operation::SetNumber { term, num, value })
 }
 
 /// An operation of each kind, from 0 to 5.
 fn operation_of(alloc: Global, kind: u32) -> Result<Operation, Fail> {
     match kind {
         0 => Ok(Operation::Add(letter(alloc)?)),
-        1 => {
-            let doc = document_of(alloc, "a2")?;
-            Ok(Operation::Update(term_of(alloc, "tag", "x")?, doc))
-        }
+        1 => update(alloc),
         2 => Ok(Operation::DeleteTerm(term_of(alloc, "key", "a1")?)),
         3 => Ok(Operation::DeleteQuery(nested(alloc)?)),
-        4 => Ok(Operation::SetNumber {
-            term: term_of(alloc, "tag", "x")?,
-            num: name_of(alloc, "n")?,
-            value: i64::MIN,
-        }),
+        4 => setting(alloc),
         _ => Ok(Operation::Commit),
     }
 }
@@ -215,26 +230,30 @@ fn copy_of(alloc: Global, kind: u32) -> Result<Operation, Fail> {
     Ok(operation.clone_in(alloc)?)
 }
 
-/// What a copy of the operation of this kind has.
-fn shown_copy(alloc: Global, kind: u32) -> Result<String, Fail> {
-    let mut out = String::new(alloc);
-    show_operation(&mut out, &copy_of(alloc, kind)?)?;
-    Ok(out)
+/// Shows what a copy of the operation of this kind has.
+fn show_copy(alloc: Global, out: &mut String, kind: u32) -> Result<(), Fail> {
+    let copy = copy_of(alloc, kind)?;
+    show_operation(out, &copy)?;
+    Ok(out.push('\n')?)
 }
+
+/// What copies of operations have, one of each kind.
+const OPERATIONS: &str = "\
+a1 text body=Quick FOX exact tag=x num price=-7
+tag:x by a2 text exact num
+key:a1
++(key:a1)(+|(all)-(body~a b))|(all)-
+tag:x n=-9223372036854775808
+commit
+";
 
 #[test]
 fn copies_of_operations(rt: HostRuntime) -> Result<(), Fail> {
-    let cases = [
-        (0, "a1 text body=Quick FOX exact tag=x num price=-7"),
-        (1, "tag:x by a2 text exact num"),
-        (2, "key:a1"),
-        (3, "+(key:a1)(+|(all)-(body~a b))|(all)-"),
-        (4, "tag:x n=-9223372036854775808"),
-        (5, "commit"),
-    ];
-    for (kind, want) in cases {
-        assert!(rt; shown_copy(rt.alloc(), kind)?.as_str() == want);
+    let mut out = String::new(rt.alloc());
+    for kind in 0..6 {
+        show_copy(rt.alloc(), &mut out, kind)?;
     }
+    assert!(rt; out.as_str() == OPERATIONS, "{}", out.as_str());
     Ok(())
 }
 
@@ -243,17 +262,24 @@ fn two_queries(alloc: Global) -> Result<Queries, Fail> {
     Ok(Queries::from_vec(vec![in alloc; Query::All, nested]?))
 }
 
-#[test]
-fn copies_of_queries(rt: HostRuntime) -> Result<(), Fail> {
-    let alloc = rt.alloc();
-    let queries = two_queries(alloc)?.clone_in(alloc)?;
-    let mut out = String::new(alloc);
+fn copied_queries(alloc: Global) -> Result<Queries, Fail> {
+    Ok(two_queries(alloc)?.clone_in(alloc)?)
+}
+
+fn show_queries(alloc: Global, out: &mut String) -> Result<(), Fail> {
+    let queries = copied_queries(alloc)?;
     for query in queries.as_slice() {
-        show_query(&mut out, query, 2)?;
+        show_query(out, query, 2)?;
         out.push_str(" ")?;
     }
-    let want = "all +(key:a1)(+|(all)-(body~a b))|(all)- ";
-    assert!(rt; out.as_str() == want);
+    Ok(())
+}
+
+#[test]
+fn copies_of_queries(rt: HostRuntime) -> Result<(), Fail> {
+    let mut out = String::new(rt.alloc());
+    show_queries(rt.alloc(), &mut out)?;
+    assert!(rt; out.as_str() == "all +(key:a1)(+|(all)-(body~a b))|(all)- ");
     Ok(())
 }
 
@@ -303,21 +329,27 @@ fn analysed_letter(alloc: Global) -> Result<Analysed, Fail> {
     Ok(Analysed { doc, postings })
 }
 
-/// What a copy of the postings and the document has.
-fn shown_analysed(alloc: Global, analysed: &Analysed) -> Result<String, Fail> {
-    let copy = analysed.clone_in(alloc)?;
-    let mut out = String::new(alloc);
-    out.push_str(shown_postings(alloc, &copy.postings)?.as_str())?;
-    show_document(&mut out, &copy.doc)?;
-    Ok(out)
+fn copied_analysed(alloc: Global) -> Result<Analysed, Fail> {
+    Ok(analysed_letter(alloc)?.clone_in(alloc)?)
+}
+
+fn show_postings(alloc: Global, out: &mut String, postings: &Postings) -> Result<(), Fail> {
+    Ok(out.push_str(shown_postings(alloc, postings)?.as_str())?)
+}
+
+/// Shows what a copy of postings and a document has.
+fn show_analysed(alloc: Global, out: &mut String) -> Result<(), Fail> {
+    let copy = copied_analysed(alloc)?;
+    show_postings(alloc, out, &copy.postings)?;
+    show_document(out, &copy.doc)
 }
 
 #[test]
 fn copies_of_postings(rt: HostRuntime) -> Result<(), Fail> {
-    let alloc = rt.alloc();
-    let analysed = analysed_letter(alloc)?;
+    let mut out = String::new(rt.alloc());
+    show_analysed(rt.alloc(), &mut out)?;
     let want = "key:a1 3@0,2,;a1 text body=Quick FOX exact tag=x num price=-7";
-    assert!(rt; shown_analysed(alloc, &analysed)?.as_str() == want);
+    assert!(rt; out.as_str() == want);
     Ok(())
 }
 
@@ -430,17 +462,42 @@ fn texts_that_are_read(rt: HostRuntime) {
     assert!(rt; name_at(b"\0\0\0\0!") == Err(BrokenField { left: 5 }));
 }
 
-/// A range of numbers, as a query and in a list of them.
+fn range(alloc: Global) -> Result<Query, Fail> {
+    Ok(Query::Range(name_of(alloc, "price")?, -2, i64::MAX))
+}
+
+fn copied_range(alloc: Global) -> Result<Query, Fail> {
+    Ok(range(alloc)?.clone_in(alloc)?)
+}
+
+fn show_range(alloc: Global, out: &mut String) -> Result<(), Fail> {
+    let copy = copied_range(alloc)?;
+    show_query(out, &copy, 0)
+}
+
 #[test]
-fn ranges(rt: HostRuntime) -> Result<(), Fail> {
-    let alloc = rt.alloc();
-    let range = Query::Range(name_of(alloc, "price")?, -2, i64::MAX);
-    let copy = range.clone_in(alloc)?;
-    let mut shown = String::new(alloc);
-    show_query(&mut shown, &copy, 0)?;
-    assert!(rt; shown.as_str() == "price:-2..9223372036854775807");
-    assert!(rt; copy.has_range());
-    assert!(rt; alone(alloc, range)?.any_range());
-    assert!(rt; !nested(alloc)?.has_range());
+fn copies_of_ranges(rt: HostRuntime) -> Result<(), Fail> {
+    let mut out = String::new(rt.alloc());
+    show_range(rt.alloc(), &mut out)?;
+    assert!(rt; out.as_str() == "price:-2..9223372036854775807");
+    Ok(())
+}
+
+fn range_has_range(alloc: Global) -> Result<bool, Fail> {
+    Ok(copied_range(alloc)?.has_range())
+}
+
+fn list_has_range(alloc: Global) -> Result<bool, Fail> {
+    Ok(alone(alloc, range(alloc)?)?.any_range())
+}
+
+fn nested_has_range(alloc: Global) -> Result<bool, Fail> {
+    Ok(nested(alloc)?.has_range())
+}
+
+#[test]
+fn ranges_that_are_found(rt: HostRuntime) -> Result<(), Fail> {
+    assert!(rt; range_has_range(rt.alloc())? && list_has_range(rt.alloc())?);
+    assert!(rt; !nested_has_range(rt.alloc())?);
     Ok(())
 }
