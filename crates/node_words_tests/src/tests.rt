@@ -89,30 +89,27 @@ fn put_setting(out: &mut String, num: &Name, value: i64) -> Result<(), NoMemory>
     }
 }
 
-/// What an entry asks for, a query left out.
-fn shown(alloc: Global, entry: &Entry) -> Result<String, NoMemory> {
-    let mut out = String::new(alloc);
+/// Shows what an entry asks for, a query left out, or `none` where there is none.
+fn show(out: &mut String, entry: Option<&Entry>) -> Result<(), NoMemory> {
     match entry {
-        Entry::Add => out.push_str("add")?,
-        Entry::Update(term) => put_term(&mut out, "update ", term)?,
-        Entry::DeleteTerm(term) => put_term(&mut out, "delete ", term)?,
-        Entry::DeleteQuery(_) => out.push_str("query")?,
-        Entry::SetNumber { term, num, value } => {
-            put_term(&mut out, "set ", term)?;
-            put_setting(&mut out, num, *value)?;
+        Some(Entry::Add) => Ok(out.push_str("add")?),
+        Some(Entry::Update(term)) => put_term(out, "update ", term),
+        Some(Entry::DeleteTerm(term)) => put_term(out, "delete ", term),
+        Some(Entry::DeleteQuery(_)) => Ok(out.push_str("query")?),
+        Some(Entry::SetNumber { term, num, value }) => {
+            put_term(out, "set ", term)?;
+            put_setting(out, num, *value)
         }
-        Entry::Commit => out.push_str("commit")?,
-        Entry::Turn => out.push_str("turn")?,
+        Some(Entry::Commit) => Ok(out.push_str("commit")?),
+        Some(Entry::Turn) => Ok(out.push_str("turn")?),
+        None => Ok(out.push_str("none")?),
     }
-    Ok(out)
 }
 
-/// What the words spell, or `none`.
-fn answer(alloc: Global, words: &[u64]) -> Result<String, NoMemory> {
-    match decode(alloc, words)? {
-        Some(entry) => shown(alloc, &entry),
-        None => Ok(String::from_str(alloc, "none")?),
-    }
+/// Shows what the words spell, or `none`.
+fn show_words(alloc: Global, out: &mut String, words: &[u64]) -> Result<(), NoMemory> {
+    let entry = decode(alloc, words)?;
+    show(out, entry.as_ref())
 }
 
 /// The word that is written so. A test never has other digits.
@@ -134,71 +131,47 @@ pub(crate) fn words_in(alloc: Global, text: &str) -> Result<Vec<u64>, NoMemory> 
     Ok(words)
 }
 
-fn answer_at(alloc: Global, text: &str) -> Result<String, NoMemory> {
+/// What the words spell that are written so, or `none`.
+fn answer(alloc: Global, text: &str) -> Result<String, NoMemory> {
+    let mut out = String::new(alloc);
+    show_text(alloc, &mut out, text)?;
+    Ok(out)
+}
+
+fn show_text(alloc: Global, out: &mut String, text: &str) -> Result<(), NoMemory> {
     let words = words_in(alloc, text)?;
-    answer(alloc, &words)
+    show_words(alloc, out, words.as_slice())
 }
 
-/// An entry of each kind, written by hand.
-const SPELLED: [(&str, &str); 8] = [
-    ("0000000100000000", "add"),
-    (
-        "000000020000000d 000000036b657900 0000026131000000",
-        "update key a1",
-    ),
-    (
-        "000000030000000d 000000036b657900 0000026131000000",
-        "delete key a1",
-    ),
-    (
-        "0000000400000025 0300000001010000 0001660000000161 0000000000000001 0200000001660000 0003622063000000",
-        "query",
-    ),
-    (
-        "0000000400000016 04000000016effff fffffffffffe0000 0000000000090000",
-        "query",
-    ),
-    (
-        "000000050000001a 000000036b657900 0000026131000000 016effffffffffff fffe000000000000",
-        "set key a1 n -2",
-    ),
-    ("0000000600000000", "commit"),
-    ("0000000700000000", "turn"),
-];
-
-/// Words that are one step from a spelling.
-const NOT_SPELLED: [&str; 11] = [
-    "",
-    "0000000000000000",
-    "0000000800000000",
-    "0000000100000000 0000000000000000",
-    "0000000700000001 0000000000000000",
-    "0000000400000001 0500000000000000",
-    "0000000400000015 04000000006effff fffffffffffe0000 0000000000000000",
-    "000000030000000d 000000036b657900",
-    "000000030000000d 000000036b657900 0000026131000001",
-    "000000030000000e 000000036b657900 0000026131000000",
-    "000000030000000d 00000003ff657900 0000026131000000",
-];
+/// An entry of each kind, written by hand, and then words that are one step from a spelling.
+const SPELLED: &str = "\
+0000000100000000 = add
+000000020000000d 000000036b657900 0000026131000000 = update key a1
+000000030000000d 000000036b657900 0000026131000000 = delete key a1
+0000000400000025 0300000001010000 0001660000000161 0000000000000001 0200000001660000 0003622063000000 = query
+0000000400000016 04000000016effff fffffffffffe0000 0000000000090000 = query
+000000050000001a 000000036b657900 0000026131000000 016effffffffffff fffe000000000000 = set key a1 n -2
+0000000600000000 = commit
+0000000700000000 = turn
+ = none
+0000000000000000 = none
+0000000800000000 = none
+0000000100000000 0000000000000000 = none
+0000000700000001 0000000000000000 = none
+0000000400000001 0500000000000000 = none
+0000000400000015 04000000006effff fffffffffffe0000 0000000000000000 = none
+000000030000000d 000000036b657900 = none
+000000030000000d 000000036b657900 0000026131000001 = none
+000000030000000e 000000036b657900 0000026131000000 = none
+000000030000000d 00000003ff657900 0000026131000000 = none";
 
 #[test]
-fn words_by_hand(rt: HostRuntime) {
-    for (text, want) in SPELLED {
-        let Ok(found) = answer_at(rt.alloc(), text) else {
-            panic!(rt; "memory");
-        };
-        assert!(rt; found.as_str() == want, "at {text}");
+fn words_by_hand(rt: HostRuntime) -> Result<(), Fail> {
+    for line in SPELLED.lines() {
+        let (text, wanted) = line.split_once(" = ").ok_or("no answer")?;
+        assert!(rt; answer(rt.alloc(), text)?.as_str() == wanted, "{line}");
     }
-}
-
-#[test]
-fn no_words_by_hand(rt: HostRuntime) {
-    for text in NOT_SPELLED {
-        let Ok(found) = answer_at(rt.alloc(), text) else {
-            panic!(rt; "memory");
-        };
-        assert!(rt; found.as_str() == "none", "at {text}");
-    }
+    Ok(())
 }
 
 /// A delete of the field `key` by the term `a1`.
@@ -226,8 +199,11 @@ fn one_delete(rt: HostRuntime) {
     assert!(rt; has_words(rt.alloc(), &delete, text) == Ok(true));
 }
 
+/// Whether the words spell an entry.
 fn spells(alloc: Global, words: &[u64]) -> Result<bool, NoMemory> {
-    Ok(decode(alloc, words)?.is_some())
+    let mut out = String::new(alloc);
+    show_words(alloc, &mut out, words)?;
+    Ok(out.as_str() != "none")
 }
 
 /// A head word and these bytes, eight in a word, the first byte highest, the last word filled with zero
@@ -272,22 +248,29 @@ fn is_longer(alloc: Global, kind: u8, bytes: &[u8]) -> Result<bool, NoMemory> {
     is_entry(alloc, kind, &longer)
 }
 
-/// The bytes of an entry of each kind that has some.
-const ENTRIES: [(u8, &str); 6] = [
-    (2, "\0\0\0\x03key\0\0\0\x02a1"),
-    (4, "\x01\0\0\0\x01f\0\0\0\x01a"),
-    (4, "\x02\0\0\0\x01f\0\0\0\x03b c"),
-    (4, "\x04\0\0\0\x01n\0\0\0\0\0\0\0\x05\0\0\0\0\0\0\0\x09"),
-    (4, "\x03\0\0\0\0\0\0\0\x01\0\0\0\0\x01\0"),
-    (5, "\0\0\0\x03key\0\0\0\x02a1\0\0\0\x01n\0\0\0\0\0\0\0\x07"),
+/// The bytes of an entry of each kind that has some, behind the kind's digit.
+const ENTRIES: [&str; 6] = [
+    "2\0\0\0\x03key\0\0\0\x02a1",
+    "4\x01\0\0\0\x01f\0\0\0\x01a",
+    "4\x02\0\0\0\x01f\0\0\0\x03b c",
+    "4\x04\0\0\0\x01n\0\0\0\0\0\0\0\x05\0\0\0\0\0\0\0\x09",
+    "4\x03\0\0\0\0\0\0\0\x01\0\0\0\0\x01\0",
+    "5\0\0\0\x03key\0\0\0\x02a1\0\0\0\x01n\0\0\0\0\0\0\0\x07",
 ];
 
-/// Each cut of an entry's bytes is foreign, and so is a byte more.
+/// Whether the bytes of an entry are one, and no cut of them is, nor they with a byte more.
+fn is_whole(alloc: Global, entry: &str) -> Result<bool, NoMemory> {
+    let Some((digit, bytes)) = entry.as_bytes().split_first() else {
+        return Ok(false);
+    };
+    let kind = digit & 7;
+    Ok(is_no_sooner(alloc, kind, bytes)? && !is_longer(alloc, kind, bytes)?)
+}
+
 #[test]
 fn foreign_cuts(rt: HostRuntime) {
-    for (kind, text) in ENTRIES {
-        assert!(rt; is_no_sooner(rt.alloc(), kind, text.as_bytes()) == Ok(true));
-        assert!(rt; is_longer(rt.alloc(), kind, text.as_bytes()) == Ok(false));
+    for entry in ENTRIES {
+        assert!(rt; is_whole(rt.alloc(), entry) == Ok(true));
     }
 }
 
@@ -312,22 +295,36 @@ fn is_read(alloc: Global, kind: u8, name: u32, text: u32) -> Result<bool, NoMemo
 }
 
 /// Terms and phrases by the bytes of the name and of the text, at their limits.
-const LIMITS: [(u8, u32, u32, bool); 10] = [
-    (3, 1, 0, true),
-    (3, 0, 1, false),
-    (3, 255, 32766, true),
-    (3, 256, 1, false),
-    (3, 1, 32767, false),
-    (4, 255, 32767, true),
-    (4, 0, 1, false),
-    (4, 256, 1, false),
-    (4, 4, 131_059, true),
-    (4, 4, 131_060, false),
-];
+const LIMITS: &str = "\
+3 1 0 true
+3 0 1 false
+3 255 32766 true
+3 256 1 false
+3 1 32767 false
+4 255 32767 true
+4 0 1 false
+4 256 1 false
+4 4 131059 true
+4 4 131060 false";
+
+/// Whether what is read at a limit is as the line says.
+fn is_right(alloc: Global, line: &str) -> Result<bool, Fail> {
+    let (kind, rest) = line.split_once(' ').ok_or("no kind")?;
+    let (name, rest) = rest.split_once(' ').ok_or("no name")?;
+    let (text, wanted) = rest.split_once(' ').ok_or("no text")?;
+    let read = is_read(
+        alloc,
+        kind.parse::<u8>()?,
+        name.parse::<u32>()?,
+        text.parse::<u32>()?,
+    )?;
+    Ok(read == (wanted == "true"))
+}
 
 #[test]
-fn read_limits(rt: HostRuntime) {
-    for (kind, name, text, want) in LIMITS {
-        assert!(rt; is_read(rt.alloc(), kind, name, text) == Ok(want));
+fn read_limits(rt: HostRuntime) -> Result<(), Fail> {
+    for line in LIMITS.lines() {
+        assert!(rt; is_right(rt.alloc(), line)?, "{line}");
     }
+    Ok(())
 }
