@@ -19,7 +19,9 @@
 //!
 //! Lines that are empty or begin with a space say nothing to the program. A call that was made is made once
 //! more by a further `=`, with the same input and the same lines to write, or those between the two.
-use crate::tests::{NO_STORE, Outside, ended, run};
+ghost use Rattle.ix_base.specs.FileNames.{IsFileName};
+
+use crate::tests::{Done, NO_STORE, Outside, ended, run};
 use ix_base::FileName;
 use ix_memory::{FuseStore, MemoryStore};
 use ix_outside::Store;
@@ -61,94 +63,152 @@ impl Call {
     /// Reads a line that nothing is done for but to note what it says. Returns whether it is one.
     pub(crate) fn read(&mut self, mark: &str, rest: &str) -> Result<bool, Fail> {
         match mark {
-            "" => {}
-            "#" => self.store = MemoryStore::new(self.alloc),
-            "$" => self.begin(rest)?,
-            "&" => self.words = String::from_str(self.alloc, rest)?,
-            "*" => self.times = rest.parse::<usize>().ok().ok_or("no number")?,
-            "<" => self.add(rest, "\n")?,
-            "<<" => self.add(rest, "")?,
-            "<\\r" => self.add(rest, "\r\n")?,
-            ">" => self.expect(rest)?,
-            ".." => self.is_end = true,
-            _ => return Ok(false),
+            "" => Ok(true),
+            ".." => {
+                self.is_end = true;
+                Ok(true)
+            }
+            "#" => Ok(self.empty()),
+            "$" => self.begin(rest),
+            "&" => self.rename(rest),
+            "*" => self.repeat(rest),
+            "<" => self.add(rest, "\n"),
+            "<<" => self.add(rest, ""),
+            "<\\r" => self.add(rest, "\r\n"),
+            ">" => self.expect(rest),
+            _ => Ok(false),
         }
+    }
+
+    /// Takes an empty store.
+    fn empty(&mut self) -> bool {
+        self.store = MemoryStore::new(self.alloc);
+        true
+    }
+
+    /// Takes other words.
+    fn rename(&mut self, words: &str) -> Result<bool, Fail> {
+        self.words.clear();
+        self.words.push_str(words)?;
+        Ok(true)
+    }
+
+    /// Takes how often the next line is there.
+    fn repeat(&mut self, times: &str) -> Result<bool, Fail> {
+        self.times = times.parse::<usize>()?;
         Ok(true)
     }
 
     /// Begins a call with these words.
-    fn begin(&mut self, words: &str) -> Result<(), Fail> {
-        self.words = String::from_str(self.alloc, words)?;
+    fn begin(&mut self, words: &str) -> Result<bool, Fail> {
         self.input.clear();
         self.written.clear();
         self.is_end = false;
         self.is_made = false;
-        Ok(())
+        self.rename(words)
     }
 
     /// Adds a line with this end to the input.
-    fn add(&mut self, line: &str, end: &str) -> Result<(), Fail> {
+    fn add(&mut self, line: &str, end: &str) -> Result<bool, Fail> {
         for _ in 0..self.times {
             self.input.extend_from_slice(line.as_bytes())?;
             self.input.extend_from_slice(end.as_bytes())?;
         }
         self.times = 1;
-        Ok(())
+        Ok(true)
     }
 
     /// Adds a line to what the call is to write.
-    fn expect(&mut self, line: &str) -> Result<(), Fail> {
+    fn expect(&mut self, line: &str) -> Result<bool, Fail> {
         if self.is_made {
             self.written.clear();
             self.is_made = false;
         }
         self.written.push_str(line)?;
-        Ok(self.written.push('\n')?)
+        self.written.push('\n')?;
+        Ok(true)
     }
 
     /// Makes the call, or does else what the number is for.
     fn act<R: Outside>(&mut self, rt: &R, mark: &str, number: u64) -> Result<(), Fail> {
         match mark {
-            "=" => self.make(rt, number)?,
-            "stops" => self.stops(rt, number)?,
-            "fail" => {
-                let store = mem::replace(&mut self.store, MemoryStore::new(self.alloc));
-                self.store = store.failing(vec![in self.alloc; number]?);
-            }
-            "files" => {
-                let names = self.store.list(self.alloc)?;
-                assert!(*rt; names.len() as u64 == number, "another number of files");
-            }
+            "=" => self.make(rt, number),
+            "stops" => self.stops(rt, number),
+            "fail" => self.fail(number),
+            "files" => self.count(rt, number),
             _ => Err("another mark")?,
         }
+    }
+
+    /// The store, in whose place an empty one stands then.
+    fn take_store(&mut self) -> MemoryStore {
+        mem::replace(&mut self.store, MemoryStore::new(self.alloc))
+    }
+
+    /// Has a call of the store fail.
+    fn fail(&mut self, number: u64) -> Result<(), Fail> {
+        let calls = vec![in self.alloc; number]?;
+        self.store = self.take_store().failing(calls);
+        Ok(())
+    }
+
+    /// Compares how many files there are.
+    fn count<R: Outside>(&mut self, rt: &R, number: u64) -> Result<(), Fail> {
+        let names = self.store.list(self.alloc)?;
+        assert!(*rt; names.len() as u64 == number, "another number of files");
         Ok(())
     }
 
     /// Makes the call, and compares how it ends.
     fn make<R: Outside>(&mut self, rt: &R, status: u64) -> Result<(), Fail> {
-        let store = mem::replace(&mut self.store, MemoryStore::new(self.alloc));
-        let mut done = run(rt, self.words.as_str(), self.input.as_slice(), store)?;
+        let store = self.take_store();
+        let done = run(rt, self.words.as_str(), self.input.as_slice(), store)?;
         self.is_made = true;
-        let wanted = self.written.as_str();
-        if self.is_end && done.written.as_slice().ends_with(wanted.as_bytes()) {
-            done.written = wanted.as_bytes().to_vec(self.alloc)?;
-        }
-        let status = u8::try_from(status).ok().ok_or("no status")?;
-        self.store = ended(rt, done, status, wanted);
+        self.store = self.compared(rt, done, status);
         Ok(())
     }
 
+    /// Compares how a call ended and what it wrote with what it is to write, and returns its store.
+    fn compared<R: Outside>(&self, rt: &R, done: Done<MemoryStore>, status: u64) -> MemoryStore {
+        let Done {
+            status: found,
+            written,
+            store,
+        } = done;
+        let (wanted, written) = (self.written.as_bytes(), written.as_slice());
+        let is_written = written == wanted || self.is_end && written.ends_with(wanted);
+        assert!(*rt;
+            u64::from(found) == status && is_written,
+            "{}",
+            self.written.as_str()
+        );
+        store
+    }
+
     /// Makes the call over a copy of the store, which passes each lower number of calls on and then so many.
-    fn stops<R: Outside>(&mut self, rt: &R, calls: u64) -> Result<(), Fail> {
+    fn stops<R: Outside>(&self, rt: &R, calls: u64) -> Result<(), Fail> {
         for passes in 0..calls {
-            let fuse = FuseStore::new(self.store.crash(self.alloc, 0)?, passes);
-            let done = run(rt, self.words.as_str(), self.input.as_slice(), fuse)?;
-            let _store = ended(rt, done, 7, NO_STORE);
+            self.stops_at(rt, passes)?;
         }
-        let fuse = FuseStore::new(self.store.crash(self.alloc, 0)?, calls);
-        let done = run(rt, self.words.as_str(), self.input.as_slice(), fuse)?;
-        assert_eq!(*rt; done.status, 0, "calls {calls}");
+        assert!(*rt; self.passes(rt, calls)?.status == 0, "calls {calls}");
         Ok(())
+    }
+
+    /// Makes the call over a copy of the store that passes so many calls on, too few.
+    fn stops_at<R: Outside>(&self, rt: &R, passes: u64) -> Result<(), Fail> {
+        let done = self.passes(rt, passes)?;
+        let _store = ended(rt, done, 7, NO_STORE);
+        Ok(())
+    }
+
+    /// Makes the call over a copy of the store that passes so many calls on.
+    fn passes<R: Outside>(
+        &self,
+        rt: &R,
+        passes: u64,
+    ) -> Result<Done<FuseStore<MemoryStore>>, Fail> {
+        let fuse = FuseStore::new(self.store.crash(self.alloc, 0)?, passes);
+        Ok(run(rt, self.words.as_str(), self.input.as_slice(), fuse)?)
     }
 
     /// Changes a file of the store, or compares its bytes.
@@ -156,29 +216,52 @@ impl Call {
         let (name, fields) = rest.split_once(' ').unwrap_or((rest, ""));
         let name = FileName::parse(name).ok_or("no name of a file")?;
         match mark {
-            "delete" => self.store.delete(name)?,
-            "write" => {
-                let bytes = bytes_of(self.alloc, fields)?;
-                self.store.write(name, bytes.as_slice())?;
-            }
+            "delete" => Ok(self.store.delete(name)?),
+            "write" => self.write(name, fields),
             "has" => {
-                let found = self.store.read(self.alloc, name)?.ok_or("an absent file")?;
-                assert!(*rt; has(self.alloc, found.as_slice(), fields)?, "{rest}");
+                assert!(*rt; self.has(name, fields)?, "{rest}");
+                Ok(())
             }
             _ => Err("another mark")?,
         }
-        Ok(())
     }
+
+    /// Writes the bytes of these fields to a file.
+    fn write(&mut self, name: FileName, fields: &str) -> Result<(), Fail>
+        requires { IsFileName name }
+    {
+        let bytes = bytes_of(self.alloc, fields)?;
+        Ok(self.store.write(name, bytes.as_slice())?)
+    }
+
+    /// Whether a file has the bytes of these fields.
+    fn has(&mut self, name: FileName, fields: &str) -> Result<bool, Fail> {
+        match self.store.read(self.alloc, name)? {
+            Some(found) => has(self.alloc, found.as_slice(), fields),
+            None => Err("an absent file")?,
+        }
+    }
+}
+
+/// The byte that two hexadecimal digits are.
+fn byte_of(digits: &[u8]) -> Result<u8, Fail> {
+    let digits = str::from_utf8(digits).ok().ok_or("no digits")?;
+    Ok(u8::from_str_radix(digits, 16).ok().ok_or("no digits")?)
+}
+
+/// Appends the bytes that a field is, in hexadecimal digits.
+fn put_field(bytes: &mut Vec<u8>, field: &str) -> Result<(), Fail> {
+    for digits in field.as_bytes().chunks(2) {
+        bytes.push(byte_of(digits)?)?;
+    }
+    Ok(())
 }
 
 /// The bytes that these fields are, in hexadecimal digits.
 fn bytes_of(alloc: Global, fields: &str) -> Result<Vec<u8>, Fail> {
     let mut bytes = Vec::new(alloc);
     for field in fields.split_ascii_whitespace() {
-        for digits in field.as_bytes().chunks(2) {
-            let digits = str::from_utf8(digits).ok().ok_or("no digits")?;
-            bytes.push(u8::from_str_radix(digits, 16).ok().ok_or("no digits")?)?;
-        }
+        put_field(&mut bytes, field)?;
     }
     Ok(bytes)
 }
@@ -191,18 +274,23 @@ fn has(alloc: Global, bytes: &[u8], fields: &str) -> Result<bool, Fail> {
     }
 }
 
+/// Does what a line says.
+fn do_line<R: Outside>(rt: &R, call: &mut Call, line: &str) -> Result<(), Fail> {
+    let (mark, rest) = line.split_once(' ').unwrap_or((line, ""));
+    if call.read(mark, rest)? {
+        return Ok(());
+    }
+    match rest.parse::<u64>() {
+        Ok(number) => call.act(rt, mark, number),
+        Err(_) => call.act_on(rt, mark, rest),
+    }
+}
+
 /// Does what the lines of the text say.
 pub(crate) fn hold<R: Outside>(rt: &R, text: &str) -> Result<(), Fail> {
     let mut call = Call::new(rt.alloc());
     for line in text.lines() {
-        let (mark, rest) = line.split_once(' ').unwrap_or((line, ""));
-        if call.read(mark, rest)? {
-            continue;
-        }
-        match rest.parse::<u64>() {
-            Ok(number) => call.act(rt, mark, number)?,
-            Err(_) => call.act_on(rt, mark, rest)?,
-        }
+        do_line(rt, &mut call, line)?;
     }
     Ok(())
 }

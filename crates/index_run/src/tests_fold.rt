@@ -1,6 +1,6 @@
 //! Many small runs whose scripts are drawn from a seed: each case has two or three of them over one
 //! store, and each of their reports is folded from its numbers on a plain list of documents.
-use crate::tests::{EVERYTHING, Outside, run};
+use crate::tests::{Done, EVERYTHING, Outside, run};
 use ix_memory::MemoryStore;
 use ix_outside::Store;
 use plain_fold::{
@@ -26,6 +26,30 @@ fn check_report(
     last_commit(alloc, begun, lines, numbers.as_slice())
 }
 
+/// Runs the lines over the store by these options.
+fn run_lines<R: Outside, S: Store>(
+    rt: &R,
+    options: Options,
+    lines: &[Line],
+    store: S,
+) -> Result<Done<S>, Fail> {
+    let (threads, buffer, merge) = (options.threads, options.buffer, options.merge);
+    let words = format!(in rt.alloc();
+        "run --threads={threads} --buffer={buffer} --merge={merge}"
+    )?;
+    let script = script_of(rt.alloc(), lines)?;
+    Ok(run(rt, words.as_str(), script.as_bytes(), store)?)
+}
+
+/// The text that was written by a run that ended well.
+fn text_of(case: u64, status: u8, written: &[u8]) -> Result<&str, Fail> {
+    let text = str::from_utf8(written).ok().ok_or("no text")?;
+    if status != 0 {
+        return Err(Fail::new(format_args!("case {case}: stopped with {text}")));
+    }
+    Ok(text)
+}
+
 /// Runs the lines over the store, whose last commit this is, and compares the whole report with the one
 /// that is folded from its numbers. Returns the last commit after it, and the store.
 pub(crate) fn check_run<R: Outside, S: Store>(
@@ -35,19 +59,8 @@ pub(crate) fn check_run<R: Outside, S: Store>(
     begun: &Kept,
     store: S,
 ) -> Result<(Kept, S), Fail> {
-    let (threads, buffer, merge) = (options.threads, options.buffer, options.merge);
-    let words = format!(in rt.alloc();
-        "run --threads={threads} --buffer={buffer} --merge={merge}"
-    )?;
-    let script = script_of(rt.alloc(), lines)?;
-    let done = run(rt, words.as_str(), script.as_bytes(), store)?;
-    let report = str::from_utf8(done.written.as_slice())
-        .ok()
-        .ok_or("no text")?;
-    if done.status != 0 {
-        let case = options.case;
-        return Err(Fail::new(format_args!("case {case}: stopped with {report}")));
-    }
+    let done = run_lines(rt, options, lines, store)?;
+    let report = text_of(options.case, done.status, done.written.as_slice())?;
     let last = check_report(rt.alloc(), options, lines, begun, report)?;
     Ok((last, done.store))
 }
