@@ -157,13 +157,13 @@ module _ (r : Run) (lines : List Line) (olds news : List Share) (log : List Line
   none_in plain =
       none_committed (base_of r + length log) more (plain_lines more doing (subst NoCommit (sym order.ops) plain))
 
-  one_in : (before : List Operation) → NoCommit before → seconds e.ts ≡ before ++ Commit ∷ []
+  one_in : (before : List Operation) (pairs : List (List ℕ × List ℕ)) → NoCommit before → seconds e.ts ≡ before ++ Commit pairs ∷ []
       → commit_numbers (base_of r + length log) more ≡ v.published.upto ∷ []
-  one_in before plain ends =
+  one_in before pairs plain ends =
       let last : base_of r + length log + length more ≡ v.published.upto =
       omega (arith, e.upto, on_base, order.count) in
       last_committed (base_of r + length log) more before
-      (record { doing = doing; ends = order.ops ∙ ends; plain = plain }) ∙ ap (λ (n : ℕ). n ∷ []) last
+      (record { doing = doing; pairs = pairs; ends = order.ops ∙ ends; plain = plain }) ∙ ap (λ (n : ℕ). n ∷ []) last
 
   -- the commits before the round's lines
   before_in : commit_numbers (base_of r) log ≡ first_numbers r.first (log ++ more) front
@@ -178,11 +178,11 @@ module _ (r : Run) (lines : List Line) (olds news : List Share) (log : List Line
       ∙ append-nil (commit_numbers (base_of r) log)
       ∙ before_in
 
-  due_one : (before : List Operation) → NoCommit before → seconds e.ts ≡ before ++ Commit ∷ []
+  due_one : (before : List Operation) (pairs : List (List ℕ × List ℕ)) → NoCommit before → seconds e.ts ≡ before ++ Commit pairs ∷ []
       → IsNextCommit r.first (log ++ more) front v.published.upto
-  due_one before plain ends =
+  due_one before pairs plain ends =
       commits_append (base_of r) log more
-      ∙ ap (λ (ns : List ℕ). commit_numbers (base_of r) log ++ ns) (one_in before plain ends)
+      ∙ ap (λ (ns : List ℕ). commit_numbers (base_of r) log ++ ns) (one_in before pairs plain ends)
       ∙ ap (λ (ns : List ℕ). ns ++ v.published.upto ∷ []) before_in
 
   -- what is pending then
@@ -195,8 +195,8 @@ module _ (r : Run) (lines : List Line) (olds news : List Share) (log : List Line
     Some s,
     (
       by.1,
-      (subst (IsNextCommit r.first (log ++ more) front) (sym by.0) (due_one by.2.0 by.2.1 by.2.2), by.0),
-      one_in by.2.0 by.2.1 by.2.2 ∙ ap (λ (n : ℕ). n ∷ []) (sym by.0),
+      (subst (IsNextCommit r.first (log ++ more) front) (sym by.0) (due_one by.2.0 by.2.2 by.2.1 by.2.3), by.0),
+      one_in by.2.0 by.2.2 by.2.1 by.2.3 ∙ ap (λ (n : ℕ). n ∷ []) (sym by.0),
     ),
   )
   pending_by ending.Turned by = (None, (by.0, due_none by.1, none_in by.1))

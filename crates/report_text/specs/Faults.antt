@@ -20,6 +20,7 @@ why_text why.Text = codes "text"
 why_text why.Number = codes "number"
 why_text why.Query = codes "query"
 why_text why.Doc = codes "doc"
+why_text why.Data = codes "data"
 
 -- {"status":N,"why":W}
 abbrev pub plain_value : ℕ → List ℕ → Data

@@ -107,7 +107,7 @@ is_numbered (Do op) = is_none (refusal op)
 is_numbered (Search q) = false
 
 abbrev pub is_commit : Act → Bool
-is_commit (Do Commit) = true
+is_commit (Do (Commit pairs)) = true
 is_commit a = false
 
 -- the lines that get a number
@@ -153,7 +153,7 @@ last_commit base log caller found (l ∷ ls) = last_commit base log caller
 
 -- the text of a line that got its number
 abbrev pub done_text : ℕ → List Row → List Line → ℕ → Operation → List ℕ
-done_text base rows log line Commit =
+done_text base rows log line (Commit pairs) =
     let s = number_of base log line in
     text_line (commit_value (length (rows_at base rows log s)) line s)
 done_text base rows log line op = text_line (write_value line (number_of base log line))

@@ -35,7 +35,7 @@ lines_more seed callers i number caller asked was now n c a before pushed =
 
 -- the commits so far, and the next one
 pub commits_more : (lines caller : ℕ) (made was now : List Line)
-    → was ≡ made ++ map (last_commit lines) (range_with_len 0 caller) → now ≡ was ++ line_with (lines + 1 + caller) caller (act.Do operation.Commit) ∷ []
+    → was ≡ made ++ map (last_commit lines) (range_with_len 0 caller) → now ≡ was ++ line_with (lines + 1 + caller) caller (act.Do (operation.Commit [])) ∷ []
     → now ≡ made ++ map (last_commit lines) (range_with_len 0 (caller + 1))
 unfolding last_commit
 commits_more lines caller made was now before pushed =

@@ -10,7 +10,7 @@ use Rattle.script_maker.specs.Operations.{drawn_operation}
 
 -- each 64th line is a commit
 unfoldable pub made_act : ℕ → ℕ → ℕ → Act
-made_act at caller draw = act.Do (if at % 64 == 0 then operation.Commit else drawn_operation caller draw)
+made_act at caller draw = act.Do (if at % 64 == 0 then operation.Commit [] else drawn_operation caller draw)
 
 -- line `at`, counted from 1; the callers take turns
 abbrev pub caller_at : ℕ → ℕ → ℕ
@@ -25,7 +25,7 @@ made_line seed callers at = record {
 
 -- behind the other lines each caller commits
 unfoldable pub last_commit : ℕ → ℕ → Line
-last_commit lines caller = record { line = lines + 1 + caller; caller = caller; act = act.Do operation.Commit }
+last_commit lines caller = record { line = lines + 1 + caller; caller = caller; act = act.Do (operation.Commit []) }
 
 unfoldable pub made_script : ℕ → ℕ → ℕ → List Line
 made_script seed lines callers =
