@@ -99,7 +99,7 @@ pub record CanWrite (s : ℕ) (g : Lived) : Type 0 where
 abbrev pub SegmentIdsRise : ℕ → ℕ → List Lived → Type 0
 SegmentIdsRise low limit [] = ⊤
 SegmentIdsRise low limit (g ∷ gs) =
-  (low ≤ g.segment.id) × (g.segment.id < limit) × SegmentIdsRise (g.segment.id + 1) limit gs
+    (low ≤ g.segment.id) × (g.segment.id < limit) × SegmentIdsRise (g.segment.id + 1) limit gs
 
 -- what was written was written with a commit from 1 to s
 abbrev pub WrittenUpTo : ℕ → Option Written → Type 0

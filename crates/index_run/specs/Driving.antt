@@ -142,7 +142,7 @@ pub record WritesPending {S : Type 0} (disk : S → Option Disk) (old : IndexWri
       → IfOk ran.came (λ commit. HasCome r lines shares (given commits commit) ran.writer.state (disk ran.writer.store))
   pub cut : (r : Run) (lines : List Line) (shares : List Share) (commits : List (ℕ × ℕ))
       → HasCome r lines shares commits old.state (disk old.store)
-          → OnErr ran.came (IsCut r lines (disk ran.writer.store))
+      → OnErr ran.came (IsCut r lines (disk ran.writer.store))
   pub written : OnOk ran.came (ran.writer.state.pending ≡ None)
   pub upto : OnOk ran.came (ran.writer.state.published.upto ≡ old.state.published.upto)
   pub same : (ran.writer.state.out ≡ old.state.out) × (ran.writer.state.buffer ≡ old.state.buffer)

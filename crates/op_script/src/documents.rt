@@ -51,7 +51,7 @@ fn read_document(alloc: Global, value: &Value) -> Result<Option<Document>, NoMem
 /// The data of a commit.
 pub fn data_from(alloc: Global, value: &Value) -> Result<Fields, NoMemory>
     requires { is_some (texts_at (codes "data") (view value.now)) ≡ true }
-    ensures { IfOk result (λ data. texts_at (codes "data") (view value.now) ≡ Some data) }
+    ensures { IfOk result (λ pairs. texts_at (codes "data") (view value.now) ≡ Some pairs) }
 {
     match read_texts(alloc, value, "data")? {
         Some(data) => Ok(data),
