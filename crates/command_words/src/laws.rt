@@ -4,7 +4,8 @@ ghost use Rattle.command_words.specs.WordLaws.{FaultlessAccepted};
 
 /// The law of accepted words: a subcommand's name and then its options, in any order and each at
 /// most once, as `--name` and the decimal digits of a number in its range, are accepted with these
-/// numbers; `run` takes its defaults, none for `--keep`, and `make` needs all three. It does nothing: its clauses are the law.
+/// numbers; `run` takes its defaults, none for `--keep`, and `make` needs all three. It does
+/// nothing: its clauses are the law.
 pub fn options_in_any_order()
     ensures run { RunAccepted }
     ensures ask { AskAccepted }

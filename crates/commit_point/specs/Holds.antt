@@ -71,8 +71,8 @@ head_of s next tail entries segments = record {
   pairs = tail.1;
 }
 
--- The files of commit s spell these segments, by rising id, as these entries name them, and this next id. What pairs they
--- have is said apart (HasPairs).
+-- The files of commit s spell these segments, by rising id, as these entries name them, and this
+-- next id. What pairs they have is said apart (HasPairs).
 pub record HasSegments (files : Files) (s next : ℕ) (entries : List HeadSegment) (segments : List Lived) : Type 0 where
   pub tail : Tail
   pub head : HasHead files s (head_of s next tail entries segments)

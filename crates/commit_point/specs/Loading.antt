@@ -26,11 +26,14 @@ IsOutside fault = (fault ≡ faults.Store) ⊎ (fault ≡ faults.NoMemory)
 -- What a call for the commit s says of a store without it: that there is none, unless the store fails or memory runs
 -- out. It says so of no other store.
 pub record TellsNone {T : Type 0} (told : Option Files) (s : ℕ) (result : Result T OpenFault) : Type 0 where
-  pub no_such : (other : ℕ) → result ≡ Err (faults.NoSuch other) → (other ≡ s) × ((files : Files) → told ≡ Some files → files (Commit s) ≡ None)
-  pub absent : (files : Files) → told ≡ Some files → files (Commit s) ≡ None → IsErrAnd result (λ fault. (fault ≡ faults.NoSuch s) ⊎ IsOutside fault)
+  pub no_such : (other : ℕ) → result ≡ Err (faults.NoSuch other)
+      → (other ≡ s) × ((files : Files) → told ≡ Some files → files (Commit s) ≡ None)
+  pub absent : (files : Files) → told ≡ Some files → files (Commit s) ≡ None
+      → IsErrAnd result (λ fault. (fault ≡ faults.NoSuch s) ⊎ IsOutside fault)
 
 -- a read of this file gave what is broken here
-pub record IsBroken {A : Type 0} (told : Option Files) (name : FileName) (read : List ℕ → Result A ℕ) (damaged : Damaged) : Type 0 where
+pub record IsBroken {A : Type 0} (told : Option Files) (name : FileName) (read : List ℕ
+    → Result A ℕ) (damaged : Damaged) : Type 0 where
   pub found : Option (List ℕ)
   pub seen : Reads told name found
   pub broken : of_file name read found ≡ Err damaged
@@ -38,7 +41,9 @@ pub record IsBroken {A : Type 0} (told : Option Files) (name : FileName) (read :
 -- no birth of a segment is known or stands in an earlier segment
 abbrev pub Unknown : (ℕ → Bool) → List Lived → Type 0
 Unknown known [] = ⊤
-Unknown known (g ∷ gs) = AllByRecursion (λ (r : Row). known r.birth ≡ false) g.segment.rows × Unknown (λ b. known b || has_birth g.segment.rows b) gs
+Unknown known (g ∷ gs) =
+  AllByRecursion (λ (r : Row). known r.birth ≡ false) g.segment.rows
+      × Unknown (λ b. known b || has_birth g.segment.rows b) gs
 
 -- the segments of a commit were read
 pub record AreRead (told : Option Files) (head : Head) (before : Files) (segments : List Lived) : Type 0 where

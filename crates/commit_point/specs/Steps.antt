@@ -23,8 +23,9 @@ abbrev pub IsPublished : FileName → FileName → Type 0
 IsPublished (Pending s) (Commit t) = s ≡ t
 IsPublished «from» to = ⊥
 
--- A step by which a commit is made, or a part of one that failed: no commit file is written, a pending one is renamed to
--- that of its number, files are synced, and the directory. Nothing is deleted.
+-- A step by which a commit is made, or a part of one that failed: no commit file is written, a
+-- pending one is renamed to that of its number, files are synced, and the directory. Nothing is
+-- deleted.
 abbrev pub MakesCommits : Step → Type 0
 MakesCommits (Wrote name bytes) = IsNoCommit name
 MakesCommits (Spoilt name found) = IsNoCommit name

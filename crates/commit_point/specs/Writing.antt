@@ -98,7 +98,8 @@ pub record CanWrite (s : ℕ) (g : Lived) : Type 0 where
 -- ids rise, from some number up to below a limit
 abbrev pub SegmentIdsRise : ℕ → ℕ → List Lived → Type 0
 SegmentIdsRise low limit [] = ⊤
-SegmentIdsRise low limit (g ∷ gs) = (low ≤ g.segment.id) × (g.segment.id < limit) × SegmentIdsRise (g.segment.id + 1) limit gs
+SegmentIdsRise low limit (g ∷ gs) =
+  (low ≤ g.segment.id) × (g.segment.id < limit) × SegmentIdsRise (g.segment.id + 1) limit gs
 
 -- what was written was written with a commit from 1 to s
 abbrev pub WrittenUpTo : ℕ → Option Written → Type 0

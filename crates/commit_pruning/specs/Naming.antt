@@ -15,4 +15,6 @@ by_version = then_cmp (on (λ (v : Version). v.id) nat_cmp) (on (λ (v : Version
 -- The sets have the segments that these entries name.
 pub record IsNamed (entries : List HeadSegment) (named : Named) : Type 0 where
   pub ids : (id : ℕ) → contains nat_cmp named.ids id ≡ has_id entries id
-  pub versions : (id v : ℕ) → contains by_version named.versions (record { id = id; written = v }) ≡ has_written entries id v
+  pub versions : (id v : ℕ)
+      → contains by_version named.versions (record { id = id; written = v })
+      ≡ has_written entries id v

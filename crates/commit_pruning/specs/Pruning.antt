@@ -31,8 +31,8 @@ pub record Stays (keep : ℕ) (files : Files) (s : ℕ) : Type 0 where
   pub there : IsSome (files (Commit s))
   pub not_given_up : ¬ IsGivenUp keep files s
 
--- Some commits may have been given up: each that stays is as it was, each is whole or has no commit file, and no other one
--- has come.
+-- Some commits may have been given up: each that stays is as it was, each is whole or has no commit
+-- file, and no other one has come.
 pub record MayBePruned (keep : ℕ) (old new : Files) : Type 0 where
   pub stays : (s : ℕ) → Stays keep old s → IsWholeAs s old new
   pub each : (s : ℕ) → IsSome (old (Commit s)) → (new (Commit s) ≡ None) ⊎ IsWholeAs s old new
@@ -43,8 +43,8 @@ pub record AreGivenUp (keep : ℕ) (files : Files) (numbers : List ℕ) : Type 0
   pub rise : AllPairs ◌<◌ numbers
   pub each : (s : ℕ) → Contains numbers s ↔ (IsSome (files (Commit s)) × IsGivenUp keep files s)
 
--- So many commits were given up: each that stays is as it was, and no other one is there. Each file that is there is one
--- of a commit that is there.
+-- So many commits were given up: each that stays is as it was, and no other one is there. Each file
+-- that is there is one of a commit that is there.
 pub record IsPruned (keep count : ℕ) (old new : Files) : Type 0 where
   pub gone : List ℕ
   pub given_up : AreGivenUp keep old gone

@@ -28,7 +28,9 @@ own_in i p (e ∷ es) = if e.seat == i then own p e.words ∷ own_in i (p + 1) e
 
 -- the seat has these as the own entries of seat number n: its own, or of a seat that it took over
 abbrev pub HoldsList : Seat → ℕ → List Own → Type 0
-HoldsList s n os = ((number_of s ≡ n) × (own_of s ≡ os)) ⊎ ((i : ℕ) × (get_elem? (olds_of s) i ≡ some (record { number = n; own = os })))
+HoldsList s n os =
+  ((number_of s ≡ n) × (own_of s ≡ os))
+      ⊎ ((i : ℕ) × (get_elem? (olds_of s) i ≡ some (record { number = n; own = os })))
 
 -- t has seen, knows and holds all that s had seen, known and held
 pub record TakesIn (t s : Seat) : Type 0 where
@@ -60,7 +62,8 @@ pub record IsLogOf (q : DeleteQueue) (all : List Seat) (log : QueueLog) : Type 0
   pub numbers : Each (λ (e : Logged). e.seat < seats_of q) list
   pub grammar : Each (λ (e : Logged). IsEntryWords e.words) list
   -- nothing follows an entry that closes the queue
-  pub closes : (i : ℕ) (e : Logged) → get_elem? list i ≡ some e → i + 1 < length list → head_kind (slice_index e.words 0) < 6
+  pub closes : (i : ℕ) (e : Logged) → get_elem? list i ≡ some e → i + 1 < length list
+      → head_kind (slice_index e.words 0) < 6
   pub seats : Each (HasAllOf (entries_of log) list) all
   -- no seat has seen an entry with a higher sequence number than the last one of the log
   pub lasts : Each (λ (s : Seat). last_of s ≤ last_number (base_of q) (entries_of log)) all

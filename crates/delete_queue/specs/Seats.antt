@@ -1,4 +1,5 @@
--- What contracts say of a queue and its seats. The layers above cite these words and don't look into them: none names an address of the table.
+-- What contracts say of a queue and its seats. The layers above cite these words and don't look
+-- into them: none names an address of the table.
 use Rattle.std.specs.Prelude.{◌≡◌, ℕ, ◌+◌, ◌-◌, ◌<◌, ◌≤◌, ◌==◌, ◌⊎◌, if◌then◌else◌, List, [], ◌∷◌, ◌++◌, map, length, slice_index}
 use mathlib.Core.Option.{some}
 use lib.ListN.{get_elem?}

@@ -34,7 +34,8 @@ HasEntries Stands from (entry ∷ rest) = HasEntry Stands (from + 1) entry × Ha
 -- The operations of the entries after a place. The entry at place p has the sequence number base + p.
 abbrev pub operations_behind : ℕ → ℕ → List Entry → List Numbered
 operations_behind base from [] = []
-operations_behind base from (entry ∷ rest) = entry_operation (base + (from + 1)) entry ++ operations_behind base (from + 1) rest
+operations_behind base from (entry ∷ rest) =
+  entry_operation (base + (from + 1)) entry ++ operations_behind base (from + 1) rest
 
 -- the sequence number of an entry; a turn has none
 abbrev pub own_number : ℕ → Entry → List ℕ

@@ -18,7 +18,8 @@ HasView {V} views id P = (v : V) × (get_elem? views id ≡ some v) × P v
 module _ {H D T : Type 0} (deed_of : H → D) (told_of : H → List T) where
   -- the slot of door c is at home, and holds a hand with this deed which was told these
   abbrev pub HoldsHand : List (Home (Option H)) → ℕ → Option D → List T → Type 0
-  HoldsHand homes c d t = (h : H) × (get_elem? homes c ≡ some (some (Some h))) × (Some (deed_of h) ≡ d) × (told_of h ≡ t)
+  HoldsHand homes c d t =
+    (h : H) × (get_elem? homes c ≡ some (some (Some h))) × (Some (deed_of h) ≡ d) × (told_of h ≡ t)
 
 module _ {D T : Type 0} (n keeper made : ℕ) (holder : ℕ → ℕ) (deed : ℕ → Option D) (told : ℕ → List T)
     (inside taken : ℕ → Bool) where
@@ -29,9 +30,9 @@ module _ {D T : Type 0} (n keeper made : ℕ) (holder : ℕ → ℕ) (deed : ℕ
     pub keeper_is : v.is_keeper ≡ true → (keeper ≡ id) × (v.made ≡ made) × (length v.doors ≡ n)
         × ((c : ℕ) → c < n → (deed_at v.doors c ≡ deed c) × (taken_at v.doors c ≡ taken c))
 
--- The rule of n doors. There is: which seat is the keeper's, how many passes were made, and of each door which seat has its
--- pass, the deed of its hand, what the hand had been told that was left last, whether the pass is in, and whether the keeper
--- took the door.
+-- The rule of n doors. There is: which seat is the keeper's, how many passes were made, and of each
+-- door which seat has its pass, the deed of its hand, what the hand had been told that was left
+-- last, whether the pass is in, and whether the keeper took the door.
 pub record Kept {H D T : Type 0} (deed_of : H → D) (told_of : H → List T) (n : ℕ) (s : State (Option H) (View D T))
     : Type 0 where
   pub long : length s.words ≡ n + 2

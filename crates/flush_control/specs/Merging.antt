@@ -38,7 +38,8 @@ without ids segments = filter (λ s. not (is_among ids s)) segments
 -- The segments with these ids are gone, and the one that they are merged into, if there is one, stands last.
 abbrev pub replaced : List ℕ → Option Lived → Published → Published
 replaced ids None p = record p { segments = without ids p.segments; merge = None }
-replaced ids (Some s) p = record p { segments = without ids p.segments ++ s ∷ []; next_id = p.next_id + 1; merge = None }
+replaced ids (Some s) p =
+  record p { segments = without ids p.segments ++ s ∷ []; next_id = p.next_id + 1; merge = None }
 
 -- The sources of a merge, which have these ids, were replaced by what they are merged into.
 pub record IsEnd (old : Published) (ids : List ℕ) (sources : List Lived) (new : Published) : Type 0 where
@@ -101,7 +102,8 @@ pub record Runs (p : Published) (run : Merge) (sources : List Lived) (count : �
 abbrev pub Advanced : ℕ → Published → Merge → List Lived → ℕ → MergeTurn → Published → Type 0
 Advanced rows old was sources count Idle new = ⊥
 Advanced rows old was sources count Stepped new = IsStepped rows old was.ids.items sources count new
-Advanced rows old was sources count Merged new = (row_count sources ≤ count + rows) × IsEnd old was.ids.items sources new
+Advanced rows old was sources count Merged new =
+  (row_count sources ≤ count + rows) × IsEnd old was.ids.items sources new
 
 -- ---- after an error
 
@@ -117,7 +119,8 @@ pub record StillRuns (rows : ℕ) (old : Published) (was : Merge) (new : Publish
   pub run : Merge
   pub is : new.merge ≡ Some run
   pub same : run.ids.items ≡ was.ids.items
-  pub read : (sources : List Lived) (count : ℕ) → Runs old was sources count → HasReadWithin run sources count (count + rows)
+  pub read : (sources : List Lived) (count : ℕ) → Runs old was sources count
+      → HasReadWithin run sources count (count + rows)
 
 -- ---- what stays
 
@@ -131,4 +134,6 @@ pub record EndsMerge (old new : Published) : Type 0 where
 
 -- Merges keep what segments stand for.
 abbrev pub MergesStand : Type 0
-MergesStand = (m rows : ℕ) (turn : MergeTurn) (old new : Published) → IsPublished old → Turns m rows old turn new → EndsMerge old new
+MergesStand =
+  (m rows : ℕ) (turn : MergeTurn) (old new : Published) → IsPublished old
+      → Turns m rows old turn new → EndsMerge old new

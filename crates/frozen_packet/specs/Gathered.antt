@@ -1,4 +1,5 @@
--- Settings of one name in the documents of one term, of which the last one counts where no delete by a range stands between.
+-- Settings of one name in the documents of one term, of which the last one counts where no delete
+-- by a range stands between.
 use Rattle.std.specs.Prelude.{◌≡◌, ℕ, ◌<◌, ◌≤◌, List, [], ◌∷◌, Bool, true, false, length, slice_index_or}
 use Rattle.frozen_packet.specs.Updates.{as_operations, NumberedUpTo, NumberedWithin}
 use Rattle.frozen_packet.specs.declared.updates.Change.{Change}
@@ -6,7 +7,8 @@ use Rattle.frozen_packet.specs.declared.updates.Change.TheVariants as c
 use Rattle.frozen_packet.specs.declared.updates.Setting.{Setting}
 use Rattle.frozen_packet.specs.declared.updates.Updates.{Updates}
 
--- A later setting of the same name for the same term, with no lower number: whatever the earlier one sets, it sets anew.
+-- A later setting of the same name for the same term, with no lower number: whatever the earlier
+-- one sets, it sets anew.
 pub record Replaces (later earlier : Setting) : Type 0 where
   pub number : earlier.number ≤ later.number
   pub term : later.term ≡ earlier.term
@@ -44,5 +46,6 @@ unmarked (x ∷ changes) (false ∷ marks) = x ∷ unmarked changes marks
 
 -- whatever bounds hold the numbers before, hold the numbers now
 pub record KeepsNumbers (old new : Updates) : Type 0 where
-  pub within : (after upto : ℕ) → NumberedWithin after upto (as_operations old) → NumberedWithin after upto (as_operations new)
+  pub within : (after upto : ℕ) → NumberedWithin after upto (as_operations old)
+      → NumberedWithin after upto (as_operations new)
   pub below : (upto : ℕ) → NumberedUpTo upto (as_operations old) → NumberedUpTo upto (as_operations new)

@@ -87,8 +87,8 @@ pub record HasOther (files : Files) (s next : ℕ) (segments : List Lived) (d : 
 
 -- ---- the store
 
--- The commit s is in the grammar, and this is the first place where it isn't as it has to be: its next id is tested before
--- its segments' postings, and these by rising id.
+-- The commit s is in the grammar, and this is the first place where it isn't as it has to be: its
+-- next id is tested before its segments' postings, and these by rising id.
 pub record DiffersAt (files : Files) (s : ℕ) (d : Difference) : Type 0 where
   pub next : ℕ
   pub entries : List HeadSegment

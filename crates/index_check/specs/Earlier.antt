@@ -50,7 +50,9 @@ pub record CanSpell (g : Lived) : Type 0 where
 
 -- the postings of each segment that files of this id spell are the inversion of its rows
 abbrev pub IsSoundId : Files → ℕ → Type 0
-IsSoundId files id = (s : ℕ) (e : HeadSegment) (g : Lived) → s < 2 ^ 64 → id < 2 ^ 64 → e.id ≡ id → HasSegment files s e g
+IsSoundId files id =
+  (s : ℕ) (e : HeadSegment) (g : Lived) → s < 2 ^ 64 → id < 2 ^ 64 → e.id ≡ id
+      → HasSegment files s e g
     → IsInverted g.segment
 
 -- the segment's id is one of those, or its postings are the inversion of its rows
@@ -64,7 +66,8 @@ pub record IsBefore (files : Files) (s : ℕ) (earlier : Earlier) : Type 0 where
   pub ids : IsLeastId files s earlier.least_id
   pub compared : (id : ℕ) → contains nat_cmp earlier.compared id ≡ true → IsSoundId files id
 
--- Nothing of the commit differs: its next id is lawful, and so are the postings of each segment that no earlier commit has.
+-- Nothing of the commit differs: its next id is lawful, and so are the postings of each segment
+-- that no earlier commit has.
 pub record IsSame (opened : Opened) (earlier : Earlier) : Type 0 where
   pub room : opened.next_id ≤ 2 ^ 61
   pub above : earlier.least_id ≤ opened.next_id

@@ -27,8 +27,8 @@ pub record AreHeads (files : Files) (heads : List Head) : Type 0 where
   pub all : (s : ℕ) → Contains (map (λ (head : Head). head.number) heads) s ↔ IsSome (files (Commit s))
   pub each : AllByRecursion (λ (head : Head). HasHead files head.number head) heads
 
--- The commit of this number is first broken at this place, and where the store tells its files, each commit before it is
--- lawful.
+-- The commit of this number is first broken at this place, and where the store tells its files,
+-- each commit before it is lawful.
 pub record IsDamagedAt (told : Option Files) (damaged : Damaged) : Type 0 where
   pub number : ℕ
   pub files : Files

@@ -41,8 +41,8 @@ pub record IsEnd (base : ℕ) (lines : List Line) (number : ℕ) : Type 0 where
   pub numbering : Interleaves lines log
   pub is : number ≡ base + length log
 
--- What a run reads once its lines are done: for its report the commits that search lines ask for, and for its summary the
--- last one.
+-- What a run reads once its lines are done: for its report the commits that search lines ask for,
+-- and for its summary the last one.
 abbrev pub IsRead : Form → ℕ → List Line → ℕ → Type 0
 IsRead Report base lines number = IsSearched base lines number
 IsRead Summary base lines number = IsEnd base lines number
@@ -59,14 +59,14 @@ pub record ReadsDamaged (form : Form) (lines : List Line) (old new : Option File
   pub reads : ((number ≡ base) × (new ≡ old)) ⊎ ((old ≡ None) × (new ≡ None) × IsRead form base lines number)
   pub broken : IsDamagedIn new number damaged
 
--- Of the commit files that are listed one is first broken at this place; where the store tells its files it is the first
--- one that is broken.
+-- Of the commit files that are listed one is first broken at this place; where the store tells its
+-- files it is the first one that is broken.
 pub record ListsDamaged (told : Option Files) (damaged : Damaged) : Type 0 where
   pub broken : (s : ℕ) × IsBrokenCommit told s damaged
   pub first : (files : Files) → told ≡ Some files → (s : ℕ) × IsFirstBroken files s damaged
 
--- Of the commits that are checked, the first that isn't lawful is in the grammar and first differs at this place, where the
--- store tells its files.
+-- Of the commits that are checked, the first that isn't lawful is in the grammar and first differs
+-- at this place, where the store tells its files.
 abbrev pub ChecksDifferent : Option Files → FileName → ℕ → ℕ → ℕ → Type 0
 ChecksDifferent told file at found wanted = (files : Files) → told ≡ Some files
     → DiffersIn files (record { file = file; at = at; found = found; wanted = wanted })
@@ -79,8 +79,8 @@ FindsDifference command.List told file at found wanted = ⊥
 FindsDifference command.Check told file at found wanted = ChecksDifferent told file at found wanted
 FindsDifference (Make seed count callers) told file at found wanted = ⊥
 
--- A command finds a file first broken at this place: of a commit that its run reads or keeps, of the commit that is asked
--- for, or of those that are listed or checked.
+-- A command finds a file first broken at this place: of a commit that its run reads or keeps, of
+-- the commit that is asked for, or of those that are listed or checked.
 abbrev pub FindsDamage : Command → Option (List ℕ) → Option Files → Option Files → Damaged → Type 0
 FindsDamage (Run threads buffer merge keep) input old new damaged = ((lines : List Line) × ((bytes : List ℕ)
     × Was input bytes × (script bytes ≡ Ok lines)) × ReadsDamaged Report lines old new damaged)

@@ -68,7 +68,8 @@ IsDocs first log s docs = (rows : List Row) → HasRows first rows
 
 -- ---- between two rounds
 
--- How far a run of these lines has come by its shares: the log has the lines that were told a number, with these numbers.
+-- How far a run of these lines has come by its shares: the log has the lines that were told a
+-- number, with these numbers.
 pub record HasDone (r : Run) (lines : List Line) (shares : List Share) (log : List Line) (w : State) (now : Option Disk)
     : Type 0 where
   pub rise : LinesRise 1 lines
@@ -118,8 +119,9 @@ pub record IsOver (r : Run) (lines : List Line) (became : List Outcome) (w : Sta
   pub numbering : Interleaves lines log
   pub outcomes : AreOutcomes (IsDocs r.first log) (base_of r) log [] lines became
 
--- A run that stopped: for one order of its numbered lines a crash left the first of their commits, made over an image of
--- the beginning, and the files have the first of them. Each step was one by which commits are made, and no commit that stood at some moment lost its files.
+-- A run that stopped: for one order of its numbered lines a crash left the first of their commits,
+-- made over an image of the beginning, and the files have the first of them. Each step was one by
+-- which commits are made, and no commit that stood at some moment lost its files.
 pub record IsCut (r : Run) (lines : List Line) (now : Option Disk) : Type 0 where
   pub log : List Line
   pub numbering : Interleaves lines log
@@ -131,15 +133,16 @@ pub record IsCut (r : Run) (lines : List Line) (now : Option Disk) : Type 0 wher
 
 -- ---- a pending commit that is written
 
--- A writer's pending commit was written, if there was one: whatever a run had come to, it has come to the same, and notes
--- the commit. Or the writer stopped, and so does the run.
+-- A writer's pending commit was written, if there was one: whatever a run had come to, it has come
+-- to the same, and notes the commit. Or the writer stopped, and so does the run.
 pub record WritesPending {S : Type 0} (disk : S → Option Disk) (old : IndexWriter S) (ran : Ran S (Option CommitInfo))
     : Type 0 where
   pub come : (r : Run) (lines : List Line) (shares : List Share) (commits : List (ℕ × ℕ))
       → HasCome r lines shares commits old.state (disk old.store)
       → IfOk ran.came (λ commit. HasCome r lines shares (given commits commit) ran.writer.state (disk ran.writer.store))
   pub cut : (r : Run) (lines : List Line) (shares : List Share) (commits : List (ℕ × ℕ))
-      → HasCome r lines shares commits old.state (disk old.store) → OnErr ran.came (IsCut r lines (disk ran.writer.store))
+      → HasCome r lines shares commits old.state (disk old.store)
+          → OnErr ran.came (IsCut r lines (disk ran.writer.store))
   pub written : OnOk ran.came (ran.writer.state.pending ≡ None)
   pub upto : OnOk ran.came (ran.writer.state.published.upto ≡ old.state.published.upto)
   pub same : (ran.writer.state.out ≡ old.state.out) × (ran.writer.state.buffer ≡ old.state.buffer)

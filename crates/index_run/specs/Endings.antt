@@ -14,8 +14,8 @@ use Rattle.index_run.specs.Beginning.{IsHighBase}
 use Rattle.index_run.specs.Commands.{IsBad}
 use Rattle.index_run.specs.Damage.{FindsDamage, FindsDifference}
 
--- What a call met: its input and its store, the store that it left, and the counts of faults of its source and its store,
--- before and after.
+-- What a call met: its input and its store, the store that it left, and the counts of faults of its
+-- source and its store, before and after.
 pub record Met : Type 0 where
   pub input : Option (List ℕ)
   pub store : Option Disk
@@ -28,7 +28,8 @@ pub record Met : Type 0 where
 -- the commit of this number is asked for, by its number or as the last one, and there is none
 abbrev pub MissesCommit : Command → Option Files → ℕ → Type 0
 MissesCommit (Run threads buffer merge keep) told number = ⊥
-MissesCommit (Ask commit) told number = (number ≡ unwrap_or commit 0) × ((files : Files) → told ≡ Some files → LacksAsked files commit)
+MissesCommit (Ask commit) told number =
+  (number ≡ unwrap_or commit 0) × ((files : Files) → told ≡ Some files → LacksAsked files commit)
 MissesCommit command.List told number = ⊥
 MissesCommit command.Check told number = ⊥
 MissesCommit (Make seed count callers) told number = ⊥

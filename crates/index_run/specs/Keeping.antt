@@ -37,10 +37,12 @@ HasLatest keep g log files = (was : Files) × HasAll g log was × IsLeft keep (h
 -- ---- what a run promises
 
 -- A run that was done, for one order of its numbered lines, its log. What was written of the text that tells of the log
--- is said by `wrote`. The files that the store tells are what is left of all of the log's commits and of those that were
--- there. So is every image once the call has ended; a crash at any moment of the call leaves what may be left of the first
--- ones. And the store is again such as a run asks for.
-pub record RunsKeeping (keep : ℕ) (g : Given) (text : List Line → List ℕ) (wrote : List ℕ → Type 0) (old new : Option Disk)
+-- is said by `wrote`. The files that the store tells are what is left of all of the log's commits
+-- and of those that were there. So is every image once the call has ended; a crash at any moment of
+-- the call leaves what may be left of the first ones. And the store is again such as a run asks
+-- for.
+pub record RunsKeeping (keep : ℕ) (g : Given) (text : List Line → List ℕ) (wrote : List ℕ
+    → Type 0) (old new : Option Disk)
     : Type 0 where
   pub log : List Line
   pub numbering : Interleaves g.lines log
@@ -92,12 +94,14 @@ StepsBy keep old new = keep ≡ None → Told OnlyCommits old new
 
 -- each commit that is there has its commit file as it was, or a new one that is in the grammar
 abbrev pub AreSpelled : Files → Files → Type 0
-AreSpelled old files = (s : ℕ) → IsSome (files (Commit s)) → (files (Commit s) ≡ old (Commit s)) ⊎ ((head : Head) × HasHead files s head)
+AreSpelled old files =
+  (s : ℕ) → IsSome (files (Commit s))
+      → (files (Commit s) ≡ old (Commit s)) ⊎ ((head : Head) × HasHead files s head)
 
 -- ---- a broken file
 
--- The commit file of a commit is first broken at this place; where the store tells its files, it is one that stays where
--- so many are kept.
+-- The commit file of a commit is first broken at this place; where the store tells its files, it is
+-- one that stays where so many are kept.
 pub record FindsStaying (keep : ℕ) (told : Option Files) (damaged : Damaged) : Type 0 where
   pub broken : (s : ℕ) × IsBrokenCommit told s damaged
   pub staying : (files : Files) → told ≡ Some files → BreaksStaying keep files damaged

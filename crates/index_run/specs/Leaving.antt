@@ -28,8 +28,9 @@ IsOfLast g w = (d : Files) → KeepsSegments g.base g.files d → IsStored d w
 
 -- ---- files that a run doesn't write
 
--- The file isn't one of those that a run may write which began after the commit `last`, with ids from `since` on: commit
--- files above that commit, rows and postings of new segments, live bits and set numbers written above it.
+-- The file isn't one of those that a run may write which began after the commit `last`, with ids
+-- from `since` on: commit files above that commit, rows and postings of new segments, live bits and
+-- set numbers written above it.
 abbrev pub IsBefore : ℕ → ℕ → FileName → Type 0
 IsBefore last since (Commit t) = t ≤ last
 IsBefore last since (Pending t) = t ≤ last
@@ -101,8 +102,8 @@ HasSomeFront first log old new = (count : ℕ) × (count ≤ length log)
 
 -- What a run has left on the disk that began on the disk `start` with `first`: its writer is `w`, and of its log the
 -- commits of the first `count` lines were written. The files and each image have these, and a crash at any moment
--- left the first ones. Where each commit was kept at the beginning, each is kept now. Each step was one by which commits
--- are made, and no commit that stood at some moment lost its files or bytes.
+-- left the first ones. Where each commit was kept at the beginning, each is kept now. Each step was
+-- one by which commits are made, and no commit that stood at some moment lost its files or bytes.
 pub record IsDiskAfter (first : State) (log : List Line) (count : ℕ) (w : State) (start now : Option Disk)
     : Type 0 where
   pub low : first.published.next_id ≤ w.since

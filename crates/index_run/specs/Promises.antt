@@ -32,8 +32,8 @@ use Rattle.index_run.specs.declared.stop.Stop.{Stop}
 abbrev pub HasQuestions : Option (List ℕ) → List Question → Type 0
 HasQuestions input asked = (bytes : List ℕ) × (input ≡ Some bytes) × (questions bytes ≡ Ok asked)
 
--- What `ask` is given: its questions, the files of the store, and of the commit that is asked for the number, the next id
--- and the rows.
+-- What `ask` is given: its questions, the files of the store, and of the commit that is asked for
+-- the number, the next id and the rows.
 pub record Asked : Type 0 where
   pub questions : List Question
   pub files : Files
@@ -41,8 +41,8 @@ pub record Asked : Type 0 where
   pub next : ℕ
   pub rows : List Row
 
--- The input spells the questions, the store tells the files, and they have the commit that is asked for, by its number or
--- as the last one.
+-- The input spells the questions, the store tells the files, and they have the commit that is asked
+-- for, by its number or as the last one.
 pub record IsAskedOf (a : Asked) (commit : Option ℕ) (input : Option (List ℕ)) (store : Option Disk) : Type 0 where
   pub spelled : HasQuestions input a.questions
   pub stored : told_files store ≡ Some a.files
@@ -70,8 +70,8 @@ CanKeep None files = ⊤
 CanKeep (Some keep) files = (s : ℕ) → IsSome (files (Commit s)) → (head : Head) × HasHead files s head
 
 -- The command can come to its end where nothing fails: a run on a last commit that is in the grammar and leaves room,
--- `ask` of a commit that is there and in the grammar, `list` and a run that keeps only so many commits where every commit
--- file is in the grammar, and `check` where every commit is lawful.
+-- `ask` of a commit that is there and in the grammar, `list` and a run that keeps only so many
+-- commits where every commit file is in the grammar, and `check` where every commit is lawful.
 abbrev pub CanComplete : Command → Option (List ℕ) → Option Disk → Type 0
 CanComplete (Run threads buffer merge keep) input store =
     (g : Given) × IsGiven g (HasScript (Run threads buffer merge keep) input) store × CanEnd g × CanKeep keep g.files
@@ -93,7 +93,8 @@ pub record Call : Type 0 where
   pub text : Result (Vec ℕ) Stop
 
 -- A command that ran a script, which is such lines, made such a text of the log, and kept all commits or so many.
-pub record RunsScript (keep : Option ℕ) (IsScript : List Line → Type 0) (text : Given → List Line → List ℕ) (call : Call)
+pub record RunsScript (keep : Option ℕ) (IsScript : List Line → Type 0) (text : Given → List Line
+    → List ℕ) (call : Call)
     : Type 0 where
   pub runs : (g : Given) → IsGiven g IsScript call.store → CanRun g
       → IfOk call.text (λ made. RunsBy keep g (text g) (λ told. made.items ≡ told) call.store call.left)
@@ -107,7 +108,8 @@ pub record RunsScript (keep : Option ℕ) (IsScript : List Line → Type 0) (tex
 pub record AnswersQuestions (commit : Option ℕ) (call : Call) : Type 0 where
   pub answers : (a : Asked) → IsAskedOf a commit call.input call.store → HoldsInverted a.files a.number a.next a.rows
       → IfOk call.text (λ made. made.items ≡ asked_text a)
-  pub missing : (files : Files) (asked : List Question) → HasQuestions call.input asked → told_files call.store ≡ Some files
+  pub missing : (files : Files) (asked : List Question) → HasQuestions call.input asked
+      → told_files call.store ≡ Some files
       → LacksAsked files commit → IsErrAnd call.text (λ stop. IsOneOf (stop_status stop) (4 ∷ 5 ∷ 7 ∷ 9 ∷ []))
   pub whole : (a : Asked) → IsAskedOf a commit call.input call.store → Holds a.files a.number a.next a.rows
       → IfErr call.text (λ stop. IsOneOf (stop_status stop) (4 ∷ 5 ∷ 7 ∷ []))
@@ -122,7 +124,8 @@ pub record ListsCommits (call : Call) : Type 0 where
 
 -- A command that checked the store's commits.
 pub record ChecksCommits (call : Call) : Type 0 where
-  pub checks : (files : Files) → told_files call.store ≡ Some files → IfOk call.text (λ made. IsCheckOf files made.items)
+  pub checks : (files : Files) → told_files call.store ≡ Some files
+      → IfOk call.text (λ made. IsCheckOf files made.items)
   pub differs : (files : Files) (d : Difference) → told_files call.store ≡ Some files → DiffersIn files d
       → IsErrAnd call.text (λ stop. IsOneOf (stop_status stop) (4 ∷ 7 ∷ 11 ∷ []))
   pub whole : (files : Files) → told_files call.store ≡ Some files → AreLawful files

@@ -35,8 +35,9 @@ pub record IsLastOf (files : Files) (last : Opened) : Type 0 where
   pub none_above : (t : ℕ) → last.number < t → files (Commit t) ≡ None
   pub ids : (t : ℕ) (e : HeadSegment) → Lists files t e → e.id < last.next_id
 
--- A writer can begin on a commit that files spell, and where that is the last one, it can go on from the files. Where they
--- spell the commit's segments, what is on the store of the writer's stands in them.
+-- A writer can begin on a commit that files spell, and where that is the last one, it can go on
+-- from the files. Where they spell the commit's segments, what is on the store of the writer's
+-- stands in them.
 pub record CanBegin (files : Files) (last : Opened) : Type 0 where
   pub follows : HasSegments files last.number last.next_id last.entries last.segments → CanFollow last
   pub stored : (size merge : ℕ) → HaveSegments files last.number last.entries last.segments

@@ -22,8 +22,8 @@ use Rattle.index_writer.specs.Ready.{HasRows, IsStored}
 
 -- ---- a round that was begun
 
--- A writer of the queue that was told nothing, linked nothing and gave nothing off, with this seat number and size of its
--- buffer.
+-- A writer of the queue that was told nothing, linked nothing and gave nothing off, with this seat
+-- number and size of its buffer.
 pub record IsBegunWriter (q : DeleteQueue) (size number : ℕ) (w : ThreadWriter) : Type 0 where
   pub number_is : number_of w.seat ≡ number
   pub writer : IsWriter q w

@@ -44,7 +44,8 @@ on_commit s = record s {
 abbrev pub SameBelow : ℕ → ℕ → Files → Files → Type 0
 SameBelow s next = SameElsewhere s (λ id. id < next)
 
--- A writer committed: the files have the commit, without pairs, and what is on the store of its segments stands in them.
+-- A writer committed: the files have the commit, without pairs, and what is on the store of its
+-- segments stands in them.
 pub record Commits (old new : State) (files now : Files) : Type 0 where
   pub made : commit.Commits old.published.upto old.published.next_id [] old.published.segments old.written files now
   pub stands : IsStored files old → IsStored now new

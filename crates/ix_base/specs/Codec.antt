@@ -58,7 +58,8 @@ name_at bytes = do
 
 -- ---- so many items, of which each knows what the last one leaves to it
 
-unfoldable pub items_at : {X S : Type 0} → (S → List ℕ → Result (X × List ℕ) ℕ) → (X → S) → S → ℕ → List ℕ → Result (List X × List ℕ) ℕ
+unfoldable pub items_at : {X S : Type 0} → (S → List ℕ → Result (X × List ℕ) ℕ) → (X → S) → S → ℕ
+    → List ℕ → Result (List X × List ℕ) ℕ
 items_at item leaves state zero bytes = Ok ([], bytes)
 items_at item leaves state (suc n) bytes = do
   first ← item state bytes

@@ -31,7 +31,8 @@ stands_in_row docs field bytes row at = at_row (λ doc. stands_at (terms doc) fi
 
 abbrev pub rows_from : ℕ → (Document → Bool) → List Document → List ℕ
 rows_from row test [] = []
-rows_from row test (doc ∷ docs) = if test doc then row ∷ rows_from (row + 1) test docs else rows_from (row + 1) test docs
+rows_from row test (doc ∷ docs) =
+  if test doc then row ∷ rows_from (row + 1) test docs else rows_from (row + 1) test docs
 
 -- the rows whose documents pass the test, rising
 abbrev pub rows_where : (Document → Bool) → List Document → List ℕ
@@ -42,7 +43,8 @@ rows_where = rows_from 0
 -- the postings have the term in the row at the position
 abbrev pub posted : List TermPostings → List ℕ → List ℕ → ℕ → ℕ → Bool
 posted entries field bytes row at =
-    list_any (λ entry. (bytes_eq entry.term.field field && bytes_eq entry.term.bytes bytes) && posted_at entry.rows row at) entries
+    list_any (λ entry. (bytes_eq entry.term.field field && bytes_eq entry.term.bytes bytes)
+        && posted_at entry.rows row at) entries
 
 -- a term has a row at least, and its rows rise
 pub record IsTermPostings (entry : TermPostings) : Type 0 where
@@ -55,7 +57,9 @@ pub record IsPostings (entries : List TermPostings) : Type 0 where
   pub rise : AllPairs (λ a b. term_cmp a.term b.term ≡ Less) entries
   pub each : All IsTermPostings entries
 
--- The terms stand in the postings exactly where they stand in the documents. So there is one inversion at most, and each of its rows is that of a document.
+-- The terms stand in the postings exactly where they stand in the documents. So there is one
+-- inversion at most, and each of its rows is that of a document.
 pub record IsInversion (docs : List Document) (postings : Postings) : Type 0 where
   pub ordered : IsPostings postings.terms
-  pub exact : (field bytes : List ℕ) (row at : ℕ) → posted postings.terms field bytes row at ≡ stands_in_row docs field bytes row at
+  pub exact : (field bytes : List ℕ) (row at : ℕ)
+      → posted postings.terms field bytes row at ≡ stands_in_row docs field bytes row at

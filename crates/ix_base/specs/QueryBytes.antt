@@ -17,7 +17,9 @@ abbrev mutual
   query_bytes (phrase field text) = 2 ∷ (text_bytes field ++ text_bytes text)
   query_bytes (range name low high) = 4 ∷ (text_bytes name ++ (signed64 low ++ signed64 high))
   query_bytes (bool must should must_not) =
-      3 ∷ ((be32 (count_of must) ++ queries_bytes must) ++ ((be32 (count_of should) ++ queries_bytes should) ++ (be32 (count_of must_not) ++ queries_bytes must_not)))
+      3 ∷ ((be32 (count_of must) ++ queries_bytes must)
+          ++ ((be32 (count_of should) ++ queries_bytes should)
+          ++ (be32 (count_of must_not) ++ queries_bytes must_not)))
 
   pub queries_bytes : Trees → List ℕ
   queries_bytes no_trees = []
@@ -26,7 +28,8 @@ abbrev mutual
 abbrev pub list_bytes : Trees → List ℕ
 list_bytes qs = be32 (count_of qs) ++ queries_bytes qs
 
--- The queries that have a spelling: fields are names, texts are texts, eight bytes hold each bound and four bytes each count.
+-- The queries that have a spelling: fields are names, texts are texts, eight bytes hold each bound
+-- and four bytes each count.
 abbrev mutual
   pub IsQuery : Tree → Type 0
   IsQuery all = Unit {0}
@@ -34,7 +37,9 @@ abbrev mutual
   IsQuery (phrase field text) = IsName field × IsText text
   IsQuery (range name low high) = IsName name × (FitsSigned w64 low × FitsSigned w64 high)
   IsQuery (bool must should must_not) =
-      ((count_of must < 2 ^ 32) × AreQueries must) × ((count_of should < 2 ^ 32) × AreQueries should) × ((count_of must_not < 2 ^ 32) × AreQueries must_not)
+      ((count_of must < 2 ^ 32) × AreQueries must)
+          × ((count_of should < 2 ^ 32) × AreQueries should)
+          × ((count_of must_not < 2 ^ 32) × AreQueries must_not)
 
   pub AreQueries : Trees → Type 0
   AreQueries no_trees = Unit {0}

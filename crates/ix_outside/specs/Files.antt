@@ -53,7 +53,8 @@ Was (Some y) x = y ≡ x
 
 -- ---- one change after another
 
-pub then : (change next both : Files → Files → Type 0) (a b c : Option Files) → ((x y z : Files) → change x y → next y z → both x z)
+pub then : (change next both : Files → Files → Type 0) (a b c : Option Files)
+    → ((x y z : Files) → change x y → next y z → both x z)
     → Changes change a b → Changes next b c → Changes both a c
 then change next both None b c joined p q = tt
 then change next both (Some x) (Some y) (Some z) joined p q = joined x y z p q
@@ -61,7 +62,8 @@ then change next both (Some x) (Some y) None joined p q = absurd q
 then change next both (Some x) None c joined p q = absurd p
 
 -- nothing changed
-pub stays : (change : Files → Files → Type 0) (a b : Option Files) → ((x : Files) → change x x) → b ≡ a → Changes change a b
+pub stays : (change : Files → Files → Type 0) (a b : Option Files) → ((x : Files) → change x x)
+    → b ≡ a → Changes change a b
 stays change a b same e = subst (λ (o : Option Files). Changes change a o) (sym e) (itself a)
   where
     itself : (o : Option Files) → Changes change o o
@@ -69,7 +71,8 @@ stays change a b same e = subst (λ (o : Option Files). Changes change a o) (sym
     itself (Some x) = same x
 
 -- a change that implies another
-pub onto : (change other : Files → Files → Type 0) (a b : Option Files) → ((x y : Files) → change x y → other x y) → Changes change a b → Changes other a b
+pub onto : (change other : Files → Files → Type 0) (a b : Option Files)
+    → ((x y : Files) → change x y → other x y) → Changes change a b → Changes other a b
 onto change other None b implies p = tt
 onto change other (Some x) (Some y) implies p = implies x y p
 onto change other (Some x) None implies p = absurd p

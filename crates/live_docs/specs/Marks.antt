@@ -53,7 +53,9 @@ has_numbers (n ∷ ns) = true
 -- of rows of which this is the first, those in which numbers were set
 abbrev pub numbered_from : ℕ → List Mark → List ℕ
 numbered_from row [] = []
-numbered_from row (m ∷ marks) = if has_numbers m.values then row ∷ numbered_from (row + 1) marks else numbered_from (row + 1) marks
+numbered_from row (m ∷ marks) =
+  if has_numbers m.values then row ∷ numbered_from (row + 1) marks else numbered_from (row
+      + 1) marks
 
 -- the rows in which numbers were set, in order
 abbrev pub numbered_rows : List Mark → List ℕ

@@ -22,12 +22,14 @@ byte_bits byte = low_bits 8 byte
 unfoldable pub bytes_at : ℕ → List ℕ → Result (List ℕ × List ℕ) ℕ
 bytes_at n bytes = if nat_lt (length bytes) n then Err 0 else Ok (take n bytes, drop n bytes)
 
--- The bits of n rows. Where all are 0, the first of the bytes is broken; else the last one, where a bit past the last row is 1.
+-- The bits of n rows. Where all are 0, the first of the bytes is broken; else the last one, where a
+-- bit past the last row is 1.
 unfoldable pub bits_at : ℕ → List ℕ → Result (List Bool × List ℕ) ℕ
 bits_at n bytes = do
   found ← bytes_at (byte_count n) bytes
   if not (has_bit (flat_map byte_bits found.0)) then Err (length bytes) else
-      (if has_bit (drop n (flat_map byte_bits found.0)) then Err (length found.1 + 1) else Ok (take n (flat_map byte_bits found.0), found.1))
+      (if has_bit (drop n (flat_map byte_bits found.0)) then Err (length found.1
+          + 1) else Ok (take n (flat_map byte_bits found.0), found.1))
 
 -- the live bits of the segment of this id, which has n rows, written with the commit v
 unfoldable pub live_in : ℕ → ℕ → ℕ → List ℕ → Result (List Bool) ℕ

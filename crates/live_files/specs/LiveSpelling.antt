@@ -29,7 +29,8 @@ bytes_of_bits (suc n) bits = bit_value (take 8 bits) ∷ bytes_of_bits n (drop 8
 abbrev pub live_bytes : List Bool → List ℕ
 live_bytes bits = bytes_of_bits (byte_count (length bits)) bits
 
--- The live bits of the segment of this id, written with the commit v: one bit for each row, which is 1 where the row lives.
+-- The live bits of the segment of this id, written with the commit v: one bit for each row, which
+-- is 1 where the row lives.
 abbrev pub live_file : ℕ → ℕ → List Bool → List ℕ
 live_file id v bits = live_mark ++ (be64 id ++ (be64 v ++ (be32 (length bits) ++ live_bytes bits)))
 

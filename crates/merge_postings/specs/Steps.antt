@@ -18,12 +18,13 @@ abbrev pub IsBeyond : Option Term → Term → Type 0
 IsBeyond None t = Unit {0}
 IsBeyond (Some u) t = IsBelow u t
 
--- The terms up to the one that was reached are merged: each stands exactly where the sources have it, at the rows of their
--- numbers. No term beyond it is there.
+-- The terms up to the one that was reached are merged: each stands exactly where the sources have
+-- it, at the rows of their numbers. No term beyond it is there.
 pub record IsMergedUpto (sources : List Moving) (m : PartlyMerged) : Type 0 where
   pub ordered : IsPostings m.terms
   pub within : AllByRecursion (λ (e : TermPostings). IsReached m.upto e.term) m.terms
-  pub exact : (t : Term) (r x : ℕ) → IsReached m.upto t → posted m.terms t.field t.bytes r x ≡ any_moved sources t.field t.bytes r x
+  pub exact : (t : Term) (r x : ℕ) → IsReached m.upto t
+      → posted m.terms t.field t.bytes r x ≡ any_moved sources t.field t.bytes r x
 
 -- ---- how the walk goes on
 
@@ -45,11 +46,14 @@ pub record AreResumed (upto : Option Term) (sources : List Moving) (queue : List
   pub queued : AreQueued queue
   pub can : AllByRecursion CanWait queue
   pub beyond : AllByRecursion (IsAllBeyond upto) queue
-  pub exact : (t : Term) (r x : ℕ) → IsBeyond upto t → any_waiting queue t.field t.bytes r x ≡ any_moved sources t.field t.bytes r x
+  pub exact : (t : Term) (r x : ℕ) → IsBeyond upto t
+      → any_waiting queue t.field t.bytes r x ≡ any_moved sources t.field t.bytes r x
 
 -- Entries were made of the sources' terms, all below those that are left.
 pub record Walked (sources : List Moving) (queue : List Waiting) (made : List TermPostings) : Type 0 where
-  pub exact : (field bytes : List ℕ) (r x : ℕ) → (posted made field bytes r x || any_waiting queue field bytes r x) ≡ any_moved sources field bytes r x
+  pub exact : (field bytes : List ℕ) (r x : ℕ)
+      → (posted made field bytes r x || any_waiting queue field bytes r x)
+      ≡ any_moved sources field bytes r x
   pub queued : AreQueued queue
   pub can : AllByRecursion CanWait queue
   pub ordered : IsPostings made

@@ -32,7 +32,8 @@ IsNoSpelling {V} IsOne spelling bytes = (v : V) → IsOne v → bytes ≡ spelli
 -- ---- functions that take no memory: they fail only where there is no such value
 
 -- what finding such a value returns, seen by view, with the bytes before and after
-abbrev pub Finds : {X V : Type 0} → (X → V) → (V → Type 0) → (V → List ℕ) → List ℕ → List ℕ → Result X WrongForm → Type 0
+abbrev pub Finds : {X V : Type 0} → (X → V) → (V → Type 0) → (V → List ℕ) → List ℕ → List ℕ
+    → Result X WrongForm → Type 0
 Finds view IsOne spelling before after (Ok x) = StandsAtStart IsOne spelling (view x) before after
 Finds view IsOne spelling before after (Err e) = NoneAtStart IsOne spelling before
 
@@ -59,7 +60,8 @@ FailsAtStart IsOne spelling bytes Memory = Unit {0}
 FailsAtStart IsOne spelling bytes Foreign = NoneAtStart IsOne spelling bytes
 
 -- what reading such a value returns, seen by view, with the bytes before and after
-abbrev pub ReadsAtStart : {X V : Type 0} → (X → V) → (V → Type 0) → (V → List ℕ) → List ℕ → List ℕ → Result X ReadError → Type 0
+abbrev pub ReadsAtStart : {X V : Type 0} → (X → V) → (V → Type 0) → (V → List ℕ) → List ℕ → List ℕ
+    → Result X ReadError → Type 0
 ReadsAtStart view IsOne spelling before after (Ok x) = StandsAtStart IsOne spelling (view x) before after
 ReadsAtStart view IsOne spelling before after (Err e) = FailsAtStart IsOne spelling before e
 

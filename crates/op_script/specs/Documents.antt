@@ -53,7 +53,8 @@ are_apart d = names_are_apart (names_at (codes "text") d) (names_at (codes "exac
 abbrev pub document_names : List (List ℕ)
 document_names = codes "key" ∷ codes "text" ∷ codes "exact" ∷ codes "num" ∷ []
 
-abbrev pub document_from : Option (List ℕ) → Option (List (List ℕ × List ℕ)) → Option (List (List ℕ × List ℕ)) → Option (List (List ℕ × ℤ)) → Option Document
+abbrev pub document_from : Option (List ℕ) → Option (List (List ℕ × List ℕ))
+    → Option (List (List ℕ × List ℕ)) → Option (List (List ℕ × ℤ)) → Option Document
 document_from key text exact num =
     option_and_then (λ k. option_and_then (λ t. option_and_then (λ e. option_map (λ n. record { key = k; text = t; exact = e; num = n }) num) exact) text) key
 

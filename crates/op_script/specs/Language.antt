@@ -37,7 +37,8 @@ act_of verb.Update d =
 act_of verb.Delete d =
     given why.Name (name_at (codes "field") d) (λ field.
     given why.Text (text_at (codes "term") d) (λ bytes. Ok (act.Do (operation.DeleteTerm (record { field = field; bytes = bytes })))))
-act_of verb.DeleteQuery d = given why.Query (query_at (codes "query") d) (λ query. Ok (act.Do (operation.DeleteQuery query)))
+act_of verb.DeleteQuery d =
+  given why.Query (query_at (codes "query") d) (λ query. Ok (act.Do (operation.DeleteQuery query)))
 act_of verb.Set d =
     given why.Name (name_at (codes "field") d) (λ field.
     given why.Name (name_at (codes "num") d) (λ num.
@@ -54,7 +55,8 @@ line_with at caller (Ok asked) = Ok (record { line = at; caller = caller; act = 
 abbrev pub line_by : ℕ → Data → Option ℕ → Option Verb → Result Line Why
 line_by at d None verb = Err why.Caller
 line_by at d (Some caller) None = Err why.Op
-line_by at d (Some caller) (Some verb) = if has_exactly (members_of verb) d then line_with at caller (act_of verb d) else Err why.Members
+line_by at d (Some caller) (Some verb) =
+  if has_exactly (members_of verb) d then line_with at caller (act_of verb d) else Err why.Members
 
 abbrev pub line_of : ℕ → Data → Result Line Why
 line_of at null = Err why.Json

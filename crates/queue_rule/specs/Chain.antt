@@ -1,5 +1,6 @@
--- How entries stand in the table. Word 0 is the first next word. The stretch of seat i begins at 16642 * i + 1 and has 16642 words.
--- An entry is its next word, and behind it the words that spell it. Its address is that of its next word.
+-- How entries stand in the table. Word 0 is the first next word. The stretch of seat i begins at
+-- 16642 * i + 1 and has 16642 words. An entry is its next word, and behind it the words that spell
+-- it. Its address is that of its next word.
 use Rattle.std.specs.Prelude.{◌≡◌, ℕ, ◌+◌, ◌*◌, ◌<◌, ◌≤◌, ◌==◌, ◌⊎◌, if◌then◌else◌, List, [], ◌∷◌, length, slice_index}
 use mathlib.Core.Option.{some}
 use lib.ListN.{get_elem?}
@@ -52,7 +53,8 @@ abbrev pub filled : List Own → ℕ
 filled [] = 0
 filled (o ∷ os) = (length o.words + 1) + filled os
 
--- where an entry lies, if these stand before it in the chain: its seat's entries fill the stretch from its first word on without holes
+-- where an entry lies, if these stand before it in the chain: its seat's entries fill the stretch
+-- from its first word on without holes
 pub record Lies (k : ℕ) (ws : List ℕ) (before : List ChainEntry) (e : ChainEntry) : Type 0 where
   pub seat : e.seat < k
   pub at : e.at ≡ start e.seat + used e.seat before

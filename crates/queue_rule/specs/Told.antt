@@ -14,14 +14,19 @@ use Rattle.queue_rule.specs.Views.{Knows, KnownFrom}
 abbrev pub SawOpen : View → Type 0
 SawOpen v = (v.seen ≡ []) ⊎ ((h : ℕ) × Knows v (last_or 0 v.seen + 1) h × (head_kind h < 6))
 
--- a word that the view knows to be linked for good: word 0 once an entry was seen, the next word of an entry behind which one was seen, a head, or a payload word of an entry whose head is known
+-- a word that the view knows to be linked for good: word 0 once an entry was seen, the next word of
+-- an entry behind which one was seen, a head, or a payload word of an entry whose head is known
 abbrev pub MayRead : View → ℕ → Type 0
 MayRead v a = ((a ≡ 0) × (0 < length v.seen)) ⊎ (((j : ℕ) × (j + 1 < length v.seen) × (get_elem? v.seen j ≡ some a))
-    ⊎ ((j : ℕ) × (x : ℕ) × (d : ℕ) × (get_elem? v.seen j ≡ some x) × (a ≡ x + 1 + d) × ((d ≡ 0) ⊎ ((h : ℕ) × Knows v (x + 1) h × (d < word_count h)))))
+    ⊎ ((j : ℕ) × (x : ℕ) × (d : ℕ) × (get_elem? v.seen j ≡ some x) × (a ≡ x + 1 + d)
+        × ((d ≡ 0) ⊎ ((h : ℕ) × Knows v (x + 1) h × (d < word_count h)))))
 
 -- the view has seen each of these entries at its place, and knows all its words
 abbrev pub HasOwn : View → List Own → Type 0
-HasOwn v os = (i : ℕ) (o : Own) → get_elem? os i ≡ some o → (a : ℕ) × (0 < o.place) × (get_elem? v.seen (o.place - 1) ≡ some a) × KnownFrom v.known (a + 1) o.words
+HasOwn v os =
+  (i : ℕ) (o : Own) → get_elem? os i ≡ some o
+      → (a : ℕ) × (0 < o.place) × (get_elem? v.seen (o.place - 1) ≡ some a)
+      × KnownFrom v.known (a + 1) o.words
 
 -- the heads of the entries at these addresses are known
 abbrev pub HeadsAt : View → List ℕ → List ℕ → Type 0
@@ -55,7 +60,9 @@ pub record Sound (v : View) : Type 0 where
   pub own_words : (i : ℕ) (o : Own) → get_elem? v.own i ≡ some o → IsEntryWords o.words
   pub old_owns : Each (λ (o : Old). HasOwn v o.own) v.olds
   -- words that are all known to stand behind a seen next word are an entry's
-  pub grammar : (j a : ℕ) (ws : List ℕ) → get_elem? v.seen j ≡ some a → 0 < length ws → length ws ≡ word_count (slice_index ws 0) → ((d : ℕ) → d < length ws → Knows v (a + 1 + d) (slice_index ws d)) → IsEntryWords ws
+  pub grammar : (j a : ℕ) (ws : List ℕ) → get_elem? v.seen j ≡ some a → 0 < length ws
+      → length ws ≡ word_count (slice_index ws 0)
+      → ((d : ℕ) → d < length ws → Knows v (a + 1 + d) (slice_index ws d)) → IsEntryWords ws
   -- at a join, both lists seen before were prefixes of what is seen now
   pub met : Each (λ o. Starts v.seen o.seen × Starts v.seen o.mine) v.olds
   pub blank : length v.seen ≡ 0 → v.known ≡ []
@@ -69,9 +76,11 @@ pub record Whole (v : View) : Type 0 where
   pub owns : v.own ≡ own_from v.number 1 entries
   pub olds : Each (λ (o : Old). o.own ≡ own_from o.number 1 entries) v.olds
   -- an entry lies in the stretch of its seat
-  pub seats : (j : ℕ) (e : ChainEntry) → get_elem? entries j ≡ some e → (e.seat < v.seats) × (start e.seat ≤ e.at) × (e.at < start (e.seat + 1))
+  pub seats : (j : ℕ) (e : ChainEntry) → get_elem? entries j ≡ some e
+      → (e.seat < v.seats) × (start e.seat ≤ e.at) × (e.at < start (e.seat + 1))
   pub grammar : (j : ℕ) (e : ChainEntry) → get_elem? entries j ≡ some e → IsEntryWords e.words
   -- only the last may close the queue
   pub opens : (j : ℕ) (e : ChainEntry) → get_elem? entries j ≡ some e → j + 1 < length entries → IsOpen e.words
   -- what is known of an entry's words agrees with it
-  pub words : (j : ℕ) (e : ChainEntry) (d x : ℕ) → get_elem? entries j ≡ some e → d < length e.words → Knows v (e.at + 1 + d) x → x ≡ slice_index e.words d
+  pub words : (j : ℕ) (e : ChainEntry) (d x : ℕ) → get_elem? entries j ≡ some e → d < length e.words
+      → Knows v (e.at + 1 + d) x → x ≡ slice_index e.words d

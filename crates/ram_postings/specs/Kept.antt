@@ -67,7 +67,8 @@ AreRenumbered numbers lists entries =
     (t : Term) (m r x : ℕ) → number_of numbers m ≡ Some r → posted entries t.field t.bytes r x ≡ kept lists t m x
 
 abbrev pub StandInNumbers : List (Option ℕ) → List TermPostings → Type 0
-StandInNumbers numbers entries = (t : Term) (r x : ℕ) → HasNoNumber numbers r → posted entries t.field t.bytes r x ≡ false
+StandInNumbers numbers entries =
+  (t : Term) (r x : ℕ) → HasNoNumber numbers r → posted entries t.field t.bytes r x ≡ false
 
 -- ---- the documents
 

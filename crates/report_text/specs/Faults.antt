@@ -23,7 +23,8 @@ why_text why.Doc = codes "doc"
 
 -- {"status":N,"why":W}
 abbrev pub plain_value : ℕ → List ℕ → Data
-plain_value status why = object (member (codes "status") (natural status) (member (codes "why") (string why) no_members))
+plain_value status why =
+  object (member (codes "status") (natural status) (member (codes "why") (string why) no_members))
 
 abbrev pub fault_value : Fault → Data
 fault_value fault.Words = plain_value 2 (codes "words")
@@ -31,8 +32,10 @@ fault_value (fault.BadLine bad) = object (member (codes "line") (natural bad.lin
 fault_value fault.Source = plain_value 5 (codes "source")
 fault_value fault.Store = plain_value 7 (codes "store")
 fault_value (fault.Damaged damaged) = object (member (codes "at") (natural damaged.at) (member (codes "file") (string (name_text damaged.file)) (member (codes "status") (natural 8) no_members)))
-fault_value (fault.NoSuch commit) = object (member (codes "commit") (natural commit) (member (codes "status") (natural 9) no_members))
-fault_value (fault.Base base) = object (member (codes "base") (natural base) (member (codes "status") (natural 10) no_members))
+fault_value (fault.NoSuch commit) =
+  object (member (codes "commit") (natural commit) (member (codes "status") (natural 9) no_members))
+fault_value (fault.Base base) =
+  object (member (codes "base") (natural base) (member (codes "status") (natural 10) no_members))
 fault_value (fault.Differs file at found wanted) = object (member (codes "at") (natural at) (member (codes "file") (string (name_text file)) (member (codes "found") (natural found)
     (member (codes "status") (natural 11) (member (codes "wanted") (natural wanted) no_members)))))
 

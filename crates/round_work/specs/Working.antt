@@ -34,8 +34,8 @@ EndsAtCommit (t ∷ ts) (r ∷ rs) = (is_commit t.operation ≡ true → rs ≡ 
 -- ---- a writer
 
 -- Whatever the writer of the queue had been told, it was told these operations besides, all of them numbered above the
--- base of the queue; and it gave the new pieces off, behind those that it had given off. Where it had linked nothing and
--- was told nothing, it has linked nothing.
+-- base of the queue; and it gave the new pieces off, behind those that it had given off. Where it
+-- had linked nothing and was told nothing, it has linked nothing.
 pub record WorksOn (q : DeleteQueue) (more : List NumberedOperation) (old : ThreadWriter) (gave : List Piece)
     (new : ThreadWriter) (given : List Piece) : Type 0 where
   pub writer : IsWriter q new
@@ -69,8 +69,8 @@ AreAtWork q i [] [] = Unit {0}
 AreAtWork q i (w ∷ ws) (s ∷ ss) = IsAtWork q i w s × AreAtWork q (i + 1) ws ss
 AreAtWork q i ws ss = ⊥
 
--- Of the tasks that were told nothing yet, the first ones were told something; none behind a commit. The writer was told
--- the same, and gave these pieces off.
+-- Of the tasks that were told nothing yet, the first ones were told something; none behind a
+-- commit. The writer was told the same, and gave these pieces off.
 pub record Does (q : DeleteQueue) (old : ThreadWriter) (share : Share) (new : ThreadWriter) (after : Share)
     (given : List Piece) : Type 0 where
   pub tasks : after.tasks ≡ share.tasks
@@ -98,7 +98,8 @@ pub record LacksRoom (w : ThreadWriter) (share : Share) : Type 0 where
 
 -- A worker did tasks of its share and stopped: by `Done` exactly where each task was told something, and by `Closed`
 -- only where its seat has seen that the queue is closed. It linked a turn only after the next task found its part full.
--- What its writer gave off are its pieces and then the one that its share holds; it holds none but where memory ran out.
+-- What its writer gave off are its pieces and then the one that its share holds; it holds none but
+-- where memory ran out.
 pub record Works (q : DeleteQueue) (writer : ThreadWriter) (share : Share) (worked : Worked) : Type 0 where
   pub does : Does q writer share worked.writer worked.share (worked.pieces ++ held_of worked.share.held)
   pub sent : (worked.stop ≡ NoMemory → ⊥) → worked.share.held ≡ None

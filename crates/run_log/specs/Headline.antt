@@ -87,8 +87,8 @@ abbrev pub KeepsSegments : ℕ → Files → Files → Type 0
 KeepsSegments t old new =
     (name : FileName) (e : HeadSegment) → Lists old t e → IsAmong (names_of e) name → new name ≡ old name
 
--- The last commit's segments are settled: every image has their files with the bytes that reads give, whether it has the
--- commit file or not. And no image has a commit above it.
+-- The last commit's segments are settled: every image has their files with the bytes that reads
+-- give, whether it has the commit file or not. And no image has a commit above it.
 pub record IsLastSettled (g : Given) (store : Option Disk) : Type 0 where
   pub segments : (d : Files) → MayHold store d → KeepsSegments g.base g.files d
   pub none_above : (d : Files) → MayHold store d → (s : ℕ) → g.base < s → d (file.Commit s) ≡ None
@@ -242,9 +242,10 @@ abbrev pub GivesBack : Option Disk → Type 0
 GivesBack store = (g : Given) × (told_files store ≡ Some g.files) × CanRun g × IsKept g store
 
 -- A run that was done, for one order of its numbered lines, its log. What was written of the text that tells of the log
--- is said by `wrote`. All of the log's commits are in the files that the store tells, and in every image once the call has
--- ended. A crash at any moment of the call leaves the first ones. And the store is again such as a run asks for. Where
--- only the last commit's segments are settled, the log's commits are there all the same, whatever becomes of older ones.
+-- is said by `wrote`. All of the log's commits are in the files that the store tells, and in every
+-- image once the call has ended. A crash at any moment of the call leaves the first ones. And the
+-- store is again such as a run asks for. Where only the last commit's segments are settled, the
+-- log's commits are there all the same, whatever becomes of older ones.
 pub record Runs (g : Given) (text : List Line → List ℕ) (wrote : List ℕ → Type 0) (old new : Option Disk) : Type 0 where
   pub log : List Line
   pub numbering : Interleaves g.lines log

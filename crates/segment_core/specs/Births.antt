@@ -52,5 +52,7 @@ pub at_most_one : (low s b : ℕ) (rows : List Row) → BirthsRise low s rows �
 at_most_one low s b [] rise = omega arith
 at_most_one low s b (r ∷ rs) rise =
     by_bool (eqb r.birth b)
-    (λ e. let is : r.birth ≡ b = eqb-true _ _ e in omega (arith, one_true b r e, below_none (r.birth + 1) s b rs rise.2 (omega (arith, is))))
+    (λ e. let is : r.birth
+        ≡ b = eqb-true _ _ e in omega (arith, one_true b r e, below_none (r.birth
+        + 1) s b rs rise.2 (omega (arith, is))))
     (λ e. omega (arith, one_false b r e, at_most_one (r.birth + 1) s b rs rise.2))

@@ -54,8 +54,8 @@ abbrev pub term_comes : Option Term → List ℕ → List ℕ → Bool
 term_comes None field bytes = true
 term_comes (Some last) field bytes = text_lt last.field field || text_lt last.bytes bytes
 
--- The field and the bytes of a term. Where the field is that of the last term and the bytes don't come after that one's,
--- it is broken at the field.
+-- The field and the bytes of a term. Where the field is that of the last term and the bytes don't
+-- come after that one's, it is broken at the field.
 unfoldable pub term_name_at : Option Term → List ℕ → Result (Term × List ℕ) ℕ
 term_name_at last bytes = do
   field ← name_where (field_comes last) bytes

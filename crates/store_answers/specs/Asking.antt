@@ -49,8 +49,10 @@ IsNoSuchOr named Other fault = (fault ≡ missing named) ⊎ Other fault
 -- What a call says of a store without the commit that is asked for: that there is none, unless the store fails or
 -- memory runs out. It says so of no other store.
 pub record TellsLack {T : Type 0} (told : Option Files) (named : Option ℕ) (result : Result T OpenFault) : Type 0 where
-  pub no_such : (other : ℕ) → result ≡ Err (opening.NoSuch other) → (other ≡ unwrap_or named 0) × ((files : Files) → told ≡ Some files → LacksAsked files named)
-  pub lacks : (files : Files) → told ≡ Some files → LacksAsked files named → IsErrAnd result (IsNoSuchOr named IsOutside)
+  pub no_such : (other : ℕ) → result ≡ Err (opening.NoSuch other)
+      → (other ≡ unwrap_or named 0) × ((files : Files) → told ≡ Some files → LacksAsked files named)
+  pub lacks : (files : Files) → told ≡ Some files → LacksAsked files named
+      → IsErrAnd result (IsNoSuchOr named IsOutside)
 
 -- the commit that is asked for has this number, and is first broken at this place
 pub record IsDamagedAsked (told : Option Files) (named : Option ℕ) (damaged : Damaged) : Type 0 where

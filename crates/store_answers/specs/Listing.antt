@@ -51,4 +51,5 @@ pub record BreaksAmong (told : Option Files) (numbers : List ℕ) (damaged : Dam
   pub at : ℕ
   pub within : at < length numbers
   pub broken : IsBrokenCommit told (slice_index_or numbers at 0) damaged
-  pub before : (files : Files) → told ≡ Some files → (k : ℕ) → k < at → (head : Head) × HasHead files (slice_index_or numbers k 0) head
+  pub before : (files : Files) → told ≡ Some files → (k : ℕ) → k < at
+      → (head : Head) × HasHead files (slice_index_or numbers k 0) head

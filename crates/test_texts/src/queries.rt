@@ -12,8 +12,8 @@ pub fn show_term(out: &mut String, term: &Term) -> Result<(), Fail> {
 }
 
 /// Appends a query that is nested at most so deep, and fails where it is nested deeper: `all`, a term,
-/// `body~a b` for a phrase, `n:1..9` for a range, and of a `bool` the queries of each of its three lists, behind `+`, `|` and
-/// `-`.
+/// `body~a b` for a phrase, `n:1..9` for a range, and of a `bool` the queries of each of its three
+/// lists, behind `+`, `|` and `-`.
 pub fn show_query(out: &mut String, query: &Query, depth: u32) -> Result<(), Fail> {
     match query {
         Query::All => out.push_str("all")?,
