@@ -75,6 +75,13 @@ fn show_turn(out: &mut String, linked: Linked) -> Result<(), Fail> {
     }
 }
 
+fn show_change(out: &mut String, change: &Change) -> Result<(), Fail> {
+    match change {
+        Change::Set(setting) => Ok(write!(out, " {}{}", setting.num.as_str(), setting.number)?),
+        Change::Delete(delete) => Ok(write!(out, " ?{}", delete.number)?),
+    }
+}
+
 fn show_updates(out: &mut String, updates: &Updates) -> Result<(), Fail> {
     for (key, number) in updates.deletes().as_map() {
         write!(out, " -{}{number}", key.term().bytes.as_str())?;
@@ -83,10 +90,7 @@ fn show_updates(out: &mut String, updates: &Updates) -> Result<(), Fail> {
         write!(out, " ?{}", query.number)?;
     }
     for change in updates.changes() {
-        match change {
-            Change::Set(setting) => write!(out, " {}{}", setting.num.as_str(), setting.number)?,
-            Change::Delete(delete) => write!(out, " ?{}", delete.number)?,
-        }
+        show_change(out, change)?;
     }
     Ok(())
 }
@@ -176,16 +180,31 @@ fn step_of(
     }
 }
 
-/// What two writers of a new queue are told and give off, and how many documents are in the first one's
-/// buffer at the end.
-fn run(alloc: Global, lines: &str) -> Result<String, Fail> {
-    let (queue, mut first, mut second) = two_writers(alloc)?;
-    let mut out = String::new(alloc);
+/// Does the lines of two writers.
+fn steps(
+    alloc: Global,
+    queue: &DeleteQueue,
+    first: &mut ThreadWriter,
+    second: &mut ThreadWriter,
+    lines: &str,
+    out: &mut String,
+) -> Result<(), Fail>
+    requires first { IsWriter queue.now first.old }
+    requires second { IsWriter queue.now second.old }
+{
     for line in lines.split(", ") {
-        step_of(alloc, &queue, &mut first, &mut second, line, &mut out)?;
+        step_of(alloc, queue, first, second, line, out)?;
     }
-    write!(out, " rest {}", first.hand_back().rest.rows())?;
-    Ok(out)
+    Ok(())
+}
+
+/// Shows what two writers of a new queue are told and give off, and how many documents are in the first
+/// one's buffer at the end.
+fn run(alloc: Global, lines: &str, out: &mut String) -> Result<(), Fail> {
+    let (queue, mut first, mut second) = two_writers(alloc)?;
+    steps(alloc, &queue, &mut first, &mut second, lines, out)?;
+    let rest = first.hand_back().rest.rows();
+    Ok(write!(out, " rest {rest}")?)
 }
 
 /// Lines of two writers, and what they are told and give off.
@@ -216,19 +235,22 @@ const CASES: &str = "\
 
 #[test]
 fn writers_of_a_queue(rt: HostRuntime) -> Result<(), Fail> {
+    let mut told = String::new(rt.alloc());
     for case in CASES.lines() {
         if let Some((lines, wanted)) = case.split_once(" =") {
-            assert!(rt; run(rt.alloc(), lines)?.as_str() == wanted, "{}", case);
+            told.clear();
+            run(rt.alloc(), lines, &mut told)?;
+            assert!(rt; told.as_str() == wanted, "{}", case);
         }
     }
     Ok(())
 }
 
-/// A seat that is filled by 4,159 deletes, each of four words with its next word.
-fn full_seat(alloc: Global) -> Result<String, Fail> {
+/// What a seat is told that is filled by 4,159 deletes, each of four words with its next word.
+fn full_seat(alloc: Global, told: &mut String) -> Result<(), Fail> {
     let mut lines = "0 delete abcde, ".repeat(alloc, 4159)?;
     lines.push_str("0 update abcdef, 0 turn abcdef, 0 add a")?;
-    run(alloc, lines.as_str())
+    run(alloc, lines.as_str(), told)
 }
 
 /// What the deletes are told, and then what a seat without room tells, the turn that ends it, and two
@@ -244,7 +266,8 @@ fn told_when_full(alloc: Global) -> Result<String, Fail> {
 
 #[test]
 fn seat_without_room(rt: HostRuntime) -> Result<(), Fail> {
-    let told = full_seat(rt.alloc())?;
+    let mut told = String::new(rt.alloc());
+    full_seat(rt.alloc(), &mut told)?;
     assert!(rt; told.as_str() == told_when_full(rt.alloc())?.as_str());
     Ok(())
 }
