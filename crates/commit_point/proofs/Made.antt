@@ -240,6 +240,7 @@ pub made_of : (s next : ℕ) (pairs : Pairs) (gs : List Lived) (ws : List (Optio
     → Publishes (commit_files s gs ws) (Pending s) (Commit s) (commit_file (new_head s next pairs gs ws)) a c → Commits s next pairs gs ws a c
 made_of s next pairs gs ws a c new all = record {
   spelled = has_made s next pairs gs ws a c new all.whole.last all.whole.there all.elsewhere;
+  has_pairs = (new_head s next pairs gs ws, head_made s next pairs gs ws c new all.whole.last, refl);
   commit = all.whole.last;
   files = all.whole.there;
   pending = all.whole.gone;

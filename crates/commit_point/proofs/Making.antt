@@ -21,9 +21,9 @@ use Rattle.commit_point.specs.declared.fault.CommitRefused.{CommitRefused}
 use Rattle.commit_point.specs.Publishing.{File, puts, puts_all, publishes, AreThere, MayPublish, CanPublish, Refuses}
 use Rattle.commit_point.proofs.PublishLaws.{publish_stops, publish_early, image_of_publish, reads_of_publish, reads_of_stop}
 use Rattle.commit_point.specs.Spelling.{commit_file}
-use Rattle.commit_point.specs.Holds.{HasPairs, Pairs}
+use Rattle.commit_point.specs.Holds.{Pairs}
 use Rattle.commit_point.specs.Writing.{Commits, MayCommit, SameElsewhere, IsOldId, commit_steps, commit_files, new_head}
-use Rattle.commit_point.proofs.Made.{AreNew, head_made, made_of, may_of}
+use Rattle.commit_point.proofs.Made.{AreNew, made_of, may_of}
 use Rattle.commit_point.proofs.Names.{can_publish, elsewhere_of}
 
 -- ---- what the call promises, by the steps that it took
@@ -56,14 +56,6 @@ pub makes : (s next : ℕ) (pairs : Pairs) (gs : List Lived) (ws : List (Option 
 makes s next pairs gs ws None b new did = tt
 makes s next pairs gs ws (Some x) None new did = absurd did
 makes s next pairs gs ws (Some x) (Some y) new did = made_of s next pairs gs ws (files x) (files y) new (reads_of_publish _ _ _ _ x y (can_publish s next gs ws new.can.ids) did)
-
--- the pairs stand in the commit file
-pub has_pairs : (s next : ℕ) (pairs : Pairs) (gs : List Lived) (ws : List (Option Written)) (a b : Option Disk) → AreNew s next pairs gs ws → Did s next pairs gs ws a b → Changes (λ old now. HasPairs now s pairs) (told_files a) (told_files b)
-has_pairs s next pairs gs ws None b new did = tt
-has_pairs s next pairs gs ws (Some x) None new did = absurd did
-has_pairs s next pairs gs ws (Some x) (Some y) new did =
-    let made = made_of s next pairs gs ws (files x) (files y) new (reads_of_publish _ _ _ _ x y (can_publish s next gs ws new.can.ids) did) in
-    (new_head s next pairs gs ws, head_made s next pairs gs ws (files y) new made.commit, refl)
 
 pub leaves_others : (s next : ℕ) (pairs : Pairs) (gs : List Lived) (ws : List (Option Written)) (a b : Option Disk) → CanPublish (commit_files s gs ws) (Pending s) (Commit s) → Stopped s next pairs gs ws a b → Changes (SameElsewhere s (IsOldId gs ws)) (told_files a) (told_files b)
 leaves_others s next pairs gs ws None b can stopped = tt

@@ -42,8 +42,8 @@ pub record IsBroken {A : Type 0} (told : Option Files) (name : FileName) (read :
 abbrev pub Unknown : (ℕ → Bool) → List Lived → Type 0
 Unknown known [] = ⊤
 Unknown known (g ∷ gs) =
-  AllByRecursion (λ (r : Row). known r.birth ≡ false) g.segment.rows
-      × Unknown (λ b. known b || has_birth g.segment.rows b) gs
+    AllByRecursion (λ (r : Row). known r.birth ≡ false) g.segment.rows
+    × Unknown (λ b. known b || has_birth g.segment.rows b) gs
 
 -- the segments of a commit were read
 pub record AreRead (told : Option Files) (head : Head) (before : Files) (segments : List Lived) : Type 0 where

@@ -60,7 +60,7 @@ pub record Adds (list : List File) (old new : Files) : Type 0 where
 -- every file is as it was, but those of the list, the pending one and the last one
 abbrev pub SameBesides : List File → FileName → FileName → Files → Files → Type 0
 SameBesides list pending final old new =
-  (name : FileName) → IsNoneOf list name → name ≢ pending → name ≢ final → new name ≡ old name
+    (name : FileName) → IsNoneOf list name → name ≢ pending → name ≢ final → new name ≡ old name
 
 -- the last file has its bytes, and so has each of the list; nothing is left under the pending name
 pub record IsWhole (list : List File) (pending final : FileName) (bytes : List ℕ) (files : Files) : Type 0 where

@@ -27,7 +27,7 @@ RowsBroken told s known e d = IsBroken told (Rows e.id) (rows_in e.id e.rows s k
 -- its postings were read
 abbrev pub PostingsRead : Option Files → HeadSegment → Postings → Type 0
 PostingsRead told e postings =
-  Reads told (Posts e.id) (Some (posts_file e.id e.rows postings)) × PostingsFit e.rows postings
+    Reads told (Posts e.id) (Some (posts_file e.id e.rows postings)) × PostingsFit e.rows postings
 
 abbrev pub PostingsBroken : Option Files → HeadSegment → Damaged → Type 0
 PostingsBroken told e d = IsBroken told (Posts e.id) (posts_in e.id e.rows) d
@@ -56,8 +56,8 @@ LiveBroken told e d = BitsBroken told e d ⊎ ((bits : List Bool) × BitsRead to
 -- the postings are broken, or they were read and the live bits or set numbers are
 abbrev pub LaterBroken : Option Files → HeadSegment → Damaged → Type 0
 LaterBroken told e d =
-  PostingsBroken told e d
-      ⊎ ((postings : Postings) × PostingsRead told e postings × LiveBroken told e d)
+    PostingsBroken told e d
+    ⊎ ((postings : Postings) × PostingsRead told e postings × LiveBroken told e d)
 
 -- the rows are broken, or they were read and a later file is
 abbrev pub SegmentBroken : Option Files → ℕ → (ℕ → Bool) → HeadSegment → Damaged → Type 0

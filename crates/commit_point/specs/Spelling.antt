@@ -31,8 +31,8 @@ entry e = be64 e.id ++ (be32 e.rows ++ be64 e.written)
 abbrev pub commit_file : Head → List ℕ
 commit_file head =
     mark_of head.format
-        ++ (be64 head.number
-        ++ (be64 head.docs
-        ++ (be64 head.next_id
-        ++ (be64 (length head.segments)
-        ++ (flat_map entry head.segments ++ tail_of head.format head.pairs)))))
+    ++ (be64 head.number
+    ++ (be64 head.docs
+    ++ (be64 head.next_id
+    ++ (be64 (length head.segments)
+    ++ (flat_map entry head.segments ++ tail_of head.format head.pairs)))))

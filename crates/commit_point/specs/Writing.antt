@@ -16,7 +16,7 @@ use Rattle.commit_point.specs.declared.heads.Head.{Head}
 use Rattle.commit_point.specs.declared.written.Written.{Written}
 use Rattle.segment_core.specs.Births.{BirthsDiffer}
 use Rattle.commit_point.specs.declared.heads.CommitFormat.TheVariants.{Second}
-use Rattle.commit_point.specs.Holds.{Pairs, HasSegment, HasSegments, Lists, head_of}
+use Rattle.commit_point.specs.Holds.{Pairs, HasPairs, HasSegment, HasSegments, Lists, head_of}
 use Rattle.commit_point.specs.Publishing.{File, AreThere, publishes}
 use Rattle.commit_point.specs.Spelling.{commit_file}
 
@@ -99,7 +99,7 @@ pub record CanWrite (s : ℕ) (g : Lived) : Type 0 where
 abbrev pub SegmentIdsRise : ℕ → ℕ → List Lived → Type 0
 SegmentIdsRise low limit [] = ⊤
 SegmentIdsRise low limit (g ∷ gs) =
-  (low ≤ g.segment.id) × (g.segment.id < limit) × SegmentIdsRise (g.segment.id + 1) limit gs
+    (low ≤ g.segment.id) × (g.segment.id < limit) × SegmentIdsRise (g.segment.id + 1) limit gs
 
 -- what was written was written with a commit from 1 to s
 abbrev pub WrittenUpTo : ℕ → Option Written → Type 0
@@ -158,10 +158,12 @@ IsElsewhere s Old (Values id v) = v ≢ s
 abbrev pub SameElsewhere : ℕ → (ℕ → Type 0) → Files → Files → Type 0
 SameElsewhere s Old old new = (name : FileName) → IsElsewhere s Old name → new name ≡ old name
 
--- The commit s was made of these segments. Each byte that was written is fixed: nothing is left under the pending
--- name, and every other file is as it was. It spells the segments where what was written of them before stands.
+-- The commit s was made of these segments, and these pairs stand in it. Each byte that was written is fixed: nothing is
+-- left under the pending name, and every other file is as it was. It spells the segments where what was written of them
+-- before stands.
 pub record Commits (s next : ℕ) (pairs : Pairs) (gs : List Lived) (ws : List (Option Written)) (old new : Files) : Type 0 where
   pub spelled : AreWritten old s gs ws → HasSegments new s next (entries_of s gs ws) (listed gs)
+  pub has_pairs : HasPairs new s pairs
   pub commit : new (Commit s) ≡ Some (commit_file (new_head s next pairs gs ws))
   pub files : AreThere (commit_files s gs ws) new
   pub pending : new (Pending s) ≡ None

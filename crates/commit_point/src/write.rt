@@ -8,7 +8,6 @@ ghost use Rattle.ix_outside.specs.Disk.{Does, Told, told_files};
 ghost use Rattle.ix_outside.specs.Files.{Files, Changes};
 ghost use Rattle.ix_outside.specs.Images.{Follows, IsDurable, Reaches};
 ghost use Rattle.commit_point.specs.Publishing.{BlamesRefusal};
-ghost use Rattle.commit_point.specs.Holds.{HasPairs};
 ghost use Rattle.commit_point.specs.Settling.{Settles};
 ghost use Rattle.commit_point.specs.Steps.{KeepsMade, OnlyCommits};
 ghost use Rattle.commit_point.specs.Writing.{ComesAfter, Commits, MayCommit, SameElsewhere, IsOldId, CanCommit, commit_files, commit_steps, new_head};
@@ -62,10 +61,6 @@ pub fn write_commit<S: Store>(
         → Told KeepsMade (S.disk store.old) (S.disk store.new) }
     ensures ok { OnOk result (next_id ≤ 2 ^ 62
         → Changes (Commits number next_id pairs.now segments.now written.now)
-        (told_files (S.disk store.old)) (told_files (S.disk store.new))) }
-    // The pairs stand in the commit file.
-    ensures pairs { next_id ≤ 2 ^ 62 → OnOk result
-        (Changes (λ old now. HasPairs now number pairs.now)
         (told_files (S.disk store.old)) (told_files (S.disk store.new))) }
     ensures err { OnErr result (Changes (SameElsewhere number (IsOldId segments.now written.now))
         (told_files (S.disk store.old)) (told_files (S.disk store.new))) }

@@ -29,8 +29,8 @@ own_in i p (e ∷ es) = if e.seat == i then own p e.words ∷ own_in i (p + 1) e
 -- the seat has these as the own entries of seat number n: its own, or of a seat that it took over
 abbrev pub HoldsList : Seat → ℕ → List Own → Type 0
 HoldsList s n os =
-  ((number_of s ≡ n) × (own_of s ≡ os))
-      ⊎ ((i : ℕ) × (get_elem? (olds_of s) i ≡ some (record { number = n; own = os })))
+    ((number_of s ≡ n) × (own_of s ≡ os))
+    ⊎ ((i : ℕ) × (get_elem? (olds_of s) i ≡ some (record { number = n; own = os })))
 
 -- t has seen, knows and holds all that s had seen, known and held
 pub record TakesIn (t s : Seat) : Type 0 where

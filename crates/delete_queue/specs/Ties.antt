@@ -15,8 +15,8 @@ view s = s.me.0
 -- a seat of this queue's table that is in use
 abbrev pub IsLiveOf : DeleteQueue → TableSeat → Type 0
 IsLiveOf q s =
-  (s.table_id ≡ q.table.shared.table_id) × ((view s).live ≡ true)
-      × ((view s).seats ≡ q.table.shared.key) × (s.me.1 ≡ [])
+    (s.table_id ≡ q.table.shared.table_id) × ((view s).live ≡ true)
+    × ((view s).seats ≡ q.table.shared.key) × (s.me.1 ≡ [])
 
 -- and the rule has told what holds of its view
 abbrev pub IsTold : DeleteQueue → TableSeat → Type 0

@@ -35,7 +35,7 @@ HasEntries Stands from (entry ∷ rest) = HasEntry Stands (from + 1) entry × Ha
 abbrev pub operations_behind : ℕ → ℕ → List Entry → List Numbered
 operations_behind base from [] = []
 operations_behind base from (entry ∷ rest) =
-  entry_operation (base + (from + 1)) entry ++ operations_behind base (from + 1) rest
+    entry_operation (base + (from + 1)) entry ++ operations_behind base (from + 1) rest
 
 -- the sequence number of an entry; a turn has none
 abbrev pub own_number : ℕ → Entry → List ℕ

@@ -25,7 +25,7 @@ AreWithin after upto numbers = AllByRecursion (λ (n : ℕ). (after < n) × (n �
 -- bounds of the numbers before and of these numbers are bounds of the numbers now
 abbrev pub KeepsBoundsOf : List ℕ → Updates → Updates → Type 0
 KeepsBoundsOf numbers old new =
-  (after upto : ℕ) → NumberedWithin after upto (as_operations old) → AreWithin after upto numbers
+    (after upto : ℕ) → NumberedWithin after upto (as_operations old) → AreWithin after upto numbers
     → NumberedWithin after upto (as_operations new)
 
 -- The updates took all entries after the place `from`, up to the place `to`: they make of every

@@ -20,7 +20,7 @@ module _ {H D T : Type 0} (deed_of : H → D) (told_of : H → List T) where
   abbrev pub OpeningKept : Type 0
   OpeningKept = (words : List ℕ) (slots : List (Option H)) → AreFresh told_of slots → length words ≡ length slots + 2
       → ((i : ℕ) → slice_index words i ≡ 0)
-          → Kept deed_of told_of (length slots) (opening words slots (keeper_of deed_of slots))
+      → Kept deed_of told_of (length slots) (opening words slots (keeper_of deed_of slots))
 
   -- a pass that is out exchanges 0 for 1 at its door
   abbrev pub EnterKept : Type 0
@@ -31,16 +31,16 @@ module _ {H D T : Type 0} (deed_of : H → D) (told_of : H → List T) where
   -- a pass that is in, and has the slot with a hand of its deed, stores 0 at its door
   abbrev pub LeaveKept : Type 0
   LeaveKept =
-    (n slots id : ℕ) (me : Me (Option H) (View D T)) (d : ℕ) (h : H) → me.0.is_pass ≡ true
-        → me.0.is_keeper ≡ false
+      (n slots id : ℕ) (me : Me (Option H) (View D T)) (d : ℕ) (h : H) → me.0.is_pass ≡ true
+      → me.0.is_keeper ≡ false
       → me.0.inside ≡ true → me.0.door ≡ d → me.1 ≡ (d, Some h) ∷ rest me.1 → Some (deed_of h) ≡ me.0.deed
       → Allows (Kept deed_of told_of n) slots id me (d + 2) (λ (x : ℕ). 0) (λ (x : ℕ). Leaves told_of me 0)
 
   -- the keeper exchanges 0 for 2 at a door that it hasn't taken
   abbrev pub TakeKept : Type 0
   TakeKept =
-    (n slots id word : ℕ) (me : Me (Option H) (View D T)) (d : ℕ) → me.0.is_keeper ≡ true
-        → me.0.is_pass ≡ false
+      (n slots id word : ℕ) (me : Me (Option H) (View D T)) (d : ℕ) → me.0.is_keeper ≡ true
+      → me.0.is_pass ≡ false
       → d < length me.0.doors → taken_at me.0.doors d ≡ false → word ≡ d + 2
       → Allows (Kept deed_of told_of n) slots id me (d + 2) (λ (x : ℕ). either (x == 0) 2 x) (Takes deed_of word me)
 
@@ -82,7 +82,7 @@ module _ {H D T : Type 0} (deed_of : H → D) (told_of : H → List T) where
       × ((id : ℕ) (v : View D T) → get_elem? s.views id ≡ some v → v.is_pass ≡ true → v.door ≡ c
       → (v.deed ≡ Some (deed_of h)) × (v.told ≡ told_of h))
       × ((id : ℕ) (v : View D T) → get_elem? s.views id ≡ some v → v.is_keeper ≡ true
-          → deed_at v.doors c ≡ Some (deed_of h))
+      → deed_at v.doors c ≡ Some (deed_of h))
 
   -- ---- steps that break the rule
 
@@ -96,16 +96,16 @@ module _ {H D T : Type 0} (deed_of : H → D) (told_of : H → List T) where
   -- a pass that is in can't store 2 at its door
   abbrev pub NoneShutsItsDoor : Type 0
   NoneShutsItsDoor =
-    (n slots id d : ℕ) (me : Me (Option H) (View D T)) (s : State (Option H) (View D T))
-        → CanBe n slots id (d + 2) me s
+      (n slots id d : ℕ) (me : Me (Option H) (View D T)) (s : State (Option H) (View D T))
+      → CanBe n slots id (d + 2) me s
       → d < n → me.0.is_pass ≡ true → me.0.is_keeper ≡ false → me.0.inside ≡ true → me.0.door ≡ d
       → Allows (Kept deed_of told_of n) slots id me (d + 2) (λ (x : ℕ). 2) (λ (x : ℕ). Leaves told_of me 2) → ⊥
 
   -- the keeper can't exchange 1 for 2 at a door whose pass is in
   abbrev pub NoneTakesFromInside : Type 0
   NoneTakesFromInside =
-    (n slots id d : ℕ) (me : Me (Option H) (View D T)) (s : State (Option H) (View D T))
-        → CanBe n slots id (d + 2) me s
+      (n slots id d : ℕ) (me : Me (Option H) (View D T)) (s : State (Option H) (View D T))
+      → CanBe n slots id (d + 2) me s
       → d < n → taken_at me.0.doors d ≡ false → slice_index s.words (d + 2) ≡ 1
       → Allows (Kept deed_of told_of n) slots id me (d
-          + 2) (λ (x : ℕ). either (x == 1) 2 x) (Takes deed_of (d + 2) me) → ⊥
+      + 2) (λ (x : ℕ). either (x == 1) 2 x) (Takes deed_of (d + 2) me) → ⊥

@@ -106,7 +106,7 @@ pub record IsNewPass {H D T : Type 0} (t : TableId) (c : ℕ) (deed : Option D) 
 -- new passes of doors with these deeds, one after another
 abbrev pub ArePassesAt : {H D T : Type 0} → TableId → List (DoorSeen D) → List (Pass H D T) → Type 0
 ArePassesAt {H} {D} {T} t doors passes =
-  (c : ℕ) (p : Pass H D T) → get_elem? passes c ≡ some p → IsNewPass t c (deed_at doors c) p
+    (c : ℕ) (p : Pass H D T) → get_elem? passes c ≡ some p → IsNewPass t c (deed_at doors c) p
 
 -- new passes of these doors, one after another, which know the deeds that the keeper knows
 abbrev pub AreNewPasses : {H D T : Type 0} → Doors H D T → Keeper H D T → List (Pass H D T) → Type 0

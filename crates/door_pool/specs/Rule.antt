@@ -19,7 +19,7 @@ module _ {H D T : Type 0} (deed_of : H → D) (told_of : H → List T) where
   -- the slot of door c is at home, and holds a hand with this deed which was told these
   abbrev pub HoldsHand : List (Home (Option H)) → ℕ → Option D → List T → Type 0
   HoldsHand homes c d t =
-    (h : H) × (get_elem? homes c ≡ some (some (Some h))) × (Some (deed_of h) ≡ d) × (told_of h ≡ t)
+      (h : H) × (get_elem? homes c ≡ some (some (Some h))) × (Some (deed_of h) ≡ d) × (told_of h ≡ t)
 
 module _ {D T : Type 0} (n keeper made : ℕ) (holder : ℕ → ℕ) (deed : ℕ → Option D) (told : ℕ → List T)
     (inside taken : ℕ → Bool) where

@@ -9,15 +9,15 @@ module _ {H D T : Type 0} (deed_of : H → D) (told_of : H → List T) where
   abbrev pub Enters : Me (Option H) (View D T) → ℕ → Me (Option H) (View D T) → Type 0
   Enters m found after = MatchBool (found == 0)
       ((h : H) × (Some (deed_of h) ≡ m.0.deed) × (told_of h ≡ m.0.told)
-          × (after ≡ (after_enter m.0, (m.0.door, Some h) ∷ m.1)))
+      × (after ≡ (after_enter m.0, (m.0.door, Some h) ∷ m.1)))
       ((found ≡ 2) × (after ≡ (after_found m.0 2, m.1)))
 
 module _ {H D T : Type 0} (told_of : H → List T) where
   -- a store of 0: the slot with the hand is at home again
   abbrev pub Leaves : Me (Option H) (View D T) → ℕ → Me (Option H) (View D T) → Type 0
   Leaves m found after =
-    (h : H) × (m.1 ≡ (m.0.door, Some h) ∷ rest m.1)
-        × (after ≡ (after_leave m.0 (told_of h), rest m.1))
+      (h : H) × (m.1 ≡ (m.0.door, Some h) ∷ rest m.1)
+      × (after ≡ (after_leave m.0 (told_of h), rest m.1))
 
 module _ {H D T : Type 0} (deed_of : H → D) where
   -- an exchange of 0 for 2: the keeper took the door of this word, and has the slot with its hand; or the pass is in

@@ -39,7 +39,7 @@ without ids segments = filter (λ s. not (is_among ids s)) segments
 abbrev pub replaced : List ℕ → Option Lived → Published → Published
 replaced ids None p = record p { segments = without ids p.segments; merge = None }
 replaced ids (Some s) p =
-  record p { segments = without ids p.segments ++ s ∷ []; next_id = p.next_id + 1; merge = None }
+    record p { segments = without ids p.segments ++ s ∷ []; next_id = p.next_id + 1; merge = None }
 
 -- The sources of a merge, which have these ids, were replaced by what they are merged into.
 pub record IsEnd (old : Published) (ids : List ℕ) (sources : List Lived) (new : Published) : Type 0 where
@@ -103,7 +103,7 @@ abbrev pub Advanced : ℕ → Published → Merge → List Lived → ℕ → Mer
 Advanced rows old was sources count Idle new = ⊥
 Advanced rows old was sources count Stepped new = IsStepped rows old was.ids.items sources count new
 Advanced rows old was sources count Merged new =
-  (row_count sources ≤ count + rows) × IsEnd old was.ids.items sources new
+    (row_count sources ≤ count + rows) × IsEnd old was.ids.items sources new
 
 -- ---- after an error
 
@@ -135,5 +135,5 @@ pub record EndsMerge (old new : Published) : Type 0 where
 -- Merges keep what segments stand for.
 abbrev pub MergesStand : Type 0
 MergesStand =
-  (m rows : ℕ) (turn : MergeTurn) (old new : Published) → IsPublished old
-      → Turns m rows old turn new → EndsMerge old new
+    (m rows : ℕ) (turn : MergeTurn) (old new : Published) → IsPublished old
+    → Turns m rows old turn new → EndsMerge old new

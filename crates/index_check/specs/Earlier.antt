@@ -51,8 +51,8 @@ pub record CanSpell (g : Lived) : Type 0 where
 -- the postings of each segment that files of this id spell are the inversion of its rows
 abbrev pub IsSoundId : Files → ℕ → Type 0
 IsSoundId files id =
-  (s : ℕ) (e : HeadSegment) (g : Lived) → s < 2 ^ 64 → id < 2 ^ 64 → e.id ≡ id
-      → HasSegment files s e g
+    (s : ℕ) (e : HeadSegment) (g : Lived) → s < 2 ^ 64 → id < 2 ^ 64 → e.id ≡ id
+    → HasSegment files s e g
     → IsInverted g.segment
 
 -- the segment's id is one of those, or its postings are the inversion of its rows

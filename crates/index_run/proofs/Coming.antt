@@ -10,6 +10,7 @@ use Rattle.ix_outside.specs.Crash.{MayHold}
 use Rattle.ix_outside.specs.Disk.{Disk, Told, told_files}
 use Rattle.ix_outside.specs.Files.{Files, Changes}
 use Rattle.ix_outside.specs.Images.{Follows, Reaches}
+use Rattle.commit_point.specs.Holds.{Pairs}
 use Rattle.commit_point.specs.Steps.{KeepsMade, OnlyCommits}
 use Rattle.flush_control.specs.declared.published.Published.{Published}
 use Rattle.op_script.specs.Shape.{LinesRise}
@@ -29,12 +30,12 @@ use Rattle.index_writer.specs.declared.state.State.{State}
 use Rattle.index_writer.specs.Rounds.{AreBegunFrom, ArePartsOf, IsBegun}
 use Rattle.index_writer.specs.Ready.{HasRows, IsReady, IsSound}
 use Rattle.index_writer.specs.Storing.{Commits, GoesOn as WriterGoesOn, MayCommit, Settles, on_commit}
-use Rattle.run_log.specs.Headline.{commit_numbers, numbered, operations}
+use Rattle.run_log.specs.Headline.{commit_numbers, numbered, operations, pairs_at}
 use Rattle.run_log.proofs.Lists.{each_behind, each_in_both, each_pair}
 use Rattle.run_log.proofs.NumberLaws.{commits_append, commits_within, rows_at_all, rows_at_front}
 use Rattle.index_run.specs.Doing.{CanBegin, IsWriterOn}
-use Rattle.index_run.specs.Driving.{EndsRound, HasCome, HasDone, IsAt, IsCut, IsDocs, IsDue, IsOver, IsRound, Run, base_of, number_in}
-use Rattle.index_run.specs.Leaving.{CommitLaws, IsNextCommit, first_numbers}
+use Rattle.index_run.specs.Driving.{EndsRound, HasCome, HasDone, IsAt, IsCut, AreDuePairs, IsDocs, IsDue, IsOver, IsRound, Run, base_of, number_in}
+use Rattle.index_run.specs.Leaving.{CommitLaws, IsNextCommit, due_pairs, first_numbers}
 use Rattle.index_run.specs.Replied.{CanTell, IsCounted}
 use Rattle.index_run.proofs.RepliedLaws.{outcomes_counted}
 use Rattle.index_run.specs.Outcomes.{AreOutcomes}
@@ -47,6 +48,11 @@ use Rattle.index_run.proofs.WriterOn.{writer_commit, writer_same, writer_start}
 
 abbrev Pair : Type 0
 Pair = ℕ × ℕ
+
+-- where no commit is pending
+no_data : (base : ℕ) (log : List Line) (pairs : Pairs) (pending : Option ℕ) → pending ≡ None
+    → AreDuePairs base log pending pairs
+no_data base log pairs pending none = subst (λ (p : Option ℕ). AreDuePairs base log p pairs) (sym none) tt
 
 -- ---- the beginning
 
@@ -75,7 +81,7 @@ cut_start r lines can =
     }
 
 pub come_start : (r : Run) (lines : List Line) (shares : List Share) → CanBegin r.first → LinesRise 1 lines
-    → AreShares r.workers lines shares → AllByRecursion IsFresh shares → HasCome r lines shares [] r.first r.start
+    → AreShares r.workers lines shares → AllByRecursion IsFresh shares → HasCome r lines shares [] [] r.first r.start
 come_start r lines shares can rise are fresh = record {
   log = [];
   done = record {
@@ -87,6 +93,7 @@ come_start r lines shares can rise are fresh = record {
   };
   numbers = ap number_in can.pending;
   docs = tt;
+  due_pairs = no_data (base_of r) [] [] r.first.pending can.pending;
 }
 
 -- ---- a round was begun
@@ -121,16 +128,19 @@ done_begun r lines shares log w v now is sound h =
       told = h.told;
     }
 
-pub come_begun : (r : Run) (lines : List Line) (shares : List Share) (commits : List Pair) (w v : State)
+pub come_begun : (r : Run) (lines : List Line) (shares : List Share) (commits : List Pair) (pairs : Pairs) (w v : State)
     (old now : Option Disk) → now ≡ old → v ≡ record w { out = true } → IsSound v
-    → HasCome r lines shares commits w old → HasCome r lines shares commits v now
-come_begun r lines shares commits w v old now same is sound come =
-    subst (HasCome r lines shares commits v) (sym same) (record {
+    → HasCome r lines shares commits pairs w old → HasCome r lines shares commits pairs v now
+come_begun r lines shares commits pairs w v old now same is sound come =
+    subst (HasCome r lines shares commits pairs v) (sym same) (record {
       log = come.log;
       done = done_begun r lines shares come.log w v old is sound come.done;
       numbers =
           ap (λ (s : State). map (λ (c : Pair). c.0) commits ++ number_in s.pending) is ∙ come.numbers;
       docs = come.docs;
+      due_pairs =
+          subst (λ (p : Option ℕ). AreDuePairs (base_of r) come.log p pairs) (sym (ap (λ (s : State). s.pending) is))
+          come.due_pairs;
     })
 
 -- ---- the pending commit was written
@@ -139,6 +149,13 @@ come_begun r lines shares commits w v old now same is sound come =
 pub next_commit : (first : State) (log : List Line) (front upto s : ℕ) (pending : Option ℕ) → pending ≡ Some s
     → IsDue first log front upto pending → IsNextCommit first log front s × (s ≡ upto)
 next_commit first log front upto s pending is due = subst (IsDue first log front upto) is due
+
+-- and its pairs are those of that line
+pub pairs_due : (first : State) (log : List Line) (w : State) (s : ℕ) (pairs : Pairs) → w.pending ≡ Some s
+    → s ≡ w.published.upto → AreDuePairs first.published.upto log w.pending pairs → pairs ≡ due_pairs first log w
+pairs_due first log w s pairs pending at is =
+    subst (λ (p : Option ℕ). AreDuePairs first.published.upto log p pairs) pending is
+    ∙ ap (λ (n : ℕ). pairs_at first.published.upto log n) at
 
 -- the commit of the log's last line has the rows of all its lines
 docs_written : (first w : State) (log : List Line) (c : CommitInfo) → IsWriterOn first log w
@@ -149,27 +166,28 @@ docs_written first w log c on is docs_of rows has =
     docs_of (after rows first.published.upto (operations log)) (on.rows rows has)
     ∙ ap length (sym (rows_at_all first.published.upto rows log c.number at_end))
 
-module _ (r : Run) (lines : List Line) (shares : List Share) (commits : List Pair) (w v : State) (old now : Option Disk)
-    (come : HasCome r lines shares commits w old) where
+module _ (r : Run) (lines : List Line) (shares : List Share) (commits : List Pair) (pairs : Pairs) (w v : State)
+    (old now : Option Disk) (come : HasCome r lines shares commits pairs w old) where
   abbrev log : List Line
   log = come.log
 
   pub come_written : (c : CommitInfo) → CommitLaws → w.pending ≡ Some c.number → v ≡ on_commit w → IsReady v
       → w.published.next_id ≤ 2 ^ 62 → ((rows : List Row) → HasRows w rows → c.docs ≡ length rows)
       → ((rows : List Row) → HasRows w rows → HasRows v rows)
-      → (w.published.next_id ≤ 2 ^ 62 → Changes (Commits w v) (told_files old) (told_files now))
-      → (w.published.next_id ≤ 2 ^ 62 → Follows (Commits w v) (MayHold old) (MayHold now))
+      → (w.published.next_id ≤ 2 ^ 62 → Changes (Commits pairs w v) (told_files old) (told_files now))
+      → (w.published.next_id ≤ 2 ^ 62 → Follows (Commits pairs w v) (MayHold old) (MayHold now))
       → (w.published.next_id ≤ 2 ^ 62 → Settles w old now)
-      → (w.published.next_id ≤ 2 ^ 62 → LeavesOnly old now (Reaches (MayCommit w) (MayHold old)))
+      → (w.published.next_id ≤ 2 ^ 62 → LeavesOnly old now (Reaches (MayCommit pairs w) (MayHold old)))
       → Told OnlyCommits old now
       → ((files : Files) → told_files old ≡ Some files → WriterGoesOn files w → Told KeepsMade old now)
-      → HasCome r lines shares (commits ++ (c.number, c.docs) ∷ []) v now
+      → HasCome r lines shares (commits ++ (c.number, c.docs) ∷ []) pairs v now
   come_written c laws pending is ready room docs_of keeps_rows made acknowledged settled crash only standing =
       let at = come.done.at in
       let due = next_commit r.first log at.front w.published.upto c.number w.pending pending at.due in
       let next : IsNextCommit r.first log at.front w.published.upto =
       subst (IsNextCommit r.first log at.front) due.1 due.0 in
       let none : v.pending ≡ None = ap (λ (s : State). s.pending) is in
+      let own : pairs ≡ due_pairs r.first log w = pairs_due r.first log w c.number pairs pending due.1 come.due_pairs in
       record {
         log = log;
         done = record {
@@ -184,8 +202,12 @@ module _ (r : Run) (lines : List Line) (shares : List Share) (commits : List Pai
                 subst (IsDue r.first log (length log) v.published.upto) (sym none)
                 (sym (numbers_whole (base_of r) log));
             disk =
-                disk_commit r.first w v log at.front r.start old now laws at.first at.writer at.within next is room made
-                acknowledged settled crash only standing at.disk;
+                disk_commit r.first w v log at.front r.start old now laws at.first at.writer at.within next is room
+                (λ low. subst (λ (ps : Pairs). Changes (Commits ps w v) (told_files old) (told_files now)) own (made low))
+                (λ low. subst (λ (ps : Pairs). Follows (Commits ps w v) (MayHold old) (MayHold now)) own (acknowledged low))
+                settled
+                (λ low. subst (λ (ps : Pairs). LeavesOnly old now (Reaches (MayCommit ps w) (MayHold old))) own (crash low))
+                only standing at.disk;
           };
           log_is = come.done.log_is;
           told = come.done.told;
@@ -199,6 +221,7 @@ module _ (r : Run) (lines : List Line) (shares : List Share) (commits : List Pai
         docs =
             each_in_both (λ (p : Pair). IsDocs r.first log p.0 p.1) commits ((c.number, c.docs) ∷ []) come.docs
             (docs_written r.first w log c at.writer due.1 docs_of, tt);
+        due_pairs = no_data (base_of r) log pairs v.pending none;
       }
 
 -- ---- a round was done
@@ -214,14 +237,14 @@ begun_on n w v round upto buffer begun = record {
 }
 
 -- what came back of the workers of a round that was begun
-pub round_done : (r : Run) (lines : List Line) (commits : List Pair) (threads : ℕ) (w v : State) (round : Round)
+pub round_done : (r : Run) (lines : List Line) (commits : List Pair) (pairs : Pairs) (threads : ℕ) (w v : State) (round : Round)
     (shares news : List Share) (worked : List Worked) (parts : RoundParts) (now : Option Disk) → r.workers ≡ threads
-    → (come : HasCome r lines shares commits v now) → v.pending ≡ None → v.out ≡ true
+    → (come : HasCome r lines shares commits pairs v now) → v.pending ≡ None → v.out ≡ true
     → v.published.upto ≡ w.published.upto → v.buffer ≡ w.buffer → IsBegun threads w round
     → AreWorked round.queue round.writers.items shares worked → AllCame worked → parts.queue ≡ round.queue
     → parts.writers.items ≡ writers_of worked → pieces_of parts.pieces.items ≡ gave_of worked
     → news ≡ map share_of worked → IsRound r lines shares news come.log v parts now
-round_done r lines commits threads w v round shares news worked parts now size come pending out upto buffer begun all came queue writers pieces news_are =
+round_done r lines commits pairs threads w v round shares news worked parts now size come pending out upto buffer begun all came queue writers pieces news_are =
     let are : AreShares threads lines shares =
     subst (λ (n : ℕ). AreShares n lines shares) size come.done.shares_are in
     record {
@@ -267,10 +290,10 @@ all_written base log commits pending none numbers =
     ∙ sym (ap (λ (p : Option ℕ). map (λ (c : Pair). c.0) commits ++ number_in p) none)
     ∙ numbers
 
-pub come_on : (r : Run) (lines : List Line) (olds news : List Share) (commits : List Pair) (w v : State)
-    (now : Option Disk) → (come : HasCome r lines olds commits w now) → w.pending ≡ None
-    → EndsRound r lines news come.log v now → HasCome r lines news commits v now
-come_on r lines olds news commits w v now come none ends =
+pub come_on : (r : Run) (lines : List Line) (olds news : List Share) (commits : List Pair) (written due : Pairs)
+    (w v : State) (now : Option Disk) → (come : HasCome r lines olds commits written w now) → w.pending ≡ None
+    → EndsRound r lines news come.log due v now → HasCome r lines news commits due v now
+come_on r lines olds news commits written due w v now come none ends =
     let log = come.log in
     let numbers = all_written (base_of r) log commits w.pending none come.numbers in
     record {
@@ -281,16 +304,17 @@ come_on r lines olds news commits w v now come none ends =
           ∙ ap (λ (ns : List ℕ). commit_numbers (base_of r) log ++ ns) (sym ends.commit_is)
           ∙ sym (commits_append (base_of r) log ends.more);
       docs = all_stay r.first log ends.more commits numbers come.docs;
+      due_pairs = ends.due_pairs;
     }
 
 -- ---- the end
 
 -- what was told of the lines, where each was told something
-pub can_tell : (r : Run) (lines : List Line) (places : List Place) (shares : List Share) (commits : List Pair) (w : State)
-    (now : Option Disk) → AllByRecursion (λ (l : Line). l.caller < 256) lines → places ≡ map place_of lines
-    → AreDone shares → w.pending ≡ None → (h : HasCome r lines shares commits w now)
+pub can_tell : (r : Run) (lines : List Line) (places : List Place) (shares : List Share) (commits : List Pair)
+    (pairs : Pairs) (w : State) (now : Option Disk) → AllByRecursion (λ (l : Line). l.caller < 256) lines → places ≡ map place_of lines
+    → AreDone shares → w.pending ≡ None → (h : HasCome r lines shares commits pairs w now)
     → CanTell (base_of r) lines h.log places shares commits
-can_tell r lines places shares commits w now callers places_are done none h =
+can_tell r lines places shares commits pairs w now callers places_are done none h =
     let are = h.done.shares_are in
     record {
       rise = h.done.rise;
@@ -304,10 +328,11 @@ can_tell r lines places shares commits w now callers places_are done none h =
     }
 
 -- the run is over
-pub over_of : (r : Run) (lines : List Line) (shares : List Share) (commits : List Pair) (became : List Outcome) (w : State)
-    (now : Option Disk) → AreDone shares → w.pending ≡ None → (h : HasCome r lines shares commits w now)
+pub over_of : (r : Run) (lines : List Line) (shares : List Share) (commits : List Pair) (pairs : Pairs)
+    (became : List Outcome) (w : State) (now : Option Disk) → AreDone shares → w.pending ≡ None
+    → (h : HasCome r lines shares commits pairs w now)
     → AreOutcomes (IsCounted commits) (base_of r) h.log [] lines became → IsOver r lines became w now
-over_of r lines shares commits became w now done none h are =
+over_of r lines shares commits pairs became w now done none h are =
     let at = h.done.at in
     let all : commit_numbers (base_of r) h.log ≡ first_numbers r.first h.log at.front =
     subst (IsDue r.first h.log at.front w.published.upto) none at.due in

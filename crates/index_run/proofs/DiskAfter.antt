@@ -24,7 +24,7 @@ use Rattle.index_run.specs.Merged.{EndsMerged}
 use Rattle.index_writer.specs.Storing.{Commits, GoesOn, MayCommit, Settles, on_commit}
 use Rattle.run_log.specs.Headline.{commit_numbers}
 use Rattle.index_run.specs.Doing.{CanBegin, IsWriterOn}
-use Rattle.index_run.specs.Leaving.{CommitLaws, HasFront, HasSomeFront, IsDiskAfter, IsNextCommit, Stands, first_numbers}
+use Rattle.index_run.specs.Leaving.{CommitLaws, HasFront, HasSomeFront, IsDiskAfter, IsNextCommit, Stands, due_pairs, first_numbers}
 use Rattle.index_run.proofs.LogNumbers.{numbers_front, numbers_whole}
 use Rattle.run_log.proofs.CommitLaws.{commits_rise, rises_last}
 use Rattle.run_log.specs.Numbering.{Rises}
@@ -223,7 +223,7 @@ pub some_crash : (first w : State) (log : List Line) (count : ℕ) (old mid new 
     → w.since ≤ first.published.next_id + 2 * length log
     → IsNextCommit first log count w.published.upto
     → ComesNext first log (first_numbers first log count) w → Stands first log (first_numbers first log count) w old mid
-    → MayCommit w mid new → HasSomeFront first log old new
+    → MayCommit (due_pairs first log w) w mid new → HasSomeFront first log old new
 some_crash first w log count old mid new le high numbers next stands may =
     by (front_crash first log (first_numbers first log count) w old mid new next stands may)
   where
@@ -251,10 +251,10 @@ some_crash first w log count old mid new le high numbers next stands may =
 pub crash_commit : (first w : State) (log : List Line) (count : ℕ) (start mid now : Option Disk) → CommitLaws
     → CanBegin first → IsWriterOn first log w → count ≤ length log
     → IsNextCommit first log count w.published.upto
-    → LeavesOnly mid now (Reaches (MayCommit w) (MayHold mid)) → IsDiskAfter first log count w start mid
+    → LeavesOnly mid now (Reaches (MayCommit (due_pairs first log w) w) (MayHold mid)) → IsDiskAfter first log count w start mid
     → LeavesOnly start now (Reaches (HasSomeFront first log) (MayHold start))
 crash_commit first w log count start mid now laws begun on le numbers crash disk =
-    leaves_then start mid now (Reaches (HasSomeFront first log) (MayHold start)) (Reaches (MayCommit w) (MayHold mid))
+    leaves_then start mid now (Reaches (HasSomeFront first log) (MayHold start)) (Reaches (MayCommit (due_pairs first log w) w) (MayHold mid))
     (Reaches (HasSomeFront first log) (MayHold start)) disk.crash crash (λ c left. left)
     (λ c left.
     let d = disk.images left.0 left.1 in (
@@ -291,10 +291,10 @@ pub disk_commit : (first w v : State) (log : List Line) (count : ℕ) (start mid
     → CanBegin first → IsWriterOn first log w → count ≤ length log
     → IsNextCommit first log count w.published.upto
     → v ≡ on_commit w → w.published.next_id ≤ 2 ^ 62
-    → (w.published.next_id ≤ 2 ^ 62 → Changes (Commits w v) (told_files mid) (told_files now))
-    → (w.published.next_id ≤ 2 ^ 62 → Follows (Commits w v) (MayHold mid) (MayHold now))
+    → (w.published.next_id ≤ 2 ^ 62 → Changes (Commits (due_pairs first log w) w v) (told_files mid) (told_files now))
+    → (w.published.next_id ≤ 2 ^ 62 → Follows (Commits (due_pairs first log w) w v) (MayHold mid) (MayHold now))
     → (w.published.next_id ≤ 2 ^ 62 → Settles w mid now)
-    → (w.published.next_id ≤ 2 ^ 62 → LeavesOnly mid now (Reaches (MayCommit w) (MayHold mid)))
+    → (w.published.next_id ≤ 2 ^ 62 → LeavesOnly mid now (Reaches (MayCommit (due_pairs first log w) w) (MayHold mid)))
     → Told OnlyCommits mid now
     → ((files : Files) → told_files mid ≡ Some files → GoesOn files w → Told KeepsMade mid now)
     → IsDiskAfter first log count w start mid → IsDiskAfter first log (length log) v start now
@@ -306,7 +306,7 @@ disk_commit first w v log count start mid now laws begun on le numbers is room m
     record {
       low = omega (arith, since, on.low);
       high = omega (arith, since, on.high);
-      files = then (Stands first log before w) (Commits w v) (Stands first log all v) (told_files start)
+      files = then (Stands first log before w) (Commits (due_pairs first log w) w v) (Stands first log all v) (told_files start)
           (told_files mid) (told_files now) (λ x y z. whole x y z next) disk.files (made room);
       images = λ c image.
           let d = acknowledged room c image in
@@ -319,7 +319,7 @@ disk_commit first w v log count start mid now laws begun on le numbers is room m
     }
   where
     whole : (old at new : Files) → ComesNext first log (first_numbers first log count) w
-        → Stands first log (first_numbers first log count) w old at → Commits w v at new
+        → Stands first log (first_numbers first log count) w old at → Commits (due_pairs first log w) w v at new
         → Stands first log (first_numbers first log (length log)) v old new
     whole old at new next stands commit =
         subst (λ (ns : List ℕ). Stands first log ns v old new) (all_numbers first log count w.published.upto numbers)

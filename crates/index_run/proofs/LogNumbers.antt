@@ -63,7 +63,7 @@ one_added n (Update term doc) = omega arith
 one_added n (DeleteTerm term) = omega arith
 one_added n (DeleteQuery query) = omega arith
 one_added n (SetNumber term name value) = omega arith
-one_added n Commit = omega arith
+one_added n (Commit pairs) = omega arith
 
 pub few_added : (last : ℕ) (ops : List Operation) → length (rows_added (numbered_from last ops)) ≤ length ops
 few_added last [] = omega arith

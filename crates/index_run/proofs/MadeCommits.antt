@@ -14,7 +14,7 @@ use Rattle.ix_outside.specs.Files.{Files}
 use Rattle.segment_core.specs.LiveRows.{Lived}
 use Rattle.commit_point.specs.declared.heads.HeadSegment.{HeadSegment}
 use Rattle.commit_point.specs.Fits.{EntryFits}
-use Rattle.commit_point.specs.Holds.{HasSegments, HoldsInverted, IsAmong, IsFileOf, KeepsCommits, Lists, names_of}
+use Rattle.commit_point.specs.Holds.{HasPairs, HasSegments, HoldsInverted, IsAmong, IsFileOf, KeepsCommits, Lists, Pairs, names_of}
 use Rattle.commit_point.proofs.Laws.{has_kept, inverted_kept}
 use Rattle.commit_point.specs.declared.written.Written.{Written}
 use Rattle.commit_point.specs.Writing as commit
@@ -25,8 +25,9 @@ use Rattle.index_writer.specs.Ready.{IsReady, IsStored, NewIdsFrom}
 use Rattle.index_writer.specs.Storing.{Commits, GoesOn, MayCommit, SameBelow, on_commit}
 use Rattle.run_log.specs.Headline.{IsIn, KeepsCommit, operations, rows_at}
 use Rattle.run_log.proofs.CommitLaws.{AllBelow, in_last, in_push}
+use Rattle.run_log.proofs.NumberLaws.{pairs_at_front}
 use Rattle.index_run.specs.Doing.{CanBegin, IsWriterOn}
-use Rattle.index_run.specs.Leaving.{AreMade, CommitLaws, HasFront, IsBefore, IsMade, SameBefore, Stands}
+use Rattle.index_run.specs.Leaving.{AreMade, CommitLaws, HasFront, IsBefore, IsMade, SameBefore, Stands, due_pairs}
 use Rattle.index_run.proofs.LogNumbers.{nat_or, rows_front, rows_whole}
 
 -- ---- what lists what
@@ -111,6 +112,12 @@ same_before first s since old mid new above from_next same before name is =
 
 -- ---- commits that were made
 
+-- the pairs of a commit file that is as it was
+pairs_kept : (mid new : Files) (n : ℕ) (pairs : Pairs) → new (Commit n) ≡ mid (Commit n) → HasPairs mid n pairs
+    → HasPairs new n pairs
+pairs_kept mid new n pairs same has =
+    (has.0, record { file = same ∙ has.1.file; number = has.1.number; fits = has.1.fits }, has.2)
+
 -- what stays of a commit that was made, when a later one is written
 made_kept : (first : State) (log : List Line) (s since : ℕ) (old mid new : Files) (n : ℕ) → n < s
     → SameBelow s since mid new → IsMade first log since old mid n → IsMade first log since old new n
@@ -128,6 +135,7 @@ made_kept first log s since old mid new n lt same made = record {
   rows = λ rows has.
       inverted_kept n made.id s (λ id. id < since) (rows_at first.published.upto rows log n) mid new lt below same
       (made.rows rows has);
+  pairs = pairs_kept mid new n _ (same (Commit n) (λ is. absurd (omega (arith, is, lt)))) made.pairs;
 }
   where
     below : (id : ℕ) → id < made.id → id < since
@@ -157,6 +165,7 @@ made_longer first log more limit higher old new s le made = record {
   rows = λ rows has.
       subst (λ (rs : List Row). HoldsInverted new s made.id rs)
       (sym (rows_front first.published.upto rows log more s made.inside)) (made.rows rows has);
+  pairs = subst (HasPairs new s) (sym (pairs_at_front first.published.upto log more s made.inside)) made.pairs;
 }
 
 made_higher : (first : State) (log : List Line) (limit higher : ℕ) (old new : Files) (s : ℕ) → limit ≤ higher
@@ -171,6 +180,7 @@ made_higher first log limit higher old new s le made = record {
   spelled = made.spelled;
   above = made.above;
   rows = made.rows;
+  pairs = made.pairs;
 }
 
 each_onto : (P Q : ℕ → Type 0) (ns : List ℕ) → ((n : ℕ) → P n → Q n) → AllByRecursion P ns → AllByRecursion Q ns
@@ -315,8 +325,8 @@ before_next first log numbers w old mid new next same before =
     (omega (arith, next.begun.since, next.low)) same before
 
 -- what the commit made of the files
-abbrev IsWritten : State → Files → Files → Type 0
-IsWritten w = commit.Commits w.published.upto w.published.next_id [] w.published.segments w.written
+abbrev IsWritten : Pairs → State → Files → Files → Type 0
+IsWritten pairs w = commit.Commits w.published.upto w.published.next_id pairs w.published.segments w.written
 
 -- a state without segments
 abbrev emptied : State → State
@@ -324,7 +334,7 @@ emptied w = record w { published = record w.published { segments = [] }; written
 
 -- the commit is that of the whole log
 this_made : (first : State) (log : List Line) (numbers : List ℕ) (w : State) (old mid new : Files)
-    → ComesNext first log numbers w → Stands first log numbers w old mid → IsWritten w mid new → IsStored old first
+    → ComesNext first log numbers w → Stands first log numbers w old mid → IsWritten (due_pairs first log w) w mid new → IsStored old first
     → IsMade first log w.published.next_id old new w.published.upto
 this_made first log numbers w old mid new next stands made stored = record {
   id = w.published.next_id;
@@ -342,12 +352,13 @@ this_made first log numbers w old mid new next stands made stored = record {
   rows = λ rows has.
       subst (λ (rs : List Row). HoldsInverted new w.published.upto w.published.next_id rs)
       (rows_whole first.published.upto rows log w.published.upto next.on.upto)
-      (next.laws.hold w (emptied w) mid new (after rows first.published.upto (operations log))
-      (record { made = made; stands = λ was. tt }) (stands.stored stored) (next.on.rows rows has));
+      (next.laws.hold (due_pairs first log w) w (emptied w) mid new (after rows first.published.upto (operations log))
+      (record { made = made; stands = λ was. tt }) (stands.stored stored) (next.on.rows rows has)).0;
+  pairs = made.has_pairs;
 }
 
 front_commit : (first : State) (log : List Line) (numbers : List ℕ) (w : State) (old mid new : Files)
-    → ComesNext first log numbers w → Stands first log numbers w old mid → IsWritten w mid new
+    → ComesNext first log numbers w → Stands first log numbers w old mid → IsWritten (due_pairs first log w) w mid new
     → HasFront first log (numbers ++ w.published.upto ∷ []) w.published.next_id old new
 front_commit first log numbers w old mid new next stands made = record {
   made = λ stored.
@@ -371,18 +382,18 @@ front_still first log numbers w old mid new next stands same commit = record {
 }
 
 pub stands_commit : (first : State) (log : List Line) (numbers : List ℕ) (w v : State) (old mid new : Files)
-    → ComesNext first log numbers w → v ≡ on_commit w → Stands first log numbers w old mid → Commits w v mid new
+    → ComesNext first log numbers w → v ≡ on_commit w → Stands first log numbers w old mid → Commits (due_pairs first log w) w v mid new
     → Stands first log (numbers ++ w.published.upto ∷ []) v old new
 stands_commit first log numbers w v old mid new next is stands made = record {
   front = subst (λ (n : ℕ). HasFront first log (numbers ++ w.published.upto ∷ []) n old new)
       (sym (ap (λ (s : State). s.since) is)) (front_commit first log numbers w old mid new next stands made.made);
   stored = λ stored. made.stands (stands.stored stored);
-  goes_on = λ goes. next.laws.go_on w v mid new next.on.ready is made (stands.goes_on goes);
+  goes_on = λ goes. next.laws.go_on (due_pairs first log w) w v mid new next.on.ready is made (stands.goes_on goes);
 }
 
 -- a crash while the writer commits: its commit is there whole, or the files have those that were made before
 pub front_crash : (first : State) (log : List Line) (numbers : List ℕ) (w : State) (old mid new : Files)
-    → ComesNext first log numbers w → Stands first log numbers w old mid → MayCommit w mid new
+    → ComesNext first log numbers w → Stands first log numbers w old mid → MayCommit (due_pairs first log w) w mid new
     → HasFront first log numbers w.since old new
     ⊎ HasFront first log (numbers ++ w.published.upto ∷ []) w.published.next_id old new
 front_crash first log numbers w old mid new next stands may = elim (may.whole) [

@@ -58,7 +58,7 @@ done_weaker Docs More says s (Update t doc) answer is = is
 done_weaker Docs More says s (DeleteTerm t) answer is = is
 done_weaker Docs More says s (DeleteQuery q) answer is = is
 done_weaker Docs More says s (SetNumber t n v) answer is = is
-done_weaker Docs More says s Commit answer is = (is.0, says s is.0 is.1, is.2)
+done_weaker Docs More says s (Commit pairs) answer is = (is.0, says s is.0 is.1, is.2)
 
 told_weaker : (r : Option Refusal) (answer : Answer) (P Q : Type 0) → (P → Q) → IsTold r answer P → IsTold r answer Q
 told_weaker (Some refused) answer P Q says is = is
@@ -107,7 +107,7 @@ done_told rows_by base rows log line (Update t doc) answer is = ap (answer_text 
 done_told rows_by base rows log line (DeleteTerm t) answer is = ap (answer_text rows_by line) is
 done_told rows_by base rows log line (DeleteQuery q) answer is = ap (answer_text rows_by line) is
 done_told rows_by base rows log line (SetNumber t n v) answer is = ap (answer_text rows_by line) is
-done_told rows_by base rows log line Commit answer is =
+done_told rows_by base rows log line (Commit pairs) answer is =
     ap (answer_text rows_by line) is.2
     ∙ ap (λ (docs : ℕ). text_line (commit_value docs line (number_of base log line))) is.1
 
@@ -163,7 +163,7 @@ done_other Docs s (Update t doc) answer is number query searches = cc
 done_other Docs s (DeleteTerm t) answer is number query searches = cc
 done_other Docs s (DeleteQuery q) answer is number query searches = cc
 done_other Docs s (SetNumber t n v) answer is number query searches = cc
-done_other Docs s Commit answer is number query searches = let told = is.2 in cc
+done_other Docs s (Commit pairs) answer is number query searches = let told = is.2 in cc
 
 told_other : (r : Option Refusal) (answer : Answer) (P : Type 0)
     → (P → (number : ℕ) (query : Query) → answer ≡ Searched number query → ⊥) → IsTold r answer P

@@ -371,6 +371,7 @@ first_of g lines log count f first = record {
           from_next = each.0.own.from_next;
           to_limit = each.0.own.to_limit;
           holds = each.0.own.holds;
+          pairs = each.0.own.pairs;
         };
         above = each.0.above;
       },

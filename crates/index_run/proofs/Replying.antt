@@ -42,7 +42,7 @@ searches (Do (Update term doc)) query is = absurd (cc)
 searches (Do (DeleteTerm term)) query is = absurd (cc)
 searches (Do (DeleteQuery other)) query is = absurd (cc)
 searches (Do (SetNumber term name value)) query is = absurd (cc)
-searches (Do Commit) query is = absurd (cc)
+searches (Do (Commit pairs)) query is = absurd (cc)
 searches (Search other) query is = cc
 
 pub writes : (a : Act) → kind_of a ≡ kind.Write → (is_doing a ≡ true) × (is_commit a ≡ false)
@@ -51,16 +51,16 @@ writes (Do (Update term doc)) is = (refl, refl)
 writes (Do (DeleteTerm term)) is = (refl, refl)
 writes (Do (DeleteQuery query)) is = (refl, refl)
 writes (Do (SetNumber term name value)) is = (refl, refl)
-writes (Do Commit) is = absurd (cc)
+writes (Do (Commit pairs)) is = absurd (cc)
 writes (Search query) is = absurd (cc)
 
-pub commits : (a : Act) → kind_of a ≡ kind.Commit → a ≡ Do Commit
+pub commits : (a : Act) → kind_of a ≡ kind.Commit → (pairs : List (List ℕ × List ℕ)) × (a ≡ Do (Commit pairs))
 commits (Do (Add doc)) is = absurd (cc)
 commits (Do (Update term doc)) is = absurd (cc)
 commits (Do (DeleteTerm term)) is = absurd (cc)
 commits (Do (DeleteQuery query)) is = absurd (cc)
 commits (Do (SetNumber term name value)) is = absurd (cc)
-commits (Do Commit) is = refl
+commits (Do (Commit pairs)) is = (pairs, refl)
 commits (Search query) is = absurd (cc)
 
 doing_is : (a : Act) → is_doing a ≡ true → a ≡ Do (operation_of a)
@@ -91,7 +91,7 @@ told_number Docs s n (Update term doc) answer other is e = e ∙ ap Numbered is
 told_number Docs s n (DeleteTerm term) answer other is e = e ∙ ap Numbered is
 told_number Docs s n (DeleteQuery query) answer other is e = e ∙ ap Numbered is
 told_number Docs s n (SetNumber term name value) answer other is e = e ∙ ap Numbered is
-told_number Docs s n Commit answer other is e = absurd (let no : true ≡ false = other in cc)
+told_number Docs s n (Commit pairs) answer other is e = absurd (let no : true ≡ false = other in cc)
 
 wrote : (Docs : ℕ → ℕ → Type 0) (base : ℕ) (log done : List Line) (l : Line) (op : Operation) (r : Reply)
     (answer : Answer)
@@ -114,22 +114,23 @@ written_is Docs base log done l o r doing other told line answer =
     (ap (λ (a : Act). is_commit a) (sym act) ∙ other) told answer)
 
 committed_as : (Docs : ℕ → ℕ → Type 0) (base : ℕ) (log done : List Line) (l : Line) (r : Reply) (answer : Answer)
-    → l.act ≡ Do Commit → IsReplyFor base log l r → IsCommitAnswer Docs r answer
-    → IsAnswer Docs base log done l (Do Commit) answer
-committed_as Docs base log done l (reply.Numbered n) answer act told is = (
+    (pairs : List (List ℕ × List ℕ)) → l.act ≡ Do (Commit pairs) → IsReplyFor base log l r → IsCommitAnswer Docs r answer
+    → IsAnswer Docs base log done l (Do (Commit pairs)) answer
+committed_as Docs base log done l (reply.Numbered n) answer pairs act told is = (
   is.0,
   subst (λ (s : ℕ). Docs s is.0) (sym told.1) is.1,
   is.2 ∙ ap (λ (s : ℕ). Committed s is.0) (sym told.1),
 )
-committed_as Docs base log done l (reply.Refused f) answer act told is =
+committed_as Docs base log done l (reply.Refused f) answer pairs act told is =
     absurd (let none : None ≡ Some f = ap (λ (a : Act). refusal (operation_of a)) (sym act) ∙ told in cc)
 
 -- a commit is told its number and how many rows it has
 pub committed_is : (Docs : ℕ → ℕ → Type 0) (base : ℕ) (log done : List Line) (l : Line) (o : Outcome) (r : Reply)
-    → l.act ≡ Do Commit → IsReplyFor base log l r → o.line ≡ l.line → IsCommitAnswer Docs r o.answer
+    (pairs : List (List ℕ × List ℕ)) → l.act ≡ Do (Commit pairs) → IsReplyFor base log l r → o.line ≡ l.line → IsCommitAnswer Docs r o.answer
     → IsOutcome Docs base log done l o
-committed_is Docs base log done l o r act told line answer =
-    answered Docs base log done l o (Do Commit) line act (committed_as Docs base log done l r o.answer act told answer)
+committed_is Docs base log done l o r pairs act told line answer =
+    answered Docs base log done l o (Do (Commit pairs)) line act
+    (committed_as Docs base log done l r o.answer pairs act told answer)
 
 -- ---- how far it has come, with one line more
 
@@ -147,11 +148,11 @@ far_other base log done rest l lasts told new far other left = record {
 
 -- the line is a commit
 pub far_commit : (base : ℕ) (log done rest : List Line) (l : Line) (lasts after : List ℕ) (told new : List Replies)
-    (r : Reply)
-    → IsSoFar base log done (l ∷ rest) lasts told → l.act ≡ Do Commit → IsReplyFor base log l r
+    (r : Reply) (pairs : List (List ℕ × List ℕ))
+    → IsSoFar base log done (l ∷ rest) lasts told → l.act ≡ Do (Commit pairs) → IsReplyFor base log l r
     → ((n : ℕ) → r ≡ reply.Numbered n → after ≡ slice_set lasts l.caller n) → length after ≡ length lasts
     → AreLeft base log rest new → IsSoFar base log (done ++ l ∷ []) rest after new
-far_commit base log done rest l lasts after told new (reply.Numbered n) far act said noted count left = record {
+far_commit base log done rest l lasts after told new (reply.Numbered n) pairs far act said noted count left = record {
   size = count ∙ far.size;
   lasts_are =
       subst (λ (table : List ℕ). AreLasts base log (done ++ l ∷ []) table) (sym (noted n refl))
@@ -161,7 +162,7 @@ far_commit base log done rest l lasts after told new (reply.Numbered n) far act 
   callers = far.callers.1;
   committed = far.committed.1;
 }
-far_commit base log done rest l lasts after told new (reply.Refused f) far act said noted count left =
+far_commit base log done rest l lasts after told new (reply.Refused f) pairs far act said noted count left =
     absurd (let none : None ≡ Some f = ap (λ (a : Act). refusal (operation_of a)) (sym act) ∙ said in cc)
 
 -- ---- before the first line

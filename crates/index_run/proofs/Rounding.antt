@@ -11,14 +11,18 @@ use Rattle.ix_outside.specs.Disk.{Disk, Told, told_files}
 use Rattle.ix_outside.specs.Files.{Files, Changes}
 use Rattle.ix_outside.specs.Images.{Reaches}
 use Rattle.commit_point.proofs.StepLaws.{goes_then}
+use Rattle.commit_point.specs.Holds.{Pairs}
 use Rattle.commit_point.specs.Steps.{KeepsMade, MakesCommits, OnlyCommits}
 use Rattle.op_script.specs.declared.script.Line.{Line}
 use Rattle.round_order.specs.Order.{NoCommit, seconds}
+use Rattle.row_fates.specs.Fate.{Numbered}
 use Rattle.worker_tasks.specs.declared.share.Share.{Share}
 use Rattle.line_shares.proofs.LogLaws.{log_completes, log_grows}
 use Rattle.line_shares.proofs.NumberLaws.{told_go_on}
 use Rattle.line_shares.proofs.ShareLaws.{shares_go_on}
 use Rattle.line_shares.proofs.TellLaws.{pairs_are, tells_since}
+use Rattle.line_shares.proofs.CommittedLaws.{commit_found}
+use Rattle.line_shares.specs.Committed.{commit_among}
 use Rattle.line_shares.specs.Tells.{pairs_since, told_since}
 use Rattle.index_writer.specs.declared.round.RoundEnd.{RoundEnd}
 use Rattle.index_writer.specs.declared.round.RoundEnd.TheVariants as ending
@@ -31,16 +35,16 @@ use Rattle.index_writer.specs.Rounds.{EndsBy}
 use Rattle.index_writer.specs.Storing.{GoesOn, MayCommit}
 use Rattle.run_log.proofs.CommitLaws.{IsDoing, each_doing, last_committed, none_committed, plain_lines}
 use Rattle.run_log.specs.Headline.{commit_numbers, numbered}
-use Rattle.run_log.proofs.NumberLaws.{commits_append}
+use Rattle.run_log.proofs.NumberLaws.{commits_append, pairs_at_last}
 use Rattle.run_log.proofs.PlaceLaws.{filter_rises}
 use Rattle.run_log.specs.Telling.{AreTells, IsOrder, Tell}
 use Rattle.run_log.proofs.TellingLaws.{order_of}
 use Rattle.index_run.specs.Doing.{IsWriterOn}
-use Rattle.index_run.specs.Driving.{EndsRound, HasDone, IsCut, IsDue, IsRound, Run, base_of, number_in}
-use Rattle.index_run.specs.Leaving.{CommitLaws, IsDiskAfter, IsNextCommit, first_numbers}
+use Rattle.index_run.specs.Driving.{EndsRound, HasDone, IsCut, AreDuePairs, IsDue, IsRound, Run, base_of, number_in}
+use Rattle.index_run.specs.Leaving.{CommitLaws, IsDiskAfter, IsNextCommit, due_pairs, first_numbers}
 use Rattle.index_run.specs.Merged.{EndsMerged}
 use Rattle.index_run.specs.declared.rounds.Ran.{Ran}
-use Rattle.index_run.proofs.Coming.{next_commit}
+use Rattle.index_run.proofs.Coming.{next_commit, pairs_due}
 use Rattle.index_run.proofs.DiskAfter.{crash_commit, crash_longer, disk_round, standing_commit}
 use Rattle.index_run.proofs.LogNumbers.{numbers_front}
 use Rattle.index_run.proofs.RunEnds.{files_commit, stops_files}
@@ -86,29 +90,50 @@ pending_there pending None true same there is = absurd cc
 pending_there pending None false same there is = absurd cc
 
 -- a stop while the pending commit was written
-pub cut_written : (r : Run) (lines : List Line) (shares : List Share) (log : List Line) (w : State) (s : ℕ)
+pub cut_written : (r : Run) (lines : List Line) (shares : List Share) (log : List Line) (pairs : Pairs) (w : State) (s : ℕ)
     (old now : Option Disk) → CommitLaws → HasDone r lines shares log w old → w.pending ≡ Some s
-    → Changes (MayCommit w) (told_files old) (told_files now)
-    → LeavesOnly old now (Reaches (MayCommit w) (MayHold old)) → Told OnlyCommits old now
+    → AreDuePairs (base_of r) log w.pending pairs
+    → Changes (MayCommit pairs w) (told_files old) (told_files now)
+    → LeavesOnly old now (Reaches (MayCommit pairs w) (MayHold old)) → Told OnlyCommits old now
     → ((files : Files) → told_files old ≡ Some files → GoesOn files w → Told KeepsMade old now) → IsCut r lines now
-cut_written r lines shares log w s old now laws h pending left crash only standing =
+cut_written r lines shares log pairs w s old now laws h pending mine left crash only standing =
     let rest = log_completes r.workers lines shares log h.shares_are h.log_is in
     let at = h.at in
     let due = next_commit r.first log at.front w.published.upto s w.pending pending at.due in
     let next : IsNextCommit r.first log at.front w.published.upto =
     subst (IsNextCommit r.first log at.front) due.1 due.0 in
+    let own : pairs ≡ due_pairs r.first log w = pairs_due r.first log w s pairs pending due.1 mine in
+    let crashed = subst (λ (ps : Pairs). LeavesOnly old now (Reaches (MayCommit ps w) (MayHold old))) own crash in
+    let may = subst (λ (ps : Pairs). Changes (MayCommit ps w) (told_files old) (told_files now)) own left in
     record {
       log = log ++ rest.0;
       numbering = rest.1;
       crash =
           crash_longer r.first log rest.0 r.start now
-          (crash_commit r.first w log at.front r.start old now laws at.first at.writer at.within next crash at.disk);
+          (crash_commit r.first w log at.front r.start old now laws at.first at.writer at.within next crashed at.disk);
       files = λ g told on.
           files_commit g r.first w log rest.0 at.front r.start old now laws at.first on at.writer told at.within next
-          left at.disk;
+          may at.disk;
       only = goes_then (λ step older. MakesCommits step) r.start old now at.disk.only only;
       standing = standing_commit r.first w log at.front r.start old now standing at.disk;
     }
+
+-- ---- the pairs of a round's commit
+
+-- they were found by its number
+pub found_by : (pending : Option ℕ) (number : ℕ) (past since : List (List Numbered)) (pairs : Pairs)
+    → pending ≡ Some number → past ≡ since
+    → ((own : Pairs) → commit_among number past ≡ Some own → pairs ≡ own)
+    → (s : ℕ) (own : Pairs) → pending ≡ Some s → commit_among s since ≡ Some own → pairs ≡ own
+found_by pending number past since pairs there same finds s own is found =
+    let other : Some number ≡ Some s = sym there ∙ is in
+    let at : s ≡ number = sym (cc) in
+    finds own (ap (commit_among number) same ∙ subst (λ (n : ℕ). commit_among n since ≡ Some own) at found)
+
+-- or none was pending
+pub none_found : (pending : Option ℕ) (since : List (List Numbered)) (pairs : Pairs) → pending ≡ None
+    → (s : ℕ) (own : Pairs) → pending ≡ Some s → commit_among s since ≡ Some own → pairs ≡ own
+none_found pending since pairs none s own is found = absurd (let other : None ≡ Some s = sym none ∙ is in cc)
 
 -- ---- the end of a round
 
@@ -157,13 +182,13 @@ module _ (r : Run) (lines : List Line) (olds news : List Share) (log : List Line
   none_in plain =
       none_committed (base_of r + length log) more (plain_lines more doing (subst NoCommit (sym order.ops) plain))
 
-  one_in : (before : List Operation) → NoCommit before → seconds e.ts ≡ before ++ Commit ∷ []
+  one_in : (before : List Operation) (pairs : List (List ℕ × List ℕ)) → NoCommit before → seconds e.ts ≡ before ++ Commit pairs ∷ []
       → commit_numbers (base_of r + length log) more ≡ v.published.upto ∷ []
-  one_in before plain ends =
+  one_in before pairs plain ends =
       let last : base_of r + length log + length more ≡ v.published.upto =
       omega (arith, e.upto, on_base, order.count) in
       last_committed (base_of r + length log) more before
-      (record { doing = doing; ends = order.ops ∙ ends; plain = plain }) ∙ ap (λ (n : ℕ). n ∷ []) last
+      (record { doing = doing; pairs = pairs; ends = order.ops ∙ ends; plain = plain }) ∙ ap (λ (n : ℕ). n ∷ []) last
 
   -- the commits before the round's lines
   before_in : commit_numbers (base_of r) log ≡ first_numbers r.first (log ++ more) front
@@ -178,11 +203,11 @@ module _ (r : Run) (lines : List Line) (olds news : List Share) (log : List Line
       ∙ append-nil (commit_numbers (base_of r) log)
       ∙ before_in
 
-  due_one : (before : List Operation) → NoCommit before → seconds e.ts ≡ before ++ Commit ∷ []
+  due_one : (before : List Operation) (pairs : List (List ℕ × List ℕ)) → NoCommit before → seconds e.ts ≡ before ++ Commit pairs ∷ []
       → IsNextCommit r.first (log ++ more) front v.published.upto
-  due_one before plain ends =
+  due_one before pairs plain ends =
       commits_append (base_of r) log more
-      ∙ ap (λ (ns : List ℕ). commit_numbers (base_of r) log ++ ns) (one_in before plain ends)
+      ∙ ap (λ (ns : List ℕ). commit_numbers (base_of r) log ++ ns) (one_in before pairs plain ends)
       ∙ ap (λ (ns : List ℕ). ns ++ v.published.upto ∷ []) before_in
 
   -- what is pending then
@@ -195,8 +220,8 @@ module _ (r : Run) (lines : List Line) (olds news : List Share) (log : List Line
     Some s,
     (
       by.1,
-      (subst (IsNextCommit r.first (log ++ more) front) (sym by.0) (due_one by.2.0 by.2.1 by.2.2), by.0),
-      one_in by.2.0 by.2.1 by.2.2 ∙ ap (λ (n : ℕ). n ∷ []) (sym by.0),
+      (subst (IsNextCommit r.first (log ++ more) front) (sym by.0) (due_one by.2.0 by.2.2 by.2.1 by.2.3), by.0),
+      one_in by.2.0 by.2.2 by.2.1 by.2.3 ∙ ap (λ (n : ℕ). n ∷ []) (sym by.0),
     ),
   )
   pending_by ending.Turned by = (None, (by.0, due_none by.1, none_in by.1))
@@ -227,5 +252,29 @@ module _ (r : Run) (lines : List Line) (olds news : List Share) (log : List Line
         (subst (λ (n : ℕ). IsOrder r.workers n told e.ts more) on_base order);
   }
 
-  pub ended : EndsRound r lines news log v mid
-  ended = record { more = more; done = done_now; commit_is = is_pending.2 }
+  -- the pairs of the commit that is pending then, as they were found
+  data_by : (x : RoundEnd) → EndsBy x (seconds e.ts) v → (pairs : Pairs)
+      → ((s : ℕ) (own : Pairs) → v.pending ≡ Some s → commit_among s (pairs_since olds news) ≡ Some own → pairs ≡ own)
+      → AreDuePairs (base_of r) (log ++ more) v.pending pairs
+  data_by (ending.Committed s) by pairs found =
+      let s_is : s ≡ w.published.upto + length e.ts = by.0 ∙ e.upto in
+      let at : s ≡ base_of r + length (log ++ more) =
+      omega (arith, s_is, on_base, order.count, length-append log more) in
+      let own =
+      found s by.2.2 by.1 (commit_found w.published.upto e.ts by.2.0 by.2.2 s s_is by.2.3 (pairs_since olds news) e.order) in
+      subst (λ (p : Option ℕ). AreDuePairs (base_of r) (log ++ more) p pairs) (sym by.1)
+      (own ∙ sym (pairs_at_last (base_of r) log more by.2.0 by.2.2 s at (order.ops ∙ by.2.3)))
+  data_by ending.Turned by pairs found =
+      subst (λ (p : Option ℕ). AreDuePairs (base_of r) (log ++ more) p pairs) (sym by.0) tt
+  data_by ending.Ran by pairs found =
+      subst (λ (p : Option ℕ). AreDuePairs (base_of r) (log ++ more) p pairs) (sym by.0) tt
+
+  pub ended : (pairs : Pairs)
+      → ((s : ℕ) (own : Pairs) → v.pending ≡ Some s → commit_among s (pairs_since olds news) ≡ Some own → pairs ≡ own)
+      → EndsRound r lines news log pairs v mid
+  ended pairs found = record {
+    more = more;
+    done = done_now;
+    commit_is = is_pending.2;
+    due_pairs = data_by end e.by_end pairs found;
+  }

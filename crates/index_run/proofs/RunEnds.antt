@@ -13,14 +13,15 @@ use Rattle.ix_outside.specs.Crash.{MayHold}
 use Rattle.ix_outside.specs.Disk.{Disk, told_files}
 use Rattle.ix_outside.specs.Files.{Files, Changes, then}
 use Rattle.ix_outside.specs.Images.{Reaches}
-use Rattle.commit_point.specs.Holds.{AreKept, Holds, HoldsInverted, KeepsCommits, head_of}
+use Rattle.commit_point.specs.Holds.{AreKept, HasPairs, Holds, HoldsInverted, KeepsCommits, Pairs, head_of}
 use Rattle.op_script.specs.declared.script.Line.{Line}
 use Rattle.index_writer.specs.declared.state.State.{State}
 use Rattle.index_writer.specs.Ready.{IsStored}
 use Rattle.index_writer.specs.Storing.{GoesOn, MayCommit}
 use Rattle.run_log.proofs.CommitLaws.{each_at}
+use Rattle.run_log.proofs.NumberLaws.{pairs_at_front}
 use Rattle.run_log.specs.Headline.{CanRun, CanRunOn, Given, GivesBack, HasAll, HasFirst, HasOnly, HasOwnAll, HasOwnFirst, HasOwnSome, HasSome}
-use Rattle.run_log.specs.Headline.{IsIn, IsKept, IsLast, IsLastSettled, IsNewCommit, IsOn, IsOwnCommit, IsSettled, KeepsCommit, commit_numbers, rows_at}
+use Rattle.run_log.specs.Headline.{IsIn, IsKept, IsLast, IsLastSettled, IsNewCommit, IsOn, IsOwnCommit, IsSettled, KeepsCommit, commit_numbers, pairs_at, rows_at}
 use Rattle.run_report.specs.Searching.{ReadsCommit}
 use Rattle.commit_point.proofs.KeptLaws.{kept_through}
 use Rattle.run_log.proofs.OnlyLaws.{only_image, only_itself}
@@ -28,7 +29,7 @@ use Rattle.run_log.proofs.AgainLaws.{again}
 use Rattle.index_run.specs.Doing.{CanBegin, IsOnGiven, IsWriterOn}
 use Rattle.index_run.specs.Keeping.{AreSpelled}
 use Rattle.index_run.specs.Leaving.{AreMade, CommitLaws, HasFront, HasSomeFront, IsDiskAfter, IsNextCommit}
-use Rattle.index_run.specs.Leaving.{IsMade, Stands, first_numbers}
+use Rattle.index_run.specs.Leaving.{IsMade, Stands, due_pairs, first_numbers}
 use Rattle.index_run.proofs.LogNumbers.{numbers_front, numbers_whole}
 use Rattle.index_run.proofs.LogNumbers.{rows_front}
 use Rattle.index_run.proofs.KeptThere.{goes_on_there, segments_kept}
@@ -45,11 +46,15 @@ own_commit g first log rest limit old new s on le made =
     let here : rows_at first.published.upto g.rows log s ≡ rows_at g.base g.rows (log ++ rest) s =
     sym (rows_front first.published.upto g.rows log rest s made.inside)
     ∙ ap (λ (n : ℕ). rows_at n g.rows (log ++ rest) s) on.number in
+    let mine : pairs_at first.published.upto log s ≡ pairs_at g.base (log ++ rest) s =
+    sym (pairs_at_front first.published.upto log rest s made.inside)
+    ∙ ap (λ (n : ℕ). pairs_at n (log ++ rest) s) on.number in
     record {
       id = made.id;
       from_next = omega (arith, made.from_next, on.next_id);
       to_limit = omega (arith, made.to_limit, le, on.next_id, length-append log rest);
       holds = subst (λ (rs : List Row). HoldsInverted new s made.id rs) here (made.rows g.rows on.rows);
+      pairs = subst (HasPairs new s) mine made.pairs;
     }
 
 each_own : (g : Given) (first : State) (log rest : List Line) (limit : ℕ) (old new : Files) (ns : List ℕ)
@@ -246,13 +251,13 @@ pub files_commit : (g : Given) (first w : State) (log rest : List Line) (count :
     → CommitLaws → CanBegin first → IsOnGiven g first → IsWriterOn first log w
     → told_files start ≡ Some g.files → count ≤ length log
     → IsNextCommit first log count w.published.upto
-    → Changes (MayCommit w) (told_files mid) (told_files now)
+    → Changes (MayCommit (due_pairs first log w) w) (told_files mid) (told_files now)
     → IsDiskAfter first log count w start mid → IsSomeAnd (told_files now) (HasSome g (log ++ rest))
 files_commit g first w log rest count start mid now laws begun on on_log told le numbers left disk =
     let stands = Stands first log (first_numbers first log count) w in
     let next = comes_next first w log count laws begun on_log disk.low numbers in
     let both =
-    then stands (MayCommit w) (HasSomeFront first log) (told_files start) (told_files mid) (told_files now)
+    then stands (MayCommit (due_pairs first log w) w) (HasSomeFront first log) (told_files start) (told_files mid) (told_files now)
     (λ x y z h may. some_crash first w log count x y z le disk.high numbers next h may) disk.files left in
     some_onto (told_files now) (HasSomeFront first log g.files) (HasSome g (log ++ rest))
     (λ f h. (

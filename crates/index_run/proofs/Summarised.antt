@@ -79,7 +79,7 @@ done_commits Docs s (Update t doc) answer is = ap commits is
 done_commits Docs s (DeleteTerm t) answer is = ap commits is
 done_commits Docs s (DeleteQuery q) answer is = ap commits is
 done_commits Docs s (SetNumber t n v) answer is = ap commits is
-done_commits Docs s Commit answer is = ap commits is.2
+done_commits Docs s (Commit pairs) answer is = ap commits is.2
 
 refused_commits : (op : Operation) (r : Refusal) → refusal op ≡ Some r → is_commit (Do op) ≡ false
 refused_commits (Add doc) r is = refl
@@ -87,7 +87,7 @@ refused_commits (Update t doc) r is = refl
 refused_commits (DeleteTerm t) r is = refl
 refused_commits (DeleteQuery q) r is = refl
 refused_commits (SetNumber t n v) r is = refl
-refused_commits Commit r is = absurd cc
+refused_commits (Commit pairs) r is = absurd cc
 
 told_commits : (Docs : ℕ → ℕ → Type 0) (s : ℕ) (op : Operation) (answer : Answer) (r : Option Refusal)
     → refusal op ≡ r → IsTold r answer (IsDone Docs s op answer) → commits answer ≡ is_commit (Do op)

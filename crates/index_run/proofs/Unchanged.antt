@@ -43,7 +43,7 @@ done_upto Docs s since (Update t doc) answer is upto other = upto s is
 done_upto Docs s since (DeleteTerm t) answer is upto other = upto s is
 done_upto Docs s since (DeleteQuery q) answer is upto other = upto s is
 done_upto Docs s since (SetNumber t n v) answer is upto other = upto s is
-done_upto Docs s since Commit answer is upto other = absurd cc
+done_upto Docs s since (Commit pairs) answer is upto other = absurd cc
 
 accepted : (r : Option Refusal) (answer : Answer) (P : Type 0) → IsTold r answer P → is_none r ≡ true → P
 accepted (Some refused) answer P is none = absurd cc
@@ -131,20 +131,20 @@ commit_behind base since front more l le apart behind = by (is_commit l.act) ref
         let above = number_above (base + length front) more l.line behind.1 in
         absurd (omega (arith, upto, past, above, le))
 
-commit_is : (a : Act) → is_commit a ≡ true → a ≡ Do Commit
+commit_is : (a : Act) → is_commit a ≡ true → (pairs : List (List ℕ × List ℕ)) × (a ≡ Do (Commit pairs))
 commit_is (Do (Add doc)) e = absurd cc
 commit_is (Do (Update t doc)) e = absurd cc
 commit_is (Do (DeleteTerm t)) e = absurd cc
 commit_is (Do (DeleteQuery q)) e = absurd cc
 commit_is (Do (SetNumber t n v)) e = absurd cc
-commit_is (Do Commit) e = refl
+commit_is (Do (Commit pairs)) e = (pairs, refl)
 commit_is (Search q) e = absurd cc
 
 -- commits change no row
 commits_change_none : (rows : List Row) (n : ℕ) (ls : List Line)
     → AllByRecursion (λ (l : Line). is_commit l.act ≡ true) ls → after rows n (operations ls) ≡ rows
 commits_change_none rows n [] h = refl
-commits_change_none rows n (l ∷ ls) h = rw (commit_is l.act h.0) (commits_change_none rows (n + 1) ls h.1)
+commits_change_none rows n (l ∷ ls) h = rw (commit_is l.act h.0).1 (commits_change_none rows (n + 1) ls h.1)
 
 -- where the lines behind the first ones are commits, the rows are those of the first ones
 front_rows : (base : ℕ) (rows : List Row) (front more : List Line) → AllByRecursion IsDoing front

@@ -66,7 +66,7 @@ IsBad (Make seed count callers) bytes bad = ⊥
 -- The lines are those of the script that a command runs: `run` reads it, and `make` makes it.
 abbrev pub HasScript : Command → Option (List ℕ) → List Line → Type 0
 HasScript (Run threads buffer merge keep) input lines =
-  (bytes : List ℕ) × (input ≡ Some bytes) × (script bytes ≡ Ok lines)
+    (bytes : List ℕ) × (input ≡ Some bytes) × (script bytes ≡ Ok lines)
 HasScript (Ask commit) input lines = ⊥
 HasScript command.List input lines = ⊥
 HasScript command.Check input lines = ⊥

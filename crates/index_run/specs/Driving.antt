@@ -1,6 +1,6 @@
 -- A run under way: between two rounds, and at the end of one.
 use Rattle.std.specs.Prelude.{◌≡◌, ℕ, ◌+◌, ◌≤◌, List, [], ◌∷◌, ◌++◌, length, map, Option, Some, None, IsSomeAnd, true}
-use Rattle.std.specs.Prelude.{IfOk, OnErr, OnOk}
+use Rattle.std.specs.Prelude.{IfOk, IfSome, OnErr, OnOk}
 use Rattle.std.specs.List.{AllByRecursion, AllZip}
 use Rattle.ix_base.specs.declared.document.Row.{Row}
 use Rattle.ix_outside.specs.Calls.{LeavesOnly}
@@ -8,6 +8,7 @@ use Rattle.ix_outside.specs.Crash.{MayHold}
 use Rattle.ix_outside.specs.Disk.{Disk, Told, told_files}
 use Rattle.ix_outside.specs.Files.{Files}
 use Rattle.ix_outside.specs.Images.{Reaches}
+use Rattle.commit_point.specs.Holds.{Pairs}
 use Rattle.commit_point.specs.Steps.{KeepsMade, OnlyCommits}
 use Rattle.op_script.specs.Shape.{LinesRise}
 use Rattle.op_script.specs.declared.script.Line.{Line}
@@ -22,7 +23,7 @@ use Rattle.index_writer.specs.declared.writer.IndexWriter.{IndexWriter}
 use Rattle.index_writer.specs.Ready.{HasRows, IsSound}
 use Rattle.index_writer.specs.Rounds.{ArePartsOf}
 use Rattle.index_writer.specs.Storing.{GoesOn as WriterGoesOn}
-use Rattle.run_log.specs.Headline.{Given, HasSome, Interleaves, commit_numbers, rows_at}
+use Rattle.run_log.specs.Headline.{Given, HasSome, Interleaves, commit_numbers, pairs_at, rows_at}
 use Rattle.index_run.specs.Doing.{CanBegin, IsOnGiven, IsWriterOn}
 use Rattle.index_run.specs.Leaving.{HasSomeFront, IsDiskAfter, IsNextCommit, first_numbers}
 use Rattle.index_run.specs.Outcomes.{AreOutcomes}
@@ -52,6 +53,10 @@ abbrev pub number_in : Option ℕ → List ℕ
 number_in None = []
 number_in (Some s) = s ∷ []
 
+-- where a commit is pending, these are the pairs of its line
+abbrev pub AreDuePairs : ℕ → List Line → Option ℕ → Pairs → Type 0
+AreDuePairs base log pending pairs = IfSome pending (λ s. pairs ≡ pairs_at base log s)
+
 -- The writer is on the log. The disk has the log's commits, but for one that is pending.
 pub record IsAt (r : Run) (log : List Line) (w : State) (now : Option Disk) : Type 0 where
   pub first : CanBegin r.first
@@ -79,14 +84,15 @@ pub record HasDone (r : Run) (lines : List Line) (shares : List Share) (log : Li
   pub told : AreTold r.workers (base_of r) lines shares log
 
 -- The same, with the number of each commit that was written and how many rows it has. Behind these the log has the
--- commit that is pending, if one is.
-pub record HasCome (r : Run) (lines : List Line) (shares : List Share) (commits : List (ℕ × ℕ)) (w : State)
-    (now : Option Disk)
+-- commit that is pending, with these pairs, if one is.
+pub record HasCome (r : Run) (lines : List Line) (shares : List Share) (commits : List (ℕ × ℕ)) (pairs : Pairs)
+    (w : State) (now : Option Disk)
     : Type 0 where
   pub log : List Line
   pub done : HasDone r lines shares log w now
   pub numbers : map (λ (c : ℕ × ℕ). c.0) commits ++ number_in w.pending ≡ commit_numbers (base_of r) log
   pub docs : AllByRecursion (λ (c : ℕ × ℕ). IsDocs r.first log c.0 c.1) commits
+  pub due_pairs : AreDuePairs (base_of r) log w.pending pairs
 
 -- ---- one round
 
@@ -101,13 +107,15 @@ pub record IsRound (r : Run) (lines : List Line) (olds news : List Share) (log :
   pub out : w.out ≡ true
   pub parts_are : ArePartsOf w.published.upto (pairs_since olds news) parts
 
--- What the end of a round leaves: its lines stand behind the log. Their only commit is the one that is pending then, if
--- one is.
-pub record EndsRound (r : Run) (lines : List Line) (news : List Share) (log : List Line) (w : State) (now : Option Disk)
+-- What the end of a round leaves: its lines stand behind the log. Their only commit is the one that is pending then,
+-- with these pairs, if one is.
+pub record EndsRound (r : Run) (lines : List Line) (news : List Share) (log : List Line) (pairs : Pairs) (w : State)
+    (now : Option Disk)
     : Type 0 where
   pub more : List Line
   pub done : HasDone r lines news (log ++ more) w now
   pub commit_is : commit_numbers (base_of r + length log) more ≡ number_in w.pending
+  pub due_pairs : AreDuePairs (base_of r) (log ++ more) w.pending pairs
 
 -- ---- ends
 
@@ -133,16 +141,17 @@ pub record IsCut (r : Run) (lines : List Line) (now : Option Disk) : Type 0 wher
 
 -- ---- a pending commit that is written
 
--- A writer's pending commit was written, if there was one: whatever a run had come to, it has come
--- to the same, and notes the commit. Or the writer stopped, and so does the run.
-pub record WritesPending {S : Type 0} (disk : S → Option Disk) (old : IndexWriter S) (ran : Ran S (Option CommitInfo))
+-- A writer's pending commit was written with these pairs, if there was one: whatever a run had come
+-- to, it has come to the same, and notes the commit. Or the writer stopped, and so does the run.
+pub record WritesPending {S : Type 0} (disk : S → Option Disk) (pairs : Pairs) (old : IndexWriter S)
+    (ran : Ran S (Option CommitInfo))
     : Type 0 where
   pub come : (r : Run) (lines : List Line) (shares : List Share) (commits : List (ℕ × ℕ))
-      → HasCome r lines shares commits old.state (disk old.store)
-      → IfOk ran.came (λ commit. HasCome r lines shares (given commits commit) ran.writer.state (disk ran.writer.store))
+      → HasCome r lines shares commits pairs old.state (disk old.store)
+      → IfOk ran.came (λ commit. HasCome r lines shares (given commits commit) pairs ran.writer.state (disk ran.writer.store))
   pub cut : (r : Run) (lines : List Line) (shares : List Share) (commits : List (ℕ × ℕ))
-      → HasCome r lines shares commits old.state (disk old.store)
-          → OnErr ran.came (IsCut r lines (disk ran.writer.store))
+      → HasCome r lines shares commits pairs old.state (disk old.store)
+      → OnErr ran.came (IsCut r lines (disk ran.writer.store))
   pub written : OnOk ran.came (ran.writer.state.pending ≡ None)
   pub upto : OnOk ran.came (ran.writer.state.published.upto ≡ old.state.published.upto)
   pub same : (ran.writer.state.out ≡ old.state.out) × (ran.writer.state.buffer ≡ old.state.buffer)

@@ -29,7 +29,7 @@ pub record Met : Type 0 where
 abbrev pub MissesCommit : Command → Option Files → ℕ → Type 0
 MissesCommit (Run threads buffer merge keep) told number = ⊥
 MissesCommit (Ask commit) told number =
-  (number ≡ unwrap_or commit 0) × ((files : Files) → told ≡ Some files → LacksAsked files commit)
+    (number ≡ unwrap_or commit 0) × ((files : Files) → told ≡ Some files → LacksAsked files commit)
 MissesCommit command.List told number = ⊥
 MissesCommit command.Check told number = ⊥
 MissesCommit (Make seed count callers) told number = ⊥

@@ -95,8 +95,8 @@ StepsBy keep old new = keep ≡ None → Told OnlyCommits old new
 -- each commit that is there has its commit file as it was, or a new one that is in the grammar
 abbrev pub AreSpelled : Files → Files → Type 0
 AreSpelled old files =
-  (s : ℕ) → IsSome (files (Commit s))
-      → (files (Commit s) ≡ old (Commit s)) ⊎ ((head : Head) × HasHead files s head)
+    (s : ℕ) → IsSome (files (Commit s))
+    → (files (Commit s) ≡ old (Commit s)) ⊎ ((head : Head) × HasHead files s head)
 
 -- ---- a broken file
 

@@ -11,14 +11,14 @@ use Rattle.ix_outside.specs.Files.{Files, Changes}
 use Rattle.ix_outside.specs.Images.{Follows, Reaches}
 use Rattle.segment_core.specs.LiveRows.{Lived}
 use Rattle.commit_point.specs.declared.heads.HeadSegment.{HeadSegment}
-use Rattle.commit_point.specs.Holds.{AreKept, HasSegments, HoldsInverted, IsAboveIds}
+use Rattle.commit_point.specs.Holds.{AreKept, HasPairs, HasSegments, HoldsInverted, IsAboveIds, Pairs}
 use Rattle.commit_point.specs.Steps.{KeepsMade, OnlyCommits}
 use Rattle.op_script.specs.declared.script.Line.{Line}
 use Rattle.index_writer.specs.declared.state.State.{State}
 use Rattle.index_writer.specs.Laws.{CommitsGoOn, CommitsHold}
 use Rattle.index_writer.specs.Ready.{HasRows, IsStored}
 use Rattle.index_writer.specs.Storing.{GoesOn}
-use Rattle.run_log.specs.Headline.{Given, IsIn, KeepsSegments, commit_numbers, rows_at}
+use Rattle.run_log.specs.Headline.{Given, IsIn, KeepsSegments, commit_numbers, pairs_at, rows_at}
 
 -- ---- files that have the same last commit
 
@@ -52,7 +52,7 @@ pub record CommitLaws : Type 0 where
 
 -- The commit s was made, in a run that began with `first` on the files `old`. Its next id is in range and, where the
 -- writer could go on from those files, above each id that a commit below it lists. It has the rows by the log's
--- operations up to s, over those of `first`.
+-- operations up to s, over those of `first`, and the pairs of the operation s.
 pub record IsMade (first : State) (log : List Line) (limit : ℕ) (old new : Files) (s : ℕ) : Type 0 where
   pub id : ℕ
   pub entries : List HeadSegment
@@ -64,6 +64,7 @@ pub record IsMade (first : State) (log : List Line) (limit : ℕ) (old new : Fil
   pub above : GoesOn old first → IsAboveIds new s id
   pub rows : (rows : List Row) → HasRows first rows
       → HoldsInverted new s id (rows_at first.published.upto rows log s)
+  pub pairs : HasPairs new s (pairs_at first.published.upto log s)
 
 -- These commits were made, and no other. What an older commit was it is.
 pub record AreMade (first : State) (log : List Line) (numbers : List ℕ) (limit : ℕ) (old new : Files) : Type 0 where
@@ -83,6 +84,10 @@ pub record Stands (first : State) (log : List Line) (numbers : List ℕ) (w : St
   pub front : HasFront first log numbers w.since old new
   pub stored : IsStored old first → IsStored new w
   pub goes_on : GoesOn old first → GoesOn new w
+
+-- the pairs of the log's line with the writer's number
+abbrev pub due_pairs : State → List Line → State → Pairs
+due_pairs first log w = pairs_at first.published.upto log w.published.upto
 
 -- the numbers of the commits among the log's first lines
 abbrev pub first_numbers : State → List Line → ℕ → List ℕ

@@ -24,7 +24,7 @@ IsDone Docs s (Update term doc) answer = answer ≡ Numbered s
 IsDone Docs s (DeleteTerm term) answer = answer ≡ Numbered s
 IsDone Docs s (DeleteQuery query) answer = answer ≡ Numbered s
 IsDone Docs s (SetNumber term name value) answer = answer ≡ Numbered s
-IsDone Docs s Commit answer = (docs : ℕ) × Docs s docs × (answer ≡ Committed s docs)
+IsDone Docs s (Commit pairs) answer = (docs : ℕ) × Docs s docs × (answer ≡ Committed s docs)
 
 -- a refused operation is told its refusal
 abbrev pub IsTold : Option Refusal → Answer → Type 0 → Type 0

@@ -47,7 +47,7 @@ fn lines_of(alloc: Global, heads: &[Head]) -> Result<Vec<u8>, NoMemory>
 {
     let mut text = Vec::new(alloc);
     for head in heads {
-        let line = listed_text(alloc, head.number, head.docs)?;
+        let line = listed_text(alloc, head.number, &head.pairs, head.docs)?;
         text.extend_from_slice(line.as_slice())?;
     }
     Ok(text)

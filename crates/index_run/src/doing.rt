@@ -141,7 +141,7 @@ pub fn do_script<R: Threads + Wait + Sync, S: Store, G: Gate>(
 fn is_commit(line: &Line) -> bool
     ensures { result ≡ is_commit line.now.act }
 {
-    matches!(line.act, Act::Do(Operation::Commit))
+    matches!(line.act, Act::Do(Operation::Commit(_)))
 }
 
 /// Whether one of the lines commits.

@@ -1,5 +1,6 @@
 //! The lines of a script, done in rounds by workers that run at the same time.
 ghost use Rattle.std.specs.Prelude.{◌≡◌, ◌≤◌, ℕ, List as ListOf, [], length, IfOk, OnOk, OnErr, Err, None, false};
+ghost use Rattle.commit_point.specs.Holds.{Pairs};
 ghost use Rattle.ix_outside.specs.Causes.{Rose};
 ghost use Rattle.op_script.specs.Shape.{AreScriptLines};
 ghost use Rattle.index_run.specs.Doing.{CanBegin};
@@ -9,9 +10,9 @@ ghost use Rattle.index_run.specs.Driving.{HasCome, IsCut, IsOver, Run};
 ghost use Rattle.index_run.specs.Rounds.{doing_lines, given};
 
 use crate::outcomes::outcomes_of;
-use crate::rounds::{Ran, do_round, write_pending};
+use crate::rounds::{Ran, RoundLeft, do_round, write_pending};
 use index_writer::{CommitInfo, IndexWriter, WriterFault};
-use ix_base::{List, NoMemory};
+use ix_base::{Fields, List, NoMemory};
 use ix_outside::{Gate, Store};
 use line_shares::{Dealt, all_done, deal};
 use op_script::Line;
@@ -96,13 +97,13 @@ fn do_rounds<R: Threads + Wait + Sync, S: Store, G: Gate>(
     requires threads { (1 ≤ threads) × (threads ≤ 16) }
     requires out { writer.state.out ≡ false }
     requires come { (r : Run) × (lines : ListOf Line) × (r.workers ≡ threads)
-        × HasCome r lines shares.items [] writer.state (S.disk writer.store) }
+        × HasCome r lines shares.items [] [] writer.state (S.disk writer.store) }
     ensures come { (r : Run) (lines : ListOf Line) → r.workers ≡ threads
-        → HasCome r lines shares.items [] writer.state (S.disk writer.store)
-        → IfOk result.came (λ x. HasCome r lines x.shares.items x.commits.items result.writer.state
-        (S.disk result.writer.store)) }
+        → HasCome r lines shares.items [] [] writer.state (S.disk writer.store)
+        → IfOk result.came (λ x. (pairs : Pairs) × HasCome r lines x.shares.items x.commits.items pairs
+        result.writer.state (S.disk result.writer.store)) }
     ensures cut { (r : Run) (lines : ListOf Line) → r.workers ≡ threads
-        → HasCome r lines shares.items [] writer.state (S.disk writer.store)
+        → HasCome r lines shares.items [] [] writer.state (S.disk writer.store)
         → OnErr result.came (IsCut r lines (S.disk result.writer.store)) }
     ensures written { OnOk result.came (result.writer.state.pending ≡ None) }
     ensures done { IfOk result.came (λ x. AreDone x.shares.items) }
@@ -115,17 +116,19 @@ fn do_rounds<R: Threads + Wait + Sync, S: Store, G: Gate>(
 {
     let mut writer = writer;
     let mut shares = shares;
+    let mut pairs = Fields::none(alloc);
     let mut commits = Vec::new(alloc);
     let mut count = 0;
     while !all_done(shares.as_slice()) {
-        let round = do_round(rt, alloc, gate, writer, threads, shares, &mut count);
+        let round = do_round(rt, alloc, gate, writer, threads, shares, pairs, &mut count);
         writer = round.writer;
-        let (next, commit) = match round.came {
-            Ok(came) => came,
+        let left = match round.came {
+            Ok(left) => left,
             Err(fault) => return Ran::stopped(writer, fault),
         };
-        shares = next;
-        match note(&mut commits, commit) {
+        shares = left.shares;
+        pairs = left.pairs;
+        match note(&mut commits, left.commit) {
             Ok(()) => {}
             Err(error) => return Ran::stopped(writer, WriterFault::from(error)),
         }
@@ -137,20 +140,21 @@ fn do_rounds<R: Threads + Wait + Sync, S: Store, G: Gate>(
             commits,
             count,
         },
+        &pairs,
     )
 }
 
-/// Writes the commit with which the last round ended, if it ended with one, and notes it.
-fn write_last<S: Store>(writer: IndexWriter<S>, rounds: Rounds) -> Ran<S, Rounds>
+/// Writes the commit with which the last round ended with these pairs, if it ended with one, and notes it.
+fn write_last<S: Store>(writer: IndexWriter<S>, rounds: Rounds, pairs: &Fields) -> Ran<S, Rounds>
     requires come { (r : Run) × (lines : ListOf Line)
-        × HasCome r lines rounds.shares.items rounds.commits.items writer.state
+        × HasCome r lines rounds.shares.items rounds.commits.items pairs.now writer.state
         (S.disk writer.store) }
     ensures come { (r : Run) (lines : ListOf Line)
-        → HasCome r lines rounds.shares.items rounds.commits.items writer.state
+        → HasCome r lines rounds.shares.items rounds.commits.items pairs.now writer.state
         (S.disk writer.store) → IfOk result.came (λ x. HasCome r lines x.shares.items
-        x.commits.items result.writer.state (S.disk result.writer.store)) }
+        x.commits.items pairs.now result.writer.state (S.disk result.writer.store)) }
     ensures cut { (r : Run) (lines : ListOf Line)
-        → HasCome r lines rounds.shares.items rounds.commits.items writer.state
+        → HasCome r lines rounds.shares.items rounds.commits.items pairs.now writer.state
         (S.disk writer.store) → OnErr result.came (IsCut r lines (S.disk result.writer.store)) }
     ensures written { OnOk result.came (result.writer.state.pending ≡ None) }
     ensures same { IfOk result.came (λ x.
@@ -161,7 +165,7 @@ fn write_last<S: Store>(writer: IndexWriter<S>, rounds: Rounds) -> Ran<S, Rounds
         → Rose (S.fault_count writer.store) (S.fault_count result.writer.store) }
 {
     let mut rounds = rounds;
-    let Ran { writer, came } = write_pending(writer);
+    let Ran { writer, came } = write_pending(writer, pairs);
     let commit = match came {
         Ok(commit) => commit,
         Err(fault) => return Ran::stopped(writer, fault),

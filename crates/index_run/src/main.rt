@@ -34,6 +34,8 @@ mod tests_commands;
 #[cfg(test)]
 mod tests_damage;
 #[cfg(test)]
+mod tests_data;
+#[cfg(test)]
 mod tests_examples;
 #[cfg(test)]
 mod tests_fold;

@@ -1,10 +1,11 @@
 //! The rounds of a run: each is begun, done by its workers, ended and committed.
-ghost use Rattle.std.specs.Prelude.{◌≡◌, ◌+◌, ◌≤◌, ◌<◌, ℕ, List, map, IfOk, OnOk, OnErr, IsTrue, Err, None, true, false};
+ghost use Rattle.std.specs.Prelude.{◌≡◌, ◌+◌, ◌≤◌, ◌<◌, ℕ, List, length, map, IfOk, OnOk, OnErr, IsTrue, Err, None, true, false};
 ghost use Rattle.std.specs.List.{AllByRecursion};
 ghost use Rattle.ix_outside.specs.Causes.{Rose};
 ghost use Rattle.op_script.specs.declared.script.Line.{Line};
 ghost use Rattle.row_fates.specs.Fate.{Numbered};
 ghost use Rattle.worker_tasks.specs.declared.share.Share.{Share};
+ghost use Rattle.line_shares.specs.Committed.{told_count};
 ghost use Rattle.line_shares.specs.Shares.{AreDone, open_count};
 ghost use Rattle.index_writer.specs.Ready.{IsSound};
 ghost use Rattle.index_writer.specs.Rounds.{ArePartsOf, IsBegun};
@@ -17,8 +18,9 @@ use delete_queue::DeleteQueue;
 use index_writer::{
     CommitInfo, IndexWriter, Round, RoundEnd, RoundParts, WriterFault, commits_go_on, commits_hold,
 };
-use ix_base::NoMemory;
+use ix_base::{Fields, NoMemory};
 use ix_outside::{Gate, Store};
+use line_shares::{committed_pairs, told_counts};
 use round_work::{Stop, Worked, run_round};
 use std::alloc::Global;
 use std::sync::Wait;
@@ -163,18 +165,24 @@ fn operations_of(end: RoundEnd, numbers: u64) -> u64
 }
 
 /// Ends the round that is out: its lines stand behind those of the rounds before. A commit with which it
-/// ended is pending then.
+/// ended is pending then, and its pairs are returned. `counts` are how many tasks of each share were told
+/// something when the round began.
 fn finish_round<R: Threads + Sync, S: Store>(
     rt: &R,
+    alloc: Global,
     writer: &mut IndexWriter<S>,
     parts: RoundParts,
-) -> Result<(), WriterFault>
-    requires round { (r : Run) × (lines : List Line) × (olds : List Share) × (news : List Share)
-        × (log : List Line)
-        × IsRound r lines olds news log writer.old.state parts (S.disk writer.old.store) }
-    ensures ends { (r : Run) (lines : List Line) (olds news : List Share) (log : List Line)
-        → IsRound r lines olds news log writer.old.state parts (S.disk writer.old.store)
-        → OnOk result (EndsRound r lines news log writer.new.state (S.disk writer.new.store)) }
+    counts: &[usize],
+    shares: &[Share],
+) -> Result<Fields, WriterFault>
+    requires round { (r : Run) × (lines : List Line) × (olds : List Share) × (log : List Line)
+        × (counts.now ≡ map told_count olds)
+        × IsRound r lines olds shares.now log writer.old.state parts (S.disk writer.old.store) }
+    ensures ends { (r : Run) (lines : List Line) (olds : List Share) (log : List Line)
+        → counts.now ≡ map told_count olds
+        → IsRound r lines olds shares.now log writer.old.state parts (S.disk writer.old.store)
+        → IfOk result (λ pairs.
+        EndsRound r lines shares.now log pairs writer.new.state (S.disk writer.new.store)) }
     ensures out { OnOk result (writer.new.state.out ≡ false) }
     ensures store { writer.new.store ≡ writer.old.store }
     ensures closed { result ≡ Err WriterFault.Closed → ⊥ }
@@ -182,15 +190,18 @@ fn finish_round<R: Threads + Sync, S: Store>(
     ensures open { OnOk result (IsStuck parts → ⊥) }
 {
     end_round(rt, writer, parts)?;
-    Ok(())
+    match writer.pending_commit() {
+        Some(number) => Ok(committed_pairs(alloc, counts, shares, number)?),
+        None => Ok(Fields::none(alloc)),
+    }
 }
 
-/// Writes the commit with which the last round ended, if it ended with one, and returns its number and
-/// how many rows it has, beside the writer. A round may be out.
-pub fn write_pending<S: Store>(writer: IndexWriter<S>) -> Ran<S, Option<CommitInfo>>
+/// Writes the commit with which the last round ended, if it ended with one, with its pairs, and returns
+/// its number and how many rows it has, beside the writer. A round may be out.
+pub fn write_pending<S: Store>(writer: IndexWriter<S>, pairs: &Fields) -> Ran<S, Option<CommitInfo>>
     requires sound { IsSound writer.state }
     requires open { writer.state.closed ≡ false }
-    ensures pending { WritesPending S.disk writer result }
+    ensures pending { WritesPending S.disk pairs.now writer result }
     ensures closed { result.came ≡ Err WriterFault.Closed → ⊥ }
     ensures later { S.fault_count writer.store ≤ S.fault_count result.writer.store }
     ensures failed { result.came ≡ Err WriterFault.Store
@@ -208,7 +219,7 @@ pub fn write_pending<S: Store>(writer: IndexWriter<S>) -> Ran<S, Option<CommitIn
     if writer.next_id() > MOST {
         return Ran::stopped(writer, WriterFault::NoMemory);
     }
-    match writer.commit() {
+    match writer.commit(pairs) {
         Ok(info) => Ran {
             writer,
             came: Ok(Some(info)),
@@ -241,11 +252,21 @@ fn let_go<R: Threads + Sync, S: Store>(
     }
 }
 
+/// What a round leaves.
+#[derive(Drop)]
+pub struct RoundLeft {
+    /// The shares, as the workers left them.
+    pub shares: Vec<Share>,
+    /// The commit of the round before, which was written meanwhile, if there was one.
+    pub commit: Option<CommitInfo>,
+    /// The pairs of the commit with which the round ended, or none.
+    pub pairs: Fields,
+}
+
 /// Does a round: its workers go on with their shares at the same time, each by a writer of its own,
 /// until the lines are done or one of them closes the queue. Meanwhile the commit with which the round
-/// before ended is written, if it ended with one. It returns the shares as the workers left them, and
-/// that commit, beside the index writer. It asks that a worker has a line that was told nothing, and
-/// counts the round.
+/// before ended is written with these pairs, if it ended with one. It asks that a worker has a line that
+/// was told nothing, and counts the round.
 pub fn do_round<R: Threads + Wait + Sync, S: Store, G: Gate>(
     rt: &R,
     alloc: Global,
@@ -253,25 +274,26 @@ pub fn do_round<R: Threads + Wait + Sync, S: Store, G: Gate>(
     writer: IndexWriter<S>,
     threads: u32,
     shares: Vec<Share>,
+    pairs: Fields,
     rounds: &mut u64,
-) -> Ran<S, (Vec<Share>, Option<CommitInfo>)>
+) -> Ran<S, RoundLeft>
     requires threads { (1 ≤ threads) × (threads ≤ 16) }
     requires open { AreDone shares.items → ⊥ }
     requires out { writer.state.out ≡ false }
     requires come { (r : Run) × (lines : List Line) × (commits : List (ℕ × ℕ))
         × (r.workers ≡ threads)
-        × HasCome r lines shares.items commits writer.state (S.disk writer.store) }
+        × HasCome r lines shares.items commits pairs writer.state (S.disk writer.store) }
     ensures come { (r : Run) (lines : List Line) (commits : List (ℕ × ℕ)) → r.workers ≡ threads
-        → HasCome r lines shares.items commits writer.state (S.disk writer.store)
-        → IfOk result.came (λ x. HasCome r lines x.0.items (given commits x.1) result.writer.state
-        (S.disk result.writer.store)) }
+        → HasCome r lines shares.items commits pairs writer.state (S.disk writer.store)
+        → IfOk result.came (λ x. HasCome r lines x.shares.items (given commits x.commit) x.pairs
+        result.writer.state (S.disk result.writer.store)) }
     ensures cut { (r : Run) (lines : List Line) (commits : List (ℕ × ℕ)) → r.workers ≡ threads
-        → HasCome r lines shares.items commits writer.state (S.disk writer.store)
+        → HasCome r lines shares.items commits pairs writer.state (S.disk writer.store)
         → OnErr result.came (IsCut r lines (S.disk result.writer.store)) }
     ensures out { OnOk result.came (result.writer.state.out ≡ false) }
     // Where a task was left, one was told something.
     ensures goes_on { (AreDone shares.items → ⊥)
-        → IfOk result.came (λ x. open_count x.0.items < open_count shares.items) }
+        → IfOk result.came (λ x. open_count x.shares.items < open_count shares.items) }
     ensures counted { OnOk result.came (rounds.new ≡ rounds.old + 1) }
     ensures closed { result.came ≡ Err WriterFault.Closed → ⊥ }
     ensures later { S.fault_count writer.store ≤ S.fault_count result.writer.store }
@@ -283,6 +305,10 @@ pub fn do_round<R: Threads + Wait + Sync, S: Store, G: Gate>(
         Ok(round) => round,
         Err(fault) => return Ran::stopped(writer, fault),
     };
+    let counts = match told_counts(alloc, shares.as_slice()) {
+        Ok(counts) => counts,
+        Err(error) => return Ran::stopped(writer, WriterFault::from(error)),
+    };
     let (Ran { mut writer, came }, back) = run_round(
         rt,
         alloc,
@@ -293,12 +319,12 @@ pub fn do_round<R: Threads + Wait + Sync, S: Store, G: Gate>(
         move || -> Ran<S, Option<CommitInfo>>
             requires sound { IsSound writer.state }
             requires open { writer.state.closed ≡ false }
-            ensures pending { WritesPending S.disk writer result }
+            ensures pending { WritesPending S.disk pairs writer result }
             ensures closed { result.came ≡ Err WriterFault.Closed → ⊥ }
             ensures later { S.fault_count writer.store ≤ S.fault_count result.writer.store }
             ensures failed { result.came ≡ Err WriterFault.Store
                 → Rose (S.fault_count writer.store) (S.fault_count result.writer.store) }
-        { write_pending(writer) },
+        { write_pending(writer, &pairs) },
     );
     let commit = match came {
         Ok(commit) => commit,
@@ -315,10 +341,16 @@ pub fn do_round<R: Threads + Wait + Sync, S: Store, G: Gate>(
         Ok(parted) => parted,
         Err(error) => return Ran::stopped(writer, WriterFault::from(error)),
     };
-    match finish_round(rt, &mut writer, parts) {
-        Ok(()) => Ran {
+    let told = counts.as_slice();
+    let left = shares.as_slice();
+    match finish_round(rt, alloc, &mut writer, parts, told, left) {
+        Ok(pairs) => Ran {
             writer,
-            came: Ok((shares, commit)),
+            came: Ok(RoundLeft {
+                shares,
+                commit,
+                pairs,
+            }),
         },
         Err(fault) => Ran::stopped(writer, fault),
     }

@@ -146,12 +146,6 @@ pub at_state : (P : List Lived → List (Option Written) → Type 0) (gs : List 
 at_state P gs ws s same_segments same_written fact =
     subst (λ (xs : List Lived). P xs s.written) same_segments (subst (λ (xs : List (Option Written)). P gs xs) same_written fact)
 
--- the same of a commit without pairs
-pub at_none : (P : Pairs → List Lived → List (Option Written) → Type 0) (pairs : Pairs) (gs : List Lived) (ws : List (Option Written)) (s : State)
-    → pairs ≡ [] → gs ≡ s.published.segments → ws ≡ s.written → P pairs gs ws → P [] s.published.segments s.written
-at_none P pairs gs ws s none same_segments same_written fact =
-    at_state (P []) gs ws s same_segments same_written (subst (λ (ps : Pairs). P ps gs ws) none fact)
-
 pub is_on : (gs : List Lived) (ws made : List (Option Written)) (s new : State) → gs ≡ s.published.segments → ws ≡ s.written
     → made ≡ renewed s.published.upto gs ws → new ≡ record (on_commit s) { written = made } → new ≡ on_commit s
 is_on gs ws made s new same_segments same_written is new_is =
@@ -199,9 +193,9 @@ pub same_below : (s : State) → IsReady s → (old new : Files)
     → commit.SameElsewhere s.published.upto (IsOldId s.published.segments s.written) old new → SameBelow s.published.upto s.since old new
 same_below s ready old new same = λ name other. same name (elsewhere s ready name other)
 
-pub commits : (s new : State) (files now : Files) → IsReady s → new ≡ on_commit s
-    → commit.Commits s.published.upto s.published.next_id [] s.published.segments s.written files now → Commits s new files now
-commits s new files now ready is made = record {
+pub commits : (pairs : Pairs) (s new : State) (files now : Files) → IsReady s → new ≡ on_commit s
+    → commit.Commits s.published.upto s.published.next_id pairs s.published.segments s.written files now → Commits pairs s new files now
+commits pairs s new files now ready is made = record {
   made = made;
   stands = λ stored.
       subst (IsStored now) (sym is)
@@ -213,8 +207,8 @@ on_err (Ok x) P p = tt
 on_err (Err x) P p = p
 
 -- nothing was written
-pub unmade : (s : State) (a : Option Files) → Changes (MayCommit s) a a
-unmade s a = stays (MayCommit s) a a (λ x. record { elsewhere = λ name not. refl; whole = inl refl }) refl
+pub unmade : (pairs : Pairs) (s : State) (a : Option Files) → Changes (MayCommit pairs s) a a
+unmade pairs s a = stays (MayCommit pairs s) a a (λ x. record { elsewhere = λ name not. refl; whole = inl refl }) refl
 
 -- the commit comes after those of the files that the writer can go on from
 pub comes : (s : State) (files : Files) → IsReady s → s.last < s.published.upto → GoesOn files s

@@ -12,7 +12,7 @@ use Rattle.commit_point.specs.declared.heads.Head.{Head}
 use Rattle.commit_point.specs.declared.heads.HeadSegment.{HeadSegment}
 use Rattle.commit_point.specs.declared.open.Opened.{Opened}
 use Rattle.commit_point.specs.Fits.{EntryFits, IdsRise}
-use Rattle.commit_point.specs.Holds.{HasHead, HasSegment, HasSegments, HaveSegments, HoldsInverted, Lists, head_of}
+use Rattle.commit_point.specs.Holds.{HasHead, HasPairs, HasSegment, HasSegments, HaveSegments, HoldsInverted, Lists, Pairs, head_of}
 use Rattle.commit_point.proofs.Laws.{one_head}
 use Rattle.commit_point.specs.Writing as commit
 use Rattle.commit_point.specs.Writing.{AreWritten, CanWrite, IsOldId, SegmentIdsRise, WrittenUpTo, entries_of, listed}
@@ -38,16 +38,18 @@ holds_of s rows now spelled has = record {
 }
 
 pub commits_hold : CommitsHold
-commits_hold old new files now rows commits stored has = holds_of old rows now (commits.made.spelled stored) has
+commits_hold pairs old new files now rows commits stored has =
+    (holds_of old rows now (commits.made.spelled stored) has, commits.made.has_pairs)
 
 pub crashes_hold : CrashesHold
-crashes_hold s files now rows may stored has = by may.whole
+crashes_hold pairs s files now rows may stored has = by may.whole
   where
     by : (now (Commit s.published.upto) ≡ files (Commit s.published.upto))
-        ⊎ commit.Commits s.published.upto s.published.next_id [] s.published.segments s.written files now
-        → (now (Commit s.published.upto) ≡ files (Commit s.published.upto)) ⊎ HoldsInverted now s.published.upto s.published.next_id rows
+        ⊎ commit.Commits s.published.upto s.published.next_id pairs s.published.segments s.written files now
+        → (now (Commit s.published.upto) ≡ files (Commit s.published.upto))
+        ⊎ (HoldsInverted now s.published.upto s.published.next_id rows × HasPairs now s.published.upto pairs)
     by (inl same) = inl same
-    by (inr made) = inr (holds_of s rows now (made.spelled stored) has)
+    by (inr made) = inr (holds_of s rows now (made.spelled stored) has, made.has_pairs)
 
 ids_below : (low limit : ℕ) (es : List HeadSegment) → IdsRise low limit es → AllByRecursion (λ (e : HeadSegment). e.id < limit) es
 ids_below low limit [] rise = tt
@@ -58,9 +60,9 @@ of_all : (P : HeadSegment → Type 0) (es : List HeadSegment) (e : HeadSegment) 
 of_all P es e all has = All-contains P es e (All-from_recursion P es all) has
 
 -- the ids that are listed are below the next one
-listed_below : (old new : State) (files now : Files) → IsReady old → Commits old new files now → GoesOn files old
+listed_below : (pairs : Pairs) (old new : State) (files now : Files) → IsReady old → Commits pairs old new files now → GoesOn files old
     → (t : ℕ) (e : HeadSegment) → Lists now t e → e.id < old.published.next_id
-listed_below old new files now ready commits goes t e lists = by (eqb_tells t old.published.upto)
+listed_below pairs old new files now ready commits goes t e lists = by (eqb_tells t old.published.upto)
   where
     s : ℕ
     s = old.published.upto
@@ -83,10 +85,10 @@ listed_below old new files now ready commits goes t e lists = by (eqb_tells t ol
         omega (arith, goes.ids t e before, ready.since)
 
 pub commits_go_on : CommitsGoOn
-commits_go_on old new files now ready is commits goes =
+commits_go_on pairs old new files now ready is commits goes =
     subst (GoesOn now) (sym is) (record {
       none_above = λ t lt. commits.made.elsewhere (Commit t) (λ same. absurd (omega (arith, same, lt))) ∙ goes.none_above t (omega (arith, lt, ready.last));
-      ids = listed_below old new files now ready commits goes;
+      ids = listed_below pairs old new files now ready commits goes;
       stored = subst (IsStored now) is (commits.stands goes.stored);
     })
 

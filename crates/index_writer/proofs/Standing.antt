@@ -169,7 +169,7 @@ named_by_commit s (g ∷ gs) (w ∷ ws) all within = (
         (own_listed all (entry_of s w g) (Rows g.segment.id) c (inl refl), own_listed all (entry_of s w g) (Live g.segment.id (version s w g)) c (inr (inr (inl refl))))
 
 pub commits_stand : CommitsStand
-commits_stand old new files now is commits stored =
+commits_stand pairs old new files now is commits stored =
     subst (StandsOnLast now) (sym is) (record {
       own = only_of entries now;
       of_last = only_of_commit entries now s (λ e c. record { head = head_of s next spelled.tail entries segments; has_head = spelled.head; listed = c });

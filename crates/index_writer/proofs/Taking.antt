@@ -176,7 +176,7 @@ ready_for s p core pending = record {
 ready_end : (kind : ℕ) (ops : List Operation) (s : State) → Core s → EndBy kind ops → (1 ≤ length ops → s.last < s.published.upto)
     → IsReady (end_of kind s).1
 ready_end kind ops s core (inl h) less =
-    let some : 1 ≤ length ops = omega (arith, ap (λ (os : List Operation). length os) h.3, length-append h.1 (Commit ∷ [])) in
+    let some : 1 ≤ length ops = omega (arith, ap (λ (os : List Operation). length os) h.4, length-append h.1 (Commit h.3 ∷ [])) in
     subst (λ (k : ℕ). IsReady (end_of k s).1) (sym h.0) (ready_for s (Some s.published.upto) core (refl, less some))
 ready_end kind ops s core (inr h) less = tells (eqb kind 6) refl
   where
@@ -188,7 +188,7 @@ ends_end : (told : List (List Numbered)) (kind : ℕ) (ops : List Operation) (ol
     → ((end : RoundEnd) (p : Option ℕ) → EndsBy end ops (record s { out = false; pending = p }) → Ends told end old (record s { out = false; pending = p }))
     → Ends told (end_of kind s).0 old (end_of kind s).1
 ends_end told kind ops old s (inl h) ends =
-    subst (λ (k : ℕ). Ends told (end_of k s).0 old (end_of k s).1) (sym h.0) (ends (Committed s.published.upto) (Some s.published.upto) (refl, refl, (h.1, h.2, h.3)))
+    subst (λ (k : ℕ). Ends told (end_of k s).0 old (end_of k s).1) (sym h.0) (ends (Committed s.published.upto) (Some s.published.upto) (refl, refl, (h.1, h.2, h.3, h.4)))
 ends_end told kind ops old s (inr h) ends = tells (eqb kind 6) (eqb kind 7) refl
   where
     tells : (b c : Bool) → eqb kind 6 ≡ b

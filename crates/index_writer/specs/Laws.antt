@@ -5,29 +5,31 @@ use Rattle.ix_base.specs.declared.file_name.FileName.TheVariants.{Commit}
 use Rattle.ix_outside.specs.Files.{Files}
 use Rattle.commit_point.specs.declared.heads.HeadSegment.{HeadSegment}
 use Rattle.commit_point.specs.declared.open.Opened.{Opened}
-use Rattle.commit_point.specs.Holds.{HasSegments, HaveSegments, HoldsInverted, Lists}
+use Rattle.commit_point.specs.Holds.{HasPairs, HasSegments, HaveSegments, HoldsInverted, Lists, Pairs}
 use Rattle.index_writer.specs.declared.state.State.{State}
 use Rattle.index_writer.specs.Ready.{CanFollow, HasRows, IsReady, IsStored, opened_on}
 use Rattle.index_writer.specs.Storing.{Commits, GoesOn, MayCommit, on_commit}
 
 -- A writer that committed can go on from the files.
 abbrev pub CommitsGoOn : Type 0
-CommitsGoOn = (old new : State) (files now : Files) → IsReady old
-    → new ≡ on_commit old → Commits old new files now → GoesOn files old
+CommitsGoOn = (pairs : Pairs) (old new : State) (files now : Files) → IsReady old
+    → new ≡ on_commit old → Commits pairs old new files now → GoesOn files old
     → GoesOn now new
 
--- The files of a commit hold the rows that its writer had.
+-- The files of a commit hold the rows that its writer had, and its pairs.
 abbrev pub CommitsHold : Type 0
-CommitsHold = (old new : State) (files now : Files) (rows : List Row)
-    → Commits old new files now → IsStored files old → HasRows old rows
+CommitsHold = (pairs : Pairs) (old new : State) (files now : Files) (rows : List Row)
+    → Commits pairs old new files now → IsStored files old → HasRows old rows
     → HoldsInverted now old.published.upto old.published.next_id rows
+    × HasPairs now old.published.upto pairs
 
 -- A crash meanwhile leaves the commit file as it was, or they hold them.
 abbrev pub CrashesHold : Type 0
-CrashesHold = (s : State) (files now : Files) (rows : List Row)
-    → MayCommit s files now → IsStored files s → HasRows s rows
+CrashesHold = (pairs : Pairs) (s : State) (files now : Files) (rows : List Row)
+    → MayCommit pairs s files now → IsStored files s → HasRows s rows
     → (now (Commit s.published.upto) ≡ files (Commit s.published.upto))
-    ⊎ HoldsInverted now s.published.upto s.published.next_id rows
+    ⊎ (HoldsInverted now s.published.upto s.published.next_id rows
+    × HasPairs now s.published.upto pairs)
 
 -- the files spell this commit, none is above it, and no commit lists an id from its next one on
 pub record IsLastOf (files : Files) (last : Opened) : Type 0 where

@@ -71,7 +71,7 @@ pub record ArePartsOf (base : ℕ) (told : List (List Numbered)) (parts : RoundP
 -- written; or without one.
 abbrev pub EndsBy : RoundEnd → List Operation → State → Type 0
 EndsBy (Committed s) ops new = (s ≡ new.published.upto) × (new.pending ≡ Some s)
-    × ((before : List Operation) × NoCommit before × (ops ≡ before ++ Commit ∷ []))
+    × ((before : List Operation) × NoCommit before × (pairs : List (List ℕ × List ℕ)) × (ops ≡ before ++ Commit pairs ∷ []))
 EndsBy Turned ops new = (new.pending ≡ None) × NoCommit ops
 EndsBy Ran ops new = (new.pending ≡ None) × NoCommit ops
 

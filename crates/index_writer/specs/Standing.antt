@@ -3,7 +3,7 @@ use Rattle.std.specs.Prelude.{◌≡◌, ◌≤◌, ℕ, IsSome}
 use Rattle.ix_base.specs.declared.file_name.FileName.{FileName}
 use Rattle.ix_outside.specs.Files.{Files}
 use Rattle.commit_point.specs.declared.open.Opened.{Opened}
-use Rattle.commit_point.specs.Holds.{HasSegments, IsFileOf}
+use Rattle.commit_point.specs.Holds.{HasSegments, IsFileOf, Pairs}
 use Rattle.commit_pruning.specs.Pruning.{MayBePruned}
 use Rattle.index_writer.specs.declared.state.State.{State}
 use Rattle.index_writer.specs.Ready.{IsStored, opened_on}
@@ -19,21 +19,22 @@ pub record StandsOnLast (files : Files) (s : State) : Type 0 where
 -- So it is once the writer has committed,
 abbrev pub CommitsStand : Type 0
 CommitsStand =
-  (old new : State) (files now : Files) → new ≡ on_commit old → Commits old new files now
-      → IsStored files old
+    (pairs : Pairs) (old new : State) (files now : Files) → new ≡ on_commit old
+    → Commits pairs old new files now
+    → IsStored files old
     → StandsOnLast now new
 
 -- where it begins on a commit,
 abbrev pub OpenedStand : Type 0
 OpenedStand = (files : Files) (last : Opened) (size merge : ℕ)
     → HasSegments files last.number last.next_id last.entries last.segments
-        → StandsOnLast files (opened_on last size merge)
+    → StandsOnLast files (opened_on last size merge)
 
 -- and after what keeps standing all that stood in any files, as rounds and merge steps do.
 abbrev pub StandingStays : Type 0
 StandingStays =
-  (files : Files) (old new : State) → new.last ≡ old.last
-      → ((f : Files) → IsStored f old → IsStored f new)
+    (files : Files) (old new : State) → new.last ≡ old.last
+    → ((f : Files) → IsStored f old → IsStored f new)
     → StandsOnLast files old → StandsOnLast files new
 
 -- A writer can go on where commits but the last one are given up.

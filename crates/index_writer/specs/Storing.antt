@@ -7,7 +7,7 @@ use Rattle.ix_outside.specs.Files.{Files}
 use Rattle.segment_core.specs.LiveRows.{Lived}
 use Rattle.commit_point.specs.declared.heads.HeadSegment.{HeadSegment}
 use Rattle.commit_point.specs.declared.written.Written.{Written}
-use Rattle.commit_point.specs.Holds.{AreKept, Lists}
+use Rattle.commit_point.specs.Holds.{AreKept, Lists, Pairs}
 use Rattle.commit_point.specs.Writing as commit
 use Rattle.commit_point.specs.Writing.{SameElsewhere, version}
 use Rattle.index_writer.specs.declared.state.State.{State}
@@ -44,15 +44,15 @@ on_commit s = record s {
 abbrev pub SameBelow : ℕ → ℕ → Files → Files → Type 0
 SameBelow s next = SameElsewhere s (λ id. id < next)
 
--- A writer committed: the files have the commit, without pairs, and what is on the store of its
--- segments stands in them.
-pub record Commits (old new : State) (files now : Files) : Type 0 where
-  pub made : commit.Commits old.published.upto old.published.next_id [] old.published.segments old.written files now
+-- A writer committed with these pairs: the files have the commit, in which they stand, and what is on the store of the
+-- writer's segments stands in the files.
+pub record Commits (pairs : Pairs) (old new : State) (files now : Files) : Type 0 where
+  pub made : commit.Commits old.published.upto old.published.next_id pairs old.published.segments old.written files now
   pub stands : IsStored files old → IsStored now new
 
 -- a crash while a writer commits: the commit is there whole, or its commit file is as before
-abbrev pub MayCommit : State → Files → Files → Type 0
-MayCommit s = commit.MayCommit s.published.upto s.published.next_id [] s.published.segments s.written
+abbrev pub MayCommit : Pairs → State → Files → Files → Type 0
+MayCommit pairs s = commit.MayCommit s.published.upto s.published.next_id pairs s.published.segments s.written
 
 -- The writer can go on from these files: no commit is above its last one, none lists an id that is new since that one,
 -- and what is on the store of its segments stands.

@@ -1,5 +1,5 @@
 //! The commit of what is in the segments.
-ghost use Rattle.std.specs.Prelude.{◌≡◌, ◌≤◌, ◌<◌, ◌^◌, ◌↔◌, length, IsSome, []};
+ghost use Rattle.std.specs.Prelude.{◌≡◌, ◌≤◌, ◌<◌, ◌^◌, ◌↔◌, length, IsSome};
 ghost use Rattle.std.specs.Prelude.{IsTrue, Some, None, IfOk, OnOk, OnErr, Err, true, false};
 ghost use Rattle.ix_base.specs.declared.document.Row.{Row};
 ghost use Rattle.std.specs.Prelude.{List as ListOf};
@@ -10,7 +10,6 @@ ghost use Rattle.ix_outside.specs.Crash.{MayHold};
 ghost use Rattle.ix_outside.specs.Disk.{Told, told_files};
 ghost use Rattle.ix_outside.specs.Files.{Files, Changes};
 ghost use Rattle.ix_outside.specs.Images.{Follows, Reaches};
-ghost use Rattle.commit_point.specs.Holds.{HasPairs};
 ghost use Rattle.commit_point.specs.Steps.{KeepsMade, OnlyCommits};
 ghost use Rattle.index_writer.specs.Ready.{HasRows, IsSound};
 ghost use Rattle.index_writer.specs.Storing.{Commits, GoesOn, MayCommit, SameBelow, Settles, on_commit, renewed};
@@ -26,15 +25,15 @@ use segment_core::LiveSegment;
 use std::alloc::Global;
 
 impl<S: Store> IndexWriter<S> {
-    /// Writes the commit with which the last round ended, and returns its number and how many rows it
-    /// has. It asks that there is one, unless the writer is closed. Only what is new or changed since
+    /// Writes the commit with which the last round ended, with these pairs in its commit file, and
+    /// returns its number and how many rows it has. It asks that there is one, unless the writer is closed. Only what is new or changed since
     /// the last commit is written. The commit lists the segments with a live row. The writer's segments
     /// stay, those without one too, and a merge that runs goes on after it.
     ///
     /// `Closed` comes exactly where the writer is closed; nothing changes then. After `Store` it is
     /// closed. After `NoMemory` all is as before, and the commit can be tried again; but where the
     /// commit is on the store by then, the writer is closed.
-    pub fn commit(&mut self) -> Result<CommitInfo, WriterFault>
+    pub fn commit(&mut self, pairs: &Fields) -> Result<CommitInfo, WriterFault>
         requires sound { IsSound self.old.state }
         requires pending { self.old.state.closed ≡ false → IsSome self.old.state.pending }
         ensures sound { IsSound self.new.state }
@@ -45,18 +44,14 @@ impl<S: Store> IndexWriter<S> {
         ensures stands { (rows : ListOf Row) → HasRows self.old.state rows
             → OnOk result (HasRows self.new.state rows) }
         ensures made { self.old.state.published.next_id ≤ 2 ^ 62
-            → OnOk result (Changes (Commits self.old.state self.new.state)
-            (told_files (S.disk self.old.store)) (told_files (S.disk self.new.store))) }
-        // No pairs stand in its commit file.
-        ensures pairs { self.old.state.published.next_id ≤ 2 ^ 62 → OnOk result
-            (Changes (λ old now. HasPairs now self.old.state.published.upto [])
+            → OnOk result (Changes (Commits pairs.now self.old.state self.new.state)
             (told_files (S.disk self.old.store)) (told_files (S.disk self.new.store))) }
         ensures elsewhere { OnErr result (Changes
             (SameBelow self.old.state.published.upto self.old.state.since)
             (told_files (S.disk self.old.store)) (told_files (S.disk self.new.store))) }
         // After an error the files have the commit whole, or its commit file is as before.
         ensures left { self.old.state.published.next_id ≤ 2 ^ 62
-            → OnErr result (Changes (MayCommit self.old.state)
+            → OnErr result (Changes (MayCommit pairs.now self.old.state)
             (told_files (S.disk self.old.store)) (told_files (S.disk self.new.store))) }
         // Each step is one by which commits are made: none deletes. Where the writer can go on from
         // the files, each commit that stands at some moment of the call stands from then on.
@@ -66,11 +61,11 @@ impl<S: Store> IndexWriter<S> {
             → Told KeepsMade (S.disk self.old.store) (S.disk self.new.store) }
         // Once it is acknowledged every image has the commit whole; a crash meanwhile leaves it whole or not at all.
         ensures acknowledged { self.old.state.published.next_id ≤ 2 ^ 62
-            → OnOk result (Follows (Commits self.old.state self.new.state)
+            → OnOk result (Follows (Commits pairs.now self.old.state self.new.state)
             (MayHold (S.disk self.old.store)) (MayHold (S.disk self.new.store))) }
         ensures crash { self.old.state.published.next_id ≤ 2 ^ 62
             → LeavesOnly (S.disk self.old.store) (S.disk self.new.store)
-            (Reaches (MayCommit self.old.state) (MayHold (S.disk self.old.store))) }
+            (Reaches (MayCommit pairs.now self.old.state) (MayHold (S.disk self.old.store))) }
         // Commits that were kept before, and the new one, are kept in every image.
         ensures settled { self.old.state.published.next_id ≤ 2 ^ 62
             → OnOk result (Settles self.old.state (S.disk self.old.store) (S.disk self.new.store)) }
@@ -98,13 +93,12 @@ impl<S: Store> IndexWriter<S> {
         let written = self.state.written.as_slice();
         let renewed = renewed(alloc, number, segments, written)?;
         let next_id = self.state.published.next_id;
-        let pairs = Fields::none(alloc);
         match write_commit(
             alloc,
             &mut self.store,
             number,
             next_id,
-            &pairs,
+            pairs,
             segments,
             written,
         ) {

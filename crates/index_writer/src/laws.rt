@@ -7,8 +7,8 @@ pub fn commits_go_on()
     ensures { CommitsGoOn }
 {}
 
-/// The files of a commit hold the rows that its writer had. A crash while it is made leaves the commit
-/// file as it was, or they hold them.
+/// The files of a commit hold the rows that its writer had, and its pairs. A crash while it is made
+/// leaves the commit file as it was, or they hold them.
 pub fn commits_hold()
     ensures made { CommitsHold }
     ensures crash { CrashesHold }

@@ -1,6 +1,6 @@
 //! A tool of the tests: the lines of a script, and the operations that they are.
 
-use ix_base::{Operation, Queries, Query, Term};
+use ix_base::{Fields, Operation, Queries, Query, Term};
 use std::alloc::Global;
 use std::test::*;
 use test_values::{document_of, key_term, name_of};
@@ -55,6 +55,6 @@ pub(crate) fn operation_of(alloc: Global, act: Act, key: &str) -> Result<Operati
             num: name_of(alloc, "n")?,
             value,
         }),
-        Act::Commit => Ok(Operation::Commit),
+        Act::Commit => Ok(Operation::Commit(Fields::none(alloc))),
     }
 }

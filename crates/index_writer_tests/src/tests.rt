@@ -7,7 +7,7 @@ use crate::script_lines::{Act, Line, Script, operation_of};
 use crate::working::{Answer, do_line, into_parts};
 use commit_point::open_commit;
 use index_writer::{EndRefused, IndexWriter, MergeTurn, RoundEnd, RoundParts, WriterFault};
-use ix_base::Refusal;
+use ix_base::{Fields, Refusal};
 use ix_memory::MemoryStore;
 use ix_outside::Store;
 use std::alloc::Global;
@@ -116,14 +116,14 @@ pub(crate) fn shown(alloc: Global, store: &mut MemoryStore, number: u64) -> Resu
 }
 
 /// Commits, and returns the number of the commit and how many rows it has.
-fn committed(writer: &mut IndexWriter<MemoryStore>) -> Result<(u64, u64), Fail>
+fn committed(alloc: Global, writer: &mut IndexWriter<MemoryStore>) -> Result<(u64, u64), Fail>
     requires { IsSound writer.old.state }
     ensures { OnOk result (IsSound writer.new.state) }
 {
     if writer.pending_commit().is_none() {
         Err("no commit to be written")?;
     }
-    let info = writer.commit()?;
+    let info = writer.commit(&Fields::none(alloc))?;
     Ok((info.number, info.docs))
 }
 
@@ -189,7 +189,7 @@ fn go_on<R: Threads + Sync>(
         }
         Step::Merge(rows) => show_merge(out, merged(writer, rows)?),
         Step::Commit => {
-            let (number, docs) = committed(writer)?;
+            let (number, docs) = committed(alloc, writer)?;
             Ok(write!(out, "{docs} rows in {number}; ")?)
         }
     }
@@ -451,7 +451,7 @@ fn with_failing_write<R: Threads + Sync>(
 #[test]
 fn closed_after_a_fault(rt: HostRuntime) -> Result<(), Fail> {
     let mut writer = with_failing_write(&rt, rt.alloc())?;
-    assert!(rt; faults_of(&mut writer)? == [WriterFault::Store, WriterFault::Closed]);
+    assert!(rt; faults_of(rt.alloc(), &mut writer)? == [WriterFault::Store, WriterFault::Closed]);
     assert!(rt; begin_fault(&mut writer)? == WriterFault::Closed);
     assert!(rt; merge_fault(&mut writer)? == WriterFault::Closed);
     assert!(rt; writer.is_closed());
@@ -489,7 +489,7 @@ fn lost_round<R: Threads + Sync>(
         &mut parts,
         &[(0, Act::Add, "b"), (0, Act::Add, "c"), (0, Act::Add, "d")],
     )?;
-    if fault_of(writer)? != WriterFault::Store {
+    if fault_of(alloc, writer)? != WriterFault::Store {
         Err("another fault")?;
     }
     given_back(rt, alloc, writer, parts)
@@ -524,17 +524,17 @@ fn given_back<R: Threads + Sync>(
 }
 
 /// Why a commit isn't written, and why it isn't when it is tried again.
-fn faults_of(writer: &mut IndexWriter<MemoryStore>) -> Result<[WriterFault; 2], Fail>
+fn faults_of(alloc: Global, writer: &mut IndexWriter<MemoryStore>) -> Result<[WriterFault; 2], Fail>
     requires { IsSound writer.old.state }
     ensures { OnOk result (IsSound writer.new.state) }
 {
-    let first = fault_of(writer)?;
-    let second = fault_of(writer)?;
+    let first = fault_of(alloc, writer)?;
+    let second = fault_of(alloc, writer)?;
     Ok([first, second])
 }
 
 /// Why a commit isn't written.
-fn fault_of(writer: &mut IndexWriter<MemoryStore>) -> Result<WriterFault, Fail>
+fn fault_of(alloc: Global, writer: &mut IndexWriter<MemoryStore>) -> Result<WriterFault, Fail>
     requires { IsSound writer.old.state }
     ensures sound { OnOk result (IsSound writer.new.state) }
     ensures out { OnOk result (writer.new.state.out ≡ writer.old.state.out) }
@@ -542,7 +542,7 @@ fn fault_of(writer: &mut IndexWriter<MemoryStore>) -> Result<WriterFault, Fail>
     if writer.pending_commit().is_none() {
         Err("no commit to be written")?;
     }
-    match writer.commit() {
+    match writer.commit(&Fields::none(alloc)) {
         Ok(_) => Err("a commit")?,
         Err(fault) => Ok(fault),
     }

@@ -46,7 +46,7 @@ terms_in_order = refl
 
 -- ---- what operations do
 
-add_and_delete : after [] 0 (Add (of_key (codes "a1")) ∷ Add (of_key (codes "a2")) ∷ DeleteTerm (key_term (codes "a1")) ∷ Commit ∷ []) ≡ row_of 2 (of_key (codes "a2")) ∷ []
+add_and_delete : after [] 0 (Add (of_key (codes "a1")) ∷ Add (of_key (codes "a2")) ∷ DeleteTerm (key_term (codes "a1")) ∷ Commit [] ∷ []) ≡ row_of 2 (of_key (codes "a2")) ∷ []
 unfolding unicode_segmentation caseless
 add_and_delete = refl
 

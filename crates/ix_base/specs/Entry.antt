@@ -26,7 +26,7 @@ entry_of (o.Update term doc) = update term
 entry_of (o.DeleteTerm term) = delete_term term
 entry_of (o.DeleteQuery query) = delete_query (tree_of query)
 entry_of (o.SetNumber term num value) = set_number term num value
-entry_of o.Commit = commit
+entry_of (o.Commit pairs) = commit
 
 abbrev pub kind_of : Entry → ℕ
 kind_of add = 1

@@ -32,7 +32,7 @@ stands_in_row docs field bytes row at = at_row (λ doc. stands_at (terms doc) fi
 abbrev pub rows_from : ℕ → (Document → Bool) → List Document → List ℕ
 rows_from row test [] = []
 rows_from row test (doc ∷ docs) =
-  if test doc then row ∷ rows_from (row + 1) test docs else rows_from (row + 1) test docs
+    if test doc then row ∷ rows_from (row + 1) test docs else rows_from (row + 1) test docs
 
 -- the rows whose documents pass the test, rising
 abbrev pub rows_where : (Document → Bool) → List Document → List ℕ
@@ -44,7 +44,7 @@ rows_where = rows_from 0
 abbrev pub posted : List TermPostings → List ℕ → List ℕ → ℕ → ℕ → Bool
 posted entries field bytes row at =
     list_any (λ entry. (bytes_eq entry.term.field field && bytes_eq entry.term.bytes bytes)
-        && posted_at entry.rows row at) entries
+    && posted_at entry.rows row at) entries
 
 -- a term has a row at least, and its rows rise
 pub record IsTermPostings (entry : TermPostings) : Type 0 where

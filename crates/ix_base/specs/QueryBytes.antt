@@ -18,8 +18,8 @@ abbrev mutual
   query_bytes (range name low high) = 4 ∷ (text_bytes name ++ (signed64 low ++ signed64 high))
   query_bytes (bool must should must_not) =
       3 ∷ ((be32 (count_of must) ++ queries_bytes must)
-          ++ ((be32 (count_of should) ++ queries_bytes should)
-          ++ (be32 (count_of must_not) ++ queries_bytes must_not)))
+      ++ ((be32 (count_of should) ++ queries_bytes should)
+      ++ (be32 (count_of must_not) ++ queries_bytes must_not)))
 
   pub queries_bytes : Trees → List ℕ
   queries_bytes no_trees = []
@@ -38,8 +38,8 @@ abbrev mutual
   IsQuery (range name low high) = IsName name × (FitsSigned w64 low × FitsSigned w64 high)
   IsQuery (bool must should must_not) =
       ((count_of must < 2 ^ 32) × AreQueries must)
-          × ((count_of should < 2 ^ 32) × AreQueries should)
-          × ((count_of must_not < 2 ^ 32) × AreQueries must_not)
+      × ((count_of should < 2 ^ 32) × AreQueries should)
+      × ((count_of must_not < 2 ^ 32) × AreQueries must_not)
 
   pub AreQueries : Trees → Type 0
   AreQueries no_trees = Unit {0}

@@ -31,7 +31,7 @@ own_refusal (Update term doc) = term_refusal term
 own_refusal (DeleteTerm term) = term_refusal term
 own_refusal (DeleteQuery query) = query_refusal (tree_of query)
 own_refusal (SetNumber term num value) = term_refusal term
-own_refusal Commit = None
+own_refusal (Commit pairs) = None
 
 -- the refusal of a document: for its first term that is too long
 abbrev pub document_refusal : Document → Option Refusal
@@ -48,7 +48,7 @@ refusal (Update term doc) = first_refusal (term_refusal term) (document_refusal 
 refusal (DeleteTerm term) = own_refusal (DeleteTerm term)
 refusal (DeleteQuery query) = own_refusal (DeleteQuery query)
 refusal (SetNumber term num value) = own_refusal (SetNumber term num value)
-refusal Commit = None
+refusal (Commit pairs) = None
 
 -- What a call that is refused says: the refusal, or that memory ran out, which comes only where
 -- there is none.

@@ -65,8 +65,8 @@ pub enum Operation {
     DeleteQuery(Query),
     /// Gives the number this value in the documents that hold the term.
     SetNumber { term: Term, num: Name, value: i64 },
-    /// Makes a commit of the operations numbered up to its own.
-    Commit,
+    /// Makes a commit of the operations numbered up to its own, with these pairs of a name and a text.
+    Commit(Fields),
 }
 
 impl Drop for Document {
@@ -92,7 +92,7 @@ impl Drop for Operation {
                 num: _num,
                 value: _,
             } => {}
-            Operation::Commit => {}
+            Operation::Commit(_pairs) => {}
         }
     }
 }
@@ -207,7 +207,7 @@ impl Operation {
                 num: num.clone_in(alloc)?,
                 value: *value,
             }),
-            Operation::Commit => Ok(Operation::Commit),
+            Operation::Commit(pairs) => Ok(Operation::Commit(pairs.clone_in(alloc)?)),
         }
     }
 }

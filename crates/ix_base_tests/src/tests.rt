@@ -118,9 +118,9 @@ fn show_operation(out: &mut String, operation: &Operation) -> Result<(), Fail> {
             write!(out, " {num}={value}")?;
             Ok(())
         }
-        Operation::Commit => {
+        Operation::Commit(pairs) => {
             out.push_str("commit")?;
-            Ok(())
+            show_fields(out, pairs)
         }
     }
 }
@@ -221,7 +221,7 @@ fn operation_of(alloc: Global, kind: u32) -> Result<Operation, Fail> {
         2 => Ok(Operation::DeleteTerm(term_of(alloc, "key", "a1")?)),
         3 => Ok(Operation::DeleteQuery(nested(alloc)?)),
         4 => setting(alloc),
-        _ => Ok(Operation::Commit),
+        _ => Ok(Operation::Commit(field_of(alloc, "body", "Quick FOX")?)),
     }
 }
 
@@ -244,7 +244,7 @@ tag:x by a2 text exact num
 key:a1
 +(key:a1)(+|(all)-(body~a b))|(all)-
 tag:x n=-9223372036854775808
-commit
+commit body=Quick FOX
 ";
 
 #[test]

@@ -34,7 +34,7 @@ bytes_left Half bytes = Some (take (length bytes / 2) bytes)
 abbrev pub files_left : StepsLeft → BytesLeft → Disk → Files
 files_left steps bytes [] = λ name. None
 files_left steps bytes (Wrote name written ∷ older) =
-  with_at name (bytes_left bytes written) (files_left steps bytes older)
+    with_at name (bytes_left bytes written) (files_left steps bytes older)
 files_left steps bytes (Synced name ∷ older) = with_at name (files_of older name) (files_left steps bytes older)
 files_left steps bytes (Renamed «from» to ∷ older) =
     if leaves_step steps (length older) then moved «from» to None (files_left steps bytes older) else files_left steps bytes older
@@ -42,6 +42,6 @@ files_left steps bytes (Deleted name ∷ older) =
     if leaves_step steps (length older) then with_at name None (files_left steps bytes older) else files_left steps bytes older
 files_left steps bytes (Settled ∷ older) = files_left Every bytes older
 files_left steps bytes (Spoilt name found ∷ older) =
-  with_at name (option_and_then (bytes_left bytes) found) (files_left steps bytes older)
+    with_at name (option_and_then (bytes_left bytes) found) (files_left steps bytes older)
 files_left steps bytes (HalfRenamed «from» to ∷ older) = files_left steps bytes older
 files_left steps bytes (HalfDeleted name ∷ older) = files_left steps bytes older

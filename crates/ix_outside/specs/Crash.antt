@@ -38,7 +38,7 @@ IsImage (step ∷ older) image = (d : Files) × IsImage older d × Leaves step o
 abbrev pub LeftSince : ℕ → Disk → Files → Type 0
 LeftSince since [] image = IsImage [] image
 LeftSince since (step ∷ older) image =
-  IsImage (step ∷ older) image ⊎ ((since ≤ length older) × LeftSince since older image)
+    IsImage (step ∷ older) image ⊎ ((since ≤ length older) × LeftSince since older image)
 
 -- what a crash may leave at some moment from the old disk to the new
 abbrev pub MayLeave : Disk → Disk → Files → Type 0

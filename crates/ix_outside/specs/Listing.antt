@@ -10,5 +10,5 @@ IsForeign text = (name : FileName) → IsFileName name → name_text name ≢ te
 -- The entry of a foreign text is passed over, and the name with any other text is put at the end.
 abbrev pub Takes : List ℕ → List FileName → List FileName → Type 0
 Takes text old new =
-  (IsForeign text × (new ≡ old))
-      ⊎ ((name : FileName) × IsFileName name × (name_text name ≡ text) × (new ≡ old ++ name ∷ []))
+    (IsForeign text × (new ≡ old))
+    ⊎ ((name : FileName) × IsFileName name × (name_text name ≡ text) × (new ≡ old ++ name ∷ []))

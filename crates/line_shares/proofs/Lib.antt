@@ -6,3 +6,4 @@ pub mod OwnLaws
 pub mod ReplyLaws
 pub mod ShareLaws
 pub mod TellLaws
+pub mod CommittedLaws

@@ -1,3 +1,4 @@
 pub mod Shares
 pub mod Dealing
 pub mod Tells
+pub mod Committed

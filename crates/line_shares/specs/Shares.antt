@@ -26,7 +26,7 @@ is_doing (Search query) = false
 -- the operation of a line that writes or commits
 abbrev pub operation_of : Act → Operation
 operation_of (Do op) = op
-operation_of (Search query) = Commit
+operation_of (Search query) = Commit []
 
 -- what its worker is to do
 abbrev pub task_of : Line → Task
@@ -38,7 +38,7 @@ kind_of_operation (Update term doc) = kind.Write
 kind_of_operation (DeleteTerm term) = kind.Write
 kind_of_operation (DeleteQuery query) = kind.Write
 kind_of_operation (SetNumber term name value) = kind.Write
-kind_of_operation Commit = kind.Commit
+kind_of_operation (Commit pairs) = kind.Commit
 
 abbrev pub kind_of : Act → Kind
 kind_of (Do op) = kind_of_operation op

@@ -102,7 +102,7 @@ fn kind_of(operation: &Operation) -> Kind
         | Operation::DeleteTerm(_)
         | Operation::DeleteQuery(_)
         | Operation::SetNumber { .. } => Kind::Write,
-        Operation::Commit => Kind::Commit,
+        Operation::Commit(_) => Kind::Commit,
     }
 }
 

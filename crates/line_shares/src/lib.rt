@@ -4,8 +4,10 @@
 //! the script. Of each line its place is kept, by which can be told what became of it.
 #![tactic(auto)]
 
+mod committed;
 mod dealing;
 mod place;
 
+pub use committed::{committed_pairs, told_counts};
 pub use dealing::{Dealt, all_done, deal};
 pub use place::{Kind, Place};

@@ -1,7 +1,7 @@
 //! Lines dealt out, against what was worked out by hand.
 ghost use Rattle.std.specs.Prelude.{◌≤◌};
 
-use ix_base::{Document, List, Operation, Query, Text};
+use ix_base::{Document, Fields, List, Operation, Query, Text};
 use line_shares::{Dealt, Kind, Place, all_done, deal};
 use op_script::{Act, Line};
 use std::alloc::Global;
@@ -29,7 +29,7 @@ fn kind_of<'a>(place: &'a Place) -> &'a str {
 fn work_of<'a>(task: &'a Task) -> &'a str {
     match &task.operation {
         Operation::Add(doc) => doc.key.as_str(),
-        Operation::Commit => "commit",
+        Operation::Commit(_) => "commit",
         _ => "other",
     }
 }
@@ -74,7 +74,7 @@ fn act_of(alloc: Global, line: u32) -> Result<Act, Fail> {
     match line {
         1 => adding(alloc, "a1"),
         2 => Ok(Act::Search(Query::All)),
-        3 => Ok(Act::Do(Operation::Commit)),
+        3 => Ok(Act::Do(Operation::Commit(Fields::none(alloc)))),
         5 => adding(alloc, "b1"),
         _ => Ok(Act::Do(Operation::DeleteQuery(Query::All))),
     }
@@ -126,7 +126,7 @@ fn searches_alone(rt: HostRuntime) -> Result<(), Fail> {
 
 /// A share of one task.
 fn share_of_one(alloc: Global) -> Result<Share, Fail> {
-    let (line, operation) = (1, Operation::Commit);
+    let (line, operation) = (1, Operation::Commit(Fields::none(alloc)));
     let task = Task { line, operation };
     Ok(Share::new(alloc, vec![in alloc; task]?))
 }

@@ -54,8 +54,8 @@ has_numbers (n ∷ ns) = true
 abbrev pub numbered_from : ℕ → List Mark → List ℕ
 numbered_from row [] = []
 numbered_from row (m ∷ marks) =
-  if has_numbers m.values then row ∷ numbered_from (row + 1) marks else numbered_from (row
-      + 1) marks
+    if has_numbers m.values then row ∷ numbered_from (row + 1) marks else numbered_from (row
+    + 1) marks
 
 -- the rows in which numbers were set, in order
 abbrev pub numbered_rows : List Mark → List ℕ

@@ -29,7 +29,7 @@ bits_at n bytes = do
   found ← bytes_at (byte_count n) bytes
   if not (has_bit (flat_map byte_bits found.0)) then Err (length bytes) else
       (if has_bit (drop n (flat_map byte_bits found.0)) then Err (length found.1
-          + 1) else Ok (take n (flat_map byte_bits found.0), found.1))
+      + 1) else Ok (take n (flat_map byte_bits found.0), found.1))
 
 -- the live bits of the segment of this id, which has n rows, written with the commit v
 unfoldable pub live_in : ℕ → ℕ → ℕ → List ℕ → Result (List Bool) ℕ

@@ -29,7 +29,7 @@ untouched (DeleteTerm term) doc e = ap (λ (b : Bool). cond b None (Some doc)) e
 untouched (DeleteQuery query) doc e = ap (λ (b : Bool). cond b None (Some doc)) e
 untouched (SetNumber term name value) doc e =
     ap (λ (b : Bool). Some (cond b (record doc { num = with_number name value doc.num }) doc)) e
-untouched Commit doc e = refl
+untouched (Commit pairs) doc e = refl
 
 module _ (Owns : ℕ → Document → Type 0) where
   abbrev IsOwned : Tagged → Type 0
@@ -57,7 +57,7 @@ module _ (Owns : ℕ → Document → Type 0) where
       by_test : (b : Bool) → Owns c (cond b (record doc { num = with_number name value doc.num }) doc)
       by_test true = stays c doc (with_number name value doc.num) owned
       by_test false = owned
-  owned_left stays Commit c doc owned = owned
+  owned_left stays (Commit pairs) c doc owned = owned
 
   all_left_owned : Stays → (op : Operation) (ts : List Tagged) → AreOwned ts → AreOwned (filter_map (tag_left op) ts)
   all_left_owned stays op [] owned = tt
@@ -75,7 +75,7 @@ module _ (Owns : ℕ → Document → Type 0) where
   added_owned c (DeleteTerm term) adds = tt
   added_owned c (DeleteQuery query) adds = tt
   added_owned c (SetNumber term name value) adds = tt
-  added_owned c Commit adds = tt
+  added_owned c (Commit pairs) adds = tt
 
   step_owned : Stays → (c : ℕ) (o : Option Operation) (ts : List Tagged) → IfSome o (KeepsTo Owns c) → AreOwned ts
       → AreOwned (tagged_by c o ts)

@@ -56,7 +56,7 @@ log_ends lines (l ∷ log) commits same some =
     }
   where
     by : (end : Line) (front : List Line) → of_caller end.caller lines ≡ front ++ end ∷ []
-        → (of_caller end.caller lines ≡ []) ⊎ EndsInCommit (of_caller end.caller lines) → end.act ≡ Do Commit
+        → (of_caller end.caller lines ≡ []) ⊎ EndsInCommit (of_caller end.caller lines) → end.act ≡ Do (Commit [])
     by end front own (inl none) = absurd (no_last front end (sym own ∙ none))
     by end front own (inr ends) =
         let same : end ≡ ends.end =
@@ -64,7 +64,7 @@ log_ends lines (l ∷ log) commits same some =
         ap (λ (x : Line). x.act) same ∙ ends.commit
 
 -- the number of the last commit
-commits_end : (base : ℕ) (front : List Line) (end : Line) → end.act ≡ Do Commit
+commits_end : (base : ℕ) (front : List Line) (end : Line) → end.act ≡ Do (Commit [])
     → EndsAt (commit_numbers base (front ++ end ∷ [])) (base + length (front ++ end ∷ []))
 commits_end base [] end commit = (
   [],

@@ -19,7 +19,7 @@ left_by (DeleteTerm term) doc = if holds_term term.field term.bytes doc then Non
 left_by (DeleteQuery query) doc = if matches (tree_of query) doc then None else Some doc
 left_by (SetNumber term name value) doc =
     Some (if holds_term term.field term.bytes doc then record doc { num = with_number name value doc.num } else doc)
-left_by Commit doc = Some doc
+left_by (Commit pairs) doc = Some doc
 
 -- the documents that an operation adds
 abbrev pub added_by : Operation → List Document
@@ -28,7 +28,7 @@ added_by (Update term doc) = doc ∷ []
 added_by (DeleteTerm term) = []
 added_by (DeleteQuery query) = []
 added_by (SetNumber term name value) = []
-added_by Commit = []
+added_by (Commit pairs) = []
 
 -- the documents after operations, in their order
 abbrev pub folded : List Document → List Operation → List Document
@@ -81,7 +81,7 @@ documents_step rows n (SetNumber term name value) =
         ≡ cond b (record row.doc { num = with_number name value row.doc.num }) row.doc
     same row true = refl
     same row false = refl
-documents_step rows n Commit = all_left (documents rows) ∙ sym (append-nil _)
+documents_step rows n (Commit pairs) = all_left (documents rows) ∙ sym (append-nil _)
 
 -- The documents of the rows after operations are what the operations make of the documents before.
 pub documents_after : (rows : List Row) (last : ℕ) (ops : List Operation)

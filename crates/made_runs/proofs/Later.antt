@@ -42,7 +42,7 @@ step_later base n rows (SetNumber term name value) lt =
     same : (row : Row) (b : Bool) → nat_lt base (cond b (with_value name value row) row).birth ≡ nat_lt base row.birth
     same row true = refl
     same row false = refl
-step_later base n rows Commit lt = refl
+step_later base n rows (Commit pairs) lt = refl
 
 after_later : (base last : ℕ) (rows : List Row) (ops : List Operation) → base ≤ last
     → born_after base (after rows last ops) ≡ after (born_after base rows) last ops

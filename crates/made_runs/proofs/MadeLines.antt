@@ -44,9 +44,9 @@ in_range P first (suc count) each = (
   in_range P (first + 1) count (λ k le lt. each k (omega (arith, le)) (omega (arith, lt))),
 )
 
-a_commit_is_made : (callers line caller : ℕ) → caller < callers → IsMade callers (record { line = line; caller = caller; act = Do Commit })
+a_commit_is_made : (callers line caller : ℕ) → caller < callers → IsMade callers (record { line = line; caller = caller; act = Do (Commit []) })
 a_commit_is_made callers line caller lt = record {
-  operation = Commit;
+  operation = Commit [];
   is = refl;
   in_range = lt;
   keeps = commit_keeps caller;
@@ -64,7 +64,7 @@ line_is_made seed callers at first some few = by (eqb (at % 64) 0)
     by : (b : Bool) → IsMade callers (record {
       line = at;
       caller = (at - 1) % callers;
-      act = Do (cond b Commit (drawn_operation ((at - 1) % callers) (draw_at seed at)));
+      act = Do (cond b (Commit []) (drawn_operation ((at - 1) % callers) (draw_at seed at)));
     })
     by true = a_commit_is_made callers at ((at - 1) % callers) turn
     by false =
@@ -149,7 +149,7 @@ commit_caller : (lines caller : ℕ) → (last_commit lines caller).caller ≡ c
 unfolding last_commit
 commit_caller lines caller = refl
 
-commit_is : (lines caller : ℕ) → (last_commit lines caller).act ≡ Do Commit
+commit_is : (lines caller : ℕ) → (last_commit lines caller).act ≡ Do (Commit [])
 unfolding last_commit
 commit_is lines caller = refl
 

@@ -72,7 +72,7 @@ drawn_counts caller draw small =
     })
     (record { adds = tt; leaves = λ doc counted. gone_or_left doc (matches (tree_of (query_of caller (draw / 8))) doc) counted })
 
-pub commit_counts : KeepsCounted Commit
+pub commit_counts : KeepsCounted (Commit [])
 commit_counts = record { adds = tt; leaves = λ doc counted. counted }
 
 added_counted : (op : Operation) → Adds IsCounted op → AllByRecursion IsCounted (added_by op)
@@ -81,7 +81,7 @@ added_counted (Update term doc) adds = (adds, tt)
 added_counted (DeleteTerm term) adds = tt
 added_counted (DeleteQuery query) adds = tt
 added_counted (SetNumber term name value) adds = tt
-added_counted Commit adds = tt
+added_counted (Commit pairs) adds = tt
 
 left_counted : (op : Operation) (docs : List Document) → KeepsCounted op → AllByRecursion IsCounted docs
     → AllByRecursion IsCounted (filter_map (left_by op) docs)
@@ -134,7 +134,7 @@ one_added (Update term doc) = omega arith
 one_added (DeleteTerm term) = omega arith
 one_added (DeleteQuery query) = omega arith
 one_added (SetNumber term name value) = omega arith
-one_added Commit = omega arith
+one_added (Commit pairs) = omega arith
 
 pub folded_few : (docs : List Document) (ops : List Operation) → length (folded docs ops) ≤ length docs + length ops
 folded_few docs [] = omega arith

@@ -126,7 +126,7 @@ drawn_keeps caller draw small =
     (record { adds = tt; touched = λ other doc own e. own_tag caller (draw / 8) other doc small own e })
     (record { adds = tt; touched = λ other doc own e. own_query caller (draw / 8) other doc small own e })
 
-pub commit_keeps : (caller : ℕ) → KeepsTo IsOwn caller Commit
+pub commit_keeps : (caller : ℕ) → KeepsTo IsOwn caller (Commit [])
 commit_keeps caller = record { adds = tt; touched = λ other doc own e. absurd cc }
 
 pub own_stays : (caller : ℕ) (doc : Document) (numbers : List Named) → IsOwn caller doc → IsOwn caller (record doc { num = numbers })

@@ -19,7 +19,7 @@ touches (Update term added) doc = holds_term term.field term.bytes doc
 touches (DeleteTerm term) doc = holds_term term.field term.bytes doc
 touches (DeleteQuery query) doc = matches (tree_of query) doc
 touches (SetNumber term name value) doc = holds_term term.field term.bytes doc
-touches Commit doc = false
+touches (Commit pairs) doc = false
 
 -- what an operation adds is such a document
 abbrev pub Adds : (Document → Type 0) → Operation → Type 0
@@ -28,7 +28,7 @@ Adds P (Update term doc) = P doc
 Adds P (DeleteTerm term) = ⊤
 Adds P (DeleteQuery query) = ⊤
 Adds P (SetNumber term name value) = ⊤
-Adds P Commit = ⊤
+Adds P (Commit pairs) = ⊤
 
 -- An operation of a caller adds only documents that the caller owns, and touches no document that
 -- another caller owns.

@@ -12,7 +12,7 @@ pub record EndsInCommit (lines : List Line) : Type 0 where
   pub front : List Line
   pub end : Line
   pub parts : lines ≡ front ++ end ∷ []
-  pub commit : end.act ≡ Do Commit
+  pub commit : end.act ≡ Do (Commit [])
 
 -- the last line of each caller that has lines is a commit
 abbrev pub CallersCommit : List Line → Type 0

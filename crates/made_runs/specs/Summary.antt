@@ -30,7 +30,7 @@ script_summary lines = summary_of (count_by (λ (l : Line). is_commit l.act) lin
 -- what a run comes to whose lines were numbered by the log over these rows of the commit `base`
 abbrev pub run_summary : ℕ → List Row → List Line → Summary
 run_summary base rows log =
-  summary_of (length (commit_numbers base log)) (length log) (map hit_of (run_rows base rows log))
+    summary_of (length (commit_numbers base log)) (length log) (map hit_of (run_rows base rows log))
 
 -- A run of the lines, numbered by the log over rows of the commit `base`, comes to what the lines
 -- come to in the order of the script: as many lines and commits, of which the last has the number

@@ -44,7 +44,7 @@ fn refusal(operation: &Operation) -> Option<Refusal>
     ensures { result ≡ own_refusal operation.now }
 {
     match operation {
-        Operation::Add(_) | Operation::Commit => None,
+        Operation::Add(_) | Operation::Commit(_) => None,
         Operation::Update(term, _) | Operation::DeleteTerm(term) => term_refusal(term),
         Operation::SetNumber { term, .. } => term_refusal(term),
         Operation::DeleteQuery(query) => {
@@ -72,7 +72,7 @@ fn kind_of(operation: &Operation) -> u64
         Operation::DeleteTerm(_) => 3,
         Operation::DeleteQuery(_) => 4,
         Operation::SetNumber { .. } => 5,
-        Operation::Commit => 6,
+        Operation::Commit(_) => 6,
     }
 }
 
@@ -84,7 +84,7 @@ fn put_operation(out: &mut Vec<u8>, operation: &Operation) -> Result<(), NoMemor
     ensures entry { OnOk result (IsEntry (entry_of operation.now)) }
 {
     match operation {
-        Operation::Add(_) | Operation::Commit => Ok(()),
+        Operation::Add(_) | Operation::Commit(_) => Ok(()),
         Operation::Update(term, _) | Operation::DeleteTerm(term) => put_term(out, term),
         Operation::DeleteQuery(query) => put_query(out, query),
         Operation::SetNumber { term, num, value } => {

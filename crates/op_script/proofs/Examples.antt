@@ -14,7 +14,7 @@ one_add : script (codes "{\"c\":7,\"op\":\"add\",\"doc\":{\"key\":\"a1\"}}") ≡
 unfolding script serde_json_on_literals is_utf8 chars encode_utf8
 one_add = refl
 
-one_commit : script (codes " {\"op\":\"commit\",\"c\":0}\r") ≡ Ok (record { line = 1; caller = 0; act = act.Do operation.Commit } ∷ [])
+one_commit : script (codes " {\"op\":\"commit\",\"c\":0}\r") ≡ Ok (record { line = 1; caller = 0; act = act.Do (operation.Commit []) } ∷ [])
 unfolding script serde_json_on_literals is_utf8 chars encode_utf8
 one_commit = refl
 
@@ -50,11 +50,11 @@ one_search : script (codes "{\"c\":255,\"op\":\"search\",\"query\":{\"term\":[\"
 unfolding script serde_json_on_literals is_utf8 chars encode_utf8
 one_search = refl
 
-blank_lines_count : script (codes "\r\n \t\n{\"c\":1,\"op\":\"commit\"}\r\n\n") ≡ Ok (record { line = 3; caller = 1; act = act.Do operation.Commit } ∷ [])
+blank_lines_count : script (codes "\r\n \t\n{\"c\":1,\"op\":\"commit\"}\r\n\n") ≡ Ok (record { line = 3; caller = 1; act = act.Do (operation.Commit []) } ∷ [])
 unfolding script serde_json_on_literals is_utf8 chars encode_utf8
 blank_lines_count = refl
 
-last_member_counts : script (codes "{\"c\":1,\"op\":\"commit\",\"c\":2}") ≡ Ok (record { line = 1; caller = 2; act = act.Do operation.Commit } ∷ [])
+last_member_counts : script (codes "{\"c\":1,\"op\":\"commit\",\"c\":2}") ≡ Ok (record { line = 1; caller = 2; act = act.Do (operation.Commit []) } ∷ [])
 unfolding script serde_json_on_literals is_utf8 chars encode_utf8
 last_member_counts = refl
 

@@ -7,9 +7,9 @@ use Rattle.std.proofs.lemmas.List.Splits.{length-slice_split}
 use Rattle.std.proofs.lemmas.List.Sums.{count_by-le-length}
 use Rattle.serde_json.specs.Data.{Data, null, boolean, number, string, array, object}
 use Rattle.serde_json.specs.Find.{get, as_number, as_u64}
-use Rattle.op_script.specs.Values.{value_of, has_exactly}
+use Rattle.op_script.specs.Values.{value_of}
 use Rattle.op_script.specs.Lines.{lines_of, is_blank}
-use Rattle.op_script.specs.Verbs.{members_of}
+use Rattle.op_script.specs.Verbs.{has_members}
 use Rattle.op_script.specs.Language.{byte_of, caller_of, verb_of, act_of, line_with, line_by, line_of, placed, request_of, line_at, and_then, lines_from, most_bytes}
 use Rattle.op_script.specs.Shape.{LinesRise, AreScriptLines}
 use Rattle.op_script.specs.declared.script.Act.{Act}
@@ -47,7 +47,7 @@ exact_good false at c v d line below is = cc
 line_by_good : (at : ℕ) (d : Data) (caller : Option ℕ) (v : Option Verb) (line : Line) → ((c : ℕ) → caller ≡ Some c → c < 256) → line_by at d caller v ≡ Ok line → IsLineAt at line
 line_by_good at d None v line below is = cc
 line_by_good at d (Some c) None line below is = cc
-line_by_good at d (Some c) (Some v) line below is = exact_good (has_exactly (members_of v) d) at c v d line (below c refl) is
+line_by_good at d (Some c) (Some v) line below is = exact_good (has_members v d) at c v d line (below c refl) is
 
 line_of_good : (at : ℕ) (d : Data) (line : Line) → line_of at d ≡ Ok line → IsLineAt at line
 line_of_good at null line is = cc

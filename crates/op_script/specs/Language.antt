@@ -4,9 +4,10 @@ use Rattle.std.specs.Option.{option_map_or}
 use Rattle.serde_json.specs.Data.{Data, null, boolean, number, string, array, object}
 use Rattle.serde_json.specs.Find.{get, as_number, as_u64, as_str}
 use Rattle.ix_base.specs.declared.document.Operation.TheVariants as operation
-use Rattle.op_script.specs.Values.{value_of, has_exactly}
+use Rattle.op_script.specs.Values.{value_of}
+use Rattle.op_script.specs.Documents.{texts_at}
 use Rattle.op_script.specs.Lines.{lines_of, is_blank}
-use Rattle.op_script.specs.Verbs.{verb_named, members_of}
+use Rattle.op_script.specs.Verbs.{verb_named, has_members}
 use Rattle.op_script.specs.Arguments.{text_at, name_at, number_at, query_at, document_at, given}
 use Rattle.op_script.specs.declared.script.Act.{Act}
 use Rattle.op_script.specs.declared.script.Act.TheVariants as act
@@ -38,13 +39,13 @@ act_of verb.Delete d =
     given why.Name (name_at (codes "field") d) (λ field.
     given why.Text (text_at (codes "term") d) (λ bytes. Ok (act.Do (operation.DeleteTerm (record { field = field; bytes = bytes })))))
 act_of verb.DeleteQuery d =
-  given why.Query (query_at (codes "query") d) (λ query. Ok (act.Do (operation.DeleteQuery query)))
+    given why.Query (query_at (codes "query") d) (λ query. Ok (act.Do (operation.DeleteQuery query)))
 act_of verb.Set d =
     given why.Name (name_at (codes "field") d) (λ field.
     given why.Name (name_at (codes "num") d) (λ num.
     given why.Text (text_at (codes "term") d) (λ bytes.
     given why.Number (number_at (codes "value") d) (λ value. Ok (act.Do (operation.SetNumber (record { field = field; bytes = bytes }) num value))))))
-act_of verb.Commit d = Ok (act.Do operation.Commit)
+act_of verb.Commit d = given why.Data (texts_at (codes "data") d) (λ pairs. Ok (act.Do (operation.Commit pairs)))
 act_of verb.Search d = given why.Query (query_at (codes "query") d) (λ query. Ok (act.Search query))
 
 abbrev pub line_with : ℕ → ℕ → Result Act Why → Result Line Why
@@ -56,7 +57,7 @@ abbrev pub line_by : ℕ → Data → Option ℕ → Option Verb → Result Line
 line_by at d None verb = Err why.Caller
 line_by at d (Some caller) None = Err why.Op
 line_by at d (Some caller) (Some verb) =
-  if has_exactly (members_of verb) d then line_with at caller (act_of verb d) else Err why.Members
+    if has_members verb d then line_with at caller (act_of verb d) else Err why.Members
 
 abbrev pub line_of : ℕ → Data → Result Line Why
 line_of at null = Err why.Json

@@ -1,6 +1,8 @@
 -- What the member `op` of a line may be, and which members each needs.
-use Rattle.std.specs.Prelude.{ℕ, List, [], ◌∷◌, if◌then◌else◌, codes, Option, Some, None}
+use Rattle.std.specs.Prelude.{ℕ, List, [], ◌∷◌, ◌||◌, if◌then◌else◌, codes, Bool, Option, Some, None}
+use Rattle.serde_json.specs.Data.{Data}
 use Rattle.std.specs.Str.{bytes_eq}
+use Rattle.op_script.specs.Values.{has_exactly}
 use Rattle.op_script.specs.declared.verbs.Verb.{Verb}
 use Rattle.op_script.specs.declared.verbs.Verb.TheVariants as verb
 
@@ -21,3 +23,8 @@ members_of verb.DeleteQuery = codes "c" ∷ codes "op" ∷ codes "query" ∷ []
 members_of verb.Set = codes "c" ∷ codes "op" ∷ codes "field" ∷ codes "term" ∷ codes "num" ∷ codes "value" ∷ []
 members_of verb.Commit = codes "c" ∷ codes "op" ∷ []
 members_of verb.Search = codes "c" ∷ codes "op" ∷ codes "query" ∷ []
+
+-- whether the members are those of the verb; a commit may have `data` besides
+abbrev pub has_members : Verb → Data → Bool
+has_members verb.Commit d = has_exactly (members_of verb.Commit) d || has_exactly (codes "c" ∷ codes "op" ∷ codes "data" ∷ []) d
+has_members v d = has_exactly (members_of v) d

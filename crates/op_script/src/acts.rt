@@ -6,8 +6,8 @@ ghost use Rattle.op_script.specs.Language.{act_of};
 ghost use Rattle.op_script.specs.declared.verbs.Verb.{Verb};
 ghost use Rattle.op_script.specs.declared.script.Why.{Why};
 
-use crate::arguments::{document_at, name_at, number_at, query_at, text_at};
-use crate::documents::document_from;
+use crate::arguments::{data_at, document_at, name_at, number_at, query_at, text_at};
+use crate::documents::{data_from, document_from};
 use crate::line_fault::LineFault;
 use crate::members::{name_from, text_from};
 use crate::queries::query_from;
@@ -80,6 +80,17 @@ pub fn set_in(alloc: Global, value: &Value) -> Result<Act, LineFault>
     let term = term_from(alloc, field, bytes)?;
     let num = name_from(alloc, num)?;
     Ok(Act::Do(Operation::SetNumber { term, num, value }))
+}
+
+/// A commit, with its data.
+pub fn commit_in(alloc: Global, value: &Value) -> Result<Act, LineFault>
+    ensures ok { IfOk result (λ act. act_of Verb.Commit (view value.now) ≡ Ok act) }
+    ensures bad { (why : Why) → result ≡ Err (LineFault.Bad why)
+        → act_of Verb.Commit (view value.now) ≡ Err why }
+    ensures memory { result ≡ Err LineFault.NoMemory → IsOk (act_of Verb.Commit (view value.now)) }
+{
+    data_at(value)?;
+    Ok(Act::Do(Operation::Commit(data_from(alloc, value)?)))
 }
 
 /// A search.

@@ -1,14 +1,14 @@
 //! What the members of a line give its operation, each with the reason of a bad line. They are
 //! tested before anything is copied: it takes no memory.
-ghost use Rattle.std.specs.Prelude.{◌≡◌, true, is_some, IfOk, IfErr, Some, None};
+ghost use Rattle.std.specs.Prelude.{◌≡◌, true, is_some, codes, IfErr, IfOk, OnOk, Some, None};
 ghost use Rattle.serde_json.specs.View.{view};
 ghost use Rattle.ix_base.specs.Limits.{is_name};
 ghost use Rattle.op_script.specs.Arguments.{text_at, name_at, number_at, query_at, document_at};
-ghost use Rattle.op_script.specs.Documents.{document_of};
+ghost use Rattle.op_script.specs.Documents.{document_of, texts_at};
 ghost use Rattle.op_script.specs.Queries.{query_of};
 ghost use Rattle.op_script.specs.declared.script.Why.{Why};
 
-use crate::document_check::is_document;
+use crate::document_check::{are_texts_at, is_document};
 use crate::members::is_name;
 use crate::query_check::is_query;
 use crate::script::Why;
@@ -88,5 +88,18 @@ pub fn document_at<'a>(value: &'a Value, at: &str) -> Result<&'a Value, Why>
         Ok(found)
     } else {
         Err(Why::Doc)
+    }
+}
+
+/// Tests the data of a commit, which may be absent.
+pub fn data_at(value: &Value) -> Result<(), Why>
+    ensures ok { OnOk result (is_some (texts_at (codes "data") (view value.now)) ≡ true) }
+    ensures bad { IfErr result (λ why. (why ≡ Why.Data)
+        × (texts_at (codes "data") (view value.now) ≡ None)) }
+{
+    if are_texts_at(value, "data") {
+        Ok(())
+    } else {
+        Err(Why::Data)
     }
 }

@@ -54,8 +54,8 @@ fn share_name(value: &Value) -> bool
     }
 }
 
-/// Whether a member holds the texts of a document, or is absent.
-fn are_texts_at(value: &Value, at: &str) -> bool
+/// Whether a member holds texts by name, as those of a document, or is absent.
+pub fn are_texts_at(value: &Value, at: &str) -> bool
     ensures { result ≡ is_some (texts_at at.now (view value.now)) }
 {
     let Some(inner) = value.get(at) else {

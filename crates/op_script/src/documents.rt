@@ -48,6 +48,17 @@ fn read_document(alloc: Global, value: &Value) -> Result<Option<Document>, NoMem
     }))
 }
 
+/// The data of a commit.
+pub fn data_from(alloc: Global, value: &Value) -> Result<Fields, NoMemory>
+    requires { is_some (texts_at (codes "data") (view value.now)) ≡ true }
+    ensures { IfOk result (λ pairs. texts_at (codes "data") (view value.now) ≡ Some pairs) }
+{
+    match read_texts(alloc, value, "data")? {
+        Some(data) => Ok(data),
+        None => unreachable!(),
+    }
+}
+
 fn read_texts(alloc: Global, value: &Value, at: &str) -> Result<Option<Fields>, NoMemory>
     ensures { IfOk result (λ found. found ≡ texts_at at.now (view value.now)) }
 {

@@ -6,13 +6,12 @@ ghost use Rattle.op_script.specs.Lines.{is_blank};
 ghost use Rattle.op_script.specs.declared.script.BadLine.{BadLine};
 ghost use Rattle.op_script.specs.declared.script.Why.{Why};
 
-use crate::acts::{add_in, delete_in, delete_query_in, search_in, set_in, update_in};
+use crate::acts::{add_in, commit_in, delete_in, delete_query_in, search_in, set_in, update_in};
 use crate::input_lines::is_blank;
 use crate::line_fault::LineFault;
 use crate::members::read_value;
 use crate::script::{Act, BadLine, Line, ScriptFault, Why};
 use crate::verbs::{Verb, has_members_of, verb_named};
-use ix_base::Operation;
 use serde_json::Value;
 use std::alloc::Global;
 
@@ -102,7 +101,7 @@ fn act_in(alloc: Global, verb: Verb, value: &Value) -> Result<Act, LineFault>
         Verb::Delete => delete_in(alloc, value),
         Verb::DeleteQuery => delete_query_in(alloc, value),
         Verb::Set => set_in(alloc, value),
-        Verb::Commit => Ok(Act::Do(Operation::Commit)),
+        Verb::Commit => commit_in(alloc, value),
         Verb::Search => search_in(alloc, value),
     }
 }

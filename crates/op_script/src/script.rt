@@ -52,6 +52,8 @@ pub enum Why {
     Query,
     /// The document isn't one.
     Doc,
+    /// The data of a commit isn't an object of at most 65,535 names with a text each.
+    Data,
 }
 
 /// The first bad line and its reason. An input that is too long is bad at line 0.

@@ -1,8 +1,7 @@
 //! What the member `op` of a line may be.
 ghost use Rattle.std.specs.Prelude.{◌≡◌};
-ghost use Rattle.op_script.specs.Verbs.{verb_named, members_of};
+ghost use Rattle.op_script.specs.Verbs.{verb_named, has_members};
 ghost use Rattle.serde_json.specs.View.{view};
-ghost use Rattle.op_script.specs.Values.{has_exactly};
 
 use crate::members::has_exactly;
 use serde_json::Value;
@@ -42,9 +41,9 @@ pub fn verb_named(name: &str) -> Option<Verb>
     }
 }
 
-/// Whether a line's members are exactly those of this verb.
+/// Whether a line's members are exactly those of this verb; a commit may have `data` besides.
 pub fn has_members_of(verb: Verb, value: &Value) -> bool
-    ensures { result ≡ has_exactly (members_of verb) (view value.now) }
+    ensures { result ≡ has_members verb (view value.now) }
 {
     match verb {
         Verb::Add => has_exactly(value, &["c", "op", "doc"]),
@@ -52,7 +51,9 @@ pub fn has_members_of(verb: Verb, value: &Value) -> bool
         Verb::Delete => has_exactly(value, &["c", "op", "field", "term"]),
         Verb::DeleteQuery => has_exactly(value, &["c", "op", "query"]),
         Verb::Set => has_exactly(value, &["c", "op", "field", "term", "num", "value"]),
-        Verb::Commit => has_exactly(value, &["c", "op"]),
+        Verb::Commit => {
+            has_exactly(value, &["c", "op"]) || has_exactly(value, &["c", "op", "data"])
+        }
         Verb::Search => has_exactly(value, &["c", "op", "query"]),
     }
 }

@@ -142,6 +142,19 @@ const SCRIPTS: &str = r#"
 {"c":0,"op":"add","doc":{"key":"a","text":{"key":""}}} => 1 Doc
 {"c":0,"op":"add","doc":{"key":"a","text":""}} => 1 Doc
 
+# The data of a commit.
+{"c":0,"op":"commit","data":{}} => 1 lines
+{"c":0,"op":"commit","data":{"src":"x","key":""}} => 1 lines
+{"c":0,"op":"commit","data":{"<255 n>":"<70000 x>"}} => 1 lines
+{"c":0,"op":"commit","data":{"<256 n>":""}} => 1 Data
+{"c":0,"op":"commit","data":{"":"x"}} => 1 Data
+{"c":0,"op":"commit","data":{"a":7}} => 1 Data
+{"c":0,"op":"commit","data":{"a":7},"data":{}} => 1 lines
+{"c":0,"op":"commit","data":[]} => 1 Data
+{"c":0,"op":"commit","data":null} => 1 Data
+{"c":0,"op":"commit","data":7,"x":1} => 1 Members
+{"c":0,"op":"add","doc":{"key":"a"},"data":{}} => 1 Members
+
 # Arrays in an array, and bools in a bool, up to the depth that is read.
 {"c":0,"op":"search","query":<126 [><126 ]>} => 1 Query
 {"c":0,"op":"search","query":<127 [><127 ]>} => 1 Json
@@ -169,19 +182,30 @@ fn scripts(rt: HostRuntime) -> Result<(), Fail> {
     Ok(())
 }
 
-/// What is said of a document with so many numbers.
-fn said_of_numbers(alloc: Global, count: u32) -> Result<String, Fail> {
-    let mut text = String::from_str(alloc, r#"{"c":0,"op":"add","doc":{"key":"","num":{"n":1"#)?;
-    for number in 1..count {
-        write!(text, r#","{number}":2"#)?;
+/// What is said of a line of this front and end, with so many members between them, each with this value.
+fn said_of_members(alloc: Global, line: (&str, &str, &str), count: u32) -> Result<String, Fail> {
+    let (front, value, end) = line;
+    let mut text = String::from_str(alloc, front)?;
+    for number in 0..count {
+        let comma = if number > 0 { "," } else { "" };
+        write!(text, r#"{comma}"{number}":{value}"#)?;
     }
-    text.push_str("}}}")?;
+    text.push_str(end)?;
     answer(alloc, text.as_bytes())
 }
 
 #[test]
 fn numbers_at_their_limits(rt: HostRuntime) -> Result<(), Fail> {
-    assert!(rt; said_of_numbers(rt.alloc(), 65_535)?.as_str() == "1 lines");
-    assert!(rt; said_of_numbers(rt.alloc(), 65_536)?.as_str() == "1 Doc");
+    let line = (r#"{"c":0,"op":"add","doc":{"key":"","num":{"#, "2", "}}}");
+    assert!(rt; said_of_members(rt.alloc(), line, 65_535)?.as_str() == "1 lines");
+    assert!(rt; said_of_members(rt.alloc(), line, 65_536)?.as_str() == "1 Doc");
+    Ok(())
+}
+
+#[test]
+fn data_at_its_limits(rt: HostRuntime) -> Result<(), Fail> {
+    let line = (r#"{"c":0,"op":"commit","data":{"#, r#""""#, "}}");
+    assert!(rt; said_of_members(rt.alloc(), line, 65_535)?.as_str() == "1 lines");
+    assert!(rt; said_of_members(rt.alloc(), line, 65_536)?.as_str() == "1 Data");
     Ok(())
 }

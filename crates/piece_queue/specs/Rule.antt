@@ -12,8 +12,8 @@ use Rattle.piece_queue.specs.Views.{AreBelow, pieces_of}
 -- all that was taken is of workers whose senders were made.
 abbrev pub Came : Hand → List Piece → Type 0
 Came v items =
-  AllByRecursion (λ (d : Sent). pieces_of d.worker (v.taken ++ items) ≡ d.put) v.ended
-      × AreBelow v.made v.taken
+    AllByRecursion (λ (d : Sent). pieces_of d.worker (v.taken ++ items) ≡ d.put) v.ended
+    × AreBelow v.made v.taken
 
 module _ (made reader : ℕ) (holder : ℕ → ℕ) (sent : ℕ → List Piece) (got : List Piece) where
   -- What the pass with this number knows is so.

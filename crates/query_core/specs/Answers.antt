@@ -42,7 +42,7 @@ holds_all wanted doc = list_all (λ term. holds_term term.field term.bytes doc) 
 abbrev pub terms_stand_at : List Place → List Term → ℕ → Bool
 terms_stand_at places [] at = true
 terms_stand_at places (term ∷ more) at =
-  stands_at places term.field term.bytes at && terms_stand_at places more (at + 1)
+    stands_at places term.field term.bytes at && terms_stand_at places more (at + 1)
 
 -- the terms stand somewhere in the document, one after another
 abbrev pub terms_stand : List Term → Document → Bool

@@ -17,22 +17,22 @@ use Rattle.queue_rule.specs.Steps.{Drafted, Tried, Looked, HasRead}
 -- a table of zero words, or with any words behind word 0, meets the rule
 abbrev pub OpeningKept : Type 0
 OpeningKept =
-  (k : ℕ) (words : List ℕ) → 0 < k → length words ≡ start k → slice_index words 0 ≡ 0
-      → Kept k (opening words [] (newcomer k))
+    (k : ℕ) (words : List ℕ) → 0 < k → length words ≡ start k → slice_index words 0 ≡ 0
+    → Kept k (opening words [] (newcomer k))
 
 -- a store of a word over the draft or at its end, inside the seat's stretch
 abbrev pub StoreKept : Type 0
 StoreKept =
-  (k slots id : ℕ) (v : View) (carried : List (ℕ × Unit {0})) (word x : ℕ) → v.live ≡ true
-      → draft_start v ≤ word → word ≤ draft_start v + length v.draft → word < start v.number + 16642
+    (k slots id : ℕ) (v : View) (carried : List (ℕ × Unit {0})) (word x : ℕ) → v.live ≡ true
+    → draft_start v ≤ word → word ≤ draft_start v + length v.draft → word < start v.number + 16642
     → Allows (Kept k) slots id (v, carried) word (λ _. x) (λ _ m. Drafted (step slots word x 0 none) (v, carried) x m × Sound m.0)
 
 -- a compare-exchange on the next word of the last entry seen, which doesn't close the queue, from 0
 -- to the address of a draft that is an entry
 abbrev pub ExchangeKept : Type 0
 ExchangeKept =
-  (k slots id : ℕ) (v : View) (carried : List (ℕ × Unit {0})) (words : List ℕ) → v.live ≡ true
-      → SawOpen v → v.draft ≡ 0 ∷ words → IsEntryWords words
+    (k slots id : ℕ) (v : View) (carried : List (ℕ × Unit {0})) (words : List ℕ) → v.live ≡ true
+    → SawOpen v → v.draft ≡ 0 ∷ words → IsEntryWords words
     → Allows (Kept k) slots id (v, carried) (last_or 0 v.seen) (λ n. either (n == 0) (draft_start v) n) (λ n m. Tried (step slots (last_or 0 v.seen) 0 (draft_start v) none) (v, carried) n m × Sound m.0)
 
 -- a load of the next word of the last entry seen
@@ -48,14 +48,14 @@ LinkedLoadKept = (k slots id : ℕ) (v : View) (carried : List (ℕ × Unit {0})
 -- a split gives a new seat the first number that is left
 abbrev pub SplitKept : Type 0
 SplitKept =
-  (k id : ℕ) (v : View) (m : ℕ) (rest : List ℕ) → v.live ≡ true → v.spares ≡ m ∷ rest
-      → Splits (Kept k) id v (kept_back v) (split_off v)
+    (k id : ℕ) (v : View) (m : ℕ) (rest : List ℕ) → v.live ≡ true → v.spares ≡ m ∷ rest
+    → Splits (Kept k) id v (kept_back v) (split_off v)
 
 -- a join takes over a seat that has no number left to split off
 abbrev pub JoinKept : Type 0
 JoinKept =
-  (k id : ℕ) (v : View) (other : ℕ) (w : View) → v.live ≡ true → w.live ≡ true → w.spares ≡ []
-      → Joins (Kept k) id v other w (joined v w) spent
+    (k id : ℕ) (v : View) (other : ℕ) (w : View) → v.live ≡ true → w.live ≡ true → w.spares ≡ []
+    → Joins (Kept k) id v other w (joined v w) spent
 
 -- what the rule has for a seat that has made no step
 abbrev pub FreshIsSound : Type 0

@@ -24,8 +24,8 @@ pub record IsKnown (ws : List ℕ) (es : List ChainEntry) (x : Known) : Type 0 w
 -- the entries of seat i are among the first n of the chain, and all their words are known
 abbrev pub KnowsAll : List ChainEntry → List Known → ℕ → ℕ → Type 0
 KnowsAll es ks n i =
-  (j : ℕ) (e : ChainEntry) → get_elem? es j ≡ some e → e.seat ≡ i
-      → (j < n) × KnownFrom ks (e.at + 1) e.words
+    (j : ℕ) (e : ChainEntry) → get_elem? es j ≡ some e → e.seat ≡ i
+    → (j < n) × KnownFrom ks (e.at + 1) e.words
 
 -- what a view that has seen n entries and knows these words keeps of a joined seat
 pub record IsOld (es : List ChainEntry) (ks : List Known) (n : ℕ) (o : Old) : Type 0 where

@@ -13,8 +13,8 @@ Drafted st m found m' = m' ≡ (with_draft m.0 (take (st.word - draft_start m.0)
 -- a compare-exchange: the draft was linked, or an entry was seen behind the last one
 abbrev pub Tried : Step (Unit {0}) → Me (Unit {0}) View → ℕ → Me (Unit {0}) View → Type 0
 Tried st m found m' =
-  MatchBool (found == 0) (m' ≡ (links m.0, m.1)) ((m' ≡ (sees m.0 found, m.1))
-      × (found + 1 < start m.0.seats))
+    MatchBool (found == 0) (m' ≡ (links m.0, m.1)) ((m' ≡ (sees m.0 found, m.1))
+    × (found + 1 < start m.0.seats))
 
 -- a load of a next word: the count of loads rises, and where the word isn't 0 an entry is seen;
 -- where it is 0, the entries seen are all

@@ -19,14 +19,14 @@ SawOpen v = (v.seen ≡ []) ⊎ ((h : ℕ) × Knows v (last_or 0 v.seen + 1) h �
 abbrev pub MayRead : View → ℕ → Type 0
 MayRead v a = ((a ≡ 0) × (0 < length v.seen)) ⊎ (((j : ℕ) × (j + 1 < length v.seen) × (get_elem? v.seen j ≡ some a))
     ⊎ ((j : ℕ) × (x : ℕ) × (d : ℕ) × (get_elem? v.seen j ≡ some x) × (a ≡ x + 1 + d)
-        × ((d ≡ 0) ⊎ ((h : ℕ) × Knows v (x + 1) h × (d < word_count h)))))
+    × ((d ≡ 0) ⊎ ((h : ℕ) × Knows v (x + 1) h × (d < word_count h)))))
 
 -- the view has seen each of these entries at its place, and knows all its words
 abbrev pub HasOwn : View → List Own → Type 0
 HasOwn v os =
-  (i : ℕ) (o : Own) → get_elem? os i ≡ some o
-      → (a : ℕ) × (0 < o.place) × (get_elem? v.seen (o.place - 1) ≡ some a)
-      × KnownFrom v.known (a + 1) o.words
+    (i : ℕ) (o : Own) → get_elem? os i ≡ some o
+    → (a : ℕ) × (0 < o.place) × (get_elem? v.seen (o.place - 1) ≡ some a)
+    × KnownFrom v.known (a + 1) o.words
 
 -- the heads of the entries at these addresses are known
 abbrev pub HeadsAt : View → List ℕ → List ℕ → Type 0

@@ -89,9 +89,20 @@ old_of v w = record { number = w.number; own = w.own; seen = w.seen; mine = v.se
 -- v has taken w over
 abbrev pub joined : View → View → View
 joined v w =
-  record { live = v.live; seats = v.seats; number = v.number; spares = v.spares; olds = v.olds
-      ++ old_of v w ∷ w.olds; seen = longer v.seen w.seen; known = v.known
-      ++ w.known; own = v.own; draft = v.draft; loaded = v.loaded }
+    record {
+      live = v.live;
+      seats = v.seats;
+      number = v.number;
+      spares = v.spares;
+      olds = v.olds
+          ++ old_of v w ∷ w.olds;
+      seen = longer v.seen w.seen;
+      known = v.known
+          ++ w.known;
+      own = v.own;
+      draft = v.draft;
+      loaded = v.loaded;
+    }
 
 -- the view of a seat that was taken over
 abbrev pub spent : View

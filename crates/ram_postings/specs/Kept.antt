@@ -68,7 +68,7 @@ AreRenumbered numbers lists entries =
 
 abbrev pub StandInNumbers : List (Option ℕ) → List TermPostings → Type 0
 StandInNumbers numbers entries =
-  (t : Term) (r x : ℕ) → HasNoNumber numbers r → posted entries t.field t.bytes r x ≡ false
+    (t : Term) (r x : ℕ) → HasNoNumber numbers r → posted entries t.field t.bytes r x ≡ false
 
 -- ---- the documents
 

@@ -70,6 +70,7 @@ bad_line_by line why.Text = simp (append_assoc, three)
 bad_line_by line why.Number = simp (append_assoc, three)
 bad_line_by line why.Query = simp (append_assoc, three)
 bad_line_by line why.Doc = simp (append_assoc, three)
+bad_line_by line why.Data = simp (append_assoc, three)
 
 pub bad_line_text : (bad : BadLine) → codes "{\"line\":" ++ decimal bad.line ++ codes ",\"status\":3,\"why\":\"" ++ why_text bad.why ++ codes "\"}\n" ≡ fault_text (fault.BadLine bad)
 bad_line_text bad = bad_line_by bad.line bad.why

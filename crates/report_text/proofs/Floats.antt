@@ -9,7 +9,7 @@ use Rattle.serde_json.specs.Find.{is_float, of_integer}
 use Rattle.serde_json.specs.View.{items_of}
 use Rattle.serde_json.specs.Written.{has_float, items_have_float, members_have_float}
 use Rattle.ix_base.specs.declared.document.Hit.{Hit}
-use Rattle.report_text.specs.Lines.{hit_value, search_value, with_number, write_value, commit_value, refused_value, listed_value, summary_value}
+use Rattle.report_text.specs.Lines.{hit_value, search_value, with_number, write_value, commit_value, refused_value, listed_value, summary_value, with_text}
 use Rattle.ix_base.specs.declared.refusal.Refusal.{Refusal}
 use Rattle.report_text.specs.declared.summary.Summary.{Summary}
 use Rattle.ix_base.specs.declared.refusal.Refusal.TheVariants.{Term, Query}
@@ -51,8 +51,16 @@ pub refusal_plain : (line : ℕ) (refusal : Refusal) → has_float (refused_valu
 refusal_plain line (Term size) = refl
 refusal_plain line (Query size) = refl
 
-pub listed_plain : (commit docs : ℕ) → has_float (listed_value commit docs) ≡ false
-listed_plain commit docs = refl
+texts_plain : (ms : Members) (pairs : List (List ℕ × List ℕ)) → members_have_float ms ≡ false
+    → members_have_float (fold with_text ms pairs) ≡ false
+texts_plain ms [] old = old
+texts_plain ms (pair ∷ pairs) old =
+    texts_plain (with_text ms pair) pairs (members_have_float-put pair.0 _ ms refl old)
+
+pub listed_plain : (commit : ℕ) (pairs : List (List ℕ × List ℕ)) (docs : ℕ)
+    → has_float (listed_value commit pairs docs) ≡ false
+listed_plain commit [] docs = refl
+listed_plain commit (pair ∷ pairs) docs = rw (texts_plain no_members (pair ∷ pairs) refl) refl
 
 pub summary_plain : (summary : Summary) → has_float (summary_value summary) ≡ false
 summary_plain summary = refl

@@ -20,11 +20,12 @@ why_text why.Text = codes "text"
 why_text why.Number = codes "number"
 why_text why.Query = codes "query"
 why_text why.Doc = codes "doc"
+why_text why.Data = codes "data"
 
 -- {"status":N,"why":W}
 abbrev pub plain_value : ℕ → List ℕ → Data
 plain_value status why =
-  object (member (codes "status") (natural status) (member (codes "why") (string why) no_members))
+    object (member (codes "status") (natural status) (member (codes "why") (string why) no_members))
 
 abbrev pub fault_value : Fault → Data
 fault_value fault.Words = plain_value 2 (codes "words")
@@ -33,9 +34,9 @@ fault_value fault.Source = plain_value 5 (codes "source")
 fault_value fault.Store = plain_value 7 (codes "store")
 fault_value (fault.Damaged damaged) = object (member (codes "at") (natural damaged.at) (member (codes "file") (string (name_text damaged.file)) (member (codes "status") (natural 8) no_members)))
 fault_value (fault.NoSuch commit) =
-  object (member (codes "commit") (natural commit) (member (codes "status") (natural 9) no_members))
+    object (member (codes "commit") (natural commit) (member (codes "status") (natural 9) no_members))
 fault_value (fault.Base base) =
-  object (member (codes "base") (natural base) (member (codes "status") (natural 10) no_members))
+    object (member (codes "base") (natural base) (member (codes "status") (natural 10) no_members))
 fault_value (fault.Differs file at found wanted) = object (member (codes "at") (natural at) (member (codes "file") (string (name_text file)) (member (codes "found") (natural found)
     (member (codes "status") (natural 11) (member (codes "wanted") (natural wanted) no_members)))))
 

@@ -44,9 +44,18 @@ hit_value hit = object (member (codes "key") (string hit.key) (member (codes "nu
 abbrev pub search_value : ℕ → List Hit → ℕ → Data
 search_value commit hits line = object (member (codes "commit") (natural commit) (member (codes "hits") (array (items_of (map hit_value hits))) (member (codes "line") (natural line) no_members)))
 
--- {"commit":S,"docs":D}
-abbrev pub listed_value : ℕ → ℕ → Data
-listed_value commit docs = object (member (codes "commit") (natural commit) (member (codes "docs") (natural docs) no_members))
+-- texts by name
+abbrev pub with_text : Members → List ℕ × List ℕ → Members
+with_text ms named = put named.0 (string named.1) ms
+
+-- {"commit":S,"data":{..},"docs":D}, the data where there is some
+abbrev pub listed_value : ℕ → List (List ℕ × List ℕ) → ℕ → Data
+listed_value commit [] docs =
+    object (member (codes "commit") (natural commit) (member (codes "docs") (natural docs) no_members))
+listed_value commit (pair ∷ pairs) docs =
+    object (member (codes "commit") (natural commit)
+    (member (codes "data") (object (fold with_text no_members (pair ∷ pairs)))
+    (member (codes "docs") (natural docs) no_members)))
 
 -- {"commits":C,"docs":D,"lines":L,"sum":X}
 abbrev pub summary_value : Summary → Data

@@ -7,4 +7,4 @@ use Rattle.report_text.specs.declared.summary.Summary.{Summary}
 -- a run that made so many commits, gave so many lines a number, and has these hits of its own rows in its last commit
 abbrev pub summary_of : ℕ → ℕ → List Hit → Summary
 summary_of commits lines hits =
-  record { commits = commits; docs = length hits; lines = lines; sum = nearest (sum_of hits) }
+    record { commits = commits; docs = length hits; lines = lines; sum = nearest (sum_of hits) }

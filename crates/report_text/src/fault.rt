@@ -115,6 +115,7 @@ fn reason(why: Why) -> &'static str
         Why::Number => "number",
         Why::Query => "query",
         Why::Doc => "doc",
+        Why::Data => "data",
     }
 }
 

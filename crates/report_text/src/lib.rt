@@ -3,9 +3,11 @@
 #![tactic(auto)]
 
 mod fault;
+mod listed;
 mod summary;
 mod texts;
 
 pub use fault::Fault;
+pub use listed::listed_text;
 pub use summary::Summary;
-pub use texts::{commit_text, listed_text, refused_text, search_text, summary_text, write_text};
+pub use texts::{commit_text, refused_text, search_text, summary_text, write_text};

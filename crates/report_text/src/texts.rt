@@ -4,7 +4,7 @@ ghost use Rattle.serde_json.specs.Data.{no_members};
 ghost use Rattle.serde_json.specs.View.{view, members_view};
 ghost use Rattle.serde_json.specs.Written.{has_float};
 ghost use Rattle.report_text.specs.Lines.{text_line, write_value, commit_value, refused_value, search_value, hit_value, with_number};
-ghost use Rattle.report_text.specs.Lines.{listed_value, summary_value};
+ghost use Rattle.report_text.specs.Lines.{summary_value};
 ghost use Rattle.report_text.specs.Lines.{shown_refusal};
 
 use crate::summary::Summary;
@@ -13,7 +13,7 @@ use serde_json::{Map, Value, json};
 use std::alloc::{AllocError, Global};
 
 /// A value's text, and a line feed.
-fn text_of(alloc: Global, value: &Value) -> Result<Vec<u8>, NoMemory>
+pub(crate) fn text_of(alloc: Global, value: &Value) -> Result<Vec<u8>, NoMemory>
     requires { has_float (view value.now) ≡ false }
     ensures { IfOk result (λ text. text.items ≡ text_line (view value.now)) }
 {
@@ -125,22 +125,6 @@ pub fn search_text(alloc: Global, commit: u64, hits: &[Hit], line: u32) -> Resul
     ensures { IfOk result (λ text. text.items ≡ text_line (search_value commit hits.now line)) }
 {
     let value = search_data(alloc, commit, hits, line)?;
-    text_of(alloc, &value)
-}
-
-/// The value of a commit in a list of commits.
-fn listed_data(alloc: Global, commit: u64, docs: u64) -> Result<Value, AllocError>
-    ensures { IfOk result (λ value. view value ≡ listed_value commit docs) }
-{
-    json!(in alloc; {"commit": commit, "docs": docs})
-}
-
-/// The text of a commit in a list of commits, as `{"commit":2,"docs":1}`, and a line feed: the commit
-/// of this number has so many documents.
-pub fn listed_text(alloc: Global, commit: u64, docs: u64) -> Result<Vec<u8>, NoMemory>
-    ensures { IfOk result (λ text. text.items ≡ text_line (listed_value commit docs)) }
-{
-    let value = listed_data(alloc, commit, docs)?;
     text_of(alloc, &value)
 }
 

@@ -147,13 +147,48 @@ fn numbered_and_refused(rt: HostRuntime) -> Result<(), Fail> {
     Ok(())
 }
 
+/// The line of a list for the commit of this number that a commit line with this data made.
+fn listed(alloc: Global, commit: u64, data: &str, docs: u64) -> Result<Vec<u8>, Fail> {
+    let script = format!(in alloc; "{{\"c\":0,\"op\":\"commit\",\"data\":{data}}}\n")?;
+    let read = read_script(alloc, script.as_bytes()).ok().ok_or("memory")?;
+    let line = read.lines.as_slice().first().ok_or("no line")?;
+    match &line.act {
+        Act::Do(Operation::Commit(pairs)) => Ok(
+            listed_text(alloc, commit, pairs, docs)
+                .ok()
+                .ok_or("memory")?,
+        ),
+        _ => Err("no commit")?,
+    }
+}
+
 #[test]
-fn commits_and_summaries(rt: HostRuntime) -> Result<(), Fail> {
+fn listed_commits(rt: HostRuntime) -> Result<(), Fail> {
     let alloc = rt.alloc();
-    let listed = listed_text(alloc, 2, 1).ok().ok_or("memory")?;
-    assert!(rt; listed.as_slice() == b"{\"commit\":2,\"docs\":1}\n".as_slice());
-    let most = listed_text(alloc, u64::MAX, 0).ok().ok_or("memory")?;
+    let plain = listed(alloc, 2, "{}", 1)?;
+    assert!(rt; plain.as_slice() == b"{\"commit\":2,\"docs\":1}\n".as_slice());
+    let most = listed(alloc, u64::MAX, "{}", 0)?;
     assert!(rt; most.as_slice() == b"{\"commit\":18446744073709551615,\"docs\":0}\n".as_slice());
+    Ok(())
+}
+
+#[test]
+fn listed_data(rt: HostRuntime) -> Result<(), Fail> {
+    let alloc = rt.alloc();
+    let one = listed(alloc, 1, "{\"src\":\"x\"}", 0)?;
+    assert!(rt;
+        one.as_slice() == b"{\"commit\":1,\"data\":{\"src\":\"x\"},\"docs\":0}\n".as_slice()
+    );
+    let two = listed(alloc, 3, "{\"b\":\"\",\"a\":\"say \\\"\\u00e9\\n\\\"\"}", 2)?;
+    let wanted =
+        "{\"commit\":3,\"data\":{\"a\":\"say \\\"\u{e9}\\n\\\"\",\"b\":\"\"},\"docs\":2}\n";
+    assert!(rt; two.as_slice() == wanted.as_bytes());
+    Ok(())
+}
+
+#[test]
+fn summaries(rt: HostRuntime) -> Result<(), Fail> {
+    let alloc = rt.alloc();
     let summary = Summary {
         commits: 1,
         docs: 7,

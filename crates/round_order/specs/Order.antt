@@ -26,7 +26,7 @@ is_commit (Update term doc) = false
 is_commit (DeleteTerm term) = false
 is_commit (DeleteQuery query) = false
 is_commit (SetNumber term name value) = false
-is_commit Commit = true
+is_commit (Commit pairs) = true
 
 -- no operation is a commit
 abbrev pub NoCommit : List Operation → Type 0

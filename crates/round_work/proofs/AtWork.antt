@@ -148,7 +148,7 @@ no_refusal (op.Update term doc) r commit refused = false≢true commit
 no_refusal (op.DeleteTerm term) r commit refused = false≢true commit
 no_refusal (op.DeleteQuery query) r commit refused = false≢true commit
 no_refusal (op.SetNumber term name value) r commit refused = false≢true commit
-no_refusal op.Commit r commit refused = subst none_only refused tt
+no_refusal (op.Commit pairs) r commit refused = subst none_only refused tt
 
 -- a commit that was told its number has closed the queue
 pub closes_for : (q : DeleteQueue) (is : Operation) (said : Result Reply Halt) (old new : ThreadWriter) (gave given : List Piece) → is_commit is ≡ true

@@ -100,9 +100,9 @@ told_last base [] t (o ∷ os) tells = (zero, o, refl, tells.1)
 told_last base (x ∷ before) t [] tells = absurd tells
 told_last base (x ∷ before) t (o ∷ os) tells = let more = told_last base before t os tells.2 in (suc more.0, more.1, more.2, more.3)
 
-commit_seen : (v : View) (i : ℕ) (o : Own) → Sound v → get_elem? v.own i ≡ some o → Spells o.words (entry_of op.Commit) → SawClosed v
+commit_seen : (v : View) (i : ℕ) (o : Own) → Sound v → get_elem? v.own i ≡ some o → Spells o.words (entry_of (op.Commit [])) → SawClosed v
 commit_seen v i o sound at spells =
-    let words : List ℕ = entry_words (entry_of op.Commit) in
+    let words : List ℕ = entry_words (entry_of (op.Commit [])) in
     closing_seen v i (slice_index words 0) o sound at (ap (λ (ws : List ℕ). slice_index ws 0) spells.spelled)
     (let long = ap (λ (ws : List ℕ). length ws) spells.spelled in omega (arith, long)) (omega arith)
 
@@ -114,7 +114,7 @@ committed_seen q t base n before (op.Update term doc) seat commit tells = absurd
 committed_seen q t base n before (op.DeleteTerm term) seat commit tells = absurd (false≢true commit)
 committed_seen q t base n before (op.DeleteQuery query) seat commit tells = absurd (false≢true commit)
 committed_seen q t base n before (op.SetNumber term name value) seat commit tells = absurd (false≢true commit)
-committed_seen q t base n before op.Commit seat commit tells =
-    let last = told_last base before (n, op.Commit) (numbered_own (own_of t)) tells in
+committed_seen q t base n before (op.Commit pairs) seat commit tells =
+    let last = told_last base before (n, op.Commit pairs) (numbered_own (own_of t)) tells in
     let placed = kept_at (λ (o : Own). not (is_turn o.words)) (own_of t) last.0 last.1 last.2 in
     commit_seen (the_view t) placed.0 last.1 seat.table.1 placed.1 last.3

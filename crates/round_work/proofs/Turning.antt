@@ -37,7 +37,7 @@ operation_kind (op.Update term doc) = omega arith
 operation_kind (op.DeleteTerm term) = omega arith
 operation_kind (op.DeleteQuery query) = omega arith
 operation_kind (op.SetNumber term name value) = omega arith
-operation_kind op.Commit = omega arith
+operation_kind (op.Commit pairs) = omega arith
 
 -- the entry of an operation is no turn
 no_turn : (is : Operation) → Spells (entry_words (entry_of is)) (entry_of is)

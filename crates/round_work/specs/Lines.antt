@@ -34,8 +34,8 @@ told_for (Err halt) op = []
 -- Whatever the writer had done, by this step its seat saw that the queue is closed.
 abbrev pub Closes : DeleteQueue → ThreadWriter → List Piece → ThreadWriter → Type 0
 Closes q old gave new =
-  (before : List NumberedOperation) → Did q (parts_of old) before gave
-      → SawClosed (the_view new.seat)
+    (before : List NumberedOperation) → Did q (parts_of old) before gave
+    → SawClosed (the_view new.seat)
 
 -- No turn was linked by this step; or the operation was told nothing, and a turn was linked since
 -- there was no room for it.

@@ -159,7 +159,7 @@ fn tell<G: Gate>(gate: &G, line: u32, reply: Reply) {
 fn is_commit(operation: &Operation) -> bool
     ensures { result ≡ is_commit operation.now }
 {
-    matches!(operation, Operation::Commit)
+    matches!(operation, Operation::Commit(_))
 }
 
 /// Why a worker stops whose task was told nothing.

@@ -8,7 +8,7 @@ ghost use Rattle.round_work.specs.declared.worked.Stop.TheVariants as stop;
 ghost use Rattle.round_work_tests.specs.Shares.{CanGoOn};
 
 use delete_queue::{DeleteQueue, Reserve, Seat};
-use ix_base::{Document, NoMemory, Operation, Refusal, Text};
+use ix_base::{Document, Fields, NoMemory, Operation, Refusal, Text};
 use ix_memory::{GroupsGate, MeetingGate, RecordingGate};
 use ix_outside::Gate;
 use round_work::{Stop, Worked, run_round};
@@ -66,7 +66,7 @@ fn four_tasks(alloc: Global) -> Result<Vec<Task>, Fail> {
     let mut tasks = Vec::new(alloc);
     tasks.push(adding(alloc, 1, "a1")?)?;
     tasks.push(adding(alloc, 2, "a".repeat(alloc, 32767)?.as_str())?)?;
-    let operation = Operation::Commit;
+    let operation = Operation::Commit(Fields::none(alloc));
     tasks.push(Task { line: 3, operation })?;
     tasks.push(adding(alloc, 4, "b1")?)?;
     Ok(tasks)

@@ -33,7 +33,7 @@ operations_count [] h = refl
 operations_count (l ∷ ls) h = rw h.0.1 (ap suc (operations_count ls h.1))
 
 abbrev head_operation : List Operation → Operation
-head_operation [] = Commit
+head_operation [] = Commit []
 head_operation (op ∷ ops) = op
 
 abbrev rest_operations : List Operation → List Operation
@@ -64,7 +64,7 @@ commits_by (Update term doc) = refl
 commits_by (DeleteTerm term) = refl
 commits_by (DeleteQuery query) = refl
 commits_by (SetNumber term name value) = refl
-commits_by Commit = refl
+commits_by (Commit pairs) = refl
 
 -- a line that is no commit line
 abbrev pub IsPlain : Line → Type 0
@@ -89,23 +89,24 @@ none_committed base (l ∷ ls) plain = rw plain.0 (none_committed (base + 1) ls 
 -- the lines whose operations end with the only commit
 pub record EndsWithCommit (ls : List Line) (before : List Operation) : Type 0 where
   pub doing : AllByRecursion IsDoing ls
-  pub ends : operations ls ≡ before ++ Commit ∷ []
+  pub pairs : List (List ℕ × List ℕ)
+  pub ends : operations ls ≡ before ++ Commit pairs ∷ []
   pub plain : NoCommit before
 
 behind_first : (l : Line) (ls : List Line) (op : Operation) (before : List Operation)
     → EndsWithCommit (l ∷ ls) (op ∷ before) → IsPlain l × EndsWithCommit ls before
 behind_first l ls op before e =
-    let first = first_doing l ls op (before ++ Commit ∷ []) e.doing.0 e.ends in
-    (plain_line l op first.0 e.plain.0, record { doing = e.doing.1; ends = first.1; plain = e.plain.1 })
+    let first = first_doing l ls op (before ++ Commit e.pairs ∷ []) e.doing.0 e.ends in
+    (plain_line l op first.0 e.plain.0, record { doing = e.doing.1; pairs = e.pairs; ends = first.1; plain = e.plain.1 })
 
-only_commit : (l : Line) (ls : List Line) → EndsWithCommit (l ∷ ls) [] → (l.act ≡ Do Commit) × (ls ≡ [])
+only_commit : (l : Line) (ls : List Line) (e : EndsWithCommit (l ∷ ls) []) → (l.act ≡ Do (Commit e.pairs)) × (ls ≡ [])
 only_commit l ls e =
-    let first = first_doing l ls Commit [] e.doing.0 e.ends in
+    let first = first_doing l ls (Commit e.pairs) [] e.doing.0 e.ends in
     (first.0, no_operation ls e.doing.1 first.1)
 
 no_lines : (before : List Operation) → EndsWithCommit [] before → ⊥
-no_lines [] e = absurd (let none : [] ≡ Commit ∷ [] = e.ends in cc)
-no_lines (op ∷ before) e = absurd (let none : [] ≡ op ∷ before ++ Commit ∷ [] = e.ends in cc)
+no_lines [] e = absurd (let none : [] ≡ Commit e.pairs ∷ [] = e.ends in cc)
+no_lines (op ∷ before) e = absurd (let none : [] ≡ op ∷ before ++ Commit e.pairs ∷ [] = e.ends in cc)
 
 pub last_committed : (base : ℕ) (ls : List Line) (before : List Operation) → EndsWithCommit ls before
     → commit_numbers base ls ≡ (base + length ls) ∷ []

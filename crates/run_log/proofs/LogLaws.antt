@@ -62,7 +62,7 @@ commit_numbered (Do (Update t doc)) is = absurd cc
 commit_numbered (Do (DeleteTerm t)) is = absurd cc
 commit_numbered (Do (DeleteQuery q)) is = absurd cc
 commit_numbered (Do (SetNumber t n v)) is = absurd cc
-commit_numbered (Do Commit) is = refl
+commit_numbered (Do (Commit pairs)) is = refl
 
 -- ---- each line of a list
 

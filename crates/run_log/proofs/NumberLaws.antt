@@ -2,7 +2,7 @@
 use Rattle.std.proofs.Common.{◌≡◌, ◌≢◌, ◌⊎◌, ◌∙◌, ℕ, suc, ◌+◌, ◌-◌, ◌<◌, ◌≤◌, Bool, true, false, cond, ne_eqb, List, [], ◌∷◌, ◌++◌}
 use Rattle.std.proofs.Common.{length, refl, sym, ap, subst, inl, inr, arith, take_all}
 use Rattle.std.proofs.lemmas.Bool.Decides.{eqb_tells}
-use Rattle.std.proofs.lemmas.List.{take-append-le}
+use Rattle.std.proofs.lemmas.List.{append_assoc, take-append-le}
 use Rattle.std.proofs.lemmas.List.Elements.{filter-append, filter_map-append}
 use Rattle.std.specs.List.{AllByRecursion}
 use Rattle.ix_base.specs.declared.document.Operation.{Operation}
@@ -11,7 +11,9 @@ use Rattle.ix_base.specs.Steps.{step, after}
 use Rattle.op_script.specs.Shape.{LinesRise}
 use Rattle.op_script.specs.declared.script.Line.{Line}
 use Rattle.run_log.proofs.Lists.{Decided, each_says, each_pair, each_behind, each_in_second}
-use Rattle.run_log.specs.Headline.{act_operation, commit_numbers, is_commit, is_numbered, number_of, numbered, operations, rows_at}
+use Rattle.ix_base.specs.declared.document.Operation.TheVariants.{Commit}
+use Rattle.commit_point.specs.Holds.{Pairs}
+use Rattle.run_log.specs.Headline.{act_operation, commit_numbers, is_commit, is_numbered, last_pairs, number_of, numbered, operations, pairs_at, rows_at}
 use Rattle.run_log.proofs.PlaceLaws.{places_differ}
 use Rattle.round_order.specs.Order.{Working}
 use Rattle.run_log.specs.Telling.{Tell, of_caller, IsPartOf, AreTells, PlacesDiffer, IsOrder}
@@ -193,3 +195,25 @@ pub rows_at_all : (base : ℕ) (rows : List Row) (log : List Line) (s : ℕ) →
     → rows_at base rows log s ≡ after rows base (operations log)
 rows_at_all base rows log s is =
     ap (λ (ls : List Line). after rows base (operations ls)) (take_all (s - base) log (omega (arith, is)))
+
+-- ---- pairs
+
+pub last_pairs_is : (before : List Operation) (pairs : Pairs) → last_pairs (before ++ Commit pairs ∷ []) ≡ pairs
+last_pairs_is [] pairs = refl
+last_pairs_is (op ∷ []) pairs = refl
+last_pairs_is (op ∷ next ∷ ops) pairs = last_pairs_is (next ∷ ops) pairs
+
+pub pairs_at_front : (base : ℕ) (log more : List Line) (s : ℕ) → s ≤ base + length log
+    → pairs_at base (log ++ more) s ≡ pairs_at base log s
+pairs_at_front base log more s le =
+    ap (λ (ls : List Line). last_pairs (operations ls)) (take-append-le (s - base) log more (omega (arith, le)))
+
+-- the pairs of the commit that is the log's last operation
+pub pairs_at_last : (base : ℕ) (log more : List Line) (before : List Operation) (pairs : Pairs) (s : ℕ)
+    → s ≡ base + length (log ++ more) → operations more ≡ before ++ Commit pairs ∷ []
+    → pairs_at base (log ++ more) s ≡ pairs
+pairs_at_last base log more before pairs s is ends =
+    ap (λ (ls : List Line). last_pairs (operations ls)) (take_all (s - base) (log ++ more) (omega (arith, is)))
+    ∙ ap last_pairs (operations_append log more ∙ ap (λ (ops : List Operation). operations log ++ ops) ends)
+    ∙ ap last_pairs (sym (append_assoc (operations log) before (Commit pairs ∷ [])))
+    ∙ last_pairs_is (operations log ++ before) pairs

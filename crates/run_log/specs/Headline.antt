@@ -8,8 +8,8 @@ use Rattle.ix_outside.specs.Crash.{MayHold}
 use Rattle.ix_outside.specs.Disk.{Disk, Told, told_files}
 use Rattle.ix_outside.specs.Files.{Files}
 use Rattle.commit_point.specs.Steps.{KeepsMade}
-use Rattle.commit_point.specs.Holds.{AreKept, Holds, IsAmong, IsFileOf, IsLawful, HoldsInverted, IsAboveIds, KeepsCommits}
-use Rattle.commit_point.specs.Holds.{Lists, names_of}
+use Rattle.commit_point.specs.Holds.{AreKept, Holds, HasPairs, IsAmong, IsFileOf, IsLawful, HoldsInverted, IsAboveIds}
+use Rattle.commit_point.specs.Holds.{KeepsCommits, Lists, Pairs, names_of}
 use Rattle.commit_point.specs.declared.heads.HeadSegment.{HeadSegment}
 use Rattle.op_script.specs.declared.script.Line.{Line}
 use Rattle.std.specs.List.{filter, filter_map, AllByRecursion}
@@ -107,7 +107,7 @@ is_numbered (Do op) = is_none (refusal op)
 is_numbered (Search q) = false
 
 abbrev pub is_commit : Act → Bool
-is_commit (Do Commit) = true
+is_commit (Do (Commit pairs)) = true
 is_commit a = false
 
 -- the lines that get a number
@@ -135,6 +135,21 @@ operations = filter_map (λ l. act_operation l.act)
 abbrev pub rows_at : ℕ → List Row → List Line → ℕ → List Row
 rows_at base rows log s = after rows base (operations (take (s - base) log))
 
+-- the pairs of a commit; other operations have none
+abbrev pub pairs_with : Operation → Pairs
+pairs_with (Commit pairs) = pairs
+pairs_with op = []
+
+-- the pairs of the last of these operations
+abbrev pub last_pairs : List Operation → Pairs
+last_pairs [] = []
+last_pairs (op ∷ []) = pairs_with op
+last_pairs (op ∷ next ∷ ops) = last_pairs (next ∷ ops)
+
+-- the pairs of the operation numbered s
+abbrev pub pairs_at : ℕ → List Line → ℕ → Pairs
+pairs_at base log s = last_pairs (operations (take (s - base) log))
+
 -- the numbers of the log's commit lines
 abbrev pub commit_numbers : ℕ → List Line → List ℕ
 commit_numbers last [] = []
@@ -153,7 +168,7 @@ last_commit base log caller found (l ∷ ls) = last_commit base log caller
 
 -- the text of a line that got its number
 abbrev pub done_text : ℕ → List Row → List Line → ℕ → Operation → List ℕ
-done_text base rows log line Commit =
+done_text base rows log line (Commit pairs) =
     let s = number_of base log line in
     text_line (commit_value (length (rows_at base rows log s)) line s)
 done_text base rows log line op = text_line (write_value line (number_of base log line))
@@ -194,12 +209,13 @@ IsIn [] s = ⊥
 IsIn (n ∷ ns) s = (s ≡ n) ⊎ IsIn ns s
 
 -- A commit of the log: it has the rows by the operations numbered up to it, and the postings of
--- each segment are the inversion of its rows. Its next id is in range.
+-- each segment are the inversion of its rows. Its pairs are those of its line. Its next id is in range.
 pub record IsOwnCommit (g : Given) (log : List Line) (files : Files) (s : ℕ) : Type 0 where
   pub id : ℕ
   pub from_next : g.next ≤ id
   pub to_limit : id ≤ g.next + 2 * length log
   pub holds : HoldsInverted files s id (rows_at g.base g.rows log s)
+  pub pairs : HasPairs files s (pairs_at g.base log s)
 
 -- The same, and its next id is above each id that a commit below it lists.
 pub record IsNewCommit (g : Given) (log : List Line) (files : Files) (s : ℕ) : Type 0 where

@@ -52,8 +52,8 @@ CanRead files outcomes = All (λ (o : Outcome). AnswerReads files o.answer) outc
 -- a fault of reading a commit that is known to be there
 abbrev pub IsReadFault : OpenFault → Type 0
 IsReadFault fault =
-  (fault ≡ opening.Store)
-      ⊎ ((fault ≡ opening.NoMemory) ⊎ ((damaged : Damaged) × (fault ≡ opening.Damaged damaged)))
+    (fault ≡ opening.Store)
+    ⊎ ((fault ≡ opening.NoMemory) ⊎ ((damaged : Damaged) × (fault ≡ opening.Damaged damaged)))
 
 -- The commit that the answer searches is first broken at this place. The number 0 stands for no commit.
 pub record SearchesDamaged (told : Option Files) (answer : Answer) (damaged : Damaged) : Type 0 where

@@ -34,13 +34,15 @@ lines_more seed callers i number caller asked was now n c a before pushed =
     ∙ sym (map-range_with_len_more (made_line seed callers) 1 i (i + 1) (omega arith))
 
 -- the commits so far, and the next one
-pub commits_more : (lines caller : ℕ) (made was now : List Line)
-    → was ≡ made ++ map (last_commit lines) (range_with_len 0 caller) → now ≡ was ++ line_with (lines + 1 + caller) caller (act.Do operation.Commit) ∷ []
+pub commits_more : (lines caller : ℕ) (pairs : List (List ℕ × List ℕ)) (made was now : List Line) → pairs ≡ []
+    → was ≡ made ++ map (last_commit lines) (range_with_len 0 caller)
+    → now ≡ was ++ line_with (lines + 1 + caller) caller (act.Do (operation.Commit pairs)) ∷ []
     → now ≡ made ++ map (last_commit lines) (range_with_len 0 (caller + 1))
 unfolding last_commit
-commits_more lines caller made was now before pushed =
+commits_more lines caller pairs made was now none before pushed =
     let more : List Line → List Line = λ ls. made ++ ls in
     pushed
+    ∙ ap (λ (ps : List (List ℕ × List ℕ)). was ++ line_with (lines + 1 + caller) caller (act.Do (operation.Commit ps)) ∷ []) none
     ∙ ap (λ (ls : List Line). ls ++ last_commit lines caller ∷ []) before
     ∙ append_assoc made (map (last_commit lines) (range_with_len 0 caller)) (last_commit lines caller ∷ [])
     ∙ ap more (sym (map-range_with_len_more (last_commit lines) 0 caller caller (omega arith)))

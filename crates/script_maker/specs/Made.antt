@@ -1,5 +1,5 @@
 -- Which script a seed, a number of lines and a number of callers make.
-use Rattle.std.specs.Prelude.{ℕ, ◌+◌, ◌-◌, ◌%◌, ◌==◌, List, ◌++◌, map, if◌then◌else◌}
+use Rattle.std.specs.Prelude.{ℕ, ◌+◌, ◌-◌, ◌%◌, ◌==◌, List, [], ◌++◌, map, if◌then◌else◌}
 use Rattle.std.specs.List.{range_with_len}
 use Rattle.ix_base.specs.declared.document.Operation.TheVariants as operation
 use Rattle.op_script.specs.declared.script.Act.{Act}
@@ -10,7 +10,7 @@ use Rattle.script_maker.specs.Operations.{drawn_operation}
 
 -- each 64th line is a commit
 unfoldable pub made_act : ℕ → ℕ → ℕ → Act
-made_act at caller draw = act.Do (if at % 64 == 0 then operation.Commit else drawn_operation caller draw)
+made_act at caller draw = act.Do (if at % 64 == 0 then operation.Commit [] else drawn_operation caller draw)
 
 -- line `at`, counted from 1; the callers take turns
 abbrev pub caller_at : ℕ → ℕ → ℕ
@@ -25,7 +25,7 @@ made_line seed callers at = record {
 
 -- behind the other lines each caller commits
 unfoldable pub last_commit : ℕ → ℕ → Line
-last_commit lines caller = record { line = lines + 1 + caller; caller = caller; act = act.Do operation.Commit }
+last_commit lines caller = record { line = lines + 1 + caller; caller = caller; act = act.Do (operation.Commit []) }
 
 unfoldable pub made_script : ℕ → ℕ → ℕ → List Line
 made_script seed lines callers =

@@ -6,7 +6,7 @@ ghost use Rattle.script_maker.specs.Made.{made_script, made_line, made_act, last
 
 use crate::draws::next_number;
 use crate::operations::drawn_operation;
-use ix_base::{List, NoMemory, Operation};
+use ix_base::{Fields, List, NoMemory, Operation};
 use op_script::{Act, Line, Script};
 use std::alloc::Global;
 
@@ -21,7 +21,7 @@ pub fn make_script(alloc: Global, seed: u32, lines: u32, callers: u32) -> Result
     ensures shape { IfOk result (λ script. AreScriptLines script.lines) }
 {
     let mut made = drawn_lines(alloc, seed, lines, callers)?;
-    add_commits(lines, callers, &mut made)?;
+    add_commits(alloc, lines, callers, &mut made)?;
     Ok(Script {
         lines: List::from_vec(made),
     })
@@ -54,13 +54,18 @@ fn made_act(alloc: Global, at: u32, caller: u8, draw: u32) -> Result<Act, NoMemo
     ensures { IfOk result (λ act. act ≡ made_act at caller draw) }
 {
     if at % 64 == 0 {
-        return Ok(Act::Do(Operation::Commit));
+        return Ok(Act::Do(Operation::Commit(Fields::none(alloc))));
     }
     Ok(Act::Do(drawn_operation(alloc, caller, draw)?))
 }
 
 /// Puts a commit of each caller behind so many lines.
-fn add_commits(lines: u32, callers: u32, made: &mut Vec<Line>) -> Result<(), NoMemory>
+fn add_commits(
+    alloc: Global,
+    lines: u32,
+    callers: u32,
+    made: &mut Vec<Line>,
+) -> Result<(), NoMemory>
     requires lines { lines ≤ 1000000 }
     requires callers { callers ≤ 256 }
     ensures { OnOk result (made.new.items
@@ -70,7 +75,7 @@ fn add_commits(lines: u32, callers: u32, made: &mut Vec<Line>) -> Result<(), NoM
         made.push(Line {
             line: lines + 1 + caller,
             caller: caller as u8,
-            act: Act::Do(Operation::Commit),
+            act: Act::Do(Operation::Commit(Fields::none(alloc))),
         })?;
     }
     Ok(())

@@ -97,7 +97,7 @@ fn show_operation(out: &mut String, operation: &Operation) -> Result<(), Fail> {
             let num = num.as_str();
             write!(out, " {num}={value}")?;
         }
-        Operation::Commit => out.push_str(" commit")?,
+        Operation::Commit(_) => out.push_str(" commit")?,
     }
     Ok(())
 }

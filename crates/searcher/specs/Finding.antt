@@ -30,7 +30,7 @@ pub record AreByBirth (found : List Found) (hits : List Hit) : Type 0 where
 -- the row of this number, with the numbers that were set in it; none where there is no such row, or where it isn't live
 abbrev pub live_at : List Row → List Mark → ℕ → Option Row
 live_at rows marks number =
-  option_and_then (λ row. marked row (slice_index_or marks number fresh)) (slice_get rows number)
+    option_and_then (λ row. marked row (slice_index_or marks number fresh)) (slice_get rows number)
 
 -- what the live ones of the rows of these numbers are
 abbrev pub found_at : List Row → List Mark → List ℕ → List Found

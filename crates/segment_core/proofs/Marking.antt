@@ -50,7 +50,7 @@ effect_follows (SetNumber t name value) row vs = by (holds_term t.field t.bytes 
     by : (h : Bool) → marked row (if h then valued_live name value (alive vs) else alive vs) ≡ Some (if h then with_value name value (shown vs row) else shown vs row)
     by true = ap (λ ns. Some (renumbered ns row)) (set_last name value vs row.doc.num)
     by false = refl
-effect_follows Commit row vs = refl
+effect_follows (Commit pairs) row vs = refl
 
 dead_stays : (op : Operation) (row : Row) (vs : List Named) → marked row (mark_effect op row.doc (dead vs)) ≡ None
 dead_stays (Add doc) row vs = refl
@@ -74,7 +74,7 @@ dead_stays (SetNumber t name value) row vs = by (holds_term t.field t.bytes row.
     by : (h : Bool) → marked row (if h then valued_live name value (dead vs) else dead vs) ≡ None
     by true = refl
     by false = refl
-dead_stays Commit row vs = refl
+dead_stays (Commit pairs) row vs = refl
 
 follows : (n : ℕ) (op : Operation) (row : Row) (l : Bool) (vs : List Named)
     → marked row (mark_touched (n, op) row (record { live = l; values = vs })) ≡ option_and_then (touched (n, op)) (marked row (record { live = l; values = vs }))

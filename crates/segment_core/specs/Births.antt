@@ -53,6 +53,10 @@ at_most_one low s b [] rise = omega arith
 at_most_one low s b (r ∷ rs) rise =
     by_bool (eqb r.birth b)
     (λ e. let is : r.birth
-        ≡ b = eqb-true _ _ e in omega (arith, one_true b r e, below_none (r.birth
-        + 1) s b rs rise.2 (omega (arith, is))))
+    ≡ b = eqb-true _ _ e in omega (
+      arith,
+      one_true b r e,
+      below_none (r.birth
+          + 1) s b rs rise.2 (omega (arith, is)),
+    ))
     (λ e. omega (arith, one_false b r e, at_most_one (r.birth + 1) s b rs rise.2))

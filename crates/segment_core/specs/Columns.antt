@@ -16,7 +16,7 @@ abbrev pub within_from : ℕ → ℤ → ℤ → List (Option ℤ) → List ℕ
 within_from row low high [] = []
 within_from row low high (number ∷ numbers) =
     if is_within low high number then row ∷ within_from (row
-        + 1) low high numbers else within_from (row + 1) low high numbers
+    + 1) low high numbers else within_from (row + 1) low high numbers
 
 -- of rows of which this is the first, those that have a number, with it
 abbrev pub entries_from : ℕ → List (Option ℤ) → List Entry

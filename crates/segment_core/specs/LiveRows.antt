@@ -65,8 +65,8 @@ Fated low updates rows before after = (ops : List Numbered) → Stands updates o
 -- since then the row was removed or not, but never brought back, and only numbers were set in it
 abbrev pub MarkLater : Mark → Mark → Type 0
 MarkLater m later =
-  (later.live ≡ true → m.live ≡ true) × (sets : List Named)
-      × (later.values ≡ with_numbers sets m.values)
+    (later.live ≡ true → m.live ≡ true) × (sets : List Named)
+    × (later.values ≡ with_numbers sets m.values)
 
 -- The same of as many rows: none was brought back, and only numbers were set in them.
 abbrev pub MarksLater : List Mark → List Mark → Type 0

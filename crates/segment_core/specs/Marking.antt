@@ -32,8 +32,8 @@ mark_effect (Update term added) doc m = if holds_term term.field term.bytes doc 
 mark_effect (DeleteTerm term) doc m = if holds_term term.field term.bytes doc then killed m else m
 mark_effect (DeleteQuery query) doc m = if matches (tree_of query) (now doc m) then killed m else m
 mark_effect (SetNumber term name value) doc m =
-  if holds_term term.field term.bytes doc then valued_live name value m else m
-mark_effect Commit doc m = m
+    if holds_term term.field term.bytes doc then valued_live name value m else m
+mark_effect (Commit pairs) doc m = m
 
 -- an operation acts only on rows that were born before it
 abbrev pub mark_touched : Numbered → Row → Mark → Mark

@@ -48,11 +48,11 @@ posting p = be32 p.row ++ (be32 (length p.positions) ++ flat_map be32 p.position
 
 abbrev pub term_postings : TermPostings → List ℕ
 term_postings entry =
-  text_bytes entry.term.field
-      ++ (text_bytes entry.term.bytes ++ (be32 (length entry.rows) ++ flat_map posting entry.rows))
+    text_bytes entry.term.field
+    ++ (text_bytes entry.term.bytes ++ (be32 (length entry.rows) ++ flat_map posting entry.rows))
 
 -- the postings of the segment of this id, which has n rows
 abbrev pub posts_file : ℕ → ℕ → Postings → List ℕ
 posts_file id n postings =
-  posts_mark ++ (be64 id
-      ++ (be32 n ++ (be64 (length postings.terms) ++ flat_map term_postings postings.terms)))
+    posts_mark ++ (be64 id
+    ++ (be32 n ++ (be64 (length postings.terms) ++ flat_map term_postings postings.terms)))

@@ -13,9 +13,9 @@ use Rattle.store_answers.specs.declared.listing.ListFault.TheVariants as listing
 
 -- ---- the lines
 
--- the line of a commit: its number and the number of its documents
+-- the line of a commit: its number, its pairs, if it has some, and the number of its documents
 abbrev pub line_text : Head → List ℕ
-line_text head = text_line (listed_value head.number head.docs)
+line_text head = text_line (listed_value head.number head.pairs head.docs)
 
 -- ---- the commits
 

@@ -121,7 +121,7 @@ fn line_of<S: Store>(alloc: Global, store: &mut S, number: u64) -> Result<Vec<u8
         → Rose (S.fault_count store.old) (S.fault_count store.new) }
 {
     match listed_head(alloc, store, number) {
-        Ok(head) => or_no_memory(listed_text(alloc, head.number, head.docs)),
+        Ok(head) => or_no_memory(listed_text(alloc, head.number, &head.pairs, head.docs)),
         Err(fault) => Err(fault),
     }
 }
@@ -149,7 +149,7 @@ fn lines_of<S: Store>(alloc: Global, store: &mut S, numbers: &[u64]) -> Result<V
 }
 
 /// Lists the store's commits, from their commit files alone: a line for each, by rising number, with
-/// the number of documents that its commit file tells. Without a commit there is no line. The store
+/// the pairs, if it has some, and the number of documents that its commit file tells. Without a commit there is no line. The store
 /// is as before, whatever is returned.
 ///
 /// - `Damaged` names the first broken place of the first commit file that has one. A commit file that

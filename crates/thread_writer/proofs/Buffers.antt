@@ -69,7 +69,7 @@ births_added low m n rows (Update term doc) rise born lt later = births_end low 
 births_added low m n rows (DeleteTerm term) rise born lt later = subst (BirthsRise low) (sym (append-nil rows)) rise
 births_added low m n rows (DeleteQuery query) rise born lt later = subst (BirthsRise low) (sym (append-nil rows)) rise
 births_added low m n rows (SetNumber term name value) rise born lt later = subst (BirthsRise low) (sym (append-nil rows)) rise
-births_added low m n rows Commit rise born lt later = subst (BirthsRise low) (sym (append-nil rows)) rise
+births_added low m n rows (Commit pairs) rise born lt later = subst (BirthsRise low) (sym (append-nil rows)) rise
 
 pub born_added : (m n : ℕ) (rows : List Row) (op : Operation) → BornBy m rows → m < n → BornBy n (rows ++ added n op)
 born_added m n rows (Add doc) born later = born_end n rows doc (born_more m n rows (omega (arith, later)) born)
@@ -77,4 +77,4 @@ born_added m n rows (Update term doc) born later = born_end n rows doc (born_mor
 born_added m n rows (DeleteTerm term) born later = subst (BornBy n) (sym (append-nil rows)) (born_more m n rows (omega (arith, later)) born)
 born_added m n rows (DeleteQuery query) born later = subst (BornBy n) (sym (append-nil rows)) (born_more m n rows (omega (arith, later)) born)
 born_added m n rows (SetNumber term name value) born later = subst (BornBy n) (sym (append-nil rows)) (born_more m n rows (omega (arith, later)) born)
-born_added m n rows Commit born later = subst (BornBy n) (sym (append-nil rows)) (born_more m n rows (omega (arith, later)) born)
+born_added m n rows (Commit pairs) born later = subst (BornBy n) (sym (append-nil rows)) (born_more m n rows (omega (arith, later)) born)

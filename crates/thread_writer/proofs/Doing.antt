@@ -40,7 +40,7 @@ operation_kind (Update term doc) = omega arith
 operation_kind (DeleteTerm term) = omega arith
 operation_kind (DeleteQuery query) = omega arith
 operation_kind (SetNumber term name value) = omega arith
-operation_kind Commit = omega arith
+operation_kind (Commit pairs) = omega arith
 
 pub is_no_turn : (words : List ℕ) (op : Operation) → Spells words (entry_of op) → is_turn words ≡ false
 is_no_turn words op is =

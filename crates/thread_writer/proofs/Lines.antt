@@ -44,16 +44,16 @@ last_below q s t words n h is plain links =
 
 -- ---- one entry
 
-open_kind : (op : Operation) → (op ≡ Commit → ⊥) → kind_of (entry_of op) < 6
+open_kind : (op : Operation) → ((pairs : List (List ℕ × List ℕ)) → op ≡ Commit pairs → ⊥) → kind_of (entry_of op) < 6
 open_kind (Add doc) other = omega arith
 open_kind (Update term doc) other = omega arith
 open_kind (DeleteTerm term) other = omega arith
 open_kind (DeleteQuery query) other = omega arith
 open_kind (SetNumber term name value) other = omega arith
-open_kind Commit other = absurd (other refl)
+open_kind (Commit pairs) other = absurd (other pairs refl)
 
 -- the words of an operation that is no commit don't close the queue
-pub is_operation : (op : Operation) (words : List ℕ) → (op ≡ Commit → ⊥) → Spells words (entry_of op) → IsOperation words
+pub is_operation : (op : Operation) (words : List ℕ) → ((pairs : List (List ℕ × List ℕ)) → op ≡ Commit pairs → ⊥) → Spells words (entry_of op) → IsOperation words
 unfolding IsEntryWords
 is_operation op words other spells = let kind = kind_is words (entry_of op) spells in let low = open_kind op other in record {
   grammar = (entry_of op, spells);

@@ -102,7 +102,7 @@ adds (Update term doc) = true
 adds (DeleteTerm term) = false
 adds (DeleteQuery query) = false
 adds (SetNumber term name value) = false
-adds Commit = false
+adds (Commit pairs) = false
 
 -- how many documents an operation adds
 abbrev pub documents_of : Operation → ℕ

@@ -147,7 +147,7 @@ impl ThreadWriter {
         ensures closed { IfClosed result (SawClosed (the_view self.new.seat)) }
         ensures full { FullFor (entry_words (entry_of operation.now)) result self.old self.new }
     {
-        if let Operation::Commit = operation {
+        if let Operation::Commit(_) = operation {
             return self.link_commit(queue);
         }
         match encode(self.alloc, operation) {

@@ -4,7 +4,7 @@ ghost use Rattle.thread_writer.specs.Writing.{IsWriter};
 
 use delete_queue::{DeleteQueue, Linked, Reserve};
 use frozen_packet::{Change, Updates};
-use ix_base::{Operation, Query};
+use ix_base::{Fields, Operation, Query};
 use std::alloc::Global;
 use std::fmt::Write;
 use std::test::*;
@@ -30,7 +30,7 @@ fn operation_of(alloc: Global, verb: &str, key: &str) -> Result<Operation, Fail>
         "delete" | "turn" => Ok(Operation::DeleteTerm(key_term(alloc, key)?)),
         "query" => Ok(Operation::DeleteQuery(Query::Term(key_term(alloc, key)?))),
         "set" => setting_of(alloc, key),
-        "commit" => Ok(Operation::Commit),
+        "commit" => Ok(Operation::Commit(Fields::none(alloc))),
         _ => Err("no such operation")?,
     }
 }

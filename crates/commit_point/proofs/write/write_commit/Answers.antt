@@ -1,6 +1,6 @@
 use Rattle.std.proofs.Common.{◌∙◌}
 use Rattle.ix_base.specs.FileNames.{IsCounted}
-use Rattle.commit_point.proofs.Making.{did_at, stopped_at, refused_at, did_stop, stopped_first, makes, has_pairs, leaves_others, images_have, images_elsewhere, crash_leaves, crash_before, durable_commit, durable_files, tells_rename}
+use Rattle.commit_point.proofs.Making.{did_at, stopped_at, refused_at, did_stop, stopped_first, makes, leaves_others, images_have, images_elsewhere, crash_leaves, crash_before, durable_commit, durable_files, tells_rename}
 use Rattle.commit_point.proofs.Names.{are_names, can_publish}
 use Rattle.commit_point.proofs.Settled.{settles}
 use Rattle.commit_point.proofs.Standing.{keeps_made, left_files, left_same, only_commits}
@@ -48,12 +48,6 @@ returns-in-Ok-publish-clause-standing g c =
 pub returns-in-Ok-publish-clause-ok : goal.returns-in-Ok-publish-clause-ok
 returns-in-Ok-publish-clause-ok g c room =
     makes c.args.number c.args.next_id c.args.pairs.now c.args.segments.now c.args.written.now _ _
-    (record { number = c.requires.some; fits = c.ranges.number.fits; some_id = c.requires.some_id; room = room; can = c.requires.can; spelling = c.in-Ok.ensures.spelling; fit = c.in-Ok.ensures.pairs })
-    (returns-in-Ok-publish-clause-steps g c)
-
-pub returns-in-Ok-publish-clause-pairs : goal.returns-in-Ok-publish-clause-pairs
-returns-in-Ok-publish-clause-pairs g c room =
-    has_pairs c.args.number c.args.next_id c.args.pairs.now c.args.segments.now c.args.written.now _ _
     (record { number = c.requires.some; fits = c.ranges.number.fits; some_id = c.requires.some_id; room = room; can = c.requires.can; spelling = c.in-Ok.ensures.spelling; fit = c.in-Ok.ensures.pairs })
     (returns-in-Ok-publish-clause-steps g c)
 

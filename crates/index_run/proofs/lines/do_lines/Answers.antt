@@ -45,9 +45,9 @@ outcomes_of-requires g c =
     dealt.ensures.fresh in
     let places = dealt.dealt.places.items in
     let done = c.in-Ok-came.rounds in
-    let come = on_ok _ _ _ c.in-Ok-came.is (c.do_rounds-writer.ensures.come r c.args.lines refl begun) in
+    let come = (on_ok _ _ _ c.in-Ok-came.is (c.do_rounds-writer.ensures.come r c.args.lines refl begun)).1 in
     let can =
-    can_tell r c.args.lines places done.shares.items done.commits.items _ _ c.requires.script.callers
+    can_tell r c.args.lines places done.shares.items done.commits.items _ _ _ c.requires.script.callers
     dealt.ensures.places (on_ok _ _ _ c.in-Ok-came.is c.do_rounds-writer.ensures.done)
     (on_ok _ _ _ c.in-Ok-came.is c.do_rounds-writer.ensures.written) come in
     record {
@@ -71,9 +71,9 @@ returns-in-Ok-outcomes_of-clause-over g c =
     dealt.ensures.fresh in
     let places = dealt.dealt.places.items in
     let done = c.in-Ok-came.rounds in
-    let come = on_ok _ _ _ c.in-Ok-came.is (c.do_rounds-writer.ensures.come r c.args.lines refl begun) in
+    let come = (on_ok _ _ _ c.in-Ok-came.is (c.do_rounds-writer.ensures.come r c.args.lines refl begun)).1 in
     let can =
-    can_tell r c.args.lines places done.shares.items done.commits.items _ _ c.requires.script.callers
+    can_tell r c.args.lines places done.shares.items done.commits.items _ _ _ c.requires.script.callers
     dealt.ensures.places (on_ok _ _ _ c.in-Ok-came.is c.do_rounds-writer.ensures.done)
     (on_ok _ _ _ c.in-Ok-came.is c.do_rounds-writer.ensures.written) come in
     let became = c.in-Ok-outcomes_of.outcomes.items in
@@ -83,7 +83,7 @@ returns-in-Ok-outcomes_of-clause-over g c =
     (sym c.upto-base.ensures)
     (subst (λ (cs : List (ℕ × ℕ)). CanTell (base_of r) c.args.lines come.log places done.shares.items cs)
     (sym c.as_slice.ensures.value) can)) in
-    over_of r c.args.lines done.shares.items done.commits.items became _ _
+    over_of r c.args.lines done.shares.items done.commits.items _ became _ _
     (on_ok _ _ _ c.in-Ok-came.is c.do_rounds-writer.ensures.done)
     (on_ok _ _ _ c.in-Ok-came.is c.do_rounds-writer.ensures.written) come
     (subst (λ (n : ℕ). AreOutcomes (IsCounted done.commits.items) n come.log [] c.args.lines became) c.upto-base.ensures
@@ -98,6 +98,6 @@ returns-clause-cut g c =
     let begun =
     come_start r c.args.lines dealt.dealt.shares.items c.requires.ready c.requires.script.rise dealt.ensures.shares
     dealt.ensures.fresh in
-    let come = on_ok _ _ _ c.in-Ok-came.is (c.do_rounds-writer.ensures.come r c.args.lines refl begun) in
+    let come = (on_ok _ _ _ c.in-Ok-came.is (c.do_rounds-writer.ensures.come r c.args.lines refl begun)).1 in
     stopped_cut g.S.Store.disk r c.args.lines _ _ _ c.stopped-in-Err-outcomes_of.ensures
     (cut_done r c.args.lines c.in-Ok-came.rounds.shares.items come.log _ _ come.done)

@@ -1,3 +1,4 @@
+use Rattle.std.proofs.lemmas.Result.{IfOk-weaker}
 use Rattle.std.proofs.Common.{length, arith}
 use Rattle.index_run.specs.Rounds.{doing_lines}
 use Rattle.index_run.proofs.RoundCount.{few_last, few_open}
@@ -21,7 +22,8 @@ returns-in-Err-note-clause-cut g c = λ r lines size come.
 
 pub returns-clause-come : goal.returns-clause-come
 returns-clause-come g c = λ r lines size come.
-    c.write_last.ensures.come r lines (c.loop-alloc.invariant.come r lines size come)
+    IfOk-weaker c.write_last.result.came _ _ (λ x h. (c.loop-alloc.pairs, h))
+    (c.write_last.ensures.come r lines (c.loop-alloc.invariant.come r lines size come))
 
 pub returns-clause-few : goal.returns-clause-few
 returns-clause-few g c = λ lines are.

@@ -8,8 +8,8 @@ abbrev pub invariant-loop-alloc : goal.invariant-loop-alloc
 invariant-loop-alloc g l =
     record {
       come : (r : Run) (lines : List Line) → r.workers ≡ l.fn.threads
-          → HasCome r lines l.fn.shares.items [] l.fn.writer.state (g.S.Store.disk l.fn.writer.store)
-          → HasCome r lines l.shares.items l.commits.items l.writer.state (g.S.Store.disk l.writer.store);
+          → HasCome r lines l.fn.shares.items [] [] l.fn.writer.state (g.S.Store.disk l.fn.writer.store)
+          → HasCome r lines l.shares.items l.commits.items l.pairs l.writer.state (g.S.Store.disk l.writer.store);
       out : l.writer.state.out ≡ false;
       few : l.count + open_count l.shares.items ≤ open_count l.fn.shares.items;
       later : g.S.Store.fault_count l.fn.writer.store ≤ g.S.Store.fault_count l.writer.store;

@@ -36,8 +36,8 @@ returns-clause-outcome c = λ base log done l rest is are far.
       | in-Commit w ↦
           let act = commits l.act (sym kind ∙ w.in-Commit.is) in
           let r = w.next_reply-in-Commit.result in
-          committed_is Docs base log done l o r act
-          (w.next_reply-in-Commit.ensures.reply base log l rest caller (ap (λ (a : Act). is_doing a) act) far.left) line
+          committed_is Docs base log done l o r act.0 act.1
+          (w.next_reply-in-Commit.ensures.reply base log l rest caller (ap (λ (a : Act). is_doing a) act.1) far.left) line
           (subst (IsCommitAnswer Docs r) (sym w.answer-is) w.committed-answer.ensures.answer)
     ]
 
@@ -63,12 +63,12 @@ returns-clause-far c = λ base log done l rest is are far.
           (w.next_reply.ensures.left base log l rest caller act.0 far.left)))
       | in-Commit w ↦
           let act = commits l.act (sym kind ∙ w.in-Commit.is) in
-          let doing = ap (λ (a : Act). is_doing a) act in
+          let doing = ap (λ (a : Act). is_doing a) act.1 in
           let after = w.committed-answer.new.lasts in
           subst (λ (table : List ℕ). Far table c.match-kind.told.items) (sym w.lasts-is)
           (subst (λ (v : Vec Replies). Far after v.items) (sym w.told-is)
           (far_commit base log done rest l lasts after told w.next_reply-in-Commit.new.told.items
-          w.next_reply-in-Commit.result far act
+          w.next_reply-in-Commit.result act.0 far act.1
           (w.next_reply-in-Commit.ensures.reply base log l rest caller doing far.left)
           (λ n e. w.committed-answer.ensures.noted n e ∙ ap (λ (at : ℕ). slice_set lasts at n) (sym caller))
           w.committed-answer.ensures.size

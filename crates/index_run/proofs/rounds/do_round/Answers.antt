@@ -1,8 +1,10 @@
-use Rattle.std.proofs.Common.{◌∙◌, ℕ, ap, subst, sym}
+use Rattle.std.proofs.Common.{◌≡◌, ◌∙◌, ℕ, List, ap, map, subst, sym}
+use Rattle.line_shares.specs.Committed.{told_count}
 use Rattle.line_shares.specs.Shares.{AreShares}
+use Rattle.worker_tasks.specs.declared.share.Share.{Share}
 use Rattle.index_writer.specs.declared.state.State.{State}
 use Rattle.index_writer.specs.declared.writer.IndexWriter.{IndexWriter}
-use Rattle.index_run.specs.Driving.{EndsRound, HasCome, IsCut}
+use Rattle.index_run.specs.Driving.{EndsRound, HasCome, IsCut, IsRound}
 use Rattle.index_run.specs.Rounds.{given}
 use Rattle.index_run.proofs.Coming.{come_begun, come_on, round_done}
 use Rattle.index_run.proofs.Rounding.{cut_done, on_fault, on_ok, stopped_cut}
@@ -14,6 +16,17 @@ returns-in-Err-clause-cut g c = λ r lines commits size come.
     stopped_cut g.S.Store.disk r lines _ _ _ c.stopped.ensures
     (subst (IsCut r lines) (sym (ap (λ s. g.S.Store.disk s) c.begin_round.ensures.store))
     (cut_done r lines c.args.shares.items come.log c.args.writer.state _ come.done))
+
+pub returns-in-Err-told_counts-clause-cut : goal.returns-in-Err-told_counts-clause-cut
+returns-in-Err-told_counts-clause-cut g c = λ r lines commits size come.
+    let w = c.args.writer in
+    let v = c.begin_round.new.writer in
+    let shares = c.args.shares.items in
+    let begun =
+    come_begun r lines shares commits c.args.pairs w.state v.state (g.S.Store.disk w.store) (g.S.Store.disk v.store)
+    (ap (λ s. g.S.Store.disk s) c.begin_round.ensures.store) c.in-Ok.ensures.on c.begin_round.ensures.sound come in
+    stopped_cut g.S.Store.disk r lines _ _ _ c.stopped-in-Err-told_counts.ensures
+    (cut_done r lines shares begun.log _ _ begun.done)
 
 pub run_round-writer-requires-clause-workers : goal.run_round-writer-requires-clause-workers
 run_round-writer-requires-clause-workers g c κs within =
@@ -28,7 +41,7 @@ returns-in-Err-came-clause-cut g c = λ r lines commits size come.
     let v = c.begin_round.new.writer in
     let shares = c.args.shares.items in
     let begun =
-    come_begun r lines shares commits w.state v.state (g.S.Store.disk w.store) (g.S.Store.disk v.store)
+    come_begun r lines shares commits c.args.pairs w.state v.state (g.S.Store.disk w.store) (g.S.Store.disk v.store)
     (ap (λ s. g.S.Store.disk s) c.begin_round.ensures.store) c.in-Ok.ensures.on c.begin_round.ensures.sound come in
     stopped_cut g.S.Store.disk r lines _ _ _ c.stopped-in-Err-came.ensures
     (subst (λ (x : IndexWriter g.row.S.Denot). IsCut r lines (g.S.Store.disk x.store)) (sym c.let_go.ensures)
@@ -40,7 +53,7 @@ returns-in-Err-back-clause-cut g c = λ r lines commits size come.
     let v = c.begin_round.new.writer in
     let shares = c.args.shares.items in
     let begun =
-    come_begun r lines shares commits w.state v.state (g.S.Store.disk w.store) (g.S.Store.disk v.store)
+    come_begun r lines shares commits c.args.pairs w.state v.state (g.S.Store.disk w.store) (g.S.Store.disk v.store)
     (ap (λ s. g.S.Store.disk s) c.begin_round.ensures.store) c.in-Ok.ensures.on c.begin_round.ensures.sound come in
     let next = on_ok _ _ _ c.in-Ok-came.is (c.run_round-writer.ensures.beside.0.come r lines shares commits begun) in
     stopped_cut g.S.Store.disk r lines _ _ _ c.stopped-in-Err-back.ensures (cut_done r lines shares next.log _ _ next.done)
@@ -51,7 +64,7 @@ returns-in-Err-part-clause-cut g c = λ r lines commits size come.
     let v = c.begin_round.new.writer in
     let shares = c.args.shares.items in
     let begun =
-    come_begun r lines shares commits w.state v.state (g.S.Store.disk w.store) (g.S.Store.disk v.store)
+    come_begun r lines shares commits c.args.pairs w.state v.state (g.S.Store.disk w.store) (g.S.Store.disk v.store)
     (ap (λ s. g.S.Store.disk s) c.begin_round.ensures.store) c.in-Ok.ensures.on c.begin_round.ensures.sound come in
     let next = on_ok _ _ _ c.in-Ok-came.is (c.run_round-writer.ensures.beside.0.come r lines shares commits begun) in
     stopped_cut g.S.Store.disk r lines _ _ _ c.stopped-in-Err-part.ensures (cut_done r lines shares next.log _ _ next.done)
@@ -68,7 +81,7 @@ finish_round-requires-clause-round g c κs within =
     let v = c.begin_round.new.writer in
     let shares = c.args.shares.items in
     let begun =
-    come_begun r lines shares commits w.state v.state (g.S.Store.disk w.store) (g.S.Store.disk v.store)
+    come_begun r lines shares commits c.args.pairs w.state v.state (g.S.Store.disk w.store) (g.S.Store.disk v.store)
     (ap (λ s. g.S.Store.disk s) c.begin_round.ensures.store) c.in-Ok.ensures.on c.begin_round.ensures.sound come in
     let wrote = c.run_round-writer.ensures.beside.0 in
     let next = on_ok _ _ _ c.in-Ok-came.is (wrote.come r lines shares commits begun) in
@@ -77,11 +90,22 @@ finish_round-requires-clause-round g c κs within =
     let on = c.in-Ok.ensures.on in
     let news = c.in-Ok-part.parted.1.items in
     let round =
-    round_done r lines _ c.args.threads w.state _ c.in-Ok.round shares news c.in-Ok-back.worked.items c.in-Ok-part.parted.0 _
+    round_done r lines _ _ c.args.threads w.state _ c.in-Ok.round shares news c.in-Ok-back.worked.items c.in-Ok-part.parted.0 _
     size next none (wrote.same.0 ∙ ap (λ (s : State). s.out) on)
     (on_ok _ _ _ c.in-Ok-came.is wrote.upto ∙ ap (λ (s : State). s.published.upto) on) (wrote.same.1 ∙ ap (λ (s : State). s.buffer) on)
     c.in-Ok.ensures.begun (on_ok _ _ _ c.in-Ok-back.is c.run_round-writer.ensures.works) back.came back.queue back.writers back.pieces back.shares in
-    (r, lines, shares, news, next.log, round)
+    let mid = c.run_round-writer.result.0.writer in
+    let parts = c.in-Ok-part.parted.0 in
+    let left = c.as_slice-left.ensures.value in
+    let counts : c.as_slice-told.result.now ≡ map told_count shares =
+    c.as_slice-told.ensures.value ∙ c.in-Ok-told_counts.ensures ∙ ap (map told_count) c.as_slice.ensures.value in (
+      r,
+      lines,
+      shares,
+      next.log,
+      counts,
+      subst (λ (ss : List Share). IsRound r lines shares ss next.log mid.state parts (g.S.Store.disk mid.store)) (sym left) round,
+    )
 
 pub returns-in-Ok-finish_round-clause-come : goal.returns-in-Ok-finish_round-clause-come
 returns-in-Ok-finish_round-clause-come g c = λ r lines commits size come.
@@ -89,7 +113,7 @@ returns-in-Ok-finish_round-clause-come g c = λ r lines commits size come.
     let v = c.begin_round.new.writer in
     let shares = c.args.shares.items in
     let begun =
-    come_begun r lines shares commits w.state v.state (g.S.Store.disk w.store) (g.S.Store.disk v.store)
+    come_begun r lines shares commits c.args.pairs w.state v.state (g.S.Store.disk w.store) (g.S.Store.disk v.store)
     (ap (λ s. g.S.Store.disk s) c.begin_round.ensures.store) c.in-Ok.ensures.on c.begin_round.ensures.sound come in
     let wrote = c.run_round-writer.ensures.beside.0 in
     let next = on_ok _ _ _ c.in-Ok-came.is (wrote.come r lines shares commits begun) in
@@ -98,16 +122,25 @@ returns-in-Ok-finish_round-clause-come g c = λ r lines commits size come.
     let on = c.in-Ok.ensures.on in
     let news = c.in-Ok-part.parted.1.items in
     let round =
-    round_done r lines _ c.args.threads w.state _ c.in-Ok.round shares news c.in-Ok-back.worked.items c.in-Ok-part.parted.0 _
+    round_done r lines _ _ c.args.threads w.state _ c.in-Ok.round shares news c.in-Ok-back.worked.items c.in-Ok-part.parted.0 _
     size next none (wrote.same.0 ∙ ap (λ (s : State). s.out) on)
     (on_ok _ _ _ c.in-Ok-came.is wrote.upto ∙ ap (λ (s : State). s.published.upto) on) (wrote.same.1 ∙ ap (λ (s : State). s.buffer) on)
     c.in-Ok.ensures.begun (on_ok _ _ _ c.in-Ok-back.is c.run_round-writer.ensures.works) back.came back.queue back.writers back.pieces back.shares in
+    let mid = c.run_round-writer.result.0.writer in
+    let parts = c.in-Ok-part.parted.0 in
+    let left = c.as_slice-left.ensures.value in
+    let counts : c.as_slice-told.result.now ≡ map told_count shares =
+    c.as_slice-told.ensures.value ∙ c.in-Ok-told_counts.ensures ∙ ap (map told_count) c.as_slice.ensures.value in
     let v' = c.finish_round.new.writer.state in
     let same = ap (λ s. g.S.Store.disk s) c.finish_round.ensures.store in
-    subst (HasCome r lines news (given commits c.in-Ok-came.commit) v') (sym same)
-    (come_on r lines shares news _ _ v' _ next none
-    (subst (EndsRound r lines news next.log v') same
-    (c.in-Ok-finish_round.ensures.ends r lines shares news next.log round)))
+    let pairs = c.in-Ok-finish_round.pairs in
+    let ends =
+    c.in-Ok-finish_round.ensures.ends r lines shares next.log counts
+    (subst (λ (ss : List Share). IsRound r lines shares ss next.log mid.state parts (g.S.Store.disk mid.store)) (sym left) round) in
+    subst (HasCome r lines news (given commits c.in-Ok-came.commit) pairs v') (sym same)
+    (come_on r lines shares news _ _ pairs _ v' _ next none
+    (subst (EndsRound r lines news next.log pairs v') same
+    (subst (λ (ss : List Share). EndsRound r lines ss next.log pairs v' (g.S.Store.disk c.finish_round.new.writer.store)) left ends)))
 
 pub returns-in-Ok-finish_round-clause-goes_on : goal.returns-in-Ok-finish_round-clause-goes_on
 returns-in-Ok-finish_round-clause-goes_on g c =
@@ -116,13 +149,13 @@ returns-in-Ok-finish_round-clause-goes_on g c =
     c.in-Ok-back.worked.items c.in-Ok-part.parted.0 c.in-Ok.ensures.begun (on_ok _ _ _ c.in-Ok-back.is c.run_round-writer.ensures.works) back.came
     back.writers back.shares c.in-Ok-finish_round.ensures.open
 
-pub returns-in-Err-finish_round-clause-cut : goal.returns-in-Err-finish_round-clause-cut
-returns-in-Err-finish_round-clause-cut g c = λ r lines commits size come.
+pub returns-clause-cut : goal.returns-clause-cut
+returns-clause-cut g c = λ r lines commits size come.
     let w = c.args.writer in
     let v = c.begin_round.new.writer in
     let shares = c.args.shares.items in
     let begun =
-    come_begun r lines shares commits w.state v.state (g.S.Store.disk w.store) (g.S.Store.disk v.store)
+    come_begun r lines shares commits c.args.pairs w.state v.state (g.S.Store.disk w.store) (g.S.Store.disk v.store)
     (ap (λ s. g.S.Store.disk s) c.begin_round.ensures.store) c.in-Ok.ensures.on c.begin_round.ensures.sound come in
     let next = on_ok _ _ _ c.in-Ok-came.is (c.run_round-writer.ensures.beside.0.come r lines shares commits begun) in
     stopped_cut g.S.Store.disk r lines _ _ _ c.stopped-in-Err-finish_round.ensures

@@ -8,7 +8,7 @@ use Rattle.index_run.proofs.rounds.write_pending.Goals as goal
 
 pub returns-then-next_id-gt-MOST-clause-pending : goal.returns-then-next_id-gt-MOST-clause-pending
 returns-then-next_id-gt-MOST-clause-pending g c =
-    subst (WritesPending g.S.Store.disk c.args.writer) (sym c.stopped.ensures) (record {
+    subst (WritesPending g.S.Store.disk c.args.pairs.now c.args.writer) (sym c.stopped.ensures) (record {
       come = λ r lines shares commits come. tt;
       cut = λ r lines shares commits come.
           cut_done r lines shares come.log c.args.writer.state (g.S.Store.disk c.args.writer.store) come.done;
@@ -29,7 +29,7 @@ returns-in-Ok-clause-pending g c =
     let closed : x.state.closed ≡ false = ap (λ (s : State). s.closed) well.on ∙ c.requires.open in
     record {
       come = λ r lines shares commits come.
-          come_written r lines shares commits w.state x.state (g.S.Store.disk w.store) (g.S.Store.disk x.store) come
+          come_written r lines shares commits c.args.pairs.now w.state x.state (g.S.Store.disk w.store) (g.S.Store.disk x.store) come
           c.in-Ok.info laws well.number well.on (well.sound closed) low well.docs well.stands well.made
           well.acknowledged well.settled c.commit.ensures.crash c.commit.ensures.only c.commit.ensures.standing;
       cut = λ r lines shares commits come. tt;
@@ -48,11 +48,11 @@ returns-in-Err-clause-pending g c =
     let laws : CommitLaws = record { go_on = c.commits_go_on.ensures; hold = c.commits_hold.ensures.made } in
     let some =
     pending_there w.state.pending _ _ c.pending_commit.ensures c.is_none.ensures c.if-is_none.false in
-    subst (WritesPending g.S.Store.disk w) (sym c.stopped-in-Err.ensures) (record {
+    subst (WritesPending g.S.Store.disk c.args.pairs.now w) (sym c.stopped-in-Err.ensures) (record {
       come = λ r lines shares commits come. tt;
       cut = λ r lines shares commits come.
-          cut_written r lines shares come.log w.state some.0 (g.S.Store.disk w.store) (g.S.Store.disk x.store) laws
-          come.done some.1 (c.in-Err.ensures.left low) (c.commit.ensures.crash low) c.commit.ensures.only
+          cut_written r lines shares come.log c.args.pairs.now w.state some.0 (g.S.Store.disk w.store) (g.S.Store.disk x.store) laws
+          come.done some.1 come.due_pairs (c.in-Err.ensures.left low) (c.commit.ensures.crash low) c.commit.ensures.only
           c.commit.ensures.standing;
       written = tt;
       upto = tt;

@@ -9,7 +9,6 @@ use Rattle.ix_outside.specs.Images.{Reaches}
 use Rattle.segment_core.specs.LiveRows.{Lived, all_live}
 use Rattle.commit_point.specs.declared.heads.Head.{Head}
 use Rattle.commit_point.specs.declared.written.Written.{Written}
-use Rattle.commit_point.specs.Holds.{HasPairs, Pairs}
 use Rattle.commit_point.specs.Settling as settling
 use Rattle.commit_point.proofs.StepLaws.{goes_none}
 use Rattle.commit_point.specs.Steps.{KeepsMade, KeepsStanding, MakesCommits}
@@ -17,17 +16,17 @@ use Rattle.commit_point.specs.Writing as commit
 use Rattle.index_writer.specs.declared.state.State.{State}
 use Rattle.index_writer.specs.Ready.{HasRows, IsReady}
 use Rattle.index_writer.specs.Storing.{Commits, MayCommit, SameBelow}
-use Rattle.index_writer.proofs.Committing.{at_none, at_state, comes, commits, counted, is_on, less_of, on_err, on_ready, same_below, settles, tells_renamed, unmade}
+use Rattle.index_writer.proofs.Committing.{at_state, comes, commits, counted, is_on, less_of, on_err, on_ready, same_below, settles, tells_renamed, unmade}
 use Rattle.index_writer.proofs.writer.IndexWriter.commit.Goals as goal
 
 pub returns-then-self-clause-crash : goal.returns-then-self-clause-crash
 returns-then-self-clause-crash g c room =
-    leaves_none _ (Reaches (MayCommit c.args.self.now.state) (MayHold _))
+    leaves_none _ (Reaches (MayCommit c.args.pairs.now c.args.self.now.state) (MayHold _))
     (λ image may. (image, may, record { elsewhere = λ name x. refl; whole = inl refl }))
 
 pub returns-in_err-renewed-clause-crash : goal.returns-in_err-renewed-clause-crash
 returns-in_err-renewed-clause-crash g c room =
-    leaves_none _ (Reaches (MayCommit c.args.self.now.state) (MayHold _))
+    leaves_none _ (Reaches (MayCommit c.args.pairs.now c.args.self.now.state) (MayHold _))
     (λ image may. (image, may, record { elsewhere = λ name x. refl; whole = inl refl }))
 
 pub returns-then-self-clause-only : goal.returns-then-self-clause-only
@@ -37,7 +36,7 @@ pub returns-then-self-clause-standing : goal.returns-then-self-clause-standing
 returns-then-self-clause-standing g c = λ was told goes. goes_none KeepsStanding _
 
 pub returns-then-self-clause-left : goal.returns-then-self-clause-left
-returns-then-self-clause-left g c room = unmade c.args.self.now.state _
+returns-then-self-clause-left g c room = unmade c.args.pairs.now c.args.self.now.state _
 
 pub returns-in_err-renewed-clause-only : goal.returns-in_err-renewed-clause-only
 returns-in_err-renewed-clause-only g c = goes_none (λ step older. MakesCommits step) _
@@ -48,7 +47,7 @@ returns-in_err-renewed-clause-standing g c = λ was told goes. goes_none KeepsSt
 pub returns-in_err-renewed-clause-left : goal.returns-in_err-renewed-clause-left
 returns-in_err-renewed-clause-left g c room =
     on_err c.from_residual.result _
-    (unmade c.args.self.now.state (told_files (g.S.Store.disk c.args.self.now.store)))
+    (unmade c.args.pairs.now c.args.self.now.state (told_files (g.S.Store.disk c.args.self.now.store)))
 
 pub returns-in-Ok-clause-standing : goal.returns-in-Ok-clause-standing
 returns-in-Ok-clause-standing g c = λ was told goes.
@@ -73,10 +72,10 @@ returns-in-Err-clause-standing g c = λ was told goes.
 pub returns-in-Err-clause-left : goal.returns-in-Err-clause-left
 returns-in-Err-clause-left g c room =
     let s = c.args.self.now.state in
-    at_none
-    (λ (ps : Pairs) (gs : List Lived) (ws : List (Option Written)). Changes (commit.MayCommit s.published.upto s.published.next_id ps gs ws)
-    (told_files (g.S.Store.disk c.args.self.now.store)) (told_files (g.S.Store.disk c.write_commit.new.store))) _ _ _ s
-    c.none-pairs.ensures c.as_slice-segments.ensures c.as_slice-written.ensures (c.in-Err.ensures.left room)
+    at_state
+    (λ (gs : List Lived) (ws : List (Option Written)). Changes (commit.MayCommit s.published.upto s.published.next_id c.args.pairs.now gs ws)
+    (told_files (g.S.Store.disk c.args.self.now.store)) (told_files (g.S.Store.disk c.write_commit.new.store))) _ _ s
+    c.as_slice-segments.ensures c.as_slice-written.ensures (c.in-Err.ensures.left room)
 
 pub returns-in-Ok-clause-sound : goal.returns-in-Ok-clause-sound
 returns-in-Ok-clause-sound g c still =
@@ -100,20 +99,14 @@ returns-in-Ok-clause-stands g c rows has =
 pub returns-in-Ok-clause-made : goal.returns-in-Ok-clause-made
 returns-in-Ok-clause-made g c room =
     let s = c.args.self.now.state in
+    let pairs = c.args.pairs.now in
     let new = c.go_on.new.self in
     let before = told_files (g.S.Store.disk c.args.self.now.store) in
     let after = told_files (g.S.Store.disk c.write_commit.new.store) in
     let on = is_on _ _ c.in_ok-renewed.renewed s new c.as_slice-segments.ensures c.as_slice-written.ensures c.in_ok-renewed.ensures c.go_on.ensures in
-    let made = at_none (λ (ps : Pairs) (gs : List Lived) (ws : List (Option Written)). Changes (commit.Commits s.published.upto s.published.next_id ps gs ws) before after) _ _ _ s c.none-pairs.ensures c.as_slice-segments.ensures c.as_slice-written.ensures (c.in-Ok.ensures.ok room) in
-    onto (commit.Commits s.published.upto s.published.next_id [] s.published.segments s.written) (Commits s new) before after
-    (λ files now. commits s new files now (c.requires.sound c.if-self.false) on) made
-
-pub returns-in-Ok-clause-pairs : goal.returns-in-Ok-clause-pairs
-returns-in-Ok-clause-pairs g c room =
-    let s = c.args.self.now.state in
-    let before = told_files (g.S.Store.disk c.args.self.now.store) in
-    let after = told_files (g.S.Store.disk c.write_commit.new.store) in
-    subst (λ (ps : Pairs). Changes (λ old now. HasPairs now s.published.upto ps) before after) c.none-pairs.ensures (c.in-Ok.ensures.pairs room)
+    let made = at_state (λ (gs : List Lived) (ws : List (Option Written)). Changes (commit.Commits s.published.upto s.published.next_id pairs gs ws) before after) _ _ s c.as_slice-segments.ensures c.as_slice-written.ensures (c.in-Ok.ensures.ok room) in
+    onto (commit.Commits s.published.upto s.published.next_id pairs s.published.segments s.written) (Commits pairs s new) before after
+    (λ files now. commits pairs s new files now (c.requires.sound c.if-self.false) on) made
 
 pub returns-in-Ok-clause-acknowledged : goal.returns-in-Ok-clause-acknowledged
 returns-in-Ok-clause-acknowledged g c room image holds =
@@ -123,9 +116,9 @@ returns-in-Ok-clause-acknowledged g c room image holds =
     let before = c.in-Ok.ensures.acknowledged room image holds in (
       before.0,
       before.1,
-      commits s new before.0 image (c.requires.sound c.if-self.false) on
-          (at_none (λ (ps : Pairs) (gs : List Lived) (ws : List (Option Written)). commit.Commits s.published.upto s.published.next_id ps gs ws before.0 image) _ _ _ s
-          c.none-pairs.ensures c.as_slice-segments.ensures c.as_slice-written.ensures before.2),
+      commits c.args.pairs.now s new before.0 image (c.requires.sound c.if-self.false) on
+          (at_state (λ (gs : List Lived) (ws : List (Option Written)). commit.Commits s.published.upto s.published.next_id c.args.pairs.now gs ws before.0 image) _ _ s
+          c.as_slice-segments.ensures c.as_slice-written.ensures before.2),
     )
 
 pub returns-in-Ok-clause-settled : goal.returns-in-Ok-clause-settled

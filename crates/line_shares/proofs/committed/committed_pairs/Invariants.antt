@@ -1,0 +1,8 @@
+use Rattle.std.proofs.Common.{◌≡◌, drop}
+use Rattle.line_shares.specs.Committed.{commit_among, told_past}
+use Rattle.line_shares.proofs.committed.committed_pairs.Given as goal
+
+abbrev pub invariant-loop-at : goal.invariant-loop-at
+invariant-loop-at l =
+    commit_among l.number (told_past (drop l.at l.counts) (drop l.at l.shares))
+    ≡ commit_among l.number (told_past l.counts l.shares)

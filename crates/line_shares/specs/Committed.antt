@@ -1,0 +1,38 @@
+-- The commit of a round, among what its workers were told.
+use Rattle.std.specs.Prelude.{ℕ, ◌==◌, if◌then◌else◌, List, [], ◌∷◌, Option, Some, None, length, drop}
+use Rattle.ix_base.specs.declared.document.Operation.{Operation}
+use Rattle.ix_base.specs.declared.document.Operation.TheVariants.{Commit}
+use Rattle.commit_point.specs.Holds.{Pairs}
+use Rattle.row_fates.specs.Fate.{Numbered as NumberedOperation}
+use Rattle.worker_tasks.specs.declared.share.Share.{Share}
+use Rattle.worker_tasks.specs.Replies.{told_in}
+
+-- how many tasks of a share were told something
+abbrev pub told_count : Share → ℕ
+told_count share = length share.replies
+
+-- what the workers were told since so many tasks of each were told something
+abbrev pub told_past : List ℕ → List Share → List (List NumberedOperation)
+told_past [] shares = []
+told_past (n ∷ counts) [] = []
+told_past (n ∷ counts) (s ∷ shares) = told_in (drop n s.tasks) (drop n s.replies) ∷ told_past counts shares
+
+-- the pairs of a commit
+abbrev pub commit_of : Operation → Option Pairs
+commit_of (Commit pairs) = Some pairs
+commit_of op = None
+
+-- the pairs of the operation with this number, if it is among these and a commit
+abbrev pub commit_in : ℕ → List NumberedOperation → Option Pairs
+commit_in s [] = None
+commit_in s (t ∷ ts) = if t.0 == s then commit_of t.1 else commit_in s ts
+
+-- the first of two that is there
+abbrev pub either : Option Pairs → Option Pairs → Option Pairs
+either None other = other
+either (Some pairs) other = Some pairs
+
+-- the same among what each worker was told
+abbrev pub commit_among : ℕ → List (List NumberedOperation) → Option Pairs
+commit_among s [] = None
+commit_among s (ts ∷ tss) = either (commit_in s ts) (commit_among s tss)
