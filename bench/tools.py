@@ -129,7 +129,7 @@ class Bench:
     def __init__(self, room, program, times, count):
         self.room, self.program, self.times, self.count = room, program, times, count
         self.scripts, self.indexes = {}, {}
-        self.report, self.folder = f"{room}/report", f"{room}/index"
+        self.report, self.folder = f"{room}/report", None
 
     def words(self, by, folder, run):
         if by == "FTS5":
@@ -154,17 +154,18 @@ class Bench:
         return self.indexes[by, runs]
 
     def renew(self, by, phase):
-        """Makes the folder anew as the phase finds it, with nothing on its way to the disk."""
-        shutil.rmtree(self.folder, ignore_errors=True)
-        shutil.copytree(self.index(by, phase.before), self.folder)
+        """Makes a further folder as the phase finds it, with nothing on its way to the disk, and returns the call for it.
+        None is deleted before all is measured: for minutes afterwards ext4 looks at deleted files for each new one."""
+        self.folder = tempfile.mkdtemp(dir=self.room)
+        shutil.copytree(self.index(by, phase.before), self.folder, dirs_exist_ok=True)
         os.sync()
+        return self.words(by, self.folder, phase.run)
 
     def measure(self, by, phase):
         """The row of a phase, and what its report says was found."""
-        script, words = self.script(phase.run.script), self.words(by, self.folder, phase.run)
-        runs = []
+        script, runs = self.script(phase.run.script), []
         for _ in range(self.times):
-            self.renew(by, phase)
+            words = self.renew(by, phase)
             runs.append(measured(words, script, self.report, phase.status, phase.processors))
         seconds, processor, megabytes = (least(each) for least, each in zip((min, min, max), zip(*runs)))
         answer = apart(found, self.report) if phase.fts5 else None
@@ -172,7 +173,7 @@ class Bench:
         row = [phase.name, by, f"{phase.size:,}", f"{seconds:.2f}", f"{processor:.2f}", f"{megabytes:.0f}",
                f"{size_of(self.folder):.1f}", "" if segments is None else f"{segments:,}"]
         if self.count:
-            self.renew(by, phase)
+            words = self.renew(by, phase)
             row.append(f"{instructions(words, script, self.report):,.0f}" if by == "index_run" else "")
         return row, answer
 
