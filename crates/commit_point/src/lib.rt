@@ -19,7 +19,7 @@ pub use decode::decode_commit;
 pub use encode::encode_commit;
 pub use fault::{CommitRefused, OpenFault};
 pub use heads::{CommitFormat, Head, HeadSegment};
-pub use listing::list_commits;
+pub use listing::{list_commits, rising_numbers};
 pub use open::{Opened, head, listed_head, open_commit, read_commit};
 pub use prepare::{is_alive, version};
 pub use write::write_commit;

@@ -38,8 +38,8 @@ fn commits_among(alloc: Global, names: &[FileName]) -> Result<BTreeSet<u64>, NoM
     Ok(numbers)
 }
 
-/// The numbers of the commits among these names, rising.
-fn rising_numbers(alloc: Global, names: &[FileName]) -> Result<List<u64>, NoMemory>
+/// The numbers of the commits among these names of files, rising. The only error is out of memory.
+pub fn rising_numbers(alloc: Global, names: &[FileName]) -> Result<List<u64>, NoMemory>
     ensures commits { IfOk result (λ numbers. (s : ℕ)
         → Contains numbers s ↔ Contains names.now (Commit s)) }
     ensures rise { IfOk result (λ numbers. AllPairs ◌<◌ numbers) }

@@ -1,6 +1,6 @@
 -- The commit files that are read, and what is planned after them.
 use Rattle.std.proofs.Common.{◌≡◌, ◌∙◌, inl, inr, ℕ, ◌+◌, ◌<◌, List, [], ◌∷◌, ◌++◌, length, get_or, map, take, Option, Some, Result, Ok, Err, refl, sym, ap, subst}
-use Rattle.std.specs.Prelude.{AllPairs, Contains, IfErr}
+use Rattle.std.specs.Prelude.{◌↔◌, AllPairs, Contains, IfErr}
 use Rattle.std.specs.List.{AllZip}
 use Rattle.std.proofs.lemmas.List.{flat_map_more, take_more}
 use Rattle.ix_base.specs.declared.damaged.Damaged.{Damaged}
@@ -43,6 +43,14 @@ one_more files numbers i head entries both lt are has is = (
 )
 
 -- ---- the plan
+
+-- the numbers among all names are those of the commits
+pub numbers_are : (files : Files) (names : List FileName) (numbers : List ℕ) → Lists files names
+    → ((s : ℕ) → Contains numbers s ↔ Contains names (Commit s)) → AreNumbers files numbers
+numbers_are files names numbers lists same s = (
+  (λ c. (lists.each (Commit s)).0 ((same s).0 c)),
+  (λ there. (same s).1 ((lists.each (Commit s)).1 there)),
+)
 
 pub planned : (keep : ℕ) (files : Files) (names gone rest : List FileName) (numbers : List ℕ) (entries : List HeadSegment)
     → Lists files names → AllPairs ◌<◌ numbers → AreNumbers files numbers → AreEntries files (latest keep numbers) entries

@@ -14,7 +14,7 @@ ghost use Rattle.commit_pruning.specs.Pruning.{BreaksStaying, IsBrokenCommit};
 use crate::choosing::unlisted;
 use crate::fault::PruningFault;
 use crate::reading::head_of;
-use commit_point::{HeadSegment, list_commits};
+use commit_point::{HeadSegment, rising_numbers};
 use ix_base::{FileName, List, NoMemory};
 use ix_outside::{Store, StoreFault};
 use std::alloc::Global;
@@ -97,36 +97,32 @@ fn plan_for<S: Store>(
     })
 }
 
-/// What is to be deleted where these are the numbers of all commits, and so many of them are kept.
+/// What is to be deleted of the files with these names, which are all, where so many commits are kept.
 fn plan_of<S: Store>(
     alloc: Global,
     store: &mut S,
     keep: u32,
-    numbers: &[u64],
+    names: &[FileName],
 ) -> Result<Plan, PruningFault>
-    requires { AllPairs ◌<◌ numbers.now }
     ensures plan { (files : Files) → told_files (S.disk store.old) ≡ Some files
-        → AreNumbers files numbers.now
+        → Lists files names.now
         → IfOk result (λ plan. IsPlan keep files plan.gone plan.rest) }
     ensures damaged { (damaged : Damaged) → result ≡ Err (PruningFault.Damaged damaged)
         → (s : ℕ) × IsBrokenCommit (told_files (S.disk store.old)) s damaged }
     ensures staying { (files : Files) (damaged : Damaged)
-        → told_files (S.disk store.old) ≡ Some files → AreNumbers files numbers.now
+        → told_files (S.disk store.old) ≡ Some files → Lists files names.now
         → result ≡ Err (PruningFault.Damaged damaged) → BreaksStaying keep files damaged }
     ensures reads { S.disk store.new ≡ S.disk store.old }
     ensures later { S.fault_count store.old ≤ S.fault_count store.new }
     ensures failed { result ≡ Err PruningFault.Store
         → Rose (S.fault_count store.old) (S.fault_count store.new) }
 {
-    match store.list(alloc) {
-        Ok(names) => plan_for(alloc, store, keep, numbers, names.as_slice()),
-        Err(StoreFault::Failed) => Err(PruningFault::Store),
-        Err(StoreFault::NoMemory) => Err(PruningFault::NoMemory),
-    }
+    let numbers = rising_numbers(alloc, names)?;
+    plan_for(alloc, store, keep, numbers.as_slice(), names)
 }
 
-/// What is to be deleted where so many commits are kept. The commit files of those that stay are
-/// read, and no others.
+/// What is to be deleted where so many commits are kept. The directory is listed once. The commit files
+/// of those that stay are read, and no others.
 pub(crate) fn make_plan<S: Store>(
     alloc: Global,
     store: &mut S,
@@ -144,8 +140,8 @@ pub(crate) fn make_plan<S: Store>(
     ensures failed { result ≡ Err PruningFault.Store
         → Rose (S.fault_count store.old) (S.fault_count store.new) }
 {
-    match list_commits(alloc, store) {
-        Ok(numbers) => plan_of(alloc, store, keep, numbers.as_slice()),
+    match store.list(alloc) {
+        Ok(names) => plan_of(alloc, store, keep, names.as_slice()),
         Err(StoreFault::Failed) => Err(PruningFault::Store),
         Err(StoreFault::NoMemory) => Err(PruningFault::NoMemory),
     }

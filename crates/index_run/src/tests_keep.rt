@@ -133,8 +133,8 @@ const HELD: [(&str, &str); 2] = [
 ];
 
 /// How many calls of the store come before the one that deletes a commit file: a run that keeps all makes
-/// eighteen, and then the directory is listed twice and the commit file that stays is read.
-const BEFORE: u64 = 21;
+/// eighteen, and then the directory is listed and the commit file that stays is read.
+const BEFORE: u64 = 20;
 
 /// How many calls there are in all: a delete and two syncs of the directory come.
 const ALL_CALLS: u64 = BEFORE + 3;
