@@ -1,13 +1,13 @@
-//! Sources that wait to be walked further.
-ghost use Rattle.std.specs.Prelude.{◌≡◌, ◌↔◌, ◌||◌, ℕ, true, false, OnOk, IfSome, IsTrue};
+//! Entries of sources that come next.
+ghost use Rattle.std.specs.Prelude.{◌≡◌, ◌↔◌, ◌||◌, ℕ, true, false, None, Some, OnOk, IsTrue};
 ghost use Rattle.ix_base.specs.Inversion.{IsPostings, term_cmp};
 ghost use Rattle.merge_postings.specs.Gathering.{is_gathered};
+ghost use Rattle.merge_postings.specs.Keys.{HasKey};
 ghost use Rattle.merge_postings.specs.Renumbering.{moved_at, NumbersRise};
 ghost use Rattle.merge_postings.specs.Walk.{waiting, IsBelow};
 
 use crate::gathered::Gathered;
 use crate::key::{compare_texts, key_of};
-use analysis::compare_terms;
 use ix_base::{NoMemory, Term, TermPostings};
 use std::cmp::Ordering;
 use std::marker::Model;
@@ -20,8 +20,10 @@ pub(crate) struct Head<'a> {
     numbers: &'a [Option<u32>],
     /// The place of the source among all.
     place: usize,
-    /// The key of the next entry's term.
-    key: u64,
+    /// The key of the field of the next entry's term.
+    field: u64,
+    /// The key of the bytes of the next entry's term.
+    bytes: u64,
 }
 
 impl<'a> Model for Head<'a> {
@@ -34,7 +36,8 @@ impl<'a> Model for Head<'a> {
 
     ghost invariant = { λ h.
         CanWait (record { first = h.first.now; rest = h.rest.now; numbers = h.numbers.now })
-        × HasKey h.key h.first.now.term.bytes };
+        × HasKey h.field h.first.now.term.field
+        × HasKey h.bytes h.first.now.term.bytes };
 }
 
 impl<'a> Head<'a> {
@@ -54,8 +57,23 @@ impl<'a> Head<'a> {
             rest,
             numbers,
             place,
-            key: key_of(&first.term.bytes),
+            field: key_of(first.term.field.as_str()),
+            bytes: key_of(first.term.bytes.as_str()),
         })
+    }
+
+    /// The same once more.
+    pub(crate) fn same(&self) -> Head<'a>
+        ensures { result ≡ self.now }
+    {
+        Head {
+            first: self.first,
+            rest: self.rest,
+            numbers: self.numbers,
+            place: self.place,
+            field: self.field,
+            bytes: self.bytes,
+        }
     }
 
     /// The term of the next entry.
@@ -65,12 +83,31 @@ impl<'a> Head<'a> {
         &self.first.term
     }
 
-    /// The source behind its next entry; `None` where that is the last.
-    pub(crate) fn next(&self) -> Option<Head<'a>>
-        ensures rest { result ≡ waiting self.now.rest self.now.numbers }
-        ensures rises { IfSome result (λ next. IsBelow self.now.first.term next.first.term) }
+    /// The key of a field, which is mostly that of the next entry.
+    fn field_key(&self, field: &str) -> u64
+        ensures { HasKey result field.now }
     {
-        Head::new(self.rest, self.numbers, self.place)
+        if field == self.first.term.field.as_str() {
+            self.field
+        } else {
+            key_of(field)
+        }
+    }
+
+    /// Passes its next entry, unless that is the last: then the answer is `false`, and all is as before.
+    pub(crate) fn pass(&mut self) -> bool
+        ensures next { result ≡ true → waiting self.old.rest self.old.numbers ≡ Some self.new }
+        ensures last { result ≡ false → waiting self.old.rest self.old.numbers ≡ None }
+        ensures rises { result ≡ true → IsBelow self.old.first.term self.new.first.term }
+    {
+        let Some((first, rest)) = self.rest.split_first() else {
+            return false;
+        };
+        self.field = self.field_key(first.term.field.as_str());
+        self.bytes = key_of(first.term.bytes.as_str());
+        self.first = first;
+        self.rest = rest;
+        true
     }
 
     /// Adds the places of the next entry, at the rows of their numbers.
@@ -87,19 +124,27 @@ impl<'a> Head<'a> {
     {
         let left = self.term();
         let right = other.term();
-        if left.field.as_str() == right.field.as_str() {
-            return compare_texts(&left.bytes, self.key, &right.bytes, other.key);
+        let by_field = compare_texts(
+            left.field.as_str(),
+            self.field,
+            right.field.as_str(),
+            other.field,
+        );
+        match by_field {
+            Ordering::Equal => compare_texts(
+                left.bytes.as_str(),
+                self.bytes,
+                right.bytes.as_str(),
+                other.bytes,
+            ),
+            _ => by_field,
         }
-        compare_terms(left, right)
     }
 
     /// Whether its next term is the other's.
     pub(crate) fn has_term_of(&self, other: &Head<'_>) -> bool
         ensures { IsTrue result ↔ (self.now.first.term ≡ other.now.first.term) }
     {
-        if self.key != other.key {
-            return false;
-        }
         match self.compare(other) {
             Ordering::Equal => true,
             _ => false,

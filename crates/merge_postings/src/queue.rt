@@ -7,11 +7,12 @@ ghost use Rattle.merge_postings.specs.Walk.{StartFrom, AreQueued, StartUpto, IsP
 
 use crate::head::Head;
 use crate::source::Source;
+use crate::waiter::Waiter;
 use ix_base::{NoMemory, Term};
 use std::alloc::Global;
 
 /// The place at which this source comes among these, found by halving.
-fn place_of(queue: &[Head<'_>], head: &Head<'_>) -> usize
+fn place_of(queue: &[Waiter<'_>], head: &Head<'_>) -> usize
     requires { AreQueued queue.now }
     ensures within { result ≤ length queue.now }
     ensures before { StartFrom head.now.first.term (take result queue.now) }
@@ -21,7 +22,7 @@ fn place_of(queue: &[Head<'_>], head: &Head<'_>) -> usize
     let mut high = queue.len();
     'halves: while low < high {
         let middle = low + (high - low) / 2;
-        if queue[middle].is_after(head) {
+        if queue[middle].head().is_after(head) {
             low = middle + 1;
         } else {
             high = middle;
@@ -31,27 +32,27 @@ fn place_of(queue: &[Head<'_>], head: &Head<'_>) -> usize
 }
 
 /// Puts a source among these.
-fn put_head<'a>(queue: &mut Vec<Head<'a>>, head: Head<'a>) -> Result<(), NoMemory>
+fn put_waiter<'a>(queue: &mut Vec<Waiter<'a>>, waiter: Waiter<'a>) -> Result<(), NoMemory>
     requires { AreQueued queue.old.items }
-    ensures put { OnOk result (IsPut head.entry queue.old.items queue.new.items) }
+    ensures put { OnOk result (IsPut waiter.entry queue.old.items queue.new.items) }
     ensures queued { OnOk result (AreQueued queue.new.items) }
 {
-    let place = place_of(queue.as_slice(), &head);
-    queue.insert(place, head)?;
+    let place = place_of(queue.as_slice(), waiter.head());
+    queue.insert(place, waiter)?;
     Ok(())
 }
 
 /// Puts a source among these, if there is one.
 pub(crate) fn put_back<'a>(
-    queue: &mut Vec<Head<'a>>,
-    head: Option<Head<'a>>,
+    queue: &mut Vec<Waiter<'a>>,
+    waiter: Option<Waiter<'a>>,
 ) -> Result<(), NoMemory>
     requires { AreQueued queue.old.items }
-    ensures put { OnOk result (IsPutBack head.entry queue.old.items queue.new.items) }
+    ensures put { OnOk result (IsPutBack waiter.entry queue.old.items queue.new.items) }
     ensures queued { OnOk result (AreQueued queue.new.items) }
 {
-    match head {
-        Some(head) => put_head(queue, head),
+    match waiter {
+        Some(waiter) => put_waiter(queue, waiter),
         None => Ok(()),
     }
 }
@@ -61,19 +62,20 @@ pub(crate) fn queue_beyond<'a>(
     alloc: Global,
     sources: &[Source<'a>],
     upto: &Option<Term>,
-) -> Result<Vec<Head<'a>>, NoMemory>
+) -> Result<Vec<Waiter<'a>>, NoMemory>
     requires { AllByRecursion CanMove sources.now }
     ensures { IfOk result (λ queue. AreResumed upto.now sources.now queue.items) }
 {
     let mut queue = Vec::with_capacity(alloc, sources.len())?;
     for place in 0..sources.len() {
-        put_back(&mut queue, sources[place].beyond(place, upto))?;
+        let waiter = sources[place].beyond(alloc, place, upto)?;
+        put_back(&mut queue, waiter)?;
     }
     Ok(queue)
 }
 
 /// Takes the last source out, if its first term is this one's.
-pub(crate) fn take_last<'a>(queue: &mut Vec<Head<'a>>, head: &Head<'a>) -> Option<Head<'a>>
+pub(crate) fn take_last<'a>(queue: &mut Vec<Waiter<'a>>, head: &Head<'a>) -> Option<Waiter<'a>>
     ensures some { IfSome result (λ last. queue.old.items ≡ queue.new.items ++ last ∷ []) }
     ensures term { IfSome result (λ last. last.first.term ≡ head.now.first.term) }
     ensures none { IfNone result (queue.new.items ≡ queue.old.items) }
@@ -81,7 +83,7 @@ pub(crate) fn take_last<'a>(queue: &mut Vec<Head<'a>>, head: &Head<'a>) -> Optio
         → queue.old.items ≡ front ++ w ∷ [] → w.first.term ≢ head.now.first.term) }
 {
     let last = queue.last()?;
-    if last.has_term_of(head) {
+    if last.head().has_term_of(head) {
         queue.pop()
     } else {
         None

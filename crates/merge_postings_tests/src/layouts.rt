@@ -11,6 +11,16 @@ use test_values::{field_of, text_of};
 /// Of a row: which source has it, and whether it gets a number. Numbers rise with rows.
 pub(crate) type Place = (usize, bool);
 
+/// A word of two to four letters, or of seven to nine: many of these begin with the same seven.
+fn add_word(body: &mut String, word: u32) -> Result<(), Fail> {
+    if word % 3 == 0 {
+        write!(body, "longer{word} ")?;
+    } else {
+        write!(body, "w{word} ")?;
+    }
+    Ok(())
+}
+
 /// Words of which some come in many rows and some in few: six, and in some rows six hundred.
 fn body_of(alloc: Global, row: usize) -> Result<String, Fail> {
     let mut body = String::new(alloc);
@@ -19,7 +29,7 @@ fn body_of(alloc: Global, row: usize) -> Result<String, Fail> {
     for _ in 0..words {
         drawn = drawn.wrapping_mul(1_664_525).wrapping_add(1_013_904_223);
         let word = (drawn >> 24) * (drawn >> 24) % 400;
-        write!(body, "w{word} ")?;
+        add_word(&mut body, word)?;
     }
     Ok(body)
 }

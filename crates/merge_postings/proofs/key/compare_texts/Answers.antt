@@ -1,4 +1,4 @@
-use Rattle.std.proofs.Common.{length, ap, sym, arith}
+use Rattle.std.proofs.Common.{sym}
 use Rattle.merge_postings.proofs.KeyOrder.{above_by_key, below_by_key, same_by_key}
 use Rattle.merge_postings.proofs.key.compare_texts.Goals as goal
 
@@ -10,9 +10,8 @@ pub returns-then-right_key-left_key : goal.returns-then-right_key-left_key
 returns-then-right_key-left_key c =
     sym (above_by_key c.args.left_key c.args.right_key c.args.left.now c.args.right.now c.requires.left c.requires.right c.if-right_key-left_key.true)
 
-pub returns-then-left-le8 : goal.returns-then-left-le8
-returns-then-left-le8 c =
+pub returns-then-right_key-lt8 : goal.returns-then-right_key-lt8
+returns-then-right_key-lt8 c =
     sym
     (same_by_key c.args.left_key c.args.right_key c.args.left.now c.args.right.now c.requires.left c.requires.right c.if-right_key-left_key.false c.if-left_key-right_key.false
-    (omega (arith, c.if-left-right.true, ap length c.as_str-left.ensures.bytes, ap length c.as_str-right.ensures.bytes))
-    (omega (arith, c.if-left-le8.true, ap length c.as_str-left.ensures.bytes)))
+    c.if-right_key-lt8.true)

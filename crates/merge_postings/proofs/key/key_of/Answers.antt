@@ -1,19 +1,13 @@
-use Rattle.std.proofs.Common.{◌≡◌, ◌∙◌, ◌<◌, ℕ, List, get_or, refl, subst, arith}
-use Rattle.merge_postings.specs.Keys.{HasKey, key}
-use Rattle.merge_postings.proofs.KeyOrder.{key_none, key_step}
+use Rattle.std.proofs.Common.{◌<◌, ℕ, get_or, arith}
+use Rattle.merge_postings.proofs.KeyOrder.{long_key, short_key}
 use Rattle.merge_postings.proofs.key.key_of.Goals as goal
 
-pub returns : goal.returns
-returns c =
-    let bytes : List ℕ = c.as_bytes-bytes.result.now in
-    let same : bytes ≡ c.args.text.now = c.as_bytes-bytes.ensures.value ∙ c.as_str.ensures.bytes in
-    let one : c.with_byte-one.result ≡ key 1 bytes = key_step 0 1 bytes 0 c.with_byte-one.result refl (key_none bytes 0 refl) c.with_byte-one.ensures.value in
-    let two : c.with_byte-two.result ≡ key 2 bytes = key_step 1 2 bytes c.with_byte-one.result c.with_byte-two.result refl one c.with_byte-two.ensures.value in
-    let three : c.with_byte-three.result ≡ key 3 bytes = key_step 2 3 bytes c.with_byte-two.result c.with_byte-three.result refl two c.with_byte-three.ensures.value in
-    let four : c.with_byte-four.result ≡ key 4 bytes = key_step 3 4 bytes c.with_byte-three.result c.with_byte-four.result refl three c.with_byte-four.ensures.value in
-    let five : c.with_byte-five.result ≡ key 5 bytes = key_step 4 5 bytes c.with_byte-four.result c.with_byte-five.result refl four c.with_byte-five.ensures.value in
-    let six : c.with_byte-six.result ≡ key 6 bytes = key_step 5 6 bytes c.with_byte-five.result c.with_byte-six.result refl five c.with_byte-six.ensures.value in
-    let seven : c.with_byte-seven.result ≡ key 7 bytes = key_step 6 7 bytes c.with_byte-six.result c.with_byte-seven.result refl six c.with_byte-seven.ensures.value in
-    let eight : c.with_byte.result ≡ key 8 bytes = key_step 7 8 bytes c.with_byte-seven.result c.with_byte.result refl seven c.with_byte.ensures.value in
-    let fit : (i : ℕ) → get_or bytes i 0 < 256 = λ i. omega (arith, c.as_bytes-bytes.items_fit i) in
-    subst (HasKey c.with_byte.result) same (record { is = eight; bytes_are = fit })
+pub returns-then-bytes-lt8 : goal.returns-then-bytes-lt8
+returns-then-bytes-lt8 c =
+    let fit : (i : ℕ) → get_or c.as_bytes-bytes.result.now i 0 < 256 = λ i. omega (arith, c.as_bytes-bytes.items_fit i) in
+    short_key c.as_bytes-bytes.result.now c.args.text.now c.first_seven-seven.result c.as_bytes-bytes.ensures.value c.first_seven-seven.ensures.value fit c.if-bytes-lt8.true
+
+pub returns-else-bytes-lt8 : goal.returns-else-bytes-lt8
+returns-else-bytes-lt8 c =
+    let fit : (i : ℕ) → get_or c.as_bytes-bytes.result.now i 0 < 256 = λ i. omega (arith, c.as_bytes-bytes.items_fit i) in
+    long_key c.as_bytes-bytes.result.now c.args.text.now c.first_seven-seven.result c.as_bytes-bytes.ensures.value c.first_seven-seven.ensures.value fit c.if-bytes-lt8.false

@@ -14,7 +14,7 @@ pub terms-preserved : goal.terms-preserved
 terms-preserved c = record {
   queued = c.in_ok-put_term.ensures.ok.taken.taken.queued;
   walked = λ sources was.
-      walk sources c.pop.new.self.items c.put_term.new.queue.items c.in-Some.head c.terms.terms.items c.put_term.new.terms.items
+      walk sources c.pop.new.self.items c.put_term.new.queue.items c.in-Some.waiter c.terms.terms.items c.put_term.new.terms.items
       (subst (λ (queue : List Waiting). Walked sources queue c.terms.terms.items) c.in-Some.ensures.items (c.terms.invariant.walked sources was)) c.in_ok-put_term.ensures.ok;
   front = front_then c.args.terms.now.items c.terms.terms.items c.put_term.new.terms.items c.terms.invariant.front c.put_term.ensures.front;
 }
