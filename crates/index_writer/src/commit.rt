@@ -26,9 +26,10 @@ use std::alloc::Global;
 
 impl<S: Store> IndexWriter<S> {
     /// Writes the commit with which the last round ended, with these pairs in its commit file, and
-    /// returns its number and how many rows it has. It asks that there is one, unless the writer is closed. Only what is new or changed since
-    /// the last commit is written. The commit lists the segments with a live row. The writer's segments
-    /// stay, those without one too, and a merge that runs goes on after it.
+    /// returns its number and how many rows it has. It asks that there is one, unless the writer is
+    /// closed. Only what is new or changed since the last commit is written. The commit lists the
+    /// segments with a live row. The writer's segments stay, those without one too, and a merge that
+    /// runs goes on after it.
     ///
     /// `Closed` comes exactly where the writer is closed; nothing changes then. After `Store` it is
     /// closed. After `NoMemory` all is as before, and the commit can be tried again; but where the

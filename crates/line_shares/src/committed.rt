@@ -20,8 +20,8 @@ pub fn told_counts(alloc: Global, shares: &[Share]) -> Result<Vec<usize>, NoMemo
     Ok(counts)
 }
 
-/// A copy of the pairs of the commit that got this number, where it is among the tasks that were told
-/// something since so many of each share were; otherwise none. The only error is out of memory. It takes
+/// A copy of the pairs of the commit that got this number. It is asked for one that is among the tasks
+/// that were told something since so many of each share were. The only error is out of memory. It takes
 /// time as the number of those tasks.
 pub fn committed_pairs(
     alloc: Global,

@@ -1,4 +1,4 @@
-//! Texts compared by their first seven bytes and their lengths.
+//! Texts compared by their first eight bytes.
 ghost use Rattle.std.specs.Prelude.{◌≡◌, ◌+◌, ◌*◌, ◌<◌, ◌^◌, ◌∷◌, ℕ, List, slice_index};
 ghost use Rattle.std.specs.Cmp.Lexicographic.{slice_cmp};
 ghost use Rattle.std.specs.Ordering.{nat_cmp};
@@ -19,22 +19,21 @@ fn with_byte(number: u64, bytes: &[u8], at: usize) -> u64
     number * 256 + u64::from(byte)
 }
 
-/// Seven bytes as a number, the first one the highest.
-fn seven_of(a: u8, b: u8, c: u8, d: u8, e: u8, f: u8, g: u8) -> u64
-    ensures value { (rest : List ℕ) → result ≡ key 7 (a ∷ b ∷ c ∷ d ∷ e ∷ f ∷ g ∷ rest) }
-    ensures below { result < 2 ^ 56 }
+/// Eight bytes as a number, the first one the highest.
+fn eight_of(a: u8, b: u8, c: u8, d: u8, e: u8, f: u8, g: u8, h: u8) -> u64
+    ensures { (rest : List ℕ) → result ≡ key 8 (a ∷ b ∷ c ∷ d ∷ e ∷ f ∷ g ∷ h ∷ rest) }
 {
     let four = ((u64::from(a) * 256 + u64::from(b)) * 256 + u64::from(c)) * 256 + u64::from(d);
-    ((four * 256 + u64::from(e)) * 256 + u64::from(f)) * 256 + u64::from(g)
+    let seven = ((four * 256 + u64::from(e)) * 256 + u64::from(f)) * 256 + u64::from(g);
+    seven * 256 + u64::from(h)
 }
 
-/// The first seven bytes as a number, the first one the highest.
-fn first_seven(bytes: &[u8]) -> u64
-    ensures value { result ≡ key 7 bytes.now }
-    ensures below { result < 2 ^ 56 }
+/// The first eight bytes as a number, the first one the highest.
+fn first_eight(bytes: &[u8]) -> u64
+    ensures { result ≡ key 8 bytes.now }
 {
-    if let [a, b, c, d, e, f, g, ..] = bytes {
-        return seven_of(*a, *b, *c, *d, *e, *f, *g);
+    if let [a, b, c, d, e, f, g, h, ..] = bytes {
+        return eight_of(*a, *b, *c, *d, *e, *f, *g, *h);
     }
     let one = with_byte(0, bytes, 0);
     let two = with_byte(one, bytes, 1);
@@ -42,25 +41,19 @@ fn first_seven(bytes: &[u8]) -> u64
     let four = with_byte(three, bytes, 3);
     let five = with_byte(four, bytes, 4);
     let six = with_byte(five, bytes, 5);
-    with_byte(six, bytes, 6)
+    let seven = with_byte(six, bytes, 6);
+    with_byte(seven, bytes, 7)
 }
 
-/// The first seven bytes of a text as a number, the first one the highest, and its length behind them: 8
-/// where it is longer.
+/// The first eight bytes of a text as a number, the first one the highest.
 pub(crate) fn key_of(text: &str) -> u64
     ensures { HasKey result text.now }
 {
     let bytes = text.as_bytes();
-    let seven = first_seven(bytes);
-    if bytes.len() < 8 {
-        seven * 256 + bytes.len() as u64
-    } else {
-        seven * 256 + 8
-    }
+    first_eight(bytes)
 }
 
-/// How texts with these keys are ordered. They are looked at only where their keys are one, and they have
-/// more than seven bytes.
+/// How texts with these keys are ordered. They are looked at only where their keys are one.
 pub(crate) fn compare_texts(left: &str, left_key: u64, right: &str, right_key: u64) -> Ordering
     requires left { HasKey left_key left.now }
     requires right { HasKey right_key right.now }
@@ -72,7 +65,7 @@ pub(crate) fn compare_texts(left: &str, left_key: u64, right: &str, right_key: u
     if right_key < left_key {
         return Ordering::Greater;
     }
-    if right_key % 256 < 8 {
+    if left.len() == right.len() && left.len() <= 8 {
         return Ordering::Equal;
     }
     left.cmp(right)

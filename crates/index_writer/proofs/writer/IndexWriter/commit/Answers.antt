@@ -1,4 +1,4 @@
-use Rattle.std.proofs.Common.{◌∙◌, List, [], Option, length, refl, sym, ap, subst, inl, arith}
+use Rattle.std.proofs.Common.{◌∙◌, List, Option, length, refl, sym, ap, subst, inl, arith}
 use Rattle.std.specs.Prelude.{IsSome}
 use Rattle.ix_base.specs.declared.file_name.FileName.TheVariants.{Commit}
 use Rattle.ix_outside.proofs.CallLaws.{leaves_none}

@@ -1,4 +1,4 @@
-use Rattle.std.proofs.Common.{◌≡◌, ◌∙◌, None, Option, Some, ap, subst, sym}
+use Rattle.std.proofs.Common.{◌∙◌, None, Some, ap, subst, sym}
 use Rattle.std.proofs.lemmas.List.{take_rest}
 use Rattle.merge_postings.specs.Renumbering.{Moving}
 use Rattle.merge_postings.specs.Steps.{IsResumed}
