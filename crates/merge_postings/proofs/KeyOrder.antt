@@ -8,6 +8,7 @@ use Rattle.std.proofs.lemmas.Bool.{cases_lt}
 use Rattle.std.proofs.lemmas.Cmp.{nat_list_cmp_total, ranked}
 use Rattle.ix_base.specs.Spelling.{AreBytes}
 use Rattle.merge_postings.specs.Keys.{HasKey, key}
+use Rattle.merge_postings.specs.declared.key.Key.{Key}
 
 -- ---- numbers
 
@@ -93,15 +94,15 @@ whole (x ∷ xs) (y ∷ ys) long same =
     let rest : xs ≡ ys = whole xs ys (omega arith) (λ i lt. same (suc i) (omega arith)) in
     λ i. first i ∷ rest i
 
-pub below_by_key : (a b : ℕ) (xs ys : List ℕ) → HasKey a xs → HasKey b ys → a < b → slice_cmp nat_cmp xs ys ≡ Less
-below_by_key a b xs ys p q lt = key_less 8 xs ys p.bytes_are q.bytes_are (omega (arith, p.is, q.is))
+pub below_by_key : (a b : Key) (xs ys : List ℕ) → HasKey a xs → HasKey b ys → a.first < b.first → slice_cmp nat_cmp xs ys ≡ Less
+below_by_key a b xs ys p q lt = key_less 8 xs ys p.bytes_are q.bytes_are (omega (arith, p.first, q.first))
 
-pub above_by_key : (a b : ℕ) (xs ys : List ℕ) → HasKey a xs → HasKey b ys → b < a → slice_cmp nat_cmp xs ys ≡ Greater
+pub above_by_key : (a b : Key) (xs ys : List ℕ) → HasKey a xs → HasKey b ys → b.first < a.first → slice_cmp nat_cmp xs ys ≡ Greater
 above_by_key a b xs ys p q lt = nat_list_cmp_total.antisymm xs ys ∙ ap ordering_reverse (below_by_key b a ys xs q p lt)
 
--- short texts of one key and one length are one
-pub same_by_key : (a b : ℕ) (xs ys : List ℕ) → HasKey a xs → HasKey b ys → a ≤ b → b ≤ a → length xs ≡ length ys → length xs ≤ 8 → slice_cmp nat_cmp xs ys ≡ Equal
+-- short texts of one key are one
+pub same_by_key : (a b : Key) (xs ys : List ℕ) → HasKey a xs → HasKey b ys → a.first ≤ b.first → b.first ≤ a.first → a.len ≡ b.len → b.len ≤ 8 → slice_cmp nat_cmp xs ys ≡ Equal
 same_by_key a b xs ys p q below above long short =
-    let keys : key 8 xs ≡ key 8 ys = omega (arith, p.is, q.is) in
-    let same : xs ≡ ys = whole xs ys long (λ i lt. same_upto 8 xs ys p.bytes_are q.bytes_are keys i (omega arith)) in
+    let keys : key 8 xs ≡ key 8 ys = omega (arith, p.first, q.first) in
+    let same : xs ≡ ys = whole xs ys (omega (arith, long, p.len, q.len)) (λ i lt. same_upto 8 xs ys p.bytes_are q.bytes_are keys i (omega (arith, lt, long, short, p.len))) in
     ap (λ (l : List ℕ). slice_cmp nat_cmp xs l) (sym same) ∙ itself xs

@@ -6,6 +6,15 @@ ghost use Rattle.merge_postings.specs.Keys.{HasKey, key};
 
 use std::cmp::Ordering;
 
+/// What a text is compared by first.
+#[derive(Clone, Copy)]
+pub(crate) struct Key {
+    /// The first eight bytes as a number, the first one the highest; 0 stands for each that isn't there.
+    pub first: u64,
+    /// How many bytes it has.
+    pub len: usize,
+}
+
 /// A number with one byte more behind it: 0 where there is none at this place.
 fn with_byte(number: u64, bytes: &[u8], at: usize) -> u64
     requires { number < 2 ^ 56 }
@@ -45,27 +54,31 @@ fn first_eight(bytes: &[u8]) -> u64
     with_byte(seven, bytes, 7)
 }
 
-/// The first eight bytes of a text as a number, the first one the highest.
-pub(crate) fn key_of(text: &str) -> u64
+/// The key of a text.
+pub(crate) fn key_of(text: &str) -> Key
     ensures { HasKey result text.now }
 {
     let bytes = text.as_bytes();
-    first_eight(bytes)
+    Key {
+        first: first_eight(bytes),
+        len: bytes.len(),
+    }
 }
 
-/// How texts with these keys are ordered. They are looked at only where their keys are one.
-pub(crate) fn compare_texts(left: &str, left_key: u64, right: &str, right_key: u64) -> Ordering
+/// How texts with these keys are ordered. They are looked at only where both begin with the same eight
+/// bytes, and one has more, or ends with a byte that is 0.
+pub(crate) fn compare_texts(left: &str, left_key: Key, right: &str, right_key: Key) -> Ordering
     requires left { HasKey left_key left.now }
     requires right { HasKey right_key right.now }
     ensures { result ≡ slice_cmp nat_cmp left.now right.now }
 {
-    if left_key < right_key {
+    if left_key.first < right_key.first {
         return Ordering::Less;
     }
-    if right_key < left_key {
+    if right_key.first < left_key.first {
         return Ordering::Greater;
     }
-    if left.len() == right.len() && left.len() <= 8 {
+    if left_key.len == right_key.len && right_key.len <= 8 {
         return Ordering::Equal;
     }
     left.cmp(right)
