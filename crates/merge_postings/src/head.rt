@@ -7,7 +7,7 @@ ghost use Rattle.merge_postings.specs.Renumbering.{moved_at, NumbersRise};
 ghost use Rattle.merge_postings.specs.Walk.{waiting, IsBelow};
 
 use crate::gathered::Gathered;
-use crate::key::{Key, compare_texts, key_of};
+use crate::key::{compare_texts, key_of};
 use ix_base::{NoMemory, Term, TermPostings};
 use std::cmp::Ordering;
 use std::marker::Model;
@@ -21,9 +21,9 @@ pub(crate) struct Head<'a> {
     /// The place of the source among all.
     place: usize,
     /// The key of the field of the next entry's term.
-    field: Key,
+    field: u64,
     /// The key of the bytes of the next entry's term.
-    bytes: Key,
+    bytes: u64,
 }
 
 impl<'a> Model for Head<'a> {
@@ -84,7 +84,7 @@ impl<'a> Head<'a> {
     }
 
     /// The key of a field, which is mostly that of the next entry.
-    fn field_key(&self, field: &str) -> Key
+    fn field_key(&self, field: &str) -> u64
         ensures { HasKey result field.now }
     {
         if field == self.first.term.field.as_str() {

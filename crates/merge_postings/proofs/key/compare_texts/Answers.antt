@@ -10,8 +10,8 @@ pub returns-then-right_key-left_key : goal.returns-then-right_key-left_key
 returns-then-right_key-left_key c =
     sym (above_by_key c.args.left_key c.args.right_key c.args.left.now c.args.right.now c.requires.left c.requires.right c.if-right_key-left_key.true)
 
-pub returns-then-right_key-le8 : goal.returns-then-right_key-le8
-returns-then-right_key-le8 c =
+pub returns-then-right_key-lt8 : goal.returns-then-right_key-lt8
+returns-then-right_key-lt8 c =
     sym
     (same_by_key c.args.left_key c.args.right_key c.args.left.now c.args.right.now c.requires.left c.requires.right c.if-right_key-left_key.false c.if-left_key-right_key.false
-    c.if-left_key-right_key-2.true c.if-right_key-le8.true)
+    c.if-right_key-lt8.true)

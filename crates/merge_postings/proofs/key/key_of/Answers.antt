@@ -1,8 +1,13 @@
-use Rattle.std.proofs.Common.{◌<◌, ℕ, get_or, length, refl, subst, arith}
-use Rattle.merge_postings.specs.Keys.{HasKey}
+use Rattle.std.proofs.Common.{◌<◌, ℕ, get_or, arith}
+use Rattle.merge_postings.proofs.KeyOrder.{long_key, short_key}
 use Rattle.merge_postings.proofs.key.key_of.Goals as goal
 
-pub returns : goal.returns
-returns c =
+pub returns-then-bytes-lt8 : goal.returns-then-bytes-lt8
+returns-then-bytes-lt8 c =
     let fit : (i : ℕ) → get_or c.as_bytes-bytes.result.now i 0 < 256 = λ i. omega (arith, c.as_bytes-bytes.items_fit i) in
-    subst (HasKey (record { first = c.first_eight.result; len = length c.as_bytes-bytes.result.now })) c.as_bytes-bytes.ensures.value (record { first = c.first_eight.ensures; len = refl; bytes_are = fit })
+    short_key c.as_bytes-bytes.result.now c.args.text.now c.first_seven-seven.result c.as_bytes-bytes.ensures.value c.first_seven-seven.ensures.value fit c.if-bytes-lt8.true
+
+pub returns-else-bytes-lt8 : goal.returns-else-bytes-lt8
+returns-else-bytes-lt8 c =
+    let fit : (i : ℕ) → get_or c.as_bytes-bytes.result.now i 0 < 256 = λ i. omega (arith, c.as_bytes-bytes.items_fit i) in
+    long_key c.as_bytes-bytes.result.now c.args.text.now c.first_seven-seven.result c.as_bytes-bytes.ensures.value c.first_seven-seven.ensures.value fit c.if-bytes-lt8.false

@@ -1,8 +1,0 @@
-use Rattle.std.proofs.Common.{arith}
-use Rattle.merge_postings.specs.Keys.{key}
-use Rattle.merge_postings.proofs.key.eight_of.Goals as goal
-
-pub returns : goal.returns
-unfolding key
-returns c rest =
-    omega (arith, c.from.ensures, c.from-2.ensures, c.from-3.ensures, c.from-4.ensures, c.from-5.ensures, c.from-6.ensures, c.from-7.ensures, c.from-8.ensures)
