@@ -15,6 +15,7 @@ ghost use Rattle.index_run.specs.Causes.{IsOneOf, stop_by_list, stop_status, sto
 ghost use Rattle.index_run.specs.Promises.{IsListOf};
 
 use crate::doing::Done;
+use crate::standing::let_stand;
 use crate::stop::Stop;
 use commit_point::OpenFault;
 use ix_base::List;
@@ -22,7 +23,7 @@ use ix_outside::Store;
 use op_script::Question;
 use report_text::Fault;
 use std::alloc::Global;
-use store_answers::{ListFault, ask, list};
+use store_answers::{Answered, ListFault, ask, list};
 
 /// Why `ask` stops.
 fn stop_to_ask(fault: OpenFault) -> Stop
@@ -78,10 +79,13 @@ pub fn answer<S: Store>(
 {
     let mut store = store;
     match ask(alloc, &mut store, commit, asked.as_slice()) {
-        Ok(text) => Done {
-            text: Ok(text),
-            store,
-        },
+        Ok(Answered { text, searcher }) => {
+            let_stand(searcher);
+            Done {
+                text: Ok(text),
+                store,
+            }
+        }
         Err(fault) => Done {
             text: Err(stop_to_ask(fault)),
             store,

@@ -18,6 +18,7 @@ ghost use Rattle.std.specs.List.{AllByRecursion};
 ghost use Rattle.index_run.specs.Outcomes.{ChangesUpTo, SearchesUnchanged};
 ghost use Rattle.index_run.specs.Telling.{CanTell, TellsDamaged, is_committed};
 
+use crate::standing::let_stand;
 use crate::stop::Stop;
 use ix_base::NoMemory;
 use ix_outside::Store;
@@ -121,12 +122,14 @@ fn report_of<S: Store>(
         searcher,
         ..
     } = loaded;
-    let loaded = SearchedCommit {
+    let mut loaded = SearchedCommit {
         since: last_change(base, outcomes),
         number,
         searcher,
     };
-    match report(alloc, store, loaded, outcomes) {
+    let told = report(alloc, store, &mut loaded, outcomes);
+    let_stand(loaded);
+    match told {
         Ok(text) => Ok(text),
         Err(fault) => Err(Stop::from(fault)),
     }

@@ -60,15 +60,14 @@ fn empty_texts(alloc: Global, count: usize) -> Result<Vec<Vec<u8>>, NoMemory>
     Ok(texts)
 }
 
-/// The commit that is in memory, where it has the rows that the line of the first turn searches. Else it
-/// is let go.
-fn if_wanted(alloc: Global, loaded: SearchedCommit, turns: &[Turn]) -> SearchedCommit
-    ensures { (rows_of : ℕ → List Row) → ServesCommits loaded rows_of → rows_of 0 ≡ []
-        → ServesCommits result rows_of }
+/// Lets the commit that is in memory go, unless it has the rows that the line of the first turn searches.
+fn keep_wanted(alloc: Global, loaded: &mut SearchedCommit, turns: &[Turn])
+    ensures { (rows_of : ℕ → List Row) → ServesCommits loaded.old rows_of → rows_of 0 ≡ []
+        → ServesCommits loaded.new rows_of }
 {
     match turns.first() {
-        Some(turn) if loaded.serves(turn.commit) => loaded,
-        _ => SearchedCommit::none(alloc),
+        Some(turn) if loaded.serves(turn.commit) => {}
+        _ => *loaded = SearchedCommit::none(alloc),
     }
 }
 
@@ -76,14 +75,14 @@ fn if_wanted(alloc: Global, loaded: SearchedCommit, turns: &[Turn]) -> SearchedC
 fn texts_in_turn<S: Store>(
     alloc: Global,
     store: &mut S,
-    loaded: SearchedCommit,
+    loaded: &mut SearchedCommit,
     outcomes: &[Outcome],
     turns: &[Turn],
 ) -> Result<Vec<Vec<u8>>, OpenFault>
     requires { IsOrderOf (length outcomes.now) turns.now }
     ensures texts { (files : Files) (rows_of : ℕ → List Row)
         → told_files (S.disk store.old) ≡ Some files → CanSearch files rows_of outcomes.now
-        → ServesCommits loaded rows_of → IfOk result (λ made.
+        → ServesCommits loaded.old rows_of → IfOk result (λ made.
         map (λ text. text.items) made.items ≡ map (outcome_text rows_of) outcomes.now) }
     ensures whole { (files : Files) → told_files (S.disk store.old) ≡ Some files
         → CanRead files outcomes.now → IfErr result IsOutside }
@@ -96,14 +95,14 @@ fn texts_in_turn<S: Store>(
         → Rose (S.fault_count store.old) (S.fault_count store.new) }
     ensures others { IfErr result IsReadFault }
 {
-    let mut commit = if_wanted(alloc, loaded, turns);
+    keep_wanted(alloc, loaded, turns);
     let mut made = match empty_texts(alloc, outcomes.len()) {
         Ok(made) => made,
         Err(NoMemory) => return Err(OpenFault::NoMemory),
     };
     for turn in turns {
         prove!(turn.at < outcomes.len());
-        match line_text(alloc, store, &mut commit, &outcomes[turn.at]) {
+        match line_text(alloc, store, loaded, &outcomes[turn.at]) {
             Ok(text) => made[turn.at] = text,
             Err(fault) => return Err(fault),
         }
@@ -124,20 +123,19 @@ fn joined(alloc: Global, made: &[Vec<u8>]) -> Result<Vec<u8>, NoMemory>
 
 /// The whole report, for a script with these outcomes. Search lines are answered from the commit that
 /// is in memory, where it has the rows of theirs; the others read their commits from the store, one after
-/// another.
-/// The store is as before, whatever is answered.
+/// another. The last of these is in memory then. The store is as before, whatever is answered.
 ///
 /// `Store` comes only where the store's count of faults rose; `Damaged` names the first broken place
 /// of a commit that a search line asks for. `NoSuch` never comes.
 pub fn report<S: Store>(
     alloc: Global,
     store: &mut S,
-    loaded: SearchedCommit,
+    loaded: &mut SearchedCommit,
     outcomes: &[Outcome],
 ) -> Result<Vec<u8>, OpenFault>
     ensures text { (files : Files) (rows_of : ℕ → List Row)
         → told_files (S.disk store.old) ≡ Some files → CanSearch files rows_of outcomes.now
-        → ServesCommits loaded rows_of
+        → ServesCommits loaded.old rows_of
         → IfOk result (λ bytes. bytes.items ≡ texts rows_of outcomes.now) }
     ensures whole { (files : Files) → told_files (S.disk store.old) ≡ Some files
         → CanRead files outcomes.now → IfErr result IsOutside }

@@ -33,8 +33,8 @@ fn texts_stand_in_the_order_of_the_lines(rt: HostRuntime) {
         panic!(rt; "memory");
     };
     let mut store = MemoryStore::new(alloc);
-    let none = SearchedCommit::none(alloc);
-    let Ok(bytes) = report(alloc, &mut store, none, outcomes.as_slice()) else {
+    let mut none = SearchedCommit::none(alloc);
+    let Ok(bytes) = report(alloc, &mut store, &mut none, outcomes.as_slice()) else {
         panic!(rt; "memory");
     };
     let wanted =
@@ -154,8 +154,8 @@ fn a_search_has_all_its_hits(rt: HostRuntime) {
         line: 1,
         answer: Answer::Searched(1000, Query::All),
     };
-    let none = SearchedCommit::none(alloc);
-    let Ok(bytes) = report(alloc, &mut store, none, &[outcome]) else {
+    let mut none = SearchedCommit::none(alloc);
+    let Ok(bytes) = report(alloc, &mut store, &mut none, &[outcome]) else {
         panic!(rt; "the commit is whole");
     };
     assert!(rt; bytes.as_slice() == wanted.as_slice());
@@ -194,12 +194,12 @@ fn calls_of_searches(alloc: Global, count: u32, is_loaded: bool) -> Result<u64, 
     let outcomes = searches(alloc, count)?;
     for passes in 0..40u64 {
         let mut store = FuseStore::new(store_of_thousand(alloc)?, passes);
-        let commit = if is_loaded {
+        let mut commit = if is_loaded {
             loaded(alloc, 1000)?
         } else {
             SearchedCommit::none(alloc)
         };
-        match report(alloc, &mut store, commit, outcomes.as_slice()) {
+        match report(alloc, &mut store, &mut commit, outcomes.as_slice()) {
             Ok(_) => return Ok(passes),
             Err(OpenFault::Store) => {}
             Err(_) => Err("another fault")?,
@@ -231,13 +231,13 @@ fn nothing(alloc: Global) -> Query {
 /// The report of one search of this commit for what no document has, over a store that has no file, where
 /// the commit 1000 is in memory, which no line since 998 changed. Without one the store was asked.
 fn found_since(alloc: Global, number: u64) -> Result<Option<Vec<u8>>, Fail> {
-    let commit = loaded(alloc, 998)?;
+    let mut commit = loaded(alloc, 998)?;
     let outcome = Outcome {
         line: 1,
         answer: Answer::Searched(number, nothing(alloc)),
     };
     let mut store = MemoryStore::new(alloc);
-    Ok(report(alloc, &mut store, commit, &[outcome]).ok())
+    Ok(report(alloc, &mut store, &mut commit, &[outcome]).ok())
 }
 
 /// A commit since which no line changed a row is answered under its own number from what is in memory, and

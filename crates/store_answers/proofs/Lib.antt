@@ -1,5 +1,5 @@
 pub mod Told
 pub mod Asked
-pub mod Answered
+pub mod Answering
 pub mod EarlierRows
 pub mod Listed

@@ -21,6 +21,13 @@ use report_text::search_text;
 use searcher::Searcher;
 use std::alloc::Global;
 
+/// The texts of questions, and the commit that answered them, still in memory.
+#[derive(Drop)]
+pub struct Answered {
+    pub text: Vec<u8>,
+    pub searcher: Searcher,
+}
+
 /// The text of a question: that of a search of this commit.
 fn answer(
     alloc: Global,
@@ -61,10 +68,10 @@ fn answers_from<S: Store>(
     store: &mut S,
     commit: u64,
     questions: &[Question],
-) -> Result<Vec<u8>, OpenFault>
+) -> Result<Answered, OpenFault>
     ensures text { (files : Files) (next : ℕ) (rows : List Row)
         → told_files (S.disk store.old) ≡ Some files → HoldsInverted files commit next rows
-        → IfOk result (λ text. text.items ≡ answers_text commit rows questions.now) }
+        → IfOk result (λ answered. answered.text.items ≡ answers_text commit rows questions.now) }
     ensures whole { (files : Files) (next : ℕ) (rows : List Row)
         → told_files (S.disk store.old) ≡ Some files → Holds files commit next rows
         → IfErr result IsOutside }
@@ -85,7 +92,7 @@ fn answers_from<S: Store>(
                 segments: opened.segments,
             };
             match answers(alloc, commit, &mut searcher, questions) {
-                Ok(text) => Ok(text),
+                Ok(text) => Ok(Answered { text, searcher }),
                 Err(NoMemory) => Err(OpenFault::NoMemory),
             }
         }
@@ -95,7 +102,8 @@ fn answers_from<S: Store>(
 
 /// Answers questions, in their order, from the commit that is named or, where none is, from the
 /// store's last one: for each question the text of a search of that commit. The commit is read once,
-/// also where there is no question. The store is as before, whatever is returned.
+/// also where there is no question, and handed back: to let a large one go takes time. The store is as
+/// before, whatever is returned.
 ///
 /// - `NoSuch` comes exactly where the store's list lacks the number that is named or, where none is,
 ///   has no commit. Its number is the one that is named, or 0.
@@ -107,12 +115,12 @@ pub fn ask<S: Store>(
     store: &mut S,
     named: Option<u64>,
     questions: &[Question],
-) -> Result<Vec<u8>, OpenFault>
+) -> Result<Answered, OpenFault>
     // What is answered is what matches among the commit's rows.
     ensures text { (files : Files) (s next : ℕ) (rows : List Row)
         → told_files (S.disk store.old) ≡ Some files → IsAsked files named s
         → HoldsInverted files s next rows
-        → IfOk result (λ text. text.items ≡ answers_text s rows questions.now) }
+        → IfOk result (λ answered. answered.text.items ≡ answers_text s rows questions.now) }
     ensures whole { (files : Files) (s next : ℕ) (rows : List Row)
         → told_files (S.disk store.old) ≡ Some files → IsAsked files named s
         → Holds files s next rows → IfErr result IsOutside }

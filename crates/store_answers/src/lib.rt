@@ -7,6 +7,6 @@ mod finding;
 mod listing;
 mod own;
 
-pub use asking::ask;
+pub use asking::{Answered, ask};
 pub use listing::{ListFault, list};
 pub use own::own_hits;

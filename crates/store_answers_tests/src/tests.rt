@@ -260,7 +260,7 @@ fn put_answers(
         commit.parse::<u64>().ok(),
         questions.as_slice(),
     ) {
-        Ok(text) => put_text(out, text.as_slice()),
+        Ok(answered) => put_text(out, answered.text.as_slice()),
         Err(fault) => Ok(write!(out, "= {fault:?}\n")?),
     }
 }

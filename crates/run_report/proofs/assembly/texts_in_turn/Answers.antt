@@ -37,7 +37,7 @@ loop-turn-preserved g c =
     let text = c.in-Ok-line_text.text in
     let lt = turn_in_range (length outcomes) turns i some c.requires c.loop-turn-test.true in
     let done = λ (files : Files) (rows_of : ℕ → List Row) (told : told_files (g.S.Store.disk c.args.store.now) ≡ Some files) (can : CanSearch files rows_of outcomes)
-    (found : ServesCommits c.args.loaded rows_of).
+    (found : ServesCommits c.args.loaded.now rows_of).
     c.in-Ok-line_text.ensures.text files rows_of ((ap told_files inv.reads) ∙ told) (inv.rows_are files rows_of told can found) can.none (holds_at files rows_of outcomes at c.index-outcomes-turn.result lt c.index-outcomes-turn.is can) in
     record {
       count = length-set made at text ∙ inv.count;

@@ -13,7 +13,7 @@ invariant-loop-turn g l =
     record {
       count : length l.made.items ≡ length l.outcomes;
       rows_are : (files : Files) (rows_of : ℕ → List Row) → start ≡ Some files → CanSearch files rows_of l.outcomes
-          → ServesCommits l.fn.loaded rows_of → ServesCommits l.commit rows_of;
+          → ServesCommits l.fn.loaded rows_of → ServesCommits l.loaded rows_of;
       filled : (files : Files) (rows_of : ℕ → List Row) → start ≡ Some files → CanSearch files rows_of l.outcomes
           → ServesCommits l.fn.loaded rows_of → (k : ℕ) (d : Turn) → k < l.turn-index → FilledAt rows_of l.outcomes (map (λ text. text.items) l.made.items) (get_or l.turns k d).at;
       reads : g.S.Store.disk l.store ≡ g.S.Store.disk l.fn.store;

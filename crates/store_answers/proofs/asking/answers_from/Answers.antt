@@ -1,7 +1,7 @@
 use Rattle.std.proofs.Common.{ap, Err}
 use Rattle.ix_outside.specs.Disk.{told_files}
 use Rattle.commit_point.specs.declared.fault.OpenFault.{OpenFault}
-use Rattle.store_answers.proofs.Answered.{breaks, searches_read, spelled_whole}
+use Rattle.store_answers.proofs.Answering.{breaks, searches_read, spelled_whole}
 use Rattle.store_answers.proofs.asking.answers_from.Goals as goal
 
 pub returns-in-Ok-answers-clause-text : goal.returns-in-Ok-answers-clause-text

@@ -16,7 +16,7 @@ pub returns-in-Ok-clause-text : goal.returns-in-Ok-clause-text
 returns-in-Ok-clause-text g c = λ files s next rows told asked holds.
     let before = told_files (g.S.Store.disk c.args.store.now) in
     let same : s ≡ c.in-Ok.commit = asked_is before c.args.named c.in-Ok.commit s files told c.in-Ok.ensures.asked asked in
-    subst (λ (n : ℕ). IfOk c.answers_from.result (λ text. text.items ≡ answers_text n rows c.args.questions.now)) (sym same)
+    subst (λ (n : ℕ). IfOk c.answers_from.result (λ answered. answered.text.items ≡ answers_text n rows c.args.questions.now)) (sym same)
     (c.answers_from.ensures.text files next rows (ap told_files c.in-Ok.ensures.reads ∙ told) (subst (λ (n : ℕ). HoldsInverted files n next rows) same holds))
 
 pub returns-in-Ok-clause-whole : goal.returns-in-Ok-clause-whole
