@@ -79,7 +79,8 @@ pub fn answer<S: Store>(
 {
     let mut store = store;
     match ask(alloc, &mut store, commit, asked.as_slice()) {
-        Ok(Answered { text, searcher }) => {
+        Ok(answered) => {
+            let Answered { text, searcher } = answered;
             let_stand(searcher);
             Done {
                 text: Ok(text),

@@ -6,7 +6,7 @@ use Rattle.index_run.proofs.answering.answer.Goals as goal
 
 pub returns-in-Ok-clause-text : goal.returns-in-Ok-clause-text
 returns-in-Ok-clause-text g c = λ files s next rows told is holds.
-    subst (λ (qs : List Question). c.in-Ok.text.items ≡ answers_text s rows qs) c.as_slice.ensures
+    subst (λ (qs : List Question). c.in-Ok.answered.text.items ≡ answers_text s rows qs) c.as_slice.ensures
     (c.in-Ok.ensures.text files s next rows told is holds)
 
 pub returns-clause-whole : goal.returns-clause-whole
