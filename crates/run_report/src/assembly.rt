@@ -60,14 +60,15 @@ fn empty_texts(alloc: Global, count: usize) -> Result<Vec<Vec<u8>>, NoMemory>
     Ok(texts)
 }
 
-/// Lets the commit that is in memory go, unless it has the rows that the line of the first turn searches.
-fn keep_wanted(alloc: Global, loaded: &mut SearchedCommit, turns: &[Turn])
+/// Lets the commit that is in memory go where the line of the first turn searches another one.
+fn make_room(alloc: Global, loaded: &mut SearchedCommit, turns: &[Turn])
     ensures { (rows_of : ℕ → List Row) → ServesCommits loaded.old rows_of → rows_of 0 ≡ []
         → ServesCommits loaded.new rows_of }
 {
-    match turns.first() {
-        Some(turn) if loaded.serves(turn.commit) => {}
-        _ => *loaded = SearchedCommit::none(alloc),
+    if let Some(turn) = turns.first() {
+        if turn.commit > 0 && !loaded.serves(turn.commit) {
+            *loaded = SearchedCommit::none(alloc);
+        }
     }
 }
 
@@ -95,7 +96,7 @@ fn texts_in_turn<S: Store>(
         → Rose (S.fault_count store.old) (S.fault_count store.new) }
     ensures others { IfErr result IsReadFault }
 {
-    keep_wanted(alloc, loaded, turns);
+    make_room(alloc, loaded, turns);
     let mut made = match empty_texts(alloc, outcomes.len()) {
         Ok(made) => made,
         Err(NoMemory) => return Err(OpenFault::NoMemory),
