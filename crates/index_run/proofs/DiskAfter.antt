@@ -50,7 +50,7 @@ some_onto (Some f) P Q implies h = implies f h
 
 -- ---- at the beginning
 
-stands_none : (first : State) (log : List Line) (files : Files) → Stands first log [] first files files
+pub stands_none : (first : State) (log : List Line) (files : Files) → Stands first log [] first files files
 stands_none first log files = record {
   front = front_none first log first.since files;
   stored = λ stored. stored;
@@ -74,7 +74,7 @@ disk_start first disk can = record {
 -- ---- a state that differs only in what a round in work leaves open
 
 -- what is said of the segments, of what is on the store of them and of the last commit, of the same ones
-same_goes_on : (files : Files) (w v : State) → (IsStored files w → IsStored files v) → v.last ≡ w.last
+pub same_goes_on : (files : Files) (w v : State) → (IsStored files w → IsStored files v) → v.last ≡ w.last
     → v.since ≡ w.since → GoesOn files w → GoesOn files v
 same_goes_on files w v stored last since goes = record {
   none_above = λ t above. goes.none_above t (omega (arith, above, last));
@@ -82,7 +82,7 @@ same_goes_on files w v stored last since goes = record {
   stored = stored goes.stored;
 }
 
-stands_other : (first : State) (log : List Line) (numbers : List ℕ) (w v : State) (old new : Files)
+pub stands_other : (first : State) (log : List Line) (numbers : List ℕ) (w v : State) (old new : Files)
     → ((files : Files) → IsStored files w → IsStored files v) → v.last ≡ w.last → v.since ≡ w.since
     → Stands first log numbers w old new → Stands first log numbers v old new
 stands_other first log numbers w v old new stored last since stands = record {
@@ -91,7 +91,7 @@ stands_other first log numbers w v old new stored last since stands = record {
   goes_on = λ goes. same_goes_on new w v (stored new) last since (stands.goes_on goes);
 }
 
-same_stored : (files : Files) (w v : State) → v.published ≡ w.published → v.written ≡ w.written → IsStored files w
+pub same_stored : (files : Files) (w v : State) → v.published ≡ w.published → v.written ≡ w.written → IsStored files w
     → IsStored files v
 same_stored files w v published written stored =
     let here : AreWritten files v.published.upto v.published.segments w.written =
@@ -125,7 +125,7 @@ disk_same first log count w v start now published written last since disk =
 
 -- ---- a longer log
 
-stands_longer : (first : State) (log more : List Line) (numbers same : List ℕ) (w : State) (old new : Files)
+pub stands_longer : (first : State) (log more : List Line) (numbers same : List ℕ) (w : State) (old new : Files)
     → same ≡ numbers → Stands first log numbers w old new → Stands first (log ++ more) same w old new
 stands_longer first log more numbers same w old new is stands =
     subst (λ (ns : List ℕ). Stands first (log ++ more) ns w old new) (sym is) (record {
@@ -134,7 +134,7 @@ stands_longer first log more numbers same w old new is stands =
       goes_on = stands.goes_on;
     })
 
-some_longer : (first : State) (log more : List Line) (old new : Files) → HasSomeFront first log old new
+pub some_longer : (first : State) (log more : List Line) (old new : Files) → HasSomeFront first log old new
     → HasSomeFront first (log ++ more) old new
 some_longer first log more old new some =
     let next = first.published.next_id in
@@ -213,7 +213,7 @@ comes_next first w log count laws begun on low numbers =
     record { laws = laws; begun = begun; on = on; above = last.0; below = last.1; low = low }
 
 -- all of the log's commits
-all_numbers : (first : State) (log : List Line) (count s : ℕ)
+pub all_numbers : (first : State) (log : List Line) (count s : ℕ)
     → IsNextCommit first log count s
     → first_numbers first log count ++ s ∷ [] ≡ first_numbers first log (length log)
 all_numbers first log count s numbers = sym (numbers_whole first.published.upto log ∙ numbers)

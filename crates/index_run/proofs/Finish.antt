@@ -53,6 +53,10 @@ use Rattle.index_run.proofs.RunEnds.{begins_image, crash_some, each_some, ends_a
 use Rattle.index_run.proofs.Searchable.{SearchesAt, can_read, can_search, is_asked, no_rows, searches_last}
 use Rattle.index_run.proofs.Summarised.{commits_counted, last_above, last_in, summarised}
 
+-- the run, where it keeps all commits
+abbrev pub all : Run → Run
+all r = record r { keep = None }
+
 abbrev Bytes : Type 0
 Bytes = Vec ℕ Global
 
@@ -135,10 +139,10 @@ numbering_of given lines log same numbering =
     subst (λ (ls : List Line). Interleaves ls log) (sym same) numbering
 
 pub cut_stops : (g : Given) (r : Run) (lines : List Line) (now : Option Disk) → g.lines ≡ lines → CanRun g
-    → told_files r.start ≡ Some g.files → IsOnGiven g r.first → IsCut r lines now → Stops g r.start now
+    → told_files r.start ≡ Some g.files → IsOnGiven g r.first → IsCut (all r) lines now → Stops g r.start now
 cut_stops g r lines now same can told on cut =
-    stops_by g cut.log r.start now can (numbering_of g.lines lines cut.log same cut.numbering) (cut.files g told on)
-    (crash_some g r.first cut.log r.start now on cut.crash) (own_some g r.first cut.log r.start now on cut.crash)
+    stops_by g cut.log r.start now can (numbering_of g.lines lines cut.log same cut.numbering) (cut.stopped.files g told on)
+    (crash_some g r.first cut.log r.start now on cut.stopped.crash) (own_some g r.first cut.log r.start now on cut.stopped.crash)
 
 -- where the first of the log's commits are there, those that were there are kept
 kept_some : (g : Given) (log : List Line) (now : Option Disk) → IsSomeAnd (told_files now) (HasSome g log)
@@ -146,12 +150,12 @@ kept_some : (g : Given) (log : List Line) (now : Option Disk) → IsSomeAnd (tol
 kept_some g log now = some_onto (told_files now) (HasSome g log) (KeepsCommits g.files) (λ f some. some.1.kept)
 
 pub cut_keeps : (g : Given) (r : Run) (lines : List Line) (now : Option Disk) → told_files r.start ≡ Some g.files
-    → IsOnGiven g r.first → IsCut r lines now → Preserves g r.start now
+    → IsOnGiven g r.first → IsCut (all r) lines now → Preserves g r.start now
 cut_keeps g r lines now told on cut = record {
-  kept = kept_some g cut.log now (cut.files g told on);
-  crash = λ are. keeps_some g cut.log r.start now (crash_some g r.first cut.log r.start now on cut.crash are);
-  standing = cut.standing g.files told on.goes_on;
-  each = each_some g r.first cut.log r.start now on cut.crash;
+  kept = kept_some g cut.log now (cut.stopped.files g told on);
+  crash = λ are. keeps_some g cut.log r.start now (crash_some g r.first cut.log r.start now on cut.stopped.crash are);
+  standing = cut.stopped.standing g.files told on.goes_on;
+  each = each_some g r.first cut.log r.start now on cut.stopped.crash;
 }
 
 -- ---- a run that was done
@@ -164,12 +168,12 @@ over_same r lines outcomes seen w did now same still over =
     subst (λ (d : Option Disk). IsOver r lines seen w d) (sym still) here
 
 over_crash : (g : Given) (r : Run) (lines : List Line) (outcomes : List Outcome) (w : State) (now : Option Disk)
-    → IsOnGiven g r.first → (o : IsOver r lines outcomes w now) → IsKept g r.start
+    → IsOnGiven g r.first → (o : IsOver (all r) lines outcomes w now) → IsKept g r.start
     → LeavesOnly r.start now (HasSome g o.log)
 over_crash g r lines outcomes w now on o are = crash_some g r.first o.log r.start now on o.disk.crash are
 
 over_files : (g : Given) (r : Run) (lines : List Line) (outcomes : List Outcome) (w : State) (now : Option Disk)
-    → told_files r.start ≡ Some g.files → IsOnGiven g r.first → (o : IsOver r lines outcomes w now)
+    → told_files r.start ≡ Some g.files → IsOnGiven g r.first → (o : IsOver (all r) lines outcomes w now)
     → IsSomeAnd (told_files now) (HasSome g o.log)
 over_files g r lines outcomes w now told on o =
     some_onto (told_files now) (HasAll g o.log) (HasSome g o.log) (λ f all. (length o.log, all))
@@ -177,14 +181,14 @@ over_files g r lines outcomes w now told on o =
 
 pub over_stops : (g : Given) (r : Run) (lines : List Line) (outcomes : List Outcome) (w : State) (now : Option Disk)
     → g.lines ≡ lines → CanRun g → told_files r.start ≡ Some g.files → IsOnGiven g r.first
-    → IsOver r lines outcomes w now → Stops g r.start now
+    → IsOver (all r) lines outcomes w now → Stops g r.start now
 over_stops g r lines outcomes w now same can told on o =
     stops_by g o.log r.start now can (numbering_of g.lines lines o.log same o.numbering)
     (over_files g r lines outcomes w now told on o) (over_crash g r lines outcomes w now on o)
     (own_some g r.first o.log r.start now on o.disk.crash)
 
 pub over_keeps : (g : Given) (r : Run) (lines : List Line) (outcomes : List Outcome) (w : State) (now : Option Disk)
-    → told_files r.start ≡ Some g.files → IsOnGiven g r.first → IsOver r lines outcomes w now → Preserves g r.start now
+    → told_files r.start ≡ Some g.files → IsOnGiven g r.first → IsOver (all r) lines outcomes w now → Preserves g r.start now
 over_keeps g r lines outcomes w now told on o = record {
   kept = kept_some g o.log now (over_files g r lines outcomes w now told on o);
   crash = λ are. keeps_some g o.log r.start now (over_crash g r lines outcomes w now on o are);
@@ -194,7 +198,7 @@ over_keeps g r lines outcomes w now told on o = record {
 
 -- each commit is kept then, where each was kept at the beginning
 pub over_settled : (g : Given) (r : Run) (lines : List Line) (outcomes : List Outcome) (w : State) (now : Option Disk)
-    → told_files r.start ≡ Some g.files → IsOnGiven g r.first → IsOver r lines outcomes w now → IsKept g r.start
+    → told_files r.start ≡ Some g.files → IsOnGiven g r.first → IsOver (all r) lines outcomes w now → IsKept g r.start
     → (f : Files) → told_files now ≡ Some f → AreKept f (MayHold now)
 over_settled g r lines outcomes w now told on o are f told_now =
     o.disk.settled g.files f told told_now on.goes_on (begins_image g r.first r.start on are) are
@@ -202,7 +206,7 @@ over_settled g r lines outcomes w now told on o are f told_now =
 -- the commits that are there have their files as before, or new ones
 pub over_spelled : (g : Given) (r : Run) (lines : List Line) (outcomes : List Outcome) (w : State) (now : Option Disk)
     (f : Files) → told_files r.start ≡ Some g.files → IsLast g.files g.base → CanBegin r.first → BeginsOn g r.first
-    → IsOver r lines outcomes w now → told_files now ≡ Some f → AreSpelled g.files f
+    → IsOver (all r) lines outcomes w now → told_files now ≡ Some f → AreSpelled g.files f
 over_spelled g r lines outcomes w now f told last begun here o told_now =
     subst (AreSpelled g.files) same found.2
   where
@@ -227,7 +231,7 @@ outcomes_given g r log lines outcomes on are =
 -- the text is the report
 over_report : (g : Given) (r : Run) (lines : List Line) (outcomes : List Outcome) (w : State) (now : Option Disk)
     (f : Files) (text : List ℕ) → g.lines ≡ lines → LinesRise 1 lines → CanRun g → IsOnGiven g r.first
-    → (o : IsOver r lines outcomes w now) → HasAll g o.log f
+    → (o : IsOver (all r) lines outcomes w now) → HasAll g o.log f
     → ((by : ℕ → List Row) → CanSearch f by outcomes → SearchesAt w g.base outcomes by → text ≡ texts by outcomes)
     → text ≡ report g.base g.rows g.lines o.log
 over_report g r lines outcomes w now f text same rise can on o has told =
@@ -242,7 +246,7 @@ over_report g r lines outcomes w now f text same rise can on o has told =
 
 over_runs : (g : Given) (r : Run) (lines : List Line) (outcomes : List Outcome) (w : State) (now : Option Disk)
     (text : List Line → List ℕ) (wrote : List ℕ → Type 0) → g.lines ≡ lines → CanRun g → told_files r.start ≡ Some g.files
-    → IsOnGiven g r.first → (o : IsOver r lines outcomes w now) → wrote (text o.log)
+    → IsOnGiven g r.first → (o : IsOver (all r) lines outcomes w now) → wrote (text o.log)
     → Runs g text wrote r.start now
 over_runs g r lines outcomes w now text wrote same can told on o written = record {
   log = o.log;
@@ -263,7 +267,7 @@ over_runs g r lines outcomes w now text wrote same can told on o written = recor
 -- What is said of the text that was made, by the files that have all of the log's commits.
 over_told : (g : Given) (r : Run) (lines : List Line) (outcomes : List Outcome) (w : State) (now : Option Disk)
     (form : Form) (result : Result Bytes Stop) → g.lines ≡ lines → CanRun g → told_files r.start ≡ Some g.files
-    → IsOnGiven g r.first → (o : IsOver r lines outcomes w now)
+    → IsOnGiven g r.first → (o : IsOver (all r) lines outcomes w now)
     → ((f : Files) → told_files now ≡ Some f → HasAll g o.log f
     → IfOk result (λ bytes. bytes.items ≡ form_text form g o.log))
     → IfOk result (λ bytes. Runs g (form_text form g) (λ told. bytes.items ≡ told) r.start now)
@@ -277,7 +281,7 @@ over_told g r lines outcomes w now form (Ok bytes) same can told on o text =
 -- the lines were done, and then their report was made
 pub runs_of : (g : Given) (r : Run) (lines : List Line) (outcomes : List Outcome) (w : State) (now : Option Disk)
     (result : Result Bytes Stop) → g.lines ≡ lines → LinesRise 1 lines → CanRun g
-    → told_files r.start ≡ Some g.files → IsOnGiven g r.first → IsOver r lines outcomes w now
+    → told_files r.start ≡ Some g.files → IsOnGiven g r.first → IsOver (all r) lines outcomes w now
     → ((f : Files) (by : ℕ → List Row) → told_files now ≡ Some f → CanSearch f by outcomes
     → SearchesAt w g.base outcomes by → IfOk result (λ bytes. bytes.items ≡ texts by outcomes))
     → IfOk result (λ bytes. Runs g (form_text Report g) (λ told. bytes.items ≡ told) r.start now)
@@ -296,7 +300,7 @@ runs_of g r lines outcomes w now result same rise can told on o text =
 -- the lines of a made script were done, and then their summary was made
 pub sums_of : MadeRuns → (g : Given) (r : Run) (lines : List Line) (outcomes : List Outcome) (w : State)
     (now : Option Disk) (base upto : ℕ) (result : Result Bytes Stop) → g.lines ≡ lines → IsMade lines → CanRun g
-    → told_files r.start ≡ Some g.files → IsOnGiven g r.first → IsOver r lines outcomes w now
+    → told_files r.start ≡ Some g.files → IsOnGiven g r.first → IsOver (all r) lines outcomes w now
     → base ≡ r.first.published.upto → upto ≡ w.published.upto
     → ((f : Files) (next : ℕ) (rows : List Row) → told_files now ≡ Some f → HoldsInverted f upto next rows
     → IfOk result (λ bytes. bytes.items ≡ text_line (summary_value (summary_of (count_by is_committed outcomes)
@@ -330,7 +334,7 @@ sums_of law g r lines outcomes w now base upto result same made can told on o fr
 pub told_by : MadeRuns → (g : Given) (r : Run) (form : Form) (lines : List Line) (outcomes : List Outcome) (w : State)
     (now : Option Disk) (base upto : ℕ) (result : Result Bytes Stop) → g.lines ≡ lines → LinesRise 1 lines
     → (form ≡ Summary → IsMade lines) → CanRun g → told_files r.start ≡ Some g.files → IsOnGiven g r.first
-    → IsOver r lines outcomes w now → base ≡ r.first.published.upto → upto ≡ w.published.upto
+    → IsOver (all r) lines outcomes w now → base ≡ r.first.published.upto → upto ≡ w.published.upto
     → ((f : Files) (by : ℕ → List Row) → form ≡ Report → told_files now ≡ Some f → CanSearch f by outcomes
     → SearchesAt w g.base outcomes by → IfOk result (λ bytes. bytes.items ≡ texts by outcomes))
     → ((f : Files) (next : ℕ) (rows : List Row) → form ≡ Summary → told_files now ≡ Some f → HoldsInverted f upto next rows
@@ -347,7 +351,7 @@ told_by law g r Summary lines outcomes w now base upto result same rise made can
 
 -- each search has its line, by the number that a run began on
 pub over_asked : (r : Run) (lines : List Line) (outcomes : List Outcome) (w : State) (now : Option Disk)
-    → (o : IsOver r lines outcomes w now) → AllByRecursion (IsAskedBy (base_of r) o.log lines) outcomes
+    → (o : IsOver (all r) lines outcomes w now) → AllByRecursion (IsAskedBy (base_of r) o.log lines) outcomes
 over_asked r lines outcomes w now o = asked_by (IsDocs r.first o.log) (base_of r) o.log lines outcomes o.outcomes
 
 pub listed_outside : (s : Stop) → (s ≡ stop.Fault fault.Store) ⊎ (s ≡ stop.NoMemory)
@@ -359,7 +363,7 @@ listed_outside s (inr e) = subst (λ (x : Stop). IsOneOf (stop_status x) (4 ∷ 
 pub whole_in : MadeRuns → (g : Given) (r : Run) (form : Form) (lines : List Line) (outcomes : List Outcome) (w : State)
     (now : Option Disk) (upto : ℕ) (result : Result Bytes Stop) → LinesRise 1 lines → (form ≡ Summary → IsMade lines)
     → IsOn g → told_files r.start ≡ Some g.files → BeginsOn g r.first → upto ≡ w.published.upto
-    → IsOver r lines outcomes w now
+    → IsOver (all r) lines outcomes w now
     → ((f : Files) → told_files now ≡ Some f → CanTell form upto f outcomes
     → IfErr result (λ s. (s ≡ stop.Fault fault.Store) ⊎ (s ≡ stop.NoMemory)))
     → IfErr result (λ s. IsOneOf (stop_status s) (4 ∷ 7 ∷ []))
@@ -396,7 +400,7 @@ pub untold : MadeRuns → (r : Run) (form : Form) (lines : List Line) (outcomes 
     (now : Option Disk) (upto : ℕ) (result : Result Bytes Stop) (damaged : Damaged) → LinesRise 1 lines
     → (form ≡ Summary → IsMade lines) → ((f : Files) → told_files r.start ≡ Some f → CanBeginOn f)
     → ((g : Given) → told_files r.start ≡ Some g.files → IsLast g.files g.base → IsOn g → BeginsOn g r.first)
-    → upto ≡ w.published.upto → IsOver r lines outcomes w now
+    → upto ≡ w.published.upto → IsOver (all r) lines outcomes w now
     → ((f : Files) → told_files now ≡ Some f → CanTell form upto f outcomes
     → IfErr result (λ s. (s ≡ stop.Fault fault.Store) ⊎ (s ≡ stop.NoMemory)))
     → result ≡ Err (stop.Fault (fault.Damaged damaged)) → (r.start ≡ None) × (now ≡ None)
@@ -443,7 +447,7 @@ none_stopped writing.NoMemory s is listed =
 -- what is damaged after the lines were done was to be read
 pub damaged_in : MadeRuns → (r : Run) (form : Form) (lines : List Line) (outcomes : List Outcome) (w : State)
     (old now : Option Disk) (base upto : ℕ) (damaged : Damaged) → (form ≡ Summary → IsMade lines)
-    → IsBase (told_files old) (base_of r) → upto ≡ w.published.upto → IsOver r lines outcomes w now
+    → IsBase (told_files old) (base_of r) → upto ≡ w.published.upto → IsOver (all r) lines outcomes w now
     → (told_files old ≡ None) × (told_files now ≡ None) → TellsDamaged form upto outcomes (told_files now) damaged
     → ReadsDamaged form lines (told_files old) (told_files now) damaged
 damaged_in law r Report lines outcomes w old now base upto damaged made is_base last_is o none found = record {

@@ -41,13 +41,13 @@ use Rattle.run_log.specs.Telling.{AreTells, IsOrder, Tell}
 use Rattle.run_log.proofs.TellingLaws.{order_of}
 use Rattle.index_run.specs.Doing.{IsWriterOn}
 use Rattle.index_run.specs.Driving.{EndsRound, HasDone, IsCut, AreDuePairs, IsDue, IsRound, Run, base_of, number_in}
-use Rattle.index_run.specs.Leaving.{CommitLaws, IsDiskAfter, IsNextCommit, due_pairs, first_numbers}
+use Rattle.index_run.specs.KeptDisk.{IsDiskBy}
+use Rattle.index_run.specs.Leaving.{CommitLaws, IsNextCommit, due_pairs, first_numbers}
 use Rattle.index_run.specs.Merged.{EndsMerged}
 use Rattle.index_run.specs.declared.rounds.Ran.{Ran}
 use Rattle.index_run.proofs.Coming.{next_commit, pairs_due}
-use Rattle.index_run.proofs.DiskAfter.{crash_commit, crash_longer, disk_round, standing_commit}
+use Rattle.index_run.proofs.DiskBy.{by_round, pending_above, stopped_done, stopped_written}
 use Rattle.index_run.proofs.LogNumbers.{numbers_front}
-use Rattle.index_run.proofs.RunEnds.{files_commit, stops_files}
 use Rattle.index_run.proofs.WriterOn.{writer_round}
 
 -- ---- stops
@@ -72,14 +72,10 @@ pub cut_done : (r : Run) (lines : List Line) (shares : List Share) (log : List L
 cut_done r lines shares log w now h =
     let rest = log_completes r.workers lines shares log h.shares_are h.log_is in
     let at = h.at in
-    let disk = at.disk in
     record {
       log = log ++ rest.0;
       numbering = rest.1;
-      crash = crash_longer r.first log rest.0 r.start now disk.crash;
-      files = λ g told on. stops_files g r.first w log rest.0 at.front r.start now on at.within told disk;
-      only = disk.only;
-      standing = disk.standing;
+      stopped = stopped_done r.keep r.first w log rest.0 at.front r.start now at.within at.disk;
     }
 
 -- a number that is there, as one was found
@@ -108,14 +104,9 @@ cut_written r lines shares log pairs w s old now laws h pending mine left crash 
     record {
       log = log ++ rest.0;
       numbering = rest.1;
-      crash =
-          crash_longer r.first log rest.0 r.start now
-          (crash_commit r.first w log at.front r.start old now laws at.first at.writer at.within next crashed at.disk);
-      files = λ g told on.
-          files_commit g r.first w log rest.0 at.front r.start old now laws at.first on at.writer told at.within next
-          may at.disk;
-      only = goes_then (λ step older. MakesCommits step) r.start old now at.disk.only only;
-      standing = standing_commit r.first w log at.front r.start old now standing at.disk;
+      stopped =
+          stopped_written r.keep r.first w log rest.0 at.front r.start old now laws at.first at.writer
+          (pending_above w s at.writer.ready pending) at.within next may crashed only standing at.disk;
     }
 
 -- ---- the pairs of a round's commit
@@ -169,9 +160,9 @@ module _ (r : Run) (lines : List Line) (olds news : List Share) (log : List Line
   abbrev front : ℕ
   front = h.before.at.front
 
-  disk_on : IsDiskAfter r.first (log ++ more) front v r.start mid
+  disk_on : IsDiskBy r.keep r.first (log ++ more) front v r.start mid
   disk_on =
-      disk_round r.first w v log more (pairs_since olds news) end front r.start mid e h.before.at.within
+      by_round r.keep r.first w v log more (pairs_since olds news) end front r.start mid e h.before.at.within
       h.before.at.disk
 
   doing : AllByRecursion IsDoing more

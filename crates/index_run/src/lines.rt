@@ -11,7 +11,7 @@ ghost use Rattle.index_run.specs.Rounds.{doing_lines, given};
 
 use crate::outcomes::outcomes_of;
 use crate::rounds::{Ran, RoundLeft, do_round, write_pending};
-use index_writer::{CommitInfo, IndexWriter, WriterFault};
+use index_writer::{CommitInfo, IndexWriter, WriterFault, pruned_go_on, segments_stand};
 use ix_base::{Fields, List, NoMemory};
 use ix_outside::{Gate, Store};
 use line_shares::{Dealt, all_done, deal};
@@ -50,16 +50,18 @@ pub fn do_lines<R: Threads + Wait + Sync, S: Store, G: Gate>(
     requires threads { (1 ≤ threads) × (threads ≤ 16) }
     requires script { AreScriptLines lines }
     ensures over { IfOk result.came (λ outcomes. IsOver
-        (record { workers = threads; first = writer.state; start = S.disk writer.store })
+        (record { workers = threads; keep = None; first = writer.state; start = S.disk writer.store })
         lines outcomes.items result.writer.state (S.disk result.writer.store)) }
     ensures cut { OnErr result.came (IsCut
-        (record { workers = threads; first = writer.state; start = S.disk writer.store })
+        (record { workers = threads; keep = None; first = writer.state; start = S.disk writer.store })
         lines (S.disk result.writer.store)) }
     ensures closed { result.came ≡ Err WriterFault.Closed → ⊥ }
     ensures later { S.fault_count writer.store ≤ S.fault_count result.writer.store }
     ensures failed { result.came ≡ Err WriterFault.Store
         → Rose (S.fault_count writer.store) (S.fault_count result.writer.store) }
 {
+    segments_stand();
+    pruned_go_on();
     let base = writer.upto();
     let Dealt { places, shares } = match deal(alloc, threads, lines) {
         Ok(dealt) => dealt,
