@@ -38,7 +38,7 @@ module _ (keep : ℕ) (first w v : State) (log : List Line) (count : ℕ) (start
   abbrev here : IsDiskLeft keep first log count w old start mid
   here = disk.left old begins
 
-  found : (f : Files) × (told_files mid ≡ Some f) × StandsLeft keep first log (first_numbers first log count) w old f
+  pub found : (f : Files) × (told_files mid ≡ Some f) × StandsLeft keep first log (first_numbers first log count) w old f
   found = the_files (told_files mid) (StandsLeft keep first log (first_numbers first log count) w old) here.files
 
   abbrev m : Files
@@ -50,7 +50,7 @@ module _ (keep : ℕ) (first w v : State) (log : List Line) (count : ℕ) (start
   stands : StandsLeft keep first log (first_numbers first log count) w old m
   stands = found.2
 
-  after : (f : Files) × (told_files now ≡ Some f)
+  pub after : (f : Files) × (told_files now ≡ Some f)
   after = told_on OnlyDeletes mid now m gives.only told
 
   abbrev n : Files
