@@ -55,23 +55,23 @@ fn stopped(alloc: Global, passes: u64) -> Result<(bool, (u64, u64)), Fail> {
     Ok((done, older_left(alloc, &fuse.into_inner())?))
 }
 
-/// A prune lists the directory twice, reads one commit file, deletes two, syncs the directory, deletes
+/// A prune lists the directory, reads one commit file, deletes two, syncs the directory, deletes
 /// nine other files, and syncs the directory again.
 #[test]
 fn each_stop_leaves_commits_whole(rt: HostRuntime) -> Result<(), Fail> {
     let alloc = rt.alloc();
-    for passes in 0..16u64 {
+    for passes in 0..15u64 {
         let (done, left) = stopped(alloc, passes)?;
         assert!(rt; !done);
         let wanted = match passes {
-            0..=3 => (2, 2),
-            4 => (1, 2),
-            5 => (0, 2),
+            0..=2 => (2, 2),
+            3 => (1, 2),
+            4 => (0, 2),
             _ => (0, 0),
         };
         assert!(rt; left == wanted);
     }
-    let (done, left) = stopped(alloc, 16)?;
+    let (done, left) = stopped(alloc, 15)?;
     assert!(rt; done);
     assert!(rt; left == (0, 0));
     Ok(())
@@ -81,7 +81,7 @@ fn each_stop_leaves_commits_whole(rt: HostRuntime) -> Result<(), Fail> {
 #[test]
 fn the_next_prune_cleans_up(rt: HostRuntime) -> Result<(), Fail> {
     let alloc = rt.alloc();
-    for passes in 0..16u64 {
+    for passes in 0..15u64 {
         let mut fuse = FuseStore::new(store(alloc)?, passes);
         if prune(alloc, &mut fuse, 1).is_ok() {
             Err("a prune with fewer calls")?;
