@@ -1,4 +1,5 @@
 pub mod Limits
+pub mod Text
 pub mod Documents
 pub mod FileNames
 pub mod Tree

@@ -4,21 +4,21 @@ ghost use Rattle.ix_base.specs.Grouped.{with_spot, with_row, grouped, positions_
 ghost use Rattle.ix_base.specs.Posted.{posted_at};
 
 use crate::memory::NoMemory;
+use smallvec::SmallVec;
 use std::alloc::Global;
 use std::marker::Model;
 
 /// A place of a term: a row, and a position in it.
-#[derive(Clone, Copy, Drop)]
+#[derive(Clone, Copy, Default, Drop)]
 pub struct Spot {
     pub row: u32,
     pub position: u32,
 }
 
 /// The places of one term, rising by row and then by position. Contracts see them as postings:
-/// rows that rise, each with positions that rise.
-#[derive(Drop)]
+/// rows that rise, each with positions that rise. One or two places take no memory of their own.
 pub struct Spots {
-    spots: Vec<Spot>,
+    spots: SmallVec<Spot, 2>,
 }
 
 impl Model for Spots {
@@ -31,6 +31,12 @@ impl Model for Spots {
     ghost view = { λ list. grouped list.spots.items };
 
     ghost invariant = { λ list. AreSpots list.spots.items };
+}
+
+impl Drop for Spots {
+    fn drop(self) {
+        let Spots { spots: _spots } = self;
+    }
 }
 
 /// Whether this row is the last one.
@@ -114,8 +120,16 @@ impl Spots {
         ensures { result ≡ [] }
     {
         Spots {
-            spots: Vec::new(alloc),
+            spots: SmallVec::new(alloc),
         }
+    }
+
+    /// Takes the memory for so many places more at once. They are as they were, after an error too.
+    pub fn make_room(&mut self, places: usize) -> Result<(), NoMemory>
+        ensures { self.new ≡ self.old }
+    {
+        self.spots.reserve(places)?;
+        Ok(())
     }
 
     /// Puts a place behind those that are there. After an error the list is as before.
@@ -176,7 +190,7 @@ impl Spots {
         ensures { IfOk result (λ spots. spots ≡ self.now) }
     {
         Ok(Spots {
-            spots: self.spots.as_slice().to_vec(alloc)?,
+            spots: SmallVec::from_slice(alloc, self.spots.as_slice())?,
         })
     }
 }
