@@ -10,6 +10,7 @@ mod inverse;
 mod name_key;
 mod sizes;
 mod term_key;
+mod word_key;
 mod word_lists;
 mod words;
 

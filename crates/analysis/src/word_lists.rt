@@ -1,5 +1,5 @@
 //! The words of one field, each with its places.
-ghost use Rattle.std.specs.Prelude.{◌≡◌, ◌<◌, ◌++◌, ◌∷◌, [], map, length, string_bytes, bytes_eq, IfOk, OnOk, IsPermutation, IsSortedByKey};
+ghost use Rattle.std.specs.Prelude.{◌≡◌, ◌<◌, ◌++◌, ◌∷◌, [], map, length, bytes_eq, IfOk, OnOk, IsPermutation, IsSortedByKey};
 ghost use Rattle.std.specs.Cmp.Lexicographic.{slice_cmp};
 ghost use Rattle.std.specs.HashMap.{keys};
 ghost use Rattle.std.specs.List.{IsDistinct};
@@ -7,6 +7,7 @@ ghost use Rattle.std.specs.Ordering.{nat_cmp};
 ghost use Rattle.ix_base.specs.Terms.{folded_words};
 ghost use Rattle.analysis.specs.Kept.{IsWordBefore, AreWordsBelow, AddsWord, AddsWords, AreTermsOf, cut_words, term_of};
 
+use crate::word_key::WordKey;
 use crate::words::fold_into;
 use indexmap::IndexMap;
 use ix_base::{Name, NoMemory, Spots, Term, TermPostings, Text};
@@ -30,39 +31,35 @@ pub enum Cut {
 /// Words, each with its places, in the order in which they came.
 #[derive(Drop)]
 pub struct WordLists {
-    lists: IndexMap<String, Spots>,
+    lists: IndexMap<WordKey, Spots>,
 }
 
 impl Model for WordLists {
-    ghost use Rattle.std.specs.Prelude.{List, ℕ, All, map, string_bytes};
+    ghost use Rattle.std.specs.Prelude.{List, ℕ, All, map};
     ghost use Rattle.std.specs.HashMap.{values};
     ghost use Rattle.ix_base.specs.declared.postings.Posting.{Posting};
     ghost use Rattle.analysis.specs.Kept.{IsWordList};
 
     ghost Value = { List (List ℕ × List Posting) };
 
-    ghost view = { λ words. map (λ e. (string_bytes e.0, e.1)) words.lists.entries };
+    ghost view = { λ words. map (λ e. (e.0, e.1)) words.lists.entries };
 
     ghost invariant = { λ words. All IsWordList (values words.lists) };
 }
 
-/// The words as terms of a field, in the order in which they came. A word of 2^32 bytes or more is
-/// refused as want of memory.
+/// The words as terms of a field, in the order in which they came.
 fn terms_of(
     alloc: Global,
     field: &Name,
-    lists: IndexMap<String, Spots>,
+    lists: IndexMap<WordKey, Spots>,
 ) -> Result<Vec<TermPostings>, NoMemory>
-    ensures apart { IsDistinct (λ a b. bytes_eq (string_bytes a) (string_bytes b)) (keys lists) }
+    ensures apart { IsDistinct bytes_eq (keys lists) }
     ensures terms { IfOk result (λ terms. terms.items
-        ≡ map (λ e. term_of field.now (string_bytes e.0, e.1)) lists.entries) }
+        ≡ map (λ e. term_of field.now (e.0, e.1)) lists.entries) }
 {
     let mut terms = Vec::with_capacity(alloc, lists.len())?;
     for (word, rows) in lists {
-        let bytes = match Text::new(word) {
-            Some(bytes) => bytes,
-            None => return Err(NoMemory),
-        };
+        let bytes = word.into_text();
         let field = field.clone_in(alloc)?;
         terms.push(TermPostings {
             term: Term { field, bytes },
@@ -105,7 +102,7 @@ impl WordLists {
         }
         let mut list = Spots::new(alloc);
         list.push(row, position)?;
-        self.lists.insert(String::from_str(alloc, word)?, list)?;
+        self.lists.insert(WordKey::copy_of(alloc, word)?, list)?;
         Ok(())
     }
 

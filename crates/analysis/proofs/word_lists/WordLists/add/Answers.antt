@@ -1,4 +1,4 @@
-use Rattle.std.proofs.Common.{List, ℕ, ◌&&◌, ◌||◌, ◌==◌, sym, ap, ◌∙◌, subst, string_bytes}
+use Rattle.std.proofs.Common.{List, ℕ, ◌&&◌, ◌||◌, ◌==◌, sym, ap, ◌∙◌, subst}
 use Rattle.std.specs.Option.{option_copied_mut}
 use Rattle.std.specs.Map.{values_of}
 use Rattle.std.specs.List.{All}
@@ -15,7 +15,7 @@ pub push-requires : goal.push-requires
 push-requires c = λ r x h.
     let there = sym (c.get_mut.ensures.value) ∙ ap option_copied_mut c.in-Some.is in
     c.requires r x (ap (λ (l : List (List ℕ × List Posting)). kept_in l c.args.word.now r x) (sym c.self.view_is)
-    ∙ word_there string_bytes _ c.args.word.now c.in-Some.list.now c.self.inside.lists.entries (λ k e. sym ((bytes_eq-Decides c.args.word.now (string_bytes k)).0 e)) there r x h)
+    ∙ word_there (λ k. k) _ c.args.word.now c.in-Some.list.now c.self.inside.lists.entries (λ k e. sym ((bytes_eq-Decides c.args.word.now k).0 e)) there r x h)
 
 pub invariant_of-self : goal.invariant_of-self
 invariant_of-self c =
@@ -33,9 +33,9 @@ returns-in-Some c =
     let word = c.args.word.now in
     on_ok_weaker c.push.result
     (λ exact.
-    subst (λ (l : List (List ℕ × List Posting)). AddsWord c.args.row c.args.position word l (shown string_bytes (c.get_mut.follows.lender new).entries)) c.self.view_is
-    (subst (λ l. AddsWord c.args.row c.args.position word (shown string_bytes es) (shown string_bytes l)) (sym (c.get_mut.follows.holds new).0)
-    (word_set string_bytes _ c.args.row c.args.position word c.in-Some.list.now new es (λ k e. sym ((bytes_eq-Decides word (string_bytes k)).0 e)) there exact)))
+    subst (λ (l : List (List ℕ × List Posting)). AddsWord c.args.row c.args.position word l (shown (λ k. k) (c.get_mut.follows.lender new).entries)) c.self.view_is
+    (subst (λ l. AddsWord c.args.row c.args.position word (shown (λ k. k) es) (shown (λ k. k) l)) (sym (c.get_mut.follows.holds new).0)
+    (word_set (λ k. k) _ c.args.row c.args.position word c.in-Some.list.now new es (λ k e. sym ((bytes_eq-Decides word k).0 e)) there exact)))
     c.push.ensures.exact
 
 pub invariant_of-self-2 : goal.invariant_of-self-2
@@ -43,9 +43,9 @@ invariant_of-self-2 c =
     let es = c.self.inside.lists.entries in
     let word = c.args.word.now in
     let list = c.push-2.new.self in
-    let key = c.in_ok-from_str.field-0 in
+    let key = c.in_ok-copy_of.field-0 in
     let none = sym (c.get_mut.ensures.value) ∙ ap option_copied_mut c.in_default.is in
-    let after = pushed string_bytes word key list _ es c.insert.new.self.entries (ap (λ (m : HashMap _ _ _). m.entries) c.get_mut.follows.holds-at-none) c.in_ok-from_str.ensures.ok none c.in_ok-insert.ensures.entries in
+    let after = pushed (λ k. k) word key list _ es c.insert.new.self.entries (ap (λ (m : HashMap _ _ _). m.entries) c.get_mut.follows.holds-at-none) c.in_ok-copy_of.ensures none c.in_ok-insert.ensures.entries in
     subst (λ l. All IsWordList (values_of l)) (sym after)
     (lists_push es key list c.self.invariant (list_added c.args.row c.args.position c.new-list.result list c.in_ok-push.ensures.ordered c.in_ok-push.ensures.exact))
 
@@ -54,10 +54,10 @@ returns c =
     let es = c.self.inside.lists.entries in
     let word = c.args.word.now in
     let list = c.push-2.new.self in
-    let key = c.in_ok-from_str.field-0 in
+    let key = c.in_ok-copy_of.field-0 in
     let none = sym (c.get_mut.ensures.value) ∙ ap option_copied_mut c.in_default.is in
-    let after = pushed string_bytes word key list _ es c.insert.new.self.entries (ap (λ (m : HashMap _ _ _). m.entries) c.get_mut.follows.holds-at-none) c.in_ok-from_str.ensures.ok none c.in_ok-insert.ensures.entries in
-    subst (λ (l : List (List ℕ × List Posting)). AddsWord c.args.row c.args.position word l (shown string_bytes c.insert.new.self.entries)) c.self.view_is
-    (subst (λ l. AddsWord c.args.row c.args.position word (shown string_bytes es) (shown string_bytes l)) (sym after)
-    (word_push string_bytes c.args.row c.args.position word key list es c.in_ok-from_str.ensures.ok
+    let after = pushed (λ k. k) word key list _ es c.insert.new.self.entries (ap (λ (m : HashMap _ _ _). m.entries) c.get_mut.follows.holds-at-none) c.in_ok-copy_of.ensures none c.in_ok-insert.ensures.entries in
+    subst (λ (l : List (List ℕ × List Posting)). AddsWord c.args.row c.args.position word l (shown (λ k. k) c.insert.new.self.entries)) c.self.view_is
+    (subst (λ l. AddsWord c.args.row c.args.position word (shown (λ k. k) es) (shown (λ k. k) l)) (sym after)
+    (word_push (λ k. k) c.args.row c.args.position word key list es c.in_ok-copy_of.ensures
     (λ r x. c.in_ok-push.ensures.exact r x ∙ ap (λ (rows : List Posting). posted_at rows r x || ((c.args.row == r) && (c.args.position == x))) c.new-list.ensures)))
