@@ -111,8 +111,9 @@ pub fn text_from(alloc: Global, text: &str) -> Result<Text, NoMemory>
     ensures { IfOk result (λ copy. copy ≡ text.now) }
 {
     // No input is so long that a text of it doesn't fit.
-    match Text::new(String::from_str(alloc, text)?) {
-        Some(text) => Ok(text),
-        None => Err(NoMemory),
+    if text.len() < 1 << 32 {
+        Text::copy_of(alloc, text)
+    } else {
+        Err(NoMemory)
     }
 }
