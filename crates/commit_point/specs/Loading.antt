@@ -32,8 +32,8 @@ pub record TellsNone {T : Type 0} (told : Option Files) (s : ℕ) (result : Resu
       → IsErrAnd result (λ fault. (fault ≡ faults.NoSuch s) ⊎ IsOutside fault)
 
 -- a read of this file gave what is broken here
-pub record IsBroken {A : Type 0} (told : Option Files) (name : FileName) (read : List ℕ
-    → Result A ℕ) (damaged : Damaged) : Type 0 where
+pub record IsBroken {A : Type 0} (told : Option Files) (name : FileName)
+    (read : List ℕ → Result A ℕ) (damaged : Damaged) : Type 0 where
   pub found : Option (List ℕ)
   pub seen : Reads told name found
   pub broken : of_file name read found ≡ Err damaged

@@ -107,5 +107,5 @@ module _ {H D T : Type 0} (deed_of : H → D) (told_of : H → List T) where
       (n slots id d : ℕ) (me : Me (Option H) (View D T)) (s : State (Option H) (View D T))
       → CanBe n slots id (d + 2) me s
       → d < n → taken_at me.0.doors d ≡ false → slice_index s.words (d + 2) ≡ 1
-      → Allows (Kept deed_of told_of n) slots id me (d
-      + 2) (λ (x : ℕ). either (x == 1) 2 x) (Takes deed_of (d + 2) me) → ⊥
+      → Allows (Kept deed_of told_of n) slots id me (d + 2) (λ (x : ℕ). either (x == 1) 2 x)
+      (Takes deed_of (d + 2) me) → ⊥

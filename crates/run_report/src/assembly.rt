@@ -124,7 +124,7 @@ fn joined(alloc: Global, made: &[Vec<u8>]) -> Result<Vec<u8>, NoMemory>
 
 /// The whole report, for a script with these outcomes. Search lines are answered from the commit that
 /// is in memory, where it has the rows of theirs; the others read their commits from the store, one after
-/// another. The last of these is in memory then. The store is as before, whatever is answered.
+/// another, and one of these may be in memory then. The store is as before, whatever is answered.
 ///
 /// `Store` comes only where the store's count of faults rose; `Damaged` names the first broken place
 /// of a commit that a search line asks for. `NoSuch` never comes.

@@ -149,8 +149,8 @@ fn lines_of<S: Store>(alloc: Global, store: &mut S, numbers: &[u64]) -> Result<V
 }
 
 /// Lists the store's commits, from their commit files alone: a line for each, by rising number, with
-/// the pairs, if it has some, and the number of documents that its commit file tells. Without a commit there is no line. The store
-/// is as before, whatever is returned.
+/// the pairs, if it has some, and the number of documents that its commit file tells. Without a commit
+/// there is no line. The store is as before, whatever is returned.
 ///
 /// - `Damaged` names the first broken place of the first commit file that has one. A commit file that
 ///   is gone since it was listed is damaged at 0.
