@@ -44,6 +44,20 @@ pub key_none : (bytes : List ℕ) (k : ℕ) → k ≡ 0 → k ≡ key 0 bytes
 unfolding key
 key_none bytes k is = is
 
+-- where the first seven bytes are the same, or are missing as 0 is
+pub key_seven : (xs ys : List ℕ)
+    → get_or xs 0 0 ≡ get_or ys 0 0 → get_or xs 1 0 ≡ get_or ys 1 0 → get_or xs 2 0 ≡ get_or ys 2 0 → get_or xs 3 0 ≡ get_or ys 3 0
+    → get_or xs 4 0 ≡ get_or ys 4 0 → get_or xs 5 0 ≡ get_or ys 5 0 → get_or xs 6 0 ≡ get_or ys 6 0
+    → key 7 xs ≡ key 7 ys
+unfolding key
+key_seven xs ys a b c d e f g =
+    λ i. ((((((0 * 256 + a i) * 256 + b i) * 256 + c i) * 256 + d i) * 256 + e i) * 256 + f i) * 256 + g i
+
+pub beyond : (xs : List ℕ) (n : ℕ) → length xs ≤ n → 0 ≡ get_or xs n 0
+beyond [] n le = refl
+beyond (x ∷ xs) zero le = absurd (omega arith)
+beyond (x ∷ xs) (suc n) le = beyond xs n (omega arith)
+
 pub short_key : (bytes text : List ℕ) (seven : ℕ) → bytes ≡ text → seven ≡ key 7 bytes → AreBytes bytes → length bytes < 8 → HasKey (seven * 256 + length bytes) text
 short_key bytes text seven same is fit short =
     subst (HasKey (seven * 256 + length bytes)) same

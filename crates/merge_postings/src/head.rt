@@ -1,5 +1,7 @@
 //! Entries of sources that come next.
 ghost use Rattle.std.specs.Prelude.{◌≡◌, ◌↔◌, ◌||◌, ℕ, true, false, None, Some, OnOk, IsTrue};
+ghost use Rattle.std.specs.Cmp.Lexicographic.{slice_cmp};
+ghost use Rattle.std.specs.Ordering.{nat_cmp};
 ghost use Rattle.ix_base.specs.Inversion.{IsPostings, term_cmp};
 ghost use Rattle.merge_postings.specs.Gathering.{is_gathered};
 ghost use Rattle.merge_postings.specs.Keys.{HasKey};
@@ -7,7 +9,7 @@ ghost use Rattle.merge_postings.specs.Renumbering.{moved_at, NumbersRise};
 ghost use Rattle.merge_postings.specs.Walk.{waiting, IsBelow};
 
 use crate::gathered::Gathered;
-use crate::key::{compare_texts, key_of};
+use crate::key::{key_of, order_by_keys};
 use ix_base::{NoMemory, Term, TermPostings};
 use std::cmp::Ordering;
 use std::marker::Model;
@@ -83,17 +85,6 @@ impl<'a> Head<'a> {
         &self.first.term
     }
 
-    /// The key of a field, which is mostly that of the next entry.
-    fn field_key(&self, field: &str) -> u64
-        ensures { HasKey result field.now }
-    {
-        if field == self.first.term.field.as_str() {
-            self.field
-        } else {
-            key_of(field)
-        }
-    }
-
     /// Passes its next entry, unless that is the last: then the answer is `false`, and all is as before.
     pub(crate) fn pass(&mut self) -> bool
         ensures next { result ≡ true → waiting self.old.rest self.old.numbers ≡ Some self.new }
@@ -103,7 +94,7 @@ impl<'a> Head<'a> {
         let Some((first, rest)) = self.rest.split_first() else {
             return false;
         };
-        self.field = self.field_key(first.term.field.as_str());
+        self.field = key_of(first.term.field.as_str());
         self.bytes = key_of(first.term.bytes.as_str());
         self.first = first;
         self.rest = rest;
@@ -118,26 +109,44 @@ impl<'a> Head<'a> {
         gathered.add(&self.first.rows, self.numbers)
     }
 
-    /// How the term of its next entry is ordered to the other's.
+    /// How the field of its next entry is ordered to the other's.
+    fn compare_fields(&self, other: &Head<'_>) -> Ordering
+        ensures { result ≡ slice_cmp nat_cmp self.now.first.term.field other.now.first.term.field }
+    {
+        match order_by_keys(self.field, other.field) {
+            Some(order) => order,
+            None => self
+                .first
+                .term
+                .field
+                .as_str()
+                .cmp(other.first.term.field.as_str()),
+        }
+    }
+
+    /// How the bytes of its next entry's term are ordered to those of the other's.
+    fn compare_bytes(&self, other: &Head<'_>) -> Ordering
+        ensures { result ≡ slice_cmp nat_cmp self.now.first.term.bytes other.now.first.term.bytes }
+    {
+        match order_by_keys(self.bytes, other.bytes) {
+            Some(order) => order,
+            None => self
+                .first
+                .term
+                .bytes
+                .as_str()
+                .cmp(other.first.term.bytes.as_str()),
+        }
+    }
+
+    /// How the term of its next entry is ordered to the other's. Texts are looked at only where their keys
+    /// don't tell.
     fn compare(&self, other: &Head<'_>) -> Ordering
         ensures { result ≡ term_cmp self.now.first.term other.now.first.term }
     {
-        let left = self.term();
-        let right = other.term();
-        let by_field = compare_texts(
-            left.field.as_str(),
-            self.field,
-            right.field.as_str(),
-            other.field,
-        );
-        match by_field {
-            Ordering::Equal => compare_texts(
-                left.bytes.as_str(),
-                self.bytes,
-                right.bytes.as_str(),
-                other.bytes,
-            ),
-            _ => by_field,
+        match self.compare_fields(other) {
+            Ordering::Equal => self.compare_bytes(other),
+            by_field => by_field,
         }
     }
 

@@ -1,15 +1,41 @@
-use Rattle.std.proofs.Common.{◌≡◌, ℕ, List, refl}
-use Rattle.merge_postings.specs.Keys.{key}
-use Rattle.merge_postings.proofs.KeyOrder.{key_none, key_step}
+use Rattle.std.proofs.Common.{◌∙◌, ℕ, List, refl, arith}
+use Rattle.merge_postings.proofs.KeyOrder.{beyond, key_seven}
 use Rattle.merge_postings.proofs.key.first_seven.Goals as goal
 
-pub returns-clause-value : goal.returns-clause-value
-returns-clause-value c =
+pub returns-in-len7-up-clause-value : goal.returns-in-len7-up-clause-value
+returns-in-len7-up-clause-value c = c.seven_of-in-len7-up.ensures.value ∙ key_seven _ c.args.bytes.now refl refl refl refl refl refl refl
+
+pub returns-in-empty-clause-value : goal.returns-in-empty-clause-value
+returns-in-empty-clause-value c =
     let bytes : List ℕ = c.args.bytes.now in
-    let one : c.with_byte-one.result ≡ key 1 bytes = key_step 0 1 bytes 0 c.with_byte-one.result refl (key_none bytes 0 refl) c.with_byte-one.ensures.value in
-    let two : c.with_byte-two.result ≡ key 2 bytes = key_step 1 2 bytes c.with_byte-one.result c.with_byte-two.result refl one c.with_byte-two.ensures.value in
-    let three : c.with_byte-three.result ≡ key 3 bytes = key_step 2 3 bytes c.with_byte-two.result c.with_byte-three.result refl two c.with_byte-three.ensures.value in
-    let four : c.with_byte-four.result ≡ key 4 bytes = key_step 3 4 bytes c.with_byte-three.result c.with_byte-four.result refl three c.with_byte-four.ensures.value in
-    let five : c.with_byte-five.result ≡ key 5 bytes = key_step 4 5 bytes c.with_byte-four.result c.with_byte-five.result refl four c.with_byte-five.ensures.value in
-    let six : c.with_byte-six.result ≡ key 6 bytes = key_step 5 6 bytes c.with_byte-five.result c.with_byte-six.result refl five c.with_byte-six.ensures.value in
-    key_step 6 7 bytes c.with_byte-six.result c.with_byte.result refl six c.with_byte.ensures.value
+    c.seven_of.ensures.value ∙ key_seven _ bytes (beyond bytes 0 (omega arith)) (beyond bytes 1 (omega arith)) (beyond bytes 2 (omega arith)) (beyond bytes 3 (omega arith)) (beyond bytes 4 (omega arith)) (beyond bytes 5 (omega arith)) (beyond bytes 6 (omega arith))
+
+pub returns-in-len1-clause-value : goal.returns-in-len1-clause-value
+returns-in-len1-clause-value c =
+    let bytes : List ℕ = c.args.bytes.now in
+    c.seven_of-in-len1.ensures.value ∙ key_seven _ bytes refl (beyond bytes 1 (omega arith)) (beyond bytes 2 (omega arith)) (beyond bytes 3 (omega arith)) (beyond bytes 4 (omega arith)) (beyond bytes 5 (omega arith)) (beyond bytes 6 (omega arith))
+
+pub returns-in-len2-clause-value : goal.returns-in-len2-clause-value
+returns-in-len2-clause-value c =
+    let bytes : List ℕ = c.args.bytes.now in
+    c.seven_of-in-len2.ensures.value ∙ key_seven _ bytes refl refl (beyond bytes 2 (omega arith)) (beyond bytes 3 (omega arith)) (beyond bytes 4 (omega arith)) (beyond bytes 5 (omega arith)) (beyond bytes 6 (omega arith))
+
+pub returns-in-len3-clause-value : goal.returns-in-len3-clause-value
+returns-in-len3-clause-value c =
+    let bytes : List ℕ = c.args.bytes.now in
+    c.seven_of-in-len3.ensures.value ∙ key_seven _ bytes refl refl refl (beyond bytes 3 (omega arith)) (beyond bytes 4 (omega arith)) (beyond bytes 5 (omega arith)) (beyond bytes 6 (omega arith))
+
+pub returns-in-len4-clause-value : goal.returns-in-len4-clause-value
+returns-in-len4-clause-value c =
+    let bytes : List ℕ = c.args.bytes.now in
+    c.seven_of-in-len4.ensures.value ∙ key_seven _ bytes refl refl refl refl (beyond bytes 4 (omega arith)) (beyond bytes 5 (omega arith)) (beyond bytes 6 (omega arith))
+
+pub returns-in-len5-clause-value : goal.returns-in-len5-clause-value
+returns-in-len5-clause-value c =
+    let bytes : List ℕ = c.args.bytes.now in
+    c.seven_of-in-len5.ensures.value ∙ key_seven _ bytes refl refl refl refl refl (beyond bytes 5 (omega arith)) (beyond bytes 6 (omega arith))
+
+pub returns-in-len6-clause-value : goal.returns-in-len6-clause-value
+returns-in-len6-clause-value c =
+    let bytes : List ℕ = c.args.bytes.now in
+    c.seven_of-in-len6.ensures.value ∙ key_seven _ bytes refl refl refl refl refl refl (beyond bytes 6 (omega arith))

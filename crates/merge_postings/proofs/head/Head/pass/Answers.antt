@@ -14,8 +14,8 @@ invariant_of-self c =
         ordered = subst IsPostings is (tail_ordered c.self.inside.first.now c.self.inside.rest.now c.self.invariant.0.ordered);
         rise = c.self.invariant.0.rise;
       },
-      subst (HasKey c.field_key-self-inside.result) c.as_str.ensures.bytes c.field_key-self-inside.ensures,
-      subst (HasKey c.key_of-self-inside.result) c.as_str-2.ensures.bytes c.key_of-self-inside.ensures,
+      subst (HasKey c.key_of-self-inside.result) c.as_str.ensures.bytes c.key_of-self-inside.ensures,
+      subst (HasKey c.key_of-self-inside-2.result) c.as_str-2.ensures.bytes c.key_of-self-inside-2.ensures,
     )
 
 pub returns-clause-rises : goal.returns-clause-rises
