@@ -17,6 +17,7 @@ pub struct Spot {
 
 /// The places of one term, rising by row and then by position. Contracts see them as postings:
 /// rows that rise, each with positions that rise. One or two places take no memory of their own.
+#[derive(Drop)]
 pub struct Spots {
     spots: SmallVec<Spot, 2>,
 }
@@ -31,12 +32,6 @@ impl Model for Spots {
     ghost view = { λ list. grouped list.spots.items };
 
     ghost invariant = { λ list. AreSpots list.spots.items };
-}
-
-impl Drop for Spots {
-    fn drop(self) {
-        let Spots { spots: _spots } = self;
-    }
 }
 
 /// Whether this row is the last one.
