@@ -15,11 +15,22 @@ pub struct Spot {
     pub position: u32,
 }
 
+/// Places in a list. One or two take no memory of their own.
+struct Places {
+    list: SmallVec<Spot, 2>,
+}
+
 /// The places of one term, rising by row and then by position. Contracts see them as postings:
 /// rows that rise, each with positions that rise. One or two places take no memory of their own.
 #[derive(Drop)]
 pub struct Spots {
-    spots: SmallVec<Spot, 2>,
+    spots: Places,
+}
+
+impl Drop for Places {
+    fn drop(self) {
+        let Places { list: _list } = self;
+    }
 }
 
 impl Model for Spots {
@@ -29,9 +40,9 @@ impl Model for Spots {
 
     ghost Value = { List Posting };
 
-    ghost view = { λ list. grouped list.spots.items };
+    ghost view = { λ list. grouped list.spots.list.items };
 
-    ghost invariant = { λ list. AreSpots list.spots.items };
+    ghost invariant = { λ list. AreSpots list.spots.list.items };
 }
 
 /// Whether this row is the last one.
@@ -115,7 +126,9 @@ impl Spots {
         ensures { result ≡ [] }
     {
         Spots {
-            spots: SmallVec::new(alloc),
+            spots: Places {
+                list: SmallVec::new(alloc),
+            },
         }
     }
 
@@ -123,7 +136,7 @@ impl Spots {
     pub fn make_room(&mut self, places: usize) -> Result<(), NoMemory>
         ensures { self.new ≡ self.old }
     {
-        self.spots.reserve(places)?;
+        self.spots.list.reserve(places)?;
         Ok(())
     }
 
@@ -137,7 +150,7 @@ impl Spots {
             ≡ (posted_at self.old r x || ((row == r) && (position == x)))) }
         ensures err { OnErr result (self.new ≡ self.old) }
     {
-        self.spots.push(Spot { row, position })?;
+        self.spots.list.push(Spot { row, position })?;
         Ok(())
     }
 
@@ -150,7 +163,7 @@ impl Spots {
             ≡ (posted_at self.old r x || ((row == r) && (position == x)))) }
         ensures err { OnErr result (self.new ≡ self.old) }
     {
-        if ends_at(self.spots.as_slice(), row, position) {
+        if ends_at(self.spots.list.as_slice(), row, position) {
             return Ok(());
         }
         self.push(row, position)
@@ -161,14 +174,14 @@ impl Spots {
         ensures places { self.now ≡ grouped result.now }
         ensures rise { AreSpots result.now }
     {
-        self.spots.as_slice()
+        self.spots.list.as_slice()
     }
 
     /// The positions in a row, rising; none where the row isn't there. It is found by halving.
     pub fn positions(&self, alloc: Global, row: u32) -> Result<Vec<u32>, NoMemory>
         ensures { IfOk result (λ positions. positions.items ≡ positions_in row self.now) }
     {
-        let from = from_row(self.spots.as_slice(), row);
+        let from = from_row(self.spots.list.as_slice(), row);
         positions_of(alloc, in_row(from, row))
     }
 
@@ -177,7 +190,7 @@ impl Spots {
         ensures rows { IfOk result (λ rows. rows.items ≡ map (λ posting. posting.row) self.now) }
         ensures ordered { ArePostings self.now }
     {
-        rows_of(alloc, self.spots.as_slice())
+        rows_of(alloc, self.spots.list.as_slice())
     }
 
     /// A copy of these places.
@@ -185,7 +198,9 @@ impl Spots {
         ensures { IfOk result (λ spots. spots ≡ self.now) }
     {
         Ok(Spots {
-            spots: SmallVec::from_slice(alloc, self.spots.as_slice())?,
+            spots: Places {
+                list: SmallVec::from_slice(alloc, self.as_slice())?,
+            },
         })
     }
 }

@@ -6,12 +6,12 @@ use Rattle.ix_base.proofs.Searching.{by_row}
 use Rattle.ix_base.proofs.spots.Spots.positions.Goals as goal
 
 pub from_row-from-requires : goal.from_row-from-requires
-from_row-from-requires c = subst IsByRow (sym c.as_slice.ensures) (by_row c.self.inside.spots.items c.self.invariant.rise)
+from_row-from-requires c = subst IsByRow (sym c.as_slice.ensures) (by_row c.self.inside.spots.list.items c.self.invariant.rise)
 
 pub returns : goal.returns
 returns c =
     let row = c.args.row in
-    let spots = c.self.inside.spots.items in
+    let spots = c.self.inside.spots.list.items in
     IfOk-weaker c.positions_of.result _ (λ positions. positions.items ≡ positions_in row c.args.self.now)
     (λ positions is.
     is ∙ c.in_row.ensures ∙ c.from_row-from.ensures.same

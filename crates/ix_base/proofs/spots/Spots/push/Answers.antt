@@ -11,12 +11,12 @@ pub invariant_of-self-2 : goal.invariant_of-self-2
 invariant_of-self-2 c =
     let s : Spot = record { row = c.args.row; position = c.args.position } in
     let after = subst (λ (l : List Posting). IsAfter c.args.row c.args.position l) (sym c.self.view_is) c.requires in
-    rw c.in_ok-push.ensures.ok (spots_more c.self.inside.spots.items s c.self.invariant after)
+    rw c.in_ok-push.ensures.ok (spots_more c.self.inside.spots.list.items s c.self.invariant after)
 
 pub returns-clause-ok : goal.returns-clause-ok
 returns-clause-ok c =
     let s : Spot = record { row = c.args.row; position = c.args.position } in
-    rw c.in_ok-push.ensures.ok (grouped_push [] c.self.inside.spots.items s ∙ ap (λ (l : List Posting). with_spot l s) c.self.view_is)
+    rw c.in_ok-push.ensures.ok (grouped_push [] c.self.inside.spots.list.items s ∙ ap (λ (l : List Posting). with_spot l s) c.self.view_is)
 
 pub returns-clause-exact : goal.returns-clause-exact
 returns-clause-exact c =
