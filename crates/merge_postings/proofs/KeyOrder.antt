@@ -1,13 +1,14 @@
 -- Keys are ordered as the texts are.
-use Rattle.std.proofs.Common.{◌≡◌, ◌∙◌, ℕ, zero, suc, ◌+◌, ◌*◌, ◌%◌, ◌<◌, ◌≤◌, List, [], ◌∷◌, length, get_or, ◌⊎◌, inl, inr, refl, sym, ap, subst, arith}
+use Rattle.std.proofs.Common.{◌≡◌, ◌∙◌, ℕ, zero, suc, ◌+◌, ◌*◌, ◌%◌, ◌^◌, ◌<◌, ◌≤◌, List, [], ◌∷◌, length, drop, get_or, ◌⊎◌, inl, inr, refl, sym, ap, subst, arith}
 use Rattle.std.specs.Cmp.Lexicographic.{slice_cmp}
 use Rattle.std.specs.Ordering.{MatchOrdering, nat_cmp, ordering_reverse, ordering_then}
 use Rattle.std.specs.declared.cmp.Ordering.{Ordering}
 use Rattle.std.specs.declared.cmp.Ordering.TheVariants.{Less, Equal, Greater}
 use Rattle.std.proofs.lemmas.Bool.{cases_lt}
+use Rattle.std.proofs.lemmas.List.{get_or-drop}
 use Rattle.std.proofs.lemmas.Cmp.{nat_list_cmp_total, ranked}
 use Rattle.ix_base.specs.Spelling.{AreBytes}
-use Rattle.merge_postings.specs.Keys.{HasKey, key}
+use Rattle.merge_postings.specs.Keys.{IsKey, key}
 
 -- ---- numbers
 
@@ -35,15 +36,6 @@ less_parts a b x y p q l g = (omega arith, omega arith)
 
 -- ---- keys
 
--- one byte more
-pub key_step : (n m : ℕ) (bytes : List ℕ) (k r : ℕ) → suc n ≡ m → k ≡ key n bytes → r ≡ k * 256 + get_or bytes n 0 → r ≡ key m bytes
-unfolding key
-key_step n m bytes k r next was is = is ∙ ap (λ (j : ℕ). j * 256 + get_or bytes n 0) was ∙ ap (λ (j : ℕ). key j bytes) next
-
-pub key_none : (bytes : List ℕ) (k : ℕ) → k ≡ 0 → k ≡ key 0 bytes
-unfolding key
-key_none bytes k is = is
-
 -- where the first seven bytes are the same, or are missing as 0 is
 pub key_seven : (xs ys : List ℕ)
     → get_or xs 0 0 ≡ get_or ys 0 0 → get_or xs 1 0 ≡ get_or ys 1 0 → get_or xs 2 0 ≡ get_or ys 2 0 → get_or xs 3 0 ≡ get_or ys 3 0
@@ -58,15 +50,27 @@ beyond [] n le = refl
 beyond (x ∷ xs) zero le = absurd (omega arith)
 beyond (x ∷ xs) (suc n) le = beyond xs n (omega arith)
 
-pub short_key : (bytes text : List ℕ) (seven : ℕ) → bytes ≡ text → seven ≡ key 7 bytes → AreBytes bytes → length bytes < 8 → HasKey (seven * 256 + length bytes) text
-short_key bytes text seven same is fit short =
-    subst (HasKey (seven * 256 + length bytes)) same
-    (record { short = λ _. omega (arith, is); long = λ g. absurd (omega (arith, short, g)); bytes_are = fit })
+-- the first fifteen bytes by the first eight and the seven behind them
+pub key_split : (bytes : List ℕ) → key 15 bytes ≡ key 8 bytes * 2 ^ 56 + key 7 (drop 8 bytes)
+unfolding key
+key_split bytes = omega (arith, get_or-drop 8 bytes 0 0, get_or-drop 8 bytes 1 0, get_or-drop 8 bytes 2 0, get_or-drop 8 bytes 3 0, get_or-drop 8 bytes 4 0, get_or-drop 8 bytes 5 0, get_or-drop 8 bytes 6 0)
 
-pub long_key : (bytes text : List ℕ) (seven : ℕ) → bytes ≡ text → seven ≡ key 7 bytes → AreBytes bytes → 8 ≤ length bytes → HasKey (seven * 256 + 8) text
-long_key bytes text seven same is fit long =
-    subst (HasKey (seven * 256 + 8)) same
-    (record { short = λ l. absurd (omega (arith, long, l)); long = λ _. omega (arith, is); bytes_are = fit })
+pub short_key : (bytes text : List ℕ) (high next : ℕ) → bytes ≡ text → high ≡ key 8 bytes → next ≡ key 7 (drop 8 bytes) → AreBytes bytes → length bytes < 16
+    → IsKey (high * 2 ^ 64 + (next * 256 + length bytes)) text
+short_key bytes text high next same is more fit short =
+    subst (IsKey (high * 2 ^ 64 + (next * 256 + length bytes))) same
+    (record { short = λ _. omega (arith, is, more, key_split bytes); long = λ g. absurd (omega (arith, short, g)); bytes_are = fit })
+
+pub long_key : (bytes text : List ℕ) (high next : ℕ) → bytes ≡ text → high ≡ key 8 bytes → next ≡ key 7 (drop 8 bytes) → AreBytes bytes → 16 ≤ length bytes
+    → IsKey (high * 2 ^ 64 + (next * 256 + 16)) text
+long_key bytes text high next same is more fit long =
+    subst (IsKey (high * 2 ^ 64 + (next * 256 + 16))) same
+    (record { short = λ l. absurd (omega (arith, long, l)); long = λ _. omega (arith, is, more, key_split bytes); bytes_are = fit })
+
+-- a byte more, or none where there is none
+pub key_eight : (bytes : List ℕ) (seven byte : ℕ) → seven ≡ key 7 bytes → byte ≡ get_or bytes 7 0 → seven * 256 + byte ≡ key 8 bytes
+unfolding key
+key_eight bytes seven byte is last = λ i. is i * 256 + last i
 
 upto_or : (n : ℕ) (xs ys : List ℕ) (i : ℕ) → i < suc n → (i < n → get_or xs i 0 ≡ get_or ys i 0) → get_or xs n 0 ≡ get_or ys n 0 → (i < n) ⊎ (n ≤ i) → get_or xs i 0 ≡ get_or ys i 0
 upto_or n xs ys i lt before last (inl l) = before l
@@ -117,7 +121,7 @@ whole (x ∷ xs) (y ∷ ys) long same =
     let rest : xs ≡ ys = whole xs ys (omega arith) (λ i lt. same (suc i) (omega arith)) in
     λ i. first i ∷ rest i
 
--- a text of less than eight bytes comes before a longer one that begins with it
+-- a text of less than sixteen bytes comes before a longer one that begins with it
 shorter_first : (xs ys : List ℕ) → length xs < length ys → ((i : ℕ) → i < length xs → get_or xs i 0 ≡ get_or ys i 0) → slice_cmp nat_cmp xs ys ≡ Less
 shorter_first [] [] lt same = absurd (omega arith)
 shorter_first [] (y ∷ ys) lt same = refl
@@ -129,20 +133,20 @@ shorter_first (x ∷ xs) (y ∷ ys) lt same =
 -- what stands behind a key's bytes
 record End (number : ℕ) (bytes : List ℕ) : Type 0 where
   end : ℕ
-  is : number ≡ key 7 bytes * 256 + end
-  most : end ≤ 8
-  short : end < 8 → length bytes ≡ end
-  long : 8 ≤ end → 8 ≤ length bytes
+  is : number ≡ key 15 bytes * 256 + end
+  most : end ≤ 16
+  short : end < 16 → length bytes ≡ end
+  long : 16 ≤ end → 16 ≤ length bytes
 
-end_of : (a : ℕ) (xs : List ℕ) → HasKey a xs → End a xs
-end_of a xs h = go (cases_lt (length xs) 8)
+end_of : (a : ℕ) (xs : List ℕ) → IsKey a xs → End a xs
+end_of a xs h = go (cases_lt (length xs) 16)
   where
-    go : (length xs < 8) ⊎ (8 ≤ length xs) → End a xs
+    go : (length xs < 16) ⊎ (16 ≤ length xs) → End a xs
     go (inl l) = record { end = length xs; is = h.short l; most = omega arith; short = λ _. refl; long = λ g. g }
-    go (inr g) = record { end = 8; is = h.long g; most = omega arith; short = λ l. absurd (omega arith); long = λ _. g }
+    go (inr g) = record { end = 16; is = h.long g; most = omega arith; short = λ l. absurd (omega arith); long = λ _. g }
 
-pub below_by_key : (a b : ℕ) (xs ys : List ℕ) → HasKey a xs → HasKey b ys → a < b → slice_cmp nat_cmp xs ys ≡ Less
-below_by_key a b xs ys p q lt = go (cases_lt (key 7 xs) (key 7 ys))
+pub below_by_key : (a b : ℕ) (xs ys : List ℕ) → IsKey a xs → IsKey b ys → a < b → slice_cmp nat_cmp xs ys ≡ Less
+below_by_key a b xs ys p q lt = go (cases_lt (key 15 xs) (key 15 ys))
   where
     ea : End a xs
     ea = end_of a xs p
@@ -150,28 +154,28 @@ below_by_key a b xs ys p q lt = go (cases_lt (key 7 xs) (key 7 ys))
     eb : End b ys
     eb = end_of b ys q
 
-    go : (key 7 xs < key 7 ys) ⊎ (key 7 ys ≤ key 7 xs) → slice_cmp nat_cmp xs ys ≡ Less
-    go (inl l) = key_less 7 xs ys p.bytes_are q.bytes_are l
+    go : (key 15 xs < key 15 ys) ⊎ (key 15 ys ≤ key 15 xs) → slice_cmp nat_cmp xs ys ≡ Less
+    go (inl l) = key_less 15 xs ys p.bytes_are q.bytes_are l
     go (inr g) =
-        let both = less_parts (key 7 xs) (key 7 ys) ea.end eb.end (omega (arith, ea.most)) (omega (arith, eb.most)) (omega (arith, lt, ea.is, eb.is)) g in
+        let both = less_parts (key 15 xs) (key 15 ys) ea.end eb.end (omega (arith, ea.most)) (omega (arith, eb.most)) (omega (arith, lt, ea.is, eb.is)) g in
         let short : length xs ≡ ea.end = ea.short (omega (arith, both.1, eb.most)) in
-        shorter_first xs ys (longer (cases_lt eb.end 8) both.1 short)
-        (λ i h. same_upto 7 xs ys p.bytes_are q.bytes_are both.0 i (omega (arith, both.1, eb.most, short)))
+        shorter_first xs ys (longer (cases_lt eb.end 16) both.1 short)
+        (λ i h. same_upto 15 xs ys p.bytes_are q.bytes_are both.0 i (omega (arith, both.1, eb.most, short)))
       where
-        longer : (eb.end < 8) ⊎ (8 ≤ eb.end) → ea.end < eb.end → length xs ≡ ea.end → length xs < length ys
+        longer : (eb.end < 16) ⊎ (16 ≤ eb.end) → ea.end < eb.end → length xs ≡ ea.end → length xs < length ys
         longer (inl l) less is = omega (arith, eb.short l)
         longer (inr m) less is = omega (arith, eb.long m, eb.most)
 
-pub above_by_key : (a b : ℕ) (xs ys : List ℕ) → HasKey a xs → HasKey b ys → b < a → slice_cmp nat_cmp xs ys ≡ Greater
+pub above_by_key : (a b : ℕ) (xs ys : List ℕ) → IsKey a xs → IsKey b ys → b < a → slice_cmp nat_cmp xs ys ≡ Greater
 above_by_key a b xs ys p q lt = nat_list_cmp_total.antisymm xs ys ∙ ap ordering_reverse (below_by_key b a ys xs q p lt)
 
--- texts of one key that have at most seven bytes are one
-pub same_by_key : (a b : ℕ) (xs ys : List ℕ) → HasKey a xs → HasKey b ys → a ≤ b → b ≤ a → b % 256 < 8 → slice_cmp nat_cmp xs ys ≡ Equal
+-- texts of one key that have at most fifteen bytes are one
+pub same_by_key : (a b : ℕ) (xs ys : List ℕ) → IsKey a xs → IsKey b ys → a ≤ b → b ≤ a → b % 256 < 16 → slice_cmp nat_cmp xs ys ≡ Equal
 same_by_key a b xs ys p q below above short =
     let ea : End a xs = end_of a xs p in
     let eb : End b ys = end_of b ys q in
-    let both = same_parts (key 7 xs) (key 7 ys) ea.end eb.end (omega (arith, ea.most)) (omega (arith, eb.most)) (omega (arith, below, above, ea.is, eb.is)) in
-    let less : ea.end < 8 = omega (arith, below, above, short, ea.is, ea.most) in
+    let both = same_parts (key 15 xs) (key 15 ys) ea.end eb.end (omega (arith, ea.most)) (omega (arith, eb.most)) (omega (arith, below, above, ea.is, eb.is)) in
+    let less : ea.end < 16 = omega (arith, below, above, short, ea.is, ea.most) in
     let long : length xs ≡ length ys = omega (arith, ea.short less, eb.short (omega (arith, less, both.1)), both.1) in
-    let same : xs ≡ ys = whole xs ys long (λ i lt. same_upto 7 xs ys p.bytes_are q.bytes_are both.0 i (omega (arith, ea.short less))) in
+    let same : xs ≡ ys = whole xs ys long (λ i lt. same_upto 15 xs ys p.bytes_are q.bytes_are both.0 i (omega (arith, ea.short less))) in
     ap (λ (l : List ℕ). slice_cmp nat_cmp xs l) (sym same) ∙ itself xs

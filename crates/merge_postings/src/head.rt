@@ -9,7 +9,7 @@ ghost use Rattle.merge_postings.specs.Renumbering.{moved_at, NumbersRise};
 ghost use Rattle.merge_postings.specs.Walk.{waiting, IsBelow};
 
 use crate::gathered::Gathered;
-use crate::key::{key_of, order_by_keys};
+use crate::key::{Key, key_of, order_by_keys};
 use ix_base::{NoMemory, Term, TermPostings};
 use std::cmp::Ordering;
 use std::marker::Model;
@@ -23,9 +23,9 @@ pub(crate) struct Head<'a> {
     /// The place of the source among all.
     place: usize,
     /// The key of the field of the next entry's term.
-    field: u64,
+    field: Key,
     /// The key of the bytes of the next entry's term.
-    bytes: u64,
+    bytes: Key,
 }
 
 impl<'a> Model for Head<'a> {
@@ -109,38 +109,51 @@ impl<'a> Head<'a> {
         gathered.add(&self.first.rows, self.numbers)
     }
 
+    /// How the field of its next entry is ordered to the other's, by their texts.
+    #[cold]
+    #[inline(never)]
+    fn compare_field_texts(&self, other: &Head<'_>) -> Ordering
+        ensures { result ≡ slice_cmp nat_cmp self.now.first.term.field other.now.first.term.field }
+    {
+        let field = self.first.term.field.as_str();
+        field.cmp(other.first.term.field.as_str())
+    }
+
+    /// How the bytes of its next entry's term are ordered to those of the other's, by their texts.
+    #[cold]
+    #[inline(never)]
+    fn compare_byte_texts(&self, other: &Head<'_>) -> Ordering
+        ensures { result ≡ slice_cmp nat_cmp self.now.first.term.bytes other.now.first.term.bytes }
+    {
+        let bytes = self.first.term.bytes.as_str();
+        bytes.cmp(other.first.term.bytes.as_str())
+    }
+
     /// How the field of its next entry is ordered to the other's.
+    #[inline]
     fn compare_fields(&self, other: &Head<'_>) -> Ordering
         ensures { result ≡ slice_cmp nat_cmp self.now.first.term.field other.now.first.term.field }
     {
         match order_by_keys(self.field, other.field) {
             Some(order) => order,
-            None => self
-                .first
-                .term
-                .field
-                .as_str()
-                .cmp(other.first.term.field.as_str()),
+            None => self.compare_field_texts(other),
         }
     }
 
     /// How the bytes of its next entry's term are ordered to those of the other's.
+    #[inline]
     fn compare_bytes(&self, other: &Head<'_>) -> Ordering
         ensures { result ≡ slice_cmp nat_cmp self.now.first.term.bytes other.now.first.term.bytes }
     {
         match order_by_keys(self.bytes, other.bytes) {
             Some(order) => order,
-            None => self
-                .first
-                .term
-                .bytes
-                .as_str()
-                .cmp(other.first.term.bytes.as_str()),
+            None => self.compare_byte_texts(other),
         }
     }
 
     /// How the term of its next entry is ordered to the other's. Texts are looked at only where their keys
     /// don't tell.
+    #[inline]
     fn compare(&self, other: &Head<'_>) -> Ordering
         ensures { result ≡ term_cmp self.now.first.term other.now.first.term }
     {
@@ -161,6 +174,7 @@ impl<'a> Head<'a> {
     }
 
     /// Whether it is taken after this one.
+    #[inline]
     pub(crate) fn is_after(&self, other: &Head<'_>) -> bool
         ensures after { result ≡ true → ¬ IsBelow self.now.first.term other.now.first.term }
         ensures before { result ≡ false → ¬ IsBelow other.now.first.term self.now.first.term }

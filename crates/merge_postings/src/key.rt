@@ -1,10 +1,30 @@
-//! Texts compared by their first seven bytes and their lengths.
-ghost use Rattle.std.specs.Prelude.{◌≡◌, ◌<◌, ◌^◌, [], ◌∷◌, ℕ, List, IfSome};
+//! Texts compared by their first fifteen bytes and their lengths.
+ghost use Rattle.std.specs.Prelude.{◌≡◌, ◌+◌, ◌*◌, ◌<◌, ◌^◌, [], ◌∷◌, ℕ, List, drop, slice_index, IfSome};
 ghost use Rattle.std.specs.Cmp.Lexicographic.{slice_cmp};
 ghost use Rattle.std.specs.Ordering.{nat_cmp};
 ghost use Rattle.merge_postings.specs.Keys.{HasKey, key};
 
 use std::cmp::Ordering;
+
+/// The first fifteen bytes of a text as a number, the first one the highest, and its length behind them: 16
+/// where it is longer. The number's high and low words.
+#[derive(Clone, Copy, Drop)]
+pub(crate) struct Key {
+    high: u64,
+    low: u64,
+}
+
+/// A number with one byte more behind it: 0 where there is none at this place.
+fn with_byte(number: u64, bytes: &[u8], at: usize) -> u64
+    requires { number < 2 ^ 56 }
+    ensures { result ≡ number * 256 + slice_index bytes.now at }
+{
+    let byte = match bytes.get(at) {
+        Some(byte) => *byte,
+        None => 0,
+    };
+    number * 256 + u64::from(byte)
+}
 
 /// Seven bytes as a number, the first one the highest.
 fn seven_of(a: u8, b: u8, c: u8, d: u8, e: u8, f: u8, g: u8) -> u64
@@ -32,33 +52,66 @@ fn first_seven(bytes: &[u8]) -> u64
     }
 }
 
-/// The first seven bytes of a text as a number, the first one the highest, and its length behind them: 8
-/// where it is longer.
-pub(crate) fn key_of(text: &str) -> u64
+/// The first eight bytes as a number, the first one the highest; 0 stands for each that isn't there.
+fn first_eight(bytes: &[u8]) -> u64
+    ensures { result ≡ key 8 bytes.now }
+{
+    with_byte(first_seven(bytes), bytes, 7)
+}
+
+/// The seven bytes behind the eighth as a number, the first one the highest; 0 stands for each that isn't
+/// there.
+fn next_seven(bytes: &[u8]) -> u64
+    ensures value { result ≡ key 7 (drop 8 bytes.now) }
+    ensures below { result < 2 ^ 56 }
+{
+    if bytes.len() > 8 {
+        first_seven(&bytes[8..])
+    } else {
+        0
+    }
+}
+
+/// The key of a text.
+pub(crate) fn key_of(text: &str) -> Key
     ensures { HasKey result text.now }
 {
     let bytes = text.as_bytes();
-    let seven = first_seven(bytes);
-    if bytes.len() < 8 {
-        seven * 256 + bytes.len() as u64
+    let high = first_eight(bytes);
+    let next = next_seven(bytes);
+    if bytes.len() < 16 {
+        Key {
+            high,
+            low: next * 256 + bytes.len() as u64,
+        }
     } else {
-        seven * 256 + 8
+        Key {
+            high,
+            low: next * 256 + 16,
+        }
     }
 }
 
 /// How all texts with these keys are ordered; `None` where the keys are one, and the texts have more than
-/// seven bytes.
-pub(crate) fn order_by_keys(left: u64, right: u64) -> Option<Ordering>
+/// fifteen bytes.
+#[inline]
+pub(crate) fn order_by_keys(left: Key, right: Key) -> Option<Ordering>
     ensures { (a b : List ℕ) → HasKey left a → HasKey right b
         → IfSome result (λ order. order ≡ slice_cmp nat_cmp a b) }
 {
-    if left < right {
+    if left.high < right.high {
         return Some(Ordering::Less);
     }
-    if right < left {
+    if right.high < left.high {
         return Some(Ordering::Greater);
     }
-    if right % 256 < 8 {
+    if left.low < right.low {
+        return Some(Ordering::Less);
+    }
+    if right.low < left.low {
+        return Some(Ordering::Greater);
+    }
+    if right.low % 256 < 16 {
         return Some(Ordering::Equal);
     }
     None
