@@ -1,91 +1,180 @@
-//! Sources that wait, by their first terms, which don't rise: the last has the least.
-ghost use Rattle.std.specs.Prelude.{◌≡◌, ◌≢◌, ◌||◌, ◌≤◌, ◌++◌, ◌∷◌, [], ℕ, List, length, take, drop, IfNone, IfOk, IfSome, OnOk};
+//! Sources that wait, of which the one whose next term is the least is known: they play against one another in
+//! a tree.
+ghost use Rattle.std.specs.Prelude.{◌≡◌, ◌<◌, ◌≤◌, [], length, IfNone, IfOk, IfSome};
 ghost use Rattle.std.specs.List.{AllByRecursion};
 ghost use Rattle.merge_postings.specs.Renumbering.{CanMove};
 ghost use Rattle.merge_postings.specs.Steps.{AreResumed};
-ghost use Rattle.merge_postings.specs.Walk.{StartFrom, AreQueued, StartUpto, IsPut, IsPutBack, Waiting};
+ghost use Rattle.merge_postings.specs.Tree.{IsFirst, IsPlayed, IsWithin, Plays, WasPlayed, winner_of};
+ghost use Rattle.merge_postings.specs.Walk.{IsPassed, Waiting};
 
 use crate::head::Head;
 use crate::source::Source;
-use crate::waiter::Waiter;
 use ix_base::{NoMemory, Term};
 use std::alloc::Global;
+use std::marker::Model;
 
-/// The place at which this source comes among these, found by halving.
-fn place_of(queue: &[Waiter<'_>], head: &Head<'_>) -> usize
-    requires { AreQueued queue.now }
-    ensures within { result ≤ length queue.now }
-    ensures before { StartFrom head.now.first.term (take result queue.now) }
-    ensures behind { StartUpto head.now.first.term (drop result queue.now) }
-{
-    let mut low = 0;
-    let mut high = queue.len();
-    'halves: while low < high {
-        let middle = low + (high - low) / 2;
-        if queue[middle].head().is_after(head) {
-            low = middle + 1;
-        } else {
-            high = middle;
-        }
-    }
-    low
+/// Sources that wait. Each has a place, from 0. The nodes of a tree are numbered from 1: node x stands above
+/// the nodes 2x and 2x + 1, and the nodes from the number of the sources on are these themselves. At each
+/// node above others stands the place of the source that is taken first of those below it.
+#[derive(Drop)]
+pub(crate) struct Queue<'a> {
+    heads: Vec<Head<'a>>,
+    wins: Vec<usize>,
 }
 
-/// Puts a source among these.
-fn put_waiter<'a>(queue: &mut Vec<Waiter<'a>>, waiter: Waiter<'a>) -> Result<(), NoMemory>
-    requires { AreQueued queue.old.items }
-    ensures put { OnOk result (IsPut waiter.entry queue.old.items queue.new.items) }
-    ensures queued { OnOk result (AreQueued queue.new.items) }
-{
-    let place = place_of(queue.as_slice(), waiter.head());
-    queue.insert(place, waiter)?;
-    Ok(())
+impl<'a> Model for Queue<'a> {
+    ghost use Rattle.std.specs.Prelude.{length};
+    ghost use Rattle.merge_postings.specs.Tree.{IsPlayed, Queued, winner_of};
+
+    ghost Value = { Queued };
+
+    ghost view = { λ q. record {
+      waiting = q.heads.items;
+      place = winner_of q.wins.items (length q.heads.items) 1;
+    } };
+
+    ghost invariant = { λ q. IsPlayed q.heads.items q.wins.items };
 }
 
-/// Puts a source among these, if there is one.
-pub(crate) fn put_back<'a>(
-    queue: &mut Vec<Waiter<'a>>,
-    waiter: Option<Waiter<'a>>,
-) -> Result<(), NoMemory>
-    requires { AreQueued queue.old.items }
-    ensures put { OnOk result (IsPutBack waiter.entry queue.old.items queue.new.items) }
-    ensures queued { OnOk result (AreQueued queue.new.items) }
+/// The place of the source that stands at a node, among so many.
+fn winner_at(wins: &[usize], count: usize, node: usize) -> usize
+    requires wins { length wins.now ≡ count }
+    ensures { result ≡ winner_of wins.now count node }
 {
-    match waiter {
-        Some(waiter) => put_waiter(queue, waiter),
-        None => Ok(()),
+    if node < count {
+        wins[node]
+    } else {
+        node - count
     }
 }
 
-/// The sources that have an entry beyond the term that was reached, by their first terms beyond it.
-pub(crate) fn queue_beyond<'a>(
+/// The two below a node play: the one that is taken first stands there.
+fn play(heads: &[Head<'_>], wins: &mut Vec<usize>, node: usize)
+    requires above { 1 ≤ node }
+    requires within { node < length heads.now }
+    requires wins { IsWithin (length heads.now) wins.old.items }
+    ensures { Plays heads.now wins.old.items node wins.new.items }
+{
+    let count = heads.len();
+    let left = winner_at(wins.as_slice(), count, 2 * node);
+    let right = winner_at(wins.as_slice(), count, 2 * node + 1);
+    if heads[left].is_after(&heads[right]) {
+        wins[node] = right;
+    } else {
+        wins[node] = left;
+    }
+}
+
+/// All above the source at this place play once more, which isn't as it was.
+fn play_above(heads: &[Head<'_>], wins: &mut Vec<usize>, place: usize)
+    requires place { place < length heads.now }
+    requires played { WasPlayed heads.now wins.old.items place }
+    ensures { IsPlayed heads.now wins.new.items }
+{
+    let mut node = (heads.len() + place) / 2;
+    'nodes: while node > 0 {
+        play(heads, wins, node);
+        node = node / 2;
+    }
+}
+
+/// All play.
+fn play_all(heads: &[Head<'_>], wins: &mut Vec<usize>)
+    requires { IsWithin (length heads.now) wins.old.items }
+    ensures { IsPlayed heads.now wins.new.items }
+{
+    let mut node = heads.len();
+    'nodes: while node > 1 {
+        node = node - 1;
+        play(heads, wins, node);
+    }
+}
+
+/// So many times the place 0.
+fn first_places(alloc: Global, count: usize) -> Result<Vec<usize>, NoMemory>
+    ensures { IfOk result (λ places. IsWithin count places.items) }
+{
+    let mut places = Vec::with_capacity(alloc, count)?;
+    for _ in 0..count {
+        places.push(0)?;
+    }
+    Ok(places)
+}
+
+/// Keeps so many of the places, each as 0.
+fn keep_places(places: &mut Vec<usize>, count: usize)
+    requires { count ≤ length places.old.items }
+    ensures { IsWithin count places.new.items }
+{
+    places.truncate(count);
+    for at in 0..count {
+        places[at] = 0;
+    }
+}
+
+/// What waits of the sources behind the term that was reached.
+fn heads_beyond<'a>(
     alloc: Global,
     sources: &[Source<'a>],
     upto: &Option<Term>,
-) -> Result<Vec<Waiter<'a>>, NoMemory>
+) -> Result<Vec<Head<'a>>, NoMemory>
     requires { AllByRecursion CanMove sources.now }
-    ensures { IfOk result (λ queue. AreResumed upto.now sources.now queue.items) }
+    ensures { IfOk result (λ heads. AreResumed upto.now sources.now heads.items) }
 {
-    let mut queue = Vec::with_capacity(alloc, sources.len())?;
+    let mut heads = Vec::with_capacity(alloc, sources.len())?;
     for place in 0..sources.len() {
-        let waiter = sources[place].beyond(alloc, place, upto)?;
-        put_back(&mut queue, waiter)?;
+        if let Some(head) = sources[place].beyond(place, upto) {
+            heads.push(head)?;
+        }
     }
-    Ok(queue)
+    Ok(heads)
 }
 
-/// Takes the last source out, if its first term is this one's.
-pub(crate) fn take_last<'a>(queue: &mut Vec<Waiter<'a>>, head: &Head<'a>) -> Option<Waiter<'a>>
-    ensures some { IfSome result (λ last. queue.old.items ≡ queue.new.items ++ last ∷ []) }
-    ensures term { IfSome result (λ last. last.first.term ≡ head.now.first.term) }
-    ensures none { IfNone result (queue.new.items ≡ queue.old.items) }
-    ensures other { IfNone result ((front : List Waiting) (w : Waiting)
-        → queue.old.items ≡ front ++ w ∷ [] → w.first.term ≢ head.now.first.term) }
-{
-    let last = queue.last()?;
-    if last.head().has_term_of(head) {
-        queue.pop()
-    } else {
-        None
+impl<'a> Queue<'a> {
+    /// The sources that have an entry beyond the term that was reached.
+    pub(crate) fn beyond(
+        alloc: Global,
+        sources: &[Source<'a>],
+        upto: &Option<Term>,
+    ) -> Result<Queue<'a>, NoMemory>
+        requires { AllByRecursion CanMove sources.now }
+        ensures { IfOk result (λ queue. AreResumed upto.now sources.now queue.waiting) }
+    {
+        let heads = heads_beyond(alloc, sources, upto)?;
+        let mut wins = first_places(alloc, heads.len())?;
+        play_all(heads.as_slice(), &mut wins);
+        Ok(Queue { heads, wins })
+    }
+
+    /// The source whose next term is the least; `None` where none waits.
+    pub(crate) fn first(&self) -> Option<&Head<'a>>
+        ensures some { IfSome result (λ head. IsFirst self.now head.now) }
+        ensures none { IfNone result (self.now.waiting ≡ []) }
+    {
+        let place = winner_at(self.wins.as_slice(), self.heads.len(), 1);
+        if place < self.heads.len() {
+            Some(&self.heads[place])
+        } else {
+            None
+        }
+    }
+
+    /// The source whose next term is the least passes its next entry. Where that is its last, it waits no
+    /// more.
+    pub(crate) fn pass(&mut self)
+        ensures { (w : Waiting) → IsFirst self.old w → IsPassed w self.old.waiting self.new.waiting }
+    {
+        let place = winner_at(self.wins.as_slice(), self.heads.len(), 1);
+        if place >= self.heads.len() {
+            return;
+        }
+        if self.heads[place].pass() {
+            play_above(self.heads.as_slice(), &mut self.wins, place);
+        } else {
+            self.heads.remove(place);
+            let count = self.heads.len();
+            keep_places(&mut self.wins, count);
+            play_all(self.heads.as_slice(), &mut self.wins);
+        }
     }
 }

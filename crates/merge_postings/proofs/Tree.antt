@@ -1,0 +1,429 @@
+-- Sources that play against one another in a tree.
+use Rattle.std.proofs.Common.{◌≡◌, ◌≢◌, ℕ, zero, suc, ◌+◌, ◌-◌, ◌*◌, ◌/◌, ◌<◌, ◌≤◌, List, [], ◌∷◌, length, get_or, Bool, true, false, cond, nat_lt, Option, Some, None, ◌⊎◌, inl, inr, refl, sym, ap, ◌∙◌, subst, arith}
+use Rattle.std.specs.List.{AllByRecursion, insert, remove, slice_set}
+use Rattle.std.specs.Option.{IfSome}
+use Rattle.std.proofs.lemmas.Bool.{cases_lt, lt-ltb, ltb-true}
+use Rattle.std.proofs.lemmas.List.Edits.{length-remove}
+use Rattle.std.proofs.lemmas.List.Elements.{All-from_recursion, recursion_from_All}
+use Rattle.std.proofs.lemmas.List.{get_or_default, get_or-set_same, get_or-set_other, length-set}
+use Rattle.ix_base.specs.declared.document.Term.{Term}
+use Rattle.merge_postings.specs.Tree.{IsFirst, IsOfBelow, IsPlayed, Queued, IsUpto, IsWithin, Plays, term_of, winner_of}
+use Rattle.merge_postings.specs.Walk.{IsBelow, IsPassed, IsPutBack, StartFrom, Waiting, waiting}
+use Rattle.merge_postings.proofs.Queued.{less_not_itself, put_again, put_other, removed_other, through}
+
+-- ---- the source at a node
+
+pub at_inner : (wins : List ℕ) (n x : ℕ) → x < n → winner_of wins n x ≡ get_or wins x 0
+at_inner wins n x lt = ap (λ (b : Bool). cond b (get_or wins x 0) (x - n)) (lt-ltb x n lt)
+
+pub at_leaf : (wins : List ℕ) (n x : ℕ) → n ≤ x → winner_of wins n x ≡ x - n
+at_leaf wins n x le = go (nat_lt x n) refl
+  where
+    go : (b : Bool) → nat_lt x n ≡ b → winner_of wins n x ≡ x - n
+    go true e = absurd (omega (arith, ltb-true x n e))
+    go false e = ap (λ (b : Bool). cond b (get_or wins x 0) (x - n)) e
+
+pub winner_within : (wins : List ℕ) (n x : ℕ) → IsWithin n wins → x < 2 * n → winner_of wins n x < n
+winner_within wins n x w lt = go (cases_lt x n)
+  where
+    go : (x < n) ⊎ (n ≤ x) → winner_of wins n x < n
+    go (inl l) = subst (λ (k : ℕ). k < n) (sym (at_inner wins n x l)) (w.each x l)
+    go (inr g) = subst (λ (k : ℕ). k < n) (sym (at_leaf wins n x g)) (omega arith)
+
+-- ---- nodes above a node
+
+pub up : ℕ → ℕ → ℕ
+up zero x = x
+up (suc k) x = up k x / 2
+
+-- the node is this one, or stands above it
+abbrev pub IsAbove : ℕ → ℕ → Type 0
+IsAbove x y = (k : ℕ) × (up k x ≡ y)
+
+half_up : (k x : ℕ) → up k (x / 2) ≡ up k x / 2
+unfolding up
+half_up zero x = refl
+half_up (suc k) x = ap (λ (y : ℕ). y / 2) (half_up k x)
+
+-- a node is above itself
+pub start : (x y : ℕ) → x ≡ y → IsAbove x y
+unfolding up
+start x y e = (0, e)
+
+pub above_half : (x y : ℕ) → IsAbove (x / 2) y → IsAbove x y
+unfolding up
+above_half x y h = (suc h.0, sym (half_up h.0 x) ∙ h.1)
+
+pub above_split : (x y : ℕ) → IsAbove x y → (x ≡ y) ⊎ IsAbove (x / 2) y
+unfolding up
+above_split x y (zero, e) = inl e
+above_split x y (suc k, e) = inr (k, half_up k x ∙ e)
+
+pub above_parent : (x y : ℕ) → IsAbove x y → IsAbove x (y / 2)
+unfolding up
+above_parent x y h = (suc h.0, ap (λ (z : ℕ). z / 2) h.1)
+
+pub above_none : (y : ℕ) → IsAbove 0 y → y ≡ 0
+unfolding up
+above_none y h = sym h.1 ∙ go h.0
+  where
+    go : (k : ℕ) → up k 0 ≡ 0
+    go zero = refl
+    go (suc k) = let e : up k 0 ≡ 0 = go k in omega (arith, e)
+
+-- ---- all but those above a node have played
+
+pub record IsPlayedBut (node : ℕ) (heads : List Waiting) (wins : List ℕ) : Type 0 where
+  pub within : IsWithin (length heads) wins
+  pub below : (x : ℕ) → 1 ≤ x → x < length heads → (IsAbove node x → ⊥) → IsOfBelow wins (length heads) x
+  pub first : (y : ℕ) → 2 ≤ y → y < 2 * length heads → (IsAbove node (y / 2) → ⊥) → IsUpto heads wins y (y / 2)
+
+pub played_end : (heads : List Waiting) (wins : List ℕ) → IsPlayedBut 0 heads wins → IsPlayed heads wins
+played_end heads wins h = record {
+  within = h.within;
+  below = λ x one lt. h.below x one lt (λ a. absurd (omega (arith, above_none x a)));
+  first = λ y two lt. h.first y two lt (λ a. absurd (omega (arith, above_none (y / 2) a)));
+}
+
+-- ---- two nodes play
+
+other_node : (heads : List Waiting) (old new : List ℕ) (node : ℕ) (p : Plays heads old node new) (x : ℕ) → x ≢ node → winner_of new (length heads) x ≡ winner_of old (length heads) x
+other_node heads old new node p x not =
+    ap (λ (v : ℕ). cond (nat_lt x (length heads)) v (x - length heads))
+    (ap (λ (l : List ℕ). get_or l x 0) p.set ∙ get_or-set_other old node x p.winner 0 not)
+
+this_node : (heads : List Waiting) (old new : List ℕ) (node : ℕ) (p : Plays heads old node new) → node < length heads → length old ≡ length heads → winner_of new (length heads) node ≡ p.winner
+this_node heads old new node p lt same =
+    at_inner new (length heads) node lt ∙ ap (λ (l : List ℕ). get_or l node 0) p.set ∙ get_or-set_same old node p.winner 0 (omega (arith, same))
+
+pub plays_within : (heads : List Waiting) (old new : List ℕ) (node : ℕ) → Plays heads old node new → 1 ≤ node → node < length heads → IsWithin (length heads) old → IsWithin (length heads) new
+plays_within heads old new node p one lt w = record {
+  all = ap length p.set ∙ length-set old node p.winner ∙ w.all;
+  each = λ x l. go x l (cases_lt x node) (cases_lt node x);
+}
+  where
+    n : ℕ
+    n = length heads
+
+    low : p.winner < length heads
+    low = elim p.of [
+      | inl e ↦ subst (λ (k : ℕ). k < length heads) (sym e) (winner_within old (length heads) (2 * node) w (omega arith))
+      | inr e ↦ subst (λ (k : ℕ). k < length heads) (sym e) (winner_within old (length heads) (2 * node + 1) w (omega arith))
+    ]
+
+    other : (x : ℕ) → x < length heads → x ≢ node → get_or new x 0 < length heads
+    other x l not = subst (λ (k : ℕ). k < length heads) (sym (ap (λ (l : List ℕ). get_or l x 0) p.set ∙ get_or-set_other old node x p.winner 0 not)) (w.each x l)
+
+    go : (x : ℕ) → x < length heads → (x < node) ⊎ (node ≤ x) → (node < x) ⊎ (x ≤ node) → get_or new x 0 < length heads
+    go x l (inl a) b = other x l (λ e. absurd (omega (arith, e)))
+    go x l (inr a) (inl b) = other x l (λ e. absurd (omega (arith, e)))
+    go x l (inr a) (inr b) =
+        let e : x ≡ node = omega arith in
+        subst (λ (k : ℕ). k < length heads) (sym (ap (λ (k : ℕ). get_or new k 0) e ∙ ap (λ (l : List ℕ). get_or l node 0) p.set ∙ get_or-set_same old node p.winner 0 (omega (arith, w.all)))) low
+
+twice_not : (node : ℕ) → 1 ≤ node → 2 * node ≢ node
+twice_not node one e = absurd (omega (arith, e))
+
+twice_more_not : (node : ℕ) → 2 * node + 1 ≢ node
+twice_more_not node e = absurd (omega (arith, e))
+
+upto_by : (heads : List Waiting) (i j k l : ℕ) → i ≡ k → j ≡ l → ((d : Waiting) → IsBelow (term_of heads i d) (term_of heads j d) → ⊥) → (d : Waiting) → IsBelow (term_of heads k d) (term_of heads l d) → ⊥
+upto_by heads i j k l p q h d low =
+    h d
+    (subst (λ (m : ℕ). IsBelow (term_of heads m d) (term_of heads j d)) (sym p)
+    (subst (λ (m : ℕ). IsBelow (term_of heads k d) (term_of heads m d)) (sym q) low))
+
+pub play_step : (heads : List Waiting) (old new : List ℕ) (node : ℕ) → 1 ≤ node → node < length heads → IsPlayedBut node heads old → Plays heads old node new → IsPlayedBut (node / 2) heads new
+play_step heads old new node one lt h p = record {
+  within = plays_within heads old new node p one lt h.within;
+  below = λ x a b not. below x a b not (cases_lt x node) (cases_lt node x);
+  first = λ y two l not. first y two l not (cases_lt (y / 2) node) (cases_lt node (y / 2));
+}
+  where
+    n : ℕ
+    n = length heads
+
+    here : winner_of new (length heads) node ≡ p.winner
+    here = this_node heads old new node p lt h.within.all
+
+    same : (x : ℕ) → x ≢ node → winner_of new (length heads) x ≡ winner_of old (length heads) x
+    same = other_node heads old new node p
+
+    below_here : IsOfBelow new (length heads) node
+    below_here = elim p.of [
+      | inl e ↦ inl (here ∙ e ∙ sym (same (2 * node) (twice_not node one)))
+      | inr e ↦ inr (here ∙ e ∙ sym (same (2 * node + 1) (twice_more_not node)))
+    ]
+
+    below_other : (x : ℕ) → 1 ≤ x → x < length heads → (IsAbove (node / 2) x → ⊥) → x ≢ node → IsOfBelow new (length heads) x
+    below_other x a b not other =
+        let still = h.below x a b (λ above. elim (above_split node x above) [ inl e ↦ absurd (other (sym e)) | inr m ↦ not m ]) in
+        let first_not : 2 * x ≢ node = λ e. absurd (not (start (node / 2) x (omega (arith, e)))) in
+        let second_not : 2 * x + 1 ≢ node = λ e. absurd (not (start (node / 2) x (omega (arith, e)))) in
+        elim still [
+          | inl e ↦ inl (same x other ∙ e ∙ sym (same (2 * x) first_not))
+          | inr e ↦ inr (same x other ∙ e ∙ sym (same (2 * x + 1) second_not))
+        ]
+
+    below : (x : ℕ) → 1 ≤ x → x < length heads → (IsAbove (node / 2) x → ⊥) → (x < node) ⊎ (node ≤ x) → (node < x) ⊎ (x ≤ node) → IsOfBelow new (length heads) x
+    below x a b not (inl l) c = below_other x a b not (λ e. absurd (omega (arith, e)))
+    below x a b not (inr g) (inl l) = below_other x a b not (λ e. absurd (omega (arith, e)))
+    below x a b not (inr g) (inr k) = let e : node ≡ x = omega arith in subst (IsOfBelow new (length heads)) e below_here
+
+    first_here : (y : ℕ) → y / 2 ≡ node → IsUpto heads new y (y / 2)
+    first_here y e = go (cases_lt y (2 * node + 1))
+      where
+        not : y ≢ node
+        not f = absurd (omega (arith, e, f, one))
+
+        top : p.winner ≡ winner_of new (length heads) (y / 2)
+        top = sym here ∙ ap (winner_of new (length heads)) (sym e)
+
+        go : (y < 2 * node + 1) ⊎ (2 * node + 1 ≤ y) → IsUpto heads new y (y / 2)
+        go (inl l) =
+            let is : 2 * node ≡ y = omega (arith, e) in
+            upto_by heads (winner_of old (length heads) (2 * node)) p.winner (winner_of new (length heads) y) (winner_of new (length heads) (y / 2)) (ap (winner_of old (length heads)) is ∙ sym (same y not)) top p.left
+        go (inr g) =
+            let is : 2 * node + 1 ≡ y = omega (arith, e) in
+            upto_by heads (winner_of old (length heads) (2 * node + 1)) p.winner (winner_of new (length heads) y) (winner_of new (length heads) (y / 2)) (ap (winner_of old (length heads)) is ∙ sym (same y not)) top p.right
+
+    first_other : (y : ℕ) → 2 ≤ y → y < 2 * length heads → (IsAbove (node / 2) (y / 2) → ⊥) → y / 2 ≢ node → IsUpto heads new y (y / 2)
+    first_other y two l not other =
+        let still = h.first y two l (λ above. elim (above_split node (y / 2) above) [ inl e ↦ absurd (other (sym e)) | inr m ↦ not m ]) in
+        let away : y ≢ node = λ e. absurd (not (start (node / 2) (y / 2) (ap (λ (k : ℕ). k / 2) (sym e)))) in
+        upto_by heads (winner_of old (length heads) y) (winner_of old (length heads) (y / 2)) (winner_of new (length heads) y) (winner_of new (length heads) (y / 2)) (sym (same y away)) (sym (same (y / 2) other)) still
+
+    first : (y : ℕ) → 2 ≤ y → y < 2 * length heads → (IsAbove (node / 2) (y / 2) → ⊥) → (y / 2 < node) ⊎ (node ≤ y / 2) → (node < y / 2) ⊎ (y / 2 ≤ node) → IsUpto heads new y (y / 2)
+    first y two l not (inl a) c = first_other y two l not (λ e. absurd (omega (arith, e)))
+    first y two l not (inr a) (inl b) = first_other y two l not (λ e. absurd (omega (arith, e)))
+    first y two l not (inr a) (inr b) = first_here y (omega arith)
+
+at_place : (heads : List Waiting) (i : ℕ) (a d : Waiting) → i < length heads → a ≡ get_or heads i a → a.first.term ≡ term_of heads i d
+at_place heads i a d lt is = ap (λ (w : Waiting). w.first.term) (is ∙ get_or_default heads i a d lt)
+
+-- the one of two that isn't taken after the other stands above them
+wins_at : (heads : List Waiting) (old : List ℕ) (node i j x y : ℕ) (a b : Waiting) → i ≡ winner_of old (length heads) x → j ≡ winner_of old (length heads) y
+    → i < length heads → j < length heads → a ≡ get_or heads i a → b ≡ get_or heads j b → (IsBelow a.first.term b.first.term → ⊥)
+    → (d : Waiting) → IsBelow (term_of heads (winner_of old (length heads) x) d) (term_of heads j d) → ⊥
+wins_at heads old node i j x y a b left right p q is is' not d low =
+    not
+    (subst (λ (t : Term). IsBelow t b.first.term) (sym (at_place heads i a d p is))
+    (subst (λ (t : Term). IsBelow (term_of heads i d) t) (sym (at_place heads j b d q is'))
+    (subst (λ (k : ℕ). IsBelow (term_of heads k d) (term_of heads j d)) (sym left) low)))
+
+itself_at : (heads : List Waiting) (old : List ℕ) (j x : ℕ) → j ≡ winner_of old (length heads) x → (d : Waiting)
+    → IsBelow (term_of heads (winner_of old (length heads) x) d) (term_of heads j d) → ⊥
+itself_at heads old j x is d low = less_not_itself (term_of heads j d) (subst (λ (k : ℕ). IsBelow (term_of heads k d) (term_of heads j d)) (sym is) low)
+
+pub right_wins : (heads : List Waiting) (old : List ℕ) (node i j : ℕ) (a b : Waiting) → i ≡ winner_of old (length heads) (2 * node) → j ≡ winner_of old (length heads) (2 * node + 1)
+    → i < length heads → j < length heads → a ≡ get_or heads i a → b ≡ get_or heads j b → (IsBelow a.first.term b.first.term → ⊥) → Plays heads old node (slice_set old node j)
+right_wins heads old node i j a b left right p q is is' not = record {
+  winner = j;
+  set = refl;
+  of = inr right;
+  left = wins_at heads old node i j (2 * node) (2 * node + 1) a b left right p q is is' not;
+  right = itself_at heads old j (2 * node + 1) right;
+}
+
+pub left_wins : (heads : List Waiting) (old : List ℕ) (node i j : ℕ) (a b : Waiting) → i ≡ winner_of old (length heads) (2 * node) → j ≡ winner_of old (length heads) (2 * node + 1)
+    → i < length heads → j < length heads → a ≡ get_or heads i a → b ≡ get_or heads j b → (IsBelow b.first.term a.first.term → ⊥) → Plays heads old node (slice_set old node i)
+left_wins heads old node i j a b left right p q is is' not = record {
+  winner = i;
+  set = refl;
+  of = inl left;
+  left = itself_at heads old i (2 * node) left;
+  right = wins_at heads old node j i (2 * node + 1) (2 * node) b a right left q p is' is not;
+}
+
+-- ---- a source that isn't as it was
+
+-- a place stands only above the source at it
+winner_place : (wins : List ℕ) (n place : ℕ) → ((x : ℕ) → 1 ≤ x → x < n → IsOfBelow wins n x) → (more z : ℕ) → 1 ≤ z → z < 2 * n → 2 * n ≤ z + more → winner_of wins n z ≡ place
+    → (z ≡ n + place) ⊎ IsAbove ((n + place) / 2) z
+winner_place wins n place below zero z one lt most e = absurd (omega arith)
+winner_place wins n place below (suc more) z one lt most e = go (λ c. winner_place wins n place below more c) (cases_lt z n)
+  where
+    inner : (c : ℕ) → c / 2 ≡ z → (c ≡ n + place) ⊎ IsAbove ((n + place) / 2) c → (z ≡ n + place) ⊎ IsAbove ((n + place) / 2) z
+    inner c half (inl q) = inr (start ((n + place) / 2) z (ap (λ (k : ℕ). k / 2) (sym q) ∙ half))
+    inner c half (inr a) = inr (subst (IsAbove ((n + place) / 2)) half (above_parent ((n + place) / 2) c a))
+
+    go : ((c : ℕ) → 1 ≤ c → c < 2 * n → 2 * n ≤ c + more → winner_of wins n c ≡ place → (c ≡ n + place) ⊎ IsAbove ((n + place) / 2) c)
+        → (z < n) ⊎ (n ≤ z) → (z ≡ n + place) ⊎ IsAbove ((n + place) / 2) z
+    go again (inl l) = elim (below z one l) [
+      | inl f ↦ inner (2 * z) (omega arith) (again (2 * z) (omega arith) (omega arith) (omega arith) (sym f ∙ e))
+      | inr f ↦ inner (2 * z + 1) (omega arith) (again (2 * z + 1) (omega arith) (omega arith) (omega arith) (sym f ∙ e))
+    ]
+    go again (inr g) = inl (omega (arith, sym (at_leaf wins n z g) ∙ e))
+
+pub played_start : (old heads : List Waiting) (wins : List ℕ) (place : ℕ) (source : Waiting) → IsPlayed old wins → heads ≡ slice_set old place source → place < length heads
+    → IsPlayedBut ((length heads + place) / 2) heads wins
+played_start old heads wins place source played is lt = record {
+  within = subst (λ (n : ℕ). IsWithin n wins) (sym same) played.within;
+  below = λ x a b not. below x a b;
+  first = λ y two l not. first y two l not;
+}
+  where
+    same : length heads ≡ length old
+    same = ap length is ∙ length-set old place source
+
+    below : (x : ℕ) → 1 ≤ x → x < length heads → IsOfBelow wins (length heads) x
+    below x a b = subst (λ (n : ℕ). IsOfBelow wins n x) (sym same) (played.below x a (omega (arith, same)))
+
+    unchanged : (i : ℕ) (d : Waiting) → i ≢ place → term_of heads i d ≡ term_of old i d
+    unchanged i d not = ap (λ (l : List Waiting). (get_or l i d).first.term) is ∙ ap (λ (w : Waiting). w.first.term) (get_or-set_other old place i source d not)
+
+    first : (y : ℕ) → 2 ≤ y → y < 2 * length heads → (IsAbove ((length heads + place) / 2) (y / 2) → ⊥) → IsUpto heads wins y (y / 2)
+    first y two l not d low =
+        let m : ℕ = (length heads + place) / 2 in
+        let child : winner_of wins (length heads) y ≢ place = λ e.
+        elim (winner_place wins (length heads) place below (2 * length heads) y (omega arith) l (omega arith) e) [
+          | inl q ↦ absurd (not (start m (y / 2) (ap (λ (k : ℕ). k / 2) (sym q))))
+          | inr a ↦ absurd (not (above_parent m y a))
+        ] in
+        let parent : winner_of wins (length heads) (y / 2) ≢ place = λ e.
+        elim (winner_place wins (length heads) place below (2 * length heads) (y / 2) (omega arith) (omega arith) (omega arith) e) [
+          | inl q ↦ absurd (omega (arith, q, l))
+          | inr a ↦ absurd (not a)
+        ] in
+        played.first y two (omega (arith, same)) d
+        (subst (λ (n : ℕ). IsBelow (term_of old (winner_of wins n y) d) (term_of old (winner_of wins n (y / 2)) d)) same
+        (subst (λ (t : Term). IsBelow t (term_of old (winner_of wins (length heads) (y / 2)) d)) (unchanged (winner_of wins (length heads) y) d child)
+        (subst (λ (t : Term). IsBelow (term_of heads (winner_of wins (length heads) y) d) t) (unchanged (winner_of wins (length heads) (y / 2)) d parent) low)))
+
+-- ---- all play, from the last node on
+
+pub record IsPlayedFrom (node : ℕ) (heads : List Waiting) (wins : List ℕ) : Type 0 where
+  pub within : IsWithin (length heads) wins
+  pub below : (x : ℕ) → node ≤ x → x < length heads → IsOfBelow wins (length heads) x
+  pub first : (y : ℕ) → node ≤ y / 2 → y < 2 * length heads → IsUpto heads wins y (y / 2)
+
+pub from_start : (heads : List Waiting) (wins : List ℕ) → IsWithin (length heads) wins → IsPlayedFrom (length heads) heads wins
+from_start heads wins w = record {
+  within = w;
+  below = λ x le lt. absurd (omega (arith, le, lt));
+  first = λ y le lt. absurd (omega (arith, le, lt));
+}
+
+pub from_end : (heads : List Waiting) (wins : List ℕ) (node : ℕ) → node ≤ 1 → IsPlayedFrom node heads wins → IsPlayed heads wins
+from_end heads wins node le h = record {
+  within = h.within;
+  below = λ x one lt. h.below x (omega arith) lt;
+  first = λ y two lt. h.first y (omega arith) lt;
+}
+
+pub from_step : (heads : List Waiting) (old new : List ℕ) (node : ℕ) → 1 ≤ node → node < length heads → IsPlayedFrom (node + 1) heads old → Plays heads old node new → IsPlayedFrom node heads new
+from_step heads old new node one lt h p = record {
+  within = plays_within heads old new node p one lt h.within;
+  below = λ x a b. below x a b (cases_lt node x);
+  first = λ y a b. first y a b (cases_lt node (y / 2));
+}
+  where
+    here : winner_of new (length heads) node ≡ p.winner
+    here = this_node heads old new node p lt h.within.all
+
+    same : (x : ℕ) → x ≢ node → winner_of new (length heads) x ≡ winner_of old (length heads) x
+    same = other_node heads old new node p
+
+    below_here : IsOfBelow new (length heads) node
+    below_here = elim p.of [
+      | inl e ↦ inl (here ∙ e ∙ sym (same (2 * node) (twice_not node one)))
+      | inr e ↦ inr (here ∙ e ∙ sym (same (2 * node + 1) (twice_more_not node)))
+    ]
+
+    below : (x : ℕ) → node ≤ x → x < length heads → (node < x) ⊎ (x ≤ node) → IsOfBelow new (length heads) x
+    below x a b (inl l) =
+        let at : x ≢ node = λ e. absurd (omega (arith, e)) in
+        let left : 2 * x ≢ node = λ e. absurd (omega (arith, e)) in
+        let right : 2 * x + 1 ≢ node = λ e. absurd (omega (arith, e)) in
+        elim (h.below x (omega arith) b) [
+          | inl e ↦ inl (same x at ∙ e ∙ sym (same (2 * x) left))
+          | inr e ↦ inr (same x at ∙ e ∙ sym (same (2 * x + 1) right))
+        ]
+    below x a b (inr g) = let e : node ≡ x = omega arith in subst (IsOfBelow new (length heads)) e below_here
+
+    first_here : (y : ℕ) → y / 2 ≡ node → (y < 2 * node + 1) ⊎ (2 * node + 1 ≤ y) → IsUpto heads new y (y / 2)
+    first_here y e (inl l) =
+        let is : 2 * node ≡ y = omega (arith, e) in
+        let not : y ≢ node = λ f. absurd (omega (arith, e, f, one)) in
+        upto_by heads (winner_of old (length heads) (2 * node)) p.winner (winner_of new (length heads) y) (winner_of new (length heads) (y / 2)) (ap (winner_of old (length heads)) is ∙ sym (same y not)) (sym here ∙ ap (winner_of new (length heads)) (sym e)) p.left
+    first_here y e (inr g) =
+        let is : 2 * node + 1 ≡ y = omega (arith, e) in
+        let not : y ≢ node = λ f. absurd (omega (arith, e, f, one)) in
+        upto_by heads (winner_of old (length heads) (2 * node + 1)) p.winner (winner_of new (length heads) y) (winner_of new (length heads) (y / 2)) (ap (winner_of old (length heads)) is ∙ sym (same y not)) (sym here ∙ ap (winner_of new (length heads)) (sym e)) p.right
+
+    first : (y : ℕ) → node ≤ y / 2 → y < 2 * length heads → (node < y / 2) ⊎ (y / 2 ≤ node) → IsUpto heads new y (y / 2)
+    first y a b (inl l) =
+        let at : y ≢ node = λ e. absurd (omega (arith, e)) in
+        let top : y / 2 ≢ node = λ e. absurd (omega (arith, e)) in
+        upto_by heads (winner_of old (length heads) y) (winner_of old (length heads) (y / 2)) (winner_of new (length heads) y) (winner_of new (length heads) (y / 2)) (sym (same y at)) (sym (same (y / 2) top)) (h.first y (omega arith) b)
+    first y a b (inr g) = first_here y (omega arith) (cases_lt y (2 * node + 1))
+
+-- ---- the one that is taken first of all
+
+least : (heads : List Waiting) (wins : List ℕ) → IsPlayed heads wins → (more z : ℕ) → 1 ≤ z → z < 2 * length heads → z ≤ more → IsUpto heads wins z 1
+least heads wins h zero z one lt most = absurd (omega arith)
+least heads wins h (suc more) z one lt most = go (λ y. least heads wins h more y) (cases_lt z 2)
+  where
+    go : ((y : ℕ) → 1 ≤ y → y < 2 * length heads → y ≤ more → IsUpto heads wins y 1) → (z < 2) ⊎ (2 ≤ z) → IsUpto heads wins z 1
+    go again (inl l) d low =
+        let e : z ≡ 1 = omega arith in
+        less_not_itself (term_of heads (winner_of wins (length heads) 1) d)
+        (subst (λ (k : ℕ). IsBelow (term_of heads (winner_of wins (length heads) k) d) (term_of heads (winner_of wins (length heads) 1) d)) e low)
+    go again (inr g) d low =
+        through (term_of heads (winner_of wins (length heads) z) d) (term_of heads (winner_of wins (length heads) (z / 2)) d) (term_of heads (winner_of wins (length heads) 1) d)
+        (h.first z g lt d) (again (z / 2) (omega arith) (omega arith) (omega arith) d) low
+
+pub first_is_least : (heads : List Waiting) (wins : List ℕ) (w : Waiting) → IsPlayed heads wins → 1 ≤ length heads → ((d : Waiting) → get_or heads (winner_of wins (length heads) 1) d ≡ w)
+    → StartFrom w.first.term heads
+first_is_least heads wins w h some is = recursion_from_All (λ (v : Waiting). IsBelow v.first.term w.first.term → ⊥) heads each
+  where
+    each : (i : ℕ) (d : Waiting) → i < length heads → IsBelow (get_or heads i d).first.term w.first.term → ⊥
+    each i d lt low =
+        let n : ℕ = length heads in
+        let leaf : winner_of wins (length heads) (length heads + i) ≡ i = at_leaf wins (length heads) (length heads + i) (omega arith) ∙ omega arith in
+        least heads wins h (length heads + i) (length heads + i) (omega arith) (omega arith) (omega arith) d
+        (subst (λ (k : ℕ). IsBelow (term_of heads k d) (term_of heads (winner_of wins (length heads) 1) d)) (sym leaf)
+        (subst (λ (v : Waiting). IsBelow (term_of heads i d) v.first.term) (sym (is d)) low))
+
+-- ---- the source that is taken first
+
+-- what is taken first stands among the others
+pub first_among : (P : Waiting → Type 0) (q : Queued) (w : Waiting) → IsFirst q w → AllByRecursion P q.waiting → P w
+first_among P q w h all = subst P (h.is w) (All-from_recursion P q.waiting all q.place w h.within)
+
+pub is_first : (heads : List Waiting) (wins : List ℕ) (w : Waiting) → IsPlayed heads wins → 1 ≤ length heads → get_or heads (winner_of wins (length heads) 1) w ≡ w
+    → IsFirst (record { waiting = heads; place = winner_of wins (length heads) 1 }) w
+is_first heads wins w h some is =
+    let within : winner_of wins (length heads) 1 < length heads = winner_within wins (length heads) 1 h.within (omega arith) in
+    let each : (d : Waiting) → get_or heads (winner_of wins (length heads) 1) d ≡ w = λ d. get_or_default heads (winner_of wins (length heads) 1) d w within ∙ is in
+    record { within = within; is = each; from = first_is_least heads wins w h some each }
+
+some_one : (o : Option Waiting) (v : Waiting) (others new : List Waiting) (place : ℕ) → o ≡ Some v → place ≤ length others → new ≡ insert others place v → IsPutBack o others new
+some_one o v others new place is le put = subst (λ (x : Option Waiting). IsPutBack x others new) (sym is) (place, le, put)
+
+pub passed_on : (heads : List Waiting) (place : ℕ) (w v : Waiting) → place < length heads → ((d : Waiting) → get_or heads place d ≡ w) → waiting w.rest w.numbers ≡ Some v
+    → IsBelow w.first.term v.first.term → IsPassed w heads (slice_set heads place v)
+passed_on heads place w v lt is next rises =
+    let le : place ≤ length (remove heads place) = omega (arith, length-remove heads place lt) in
+    record {
+      others = remove heads place;
+      was = (place, le, sym (ap (insert (remove heads place) place) (sym (is w)) ∙ put_again heads place w lt));
+      back = some_one (waiting w.rest w.numbers) v (remove heads place) (slice_set heads place v) place next le (sym (put_other heads place v lt));
+      rises = subst (λ (o : Option Waiting). IfSome o (λ (x : Waiting). IsBelow w.first.term x.first.term)) (sym next) rises;
+    }
+
+pub passed_last : (heads : List Waiting) (place : ℕ) (w v : Waiting) → place < length heads → ((d : Waiting) → get_or heads place d ≡ w) → waiting w.rest w.numbers ≡ None
+    → IsPassed w heads (remove (slice_set heads place v) place)
+passed_last heads place w v lt is none =
+    let le : place ≤ length (remove heads place) = omega (arith, length-remove heads place lt) in
+    record {
+      others = remove heads place;
+      was = (place, le, sym (ap (insert (remove heads place) place) (sym (is w)) ∙ put_again heads place w lt));
+      back = subst (λ (o : Option Waiting). IsPutBack o (remove heads place) (remove (slice_set heads place v) place)) (sym none) (removed_other heads place v);
+      rises = subst (λ (o : Option Waiting). IfSome o (λ (x : Waiting). IsBelow w.first.term x.first.term)) (sym none) tt;
+    }
+
+-- where the place is that of no source, there is none
+pub none_waits_here : (heads : List Waiting) (wins : List ℕ) → IsPlayed heads wins → length heads ≤ winner_of wins (length heads) 1 → heads ≡ []
+none_waits_here [] wins h le = refl
+none_waits_here (w ∷ ws) wins h le = absurd (omega (arith, le, winner_within wins (length (w ∷ ws)) 1 h.within (omega arith)))
