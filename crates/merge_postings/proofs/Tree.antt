@@ -7,7 +7,7 @@ use Rattle.std.proofs.lemmas.List.Edits.{length-remove}
 use Rattle.std.proofs.lemmas.List.Elements.{All-from_recursion, recursion_from_All}
 use Rattle.std.proofs.lemmas.List.{get_or_default, get_or-set_same, get_or-set_other, length-set}
 use Rattle.ix_base.specs.declared.document.Term.{Term}
-use Rattle.merge_postings.specs.Tree.{IsFirst, IsOfBelow, IsPlayed, Queued, IsUpto, IsWithin, Plays, term_of, winner_of}
+use Rattle.merge_postings.specs.Tree.{IsFirst, IsFirstOf, IsOfBelow, IsPlayed, Queued, IsUpto, IsWithin, Plays, term_of, winner_of}
 use Rattle.merge_postings.specs.Walk.{IsBelow, IsPassed, IsPutBack, StartFrom, Waiting, waiting}
 use Rattle.merge_postings.proofs.Queued.{less_not_itself, put_again, put_other, removed_other, through}
 
@@ -95,6 +95,9 @@ other_node heads old new node p x not =
 this_node : (heads : List Waiting) (old new : List ℕ) (node : ℕ) (p : Plays heads old node new) → node < length heads → length old ≡ length heads → winner_of new (length heads) node ≡ p.winner
 this_node heads old new node p lt same =
     at_inner new (length heads) node lt ∙ ap (λ (l : List ℕ). get_or l node 0) p.set ∙ get_or-set_same old node p.winner 0 (omega (arith, same))
+
+pub set_node : (wins : List ℕ) (n node r : ℕ) → node < n → length wins ≡ n → winner_of (slice_set wins node r) n node ≡ r
+set_node wins n node r lt same = at_inner (slice_set wins node r) n node lt ∙ get_or-set_same wins node r 0 (omega (arith, same))
 
 pub plays_within : (heads : List Waiting) (old new : List ℕ) (node : ℕ) → Plays heads old node new → 1 ≤ node → node < length heads → IsWithin (length heads) old → IsWithin (length heads) new
 plays_within heads old new node p one lt w = record {
@@ -201,39 +204,57 @@ play_step heads old new node one lt h p = record {
 at_place : (heads : List Waiting) (i : ℕ) (a d : Waiting) → i < length heads → a ≡ get_or heads i a → a.first.term ≡ term_of heads i d
 at_place heads i a d lt is = ap (λ (w : Waiting). w.first.term) (is ∙ get_or_default heads i a d lt)
 
--- the one of two that isn't taken after the other stands above them
-wins_at : (heads : List Waiting) (old : List ℕ) (node i j x y : ℕ) (a b : Waiting) → i ≡ winner_of old (length heads) x → j ≡ winner_of old (length heads) y
-    → i < length heads → j < length heads → a ≡ get_or heads i a → b ≡ get_or heads j b → (IsBelow a.first.term b.first.term → ⊥)
-    → (d : Waiting) → IsBelow (term_of heads (winner_of old (length heads) x) d) (term_of heads j d) → ⊥
-wins_at heads old node i j x y a b left right p q is is' not d low =
+itself_at : (heads : List Waiting) (i : ℕ) (d : Waiting) → IsBelow (term_of heads i d) (term_of heads i d) → ⊥
+itself_at heads i d low = less_not_itself (term_of heads i d) low
+
+-- where one isn't taken after the other
+not_below : (heads : List Waiting) (i j : ℕ) (a b : Waiting) → i < length heads → j < length heads → a ≡ get_or heads i a → b ≡ get_or heads j b
+    → (IsBelow a.first.term b.first.term → ⊥) → (d : Waiting) → IsBelow (term_of heads i d) (term_of heads j d) → ⊥
+not_below heads i j a b p q is is' not d low =
     not
     (subst (λ (t : Term). IsBelow t b.first.term) (sym (at_place heads i a d p is))
-    (subst (λ (t : Term). IsBelow (term_of heads i d) t) (sym (at_place heads j b d q is'))
-    (subst (λ (k : ℕ). IsBelow (term_of heads k d) (term_of heads j d)) (sym left) low)))
+    (subst (λ (t : Term). IsBelow (term_of heads i d) t) (sym (at_place heads j b d q is')) low))
 
-itself_at : (heads : List Waiting) (old : List ℕ) (j x : ℕ) → j ≡ winner_of old (length heads) x → (d : Waiting)
-    → IsBelow (term_of heads (winner_of old (length heads) x) d) (term_of heads j d) → ⊥
-itself_at heads old j x is d low = less_not_itself (term_of heads j d) (subst (λ (k : ℕ). IsBelow (term_of heads k d) (term_of heads j d)) (sym is) low)
+pub other_first : (heads : List Waiting) (i j : ℕ) (a b : Waiting) → i < length heads → j < length heads → a ≡ get_or heads i a → b ≡ get_or heads j b
+    → (IsBelow a.first.term b.first.term → ⊥) → IsFirstOf heads i j j
+other_first heads i j a b p q is is' not = record { of = inr refl; one_upto = not_below heads i j a b p q is is' not; other_upto = itself_at heads j }
 
-pub right_wins : (heads : List Waiting) (old : List ℕ) (node i j : ℕ) (a b : Waiting) → i ≡ winner_of old (length heads) (2 * node) → j ≡ winner_of old (length heads) (2 * node + 1)
-    → i < length heads → j < length heads → a ≡ get_or heads i a → b ≡ get_or heads j b → (IsBelow a.first.term b.first.term → ⊥) → Plays heads old node (slice_set old node j)
-right_wins heads old node i j a b left right p q is is' not = record {
-  winner = j;
+pub one_first : (heads : List Waiting) (i j : ℕ) (a b : Waiting) → i < length heads → j < length heads → a ≡ get_or heads i a → b ≡ get_or heads j b
+    → (IsBelow b.first.term a.first.term → ⊥) → IsFirstOf heads i j i
+one_first heads i j a b p q is is' not = record { of = inl refl; one_upto = itself_at heads i; other_upto = not_below heads j i b a q p is' is not }
+
+-- the first of the two below a node stands there
+pub first_plays : (heads : List Waiting) (old : List ℕ) (node i j r : ℕ) → i ≡ winner_of old (length heads) (2 * node) → j ≡ winner_of old (length heads) (2 * node + 1)
+    → IsFirstOf heads i j r → Plays heads old node (slice_set old node r)
+first_plays heads old node i j r left right first = record {
+  winner = r;
   set = refl;
-  of = inr right;
-  left = wins_at heads old node i j (2 * node) (2 * node + 1) a b left right p q is is' not;
-  right = itself_at heads old j (2 * node + 1) right;
+  of = elim first.of [ inl e ↦ inl (e ∙ left) | inr e ↦ inr (e ∙ right) ];
+  left = λ d low. first.one_upto d (subst (λ (k : ℕ). IsBelow (term_of heads k d) (term_of heads r d)) (sym left) low);
+  right = λ d low. first.other_upto d (subst (λ (k : ℕ). IsBelow (term_of heads k d) (term_of heads r d)) (sym right) low);
 }
 
-pub left_wins : (heads : List Waiting) (old : List ℕ) (node i j : ℕ) (a b : Waiting) → i ≡ winner_of old (length heads) (2 * node) → j ≡ winner_of old (length heads) (2 * node + 1)
-    → i < length heads → j < length heads → a ≡ get_or heads i a → b ≡ get_or heads j b → (IsBelow b.first.term a.first.term → ⊥) → Plays heads old node (slice_set old node i)
-left_wins heads old node i j a b left right p q is is' not = record {
-  winner = i;
-  set = refl;
-  of = inl left;
-  left = itself_at heads old i (2 * node) left;
-  right = wins_at heads old node j i (2 * node + 1) (2 * node) b a right left q p is' is not;
-}
+-- the same, where one of the two stands at the node x, and the other beside it
+pub beside_plays : (heads : List Waiting) (old : List ℕ) (x y i j r : ℕ) → y + x ≡ 4 * (x / 2) + 1 → i ≡ winner_of old (length heads) x → j ≡ winner_of old (length heads) y
+    → IsFirstOf heads i j r → Plays heads old (x / 2) (slice_set old (x / 2) r)
+beside_plays heads old x y i j r sum at_x at_y first = go (cases_lt x y)
+  where
+    go : (x < y) ⊎ (y ≤ x) → Plays heads old (x / 2) (slice_set old (x / 2) r)
+    go (inl l) =
+        let a : x ≡ 2 * (x / 2) = omega (arith, sum) in
+        let b : y ≡ 2 * (x / 2) + 1 = omega (arith, sum) in
+        first_plays heads old (x / 2) i j r (at_x ∙ ap (winner_of old (length heads)) a) (at_y ∙ ap (winner_of old (length heads)) b) first
+    go (inr g) =
+        let a : y ≡ 2 * (x / 2) = omega (arith, sum) in
+        let b : x ≡ 2 * (x / 2) + 1 = omega (arith, sum) in
+        let other : IsFirstOf heads j i r = record { of = elim first.of [ inl e ↦ inr e | inr e ↦ inl e ]; one_upto = first.other_upto; other_upto = first.one_upto } in
+        first_plays heads old (x / 2) j i r (at_y ∙ ap (winner_of old (length heads)) a) (at_x ∙ ap (winner_of old (length heads)) b) other
+
+pub first_within : (heads : List Waiting) (i j r : ℕ) → i < length heads → j < length heads → IsFirstOf heads i j r → r < length heads
+first_within heads i j r p q first = elim first.of [
+  | inl e ↦ subst (λ (k : ℕ). k < length heads) (sym e) p
+  | inr e ↦ subst (λ (k : ℕ). k < length heads) (sym e) q
+]
 
 -- ---- a source that isn't as it was
 

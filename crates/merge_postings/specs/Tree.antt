@@ -37,6 +37,12 @@ pub record IsPlayed (heads : List Waiting) (wins : List ℕ) : Type 0 where
   pub below : (x : ℕ) → 1 ≤ x → x < length heads → IsOfBelow wins (length heads) x
   pub first : (y : ℕ) → 2 ≤ y → y < 2 * length heads → IsUpto heads wins y (y / 2)
 
+-- the place is that of the one of the two sources that is taken first
+pub record IsFirstOf (heads : List Waiting) (one other place : ℕ) : Type 0 where
+  pub of : (place ≡ one) ⊎ (place ≡ other)
+  pub one_upto : (d : Waiting) → IsBelow (term_of heads one d) (term_of heads place d) → ⊥
+  pub other_upto : (d : Waiting) → IsBelow (term_of heads other d) (term_of heads place d) → ⊥
+
 -- the two below the node have played
 pub record Plays (heads : List Waiting) (old : List ℕ) (node : ℕ) (new : List ℕ) : Type 0 where
   pub winner : ℕ

@@ -1,10 +1,10 @@
 //! Sources that wait, of which the one whose next term is the least is known: they play against one another in
 //! a tree.
-ghost use Rattle.std.specs.Prelude.{◌≡◌, ◌<◌, ◌≤◌, [], length, IfNone, IfOk, IfSome};
+ghost use Rattle.std.specs.Prelude.{◌≡◌, ◌+◌, ◌*◌, ◌/◌, ◌^◌, ◌<◌, ◌≤◌, [], length, IfNone, IfOk, IfSome};
 ghost use Rattle.std.specs.List.{AllByRecursion};
 ghost use Rattle.merge_postings.specs.Renumbering.{CanMove};
 ghost use Rattle.merge_postings.specs.Steps.{AreResumed};
-ghost use Rattle.merge_postings.specs.Tree.{IsFirst, IsPlayed, IsWithin, Plays, WasPlayed, winner_of};
+ghost use Rattle.merge_postings.specs.Tree.{IsFirst, IsFirstOf, IsPlayed, IsWithin, Plays, WasPlayed, winner_of};
 ghost use Rattle.merge_postings.specs.Walk.{IsPassed, Waiting};
 
 use crate::head::Head;
@@ -48,6 +48,20 @@ fn winner_at(wins: &[usize], count: usize, node: usize) -> usize
     }
 }
 
+/// The one of two sources that is taken first.
+#[inline]
+fn first_of(heads: &[Head<'_>], one: usize, other: usize) -> usize
+    requires one { one < length heads.now }
+    requires other { other < length heads.now }
+    ensures { IsFirstOf heads.now one other result }
+{
+    if heads[one].is_after(&heads[other]) {
+        other
+    } else {
+        one
+    }
+}
+
 /// The two below a node play: the one that is taken first stands there.
 fn play(heads: &[Head<'_>], wins: &mut Vec<usize>, node: usize)
     requires above { 1 ≤ node }
@@ -58,11 +72,17 @@ fn play(heads: &[Head<'_>], wins: &mut Vec<usize>, node: usize)
     let count = heads.len();
     let left = winner_at(wins.as_slice(), count, 2 * node);
     let right = winner_at(wins.as_slice(), count, 2 * node + 1);
-    if heads[left].is_after(&heads[right]) {
-        wins[node] = right;
-    } else {
-        wins[node] = left;
-    }
+    wins[node] = first_of(heads, left, right);
+}
+
+/// The node that has the same one above it.
+#[inline]
+fn beside(node: usize) -> usize
+    requires some { 1 ≤ node }
+    requires fits { node + 1 < 2 ^ 64 }
+    ensures { result + node ≡ 4 * (node / 2) + 1 }
+{
+    if node % 2 == 0 { node + 1 } else { node - 1 }
 }
 
 /// All above the source at this place play once more, which isn't as it was.
@@ -71,10 +91,14 @@ fn play_above(heads: &[Head<'_>], wins: &mut Vec<usize>, place: usize)
     requires played { WasPlayed heads.now wins.old.items place }
     ensures { IsPlayed heads.now wins.new.items }
 {
-    let mut node = (heads.len() + place) / 2;
-    'nodes: while node > 0 {
-        play(heads, wins, node);
+    let count = heads.len();
+    let mut node = count + place;
+    let mut first = place;
+    'nodes: while node > 1 {
+        let other = winner_at(wins.as_slice(), count, beside(node));
+        first = first_of(heads, first, other);
         node = node / 2;
+        wins[node] = first;
     }
 }
 
