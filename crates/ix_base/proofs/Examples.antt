@@ -5,11 +5,12 @@ use Rattle.caseless.proofs.Computing.{caseless}
 use Rattle.ix_base.specs.Terms.{Place, terms}
 use Rattle.ix_base.specs.Tree.{all, term, phrase, range, bool, no_trees, tree}
 use Rattle.ix_base.specs.Matches.{matches}
+use Rattle.ix_base.specs.Births.{birth_of, row_born}
 use Rattle.ix_base.specs.Steps.{Named, after}
 use Rattle.ix_base.specs.Documents.{Document}
 use Rattle.ix_base.specs.declared.document.Term.{Term}
 use Rattle.ix_base.specs.declared.document.Row.{Row}
-use Rattle.ix_base.specs.declared.document.Operation.TheVariants.{Add, Update, DeleteTerm, DeleteQuery, SetNumber, Commit}
+use Rattle.ix_base.specs.declared.document.Operation.TheVariants.{Add, AddBlock, Update, UpdateBlock, DeleteTerm, DeleteQuery, SetNumber, Commit}
 use Rattle.ix_base.specs.declared.query.Query.TheVariants as query
 
 -- a document with a key and nothing else
@@ -25,7 +26,7 @@ abbrev with_body : List ℕ → Document
 with_body body = record { key = codes "a1"; text = (codes "body", body) ∷ []; exact = []; num = [] }
 
 abbrev row_of : ℕ → Document → Row
-row_of birth doc = record { birth = birth; doc = doc }
+row_of number doc = row_born number doc
 
 abbrev key_term : List ℕ → Term
 key_term key = record { field = codes "key"; bytes = key }
@@ -146,3 +147,14 @@ set_before_a_range : after [] 0 (Add (tagged (codes "a1") (codes "x") ((codes "p
     ≡ row_of 1 (tagged (codes "a1") (codes "x") ((codes "price", pos 9) ∷ [])) ∷ []
 unfolding unicode_segmentation caseless
 set_before_a_range = refl
+
+-- ---- blocks
+
+block_in_order : after [] 0 (AddBlock (of_key (codes "p1") ∷ of_key (codes "p2") ∷ []) ∷ []) ≡ record { birth = birth_of 1 0; doc = of_key (codes "p1") } ∷ record { birth = birth_of 1 1; doc = of_key (codes "p2") } ∷ []
+unfolding unicode_segmentation caseless
+block_in_order = refl
+
+block_replaces : after [] 0 (AddBlock (of_key (codes "p1") ∷ of_key (codes "p2") ∷ []) ∷ UpdateBlock (key_term (codes "p1")) (of_key (codes "p1") ∷ []) ∷ [])
+    ≡ record { birth = birth_of 1 1; doc = of_key (codes "p2") } ∷ record { birth = birth_of 2 0; doc = of_key (codes "p1") } ∷ []
+unfolding unicode_segmentation caseless
+block_replaces = refl

@@ -22,7 +22,9 @@ pub data Entry : Type 0 where
 -- An operation's entry. A turn is no operation: it ends a round.
 abbrev pub entry_of : Operation → Entry
 entry_of (o.Add doc) = add
+entry_of (o.AddBlock docs) = add
 entry_of (o.Update term doc) = update term
+entry_of (o.UpdateBlock term docs) = update term
 entry_of (o.DeleteTerm term) = delete_term term
 entry_of (o.DeleteQuery query) = delete_query (tree_of query)
 entry_of (o.SetNumber term num value) = set_number term num value

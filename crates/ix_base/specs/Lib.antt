@@ -1,6 +1,7 @@
 pub mod Limits
 pub mod Text
 pub mod Documents
+pub mod Births
 pub mod FileNames
 pub mod Tree
 pub mod Query

@@ -4,6 +4,8 @@ ghost use Rattle.ix_base.specs.Documents.{is_apart};
 ghost use Rattle.ix_base.specs.Hits.{hit_of};
 ghost use Rattle.ix_base.specs.Limits.{share_name};
 
+use crate::birth::Birth;
+use crate::block::Block;
 use crate::fields::{Fields, Numbers};
 use crate::memory::NoMemory;
 use crate::query::Query;
@@ -39,10 +41,10 @@ impl Model for Document {
     ghost invariant = { λ doc. is_apart (record { key = doc.key; text = doc.text; exact = doc.exact; num = doc.num }) ≡ true };
 }
 
-/// A document in an index, with the number of the operation that added it.
+/// A document in an index, with its birth.
 #[derive(Drop)]
 pub struct Row {
-    pub birth: u64,
+    pub birth: Birth,
     pub doc: Document,
 }
 
@@ -57,8 +59,12 @@ pub struct Hit {
 pub enum Operation {
     /// Adds the document.
     Add(Document),
+    /// Adds the documents of the block, in order.
+    AddBlock(Block),
     /// Deletes the documents that hold the term, and adds the document.
     Update(Term, Document),
+    /// Deletes the documents that hold the term, and adds those of the block, in order.
+    UpdateBlock(Term, Block),
     /// Deletes the documents that hold the term.
     DeleteTerm(Term),
     /// Deletes the documents that match.
@@ -84,7 +90,9 @@ impl Drop for Operation {
     fn drop(self) {
         match self {
             Operation::Add(_doc) => {}
+            Operation::AddBlock(_docs) => {}
             Operation::Update(_term, _doc) => {}
+            Operation::UpdateBlock(_term, _docs) => {}
             Operation::DeleteTerm(_term) => {}
             Operation::DeleteQuery(_query) => {}
             Operation::SetNumber {
@@ -197,8 +205,12 @@ impl Operation {
     {
         match self {
             Operation::Add(doc) => Ok(Operation::Add(doc.clone_in(alloc)?)),
+            Operation::AddBlock(docs) => Ok(Operation::AddBlock(docs.clone_in(alloc)?)),
             Operation::Update(term, doc) => {
                 Ok(Operation::Update(term.clone_in(alloc)?, doc.clone_in(alloc)?))
+            }
+            Operation::UpdateBlock(term, docs) => {
+                Ok(Operation::UpdateBlock(term.clone_in(alloc)?, docs.clone_in(alloc)?))
             }
             Operation::DeleteTerm(term) => Ok(Operation::DeleteTerm(term.clone_in(alloc)?)),
             Operation::DeleteQuery(query) => Ok(Operation::DeleteQuery(query.clone_in(alloc)?)),

@@ -6,6 +6,8 @@
 //! where a user would call them equal.
 #![tactic(auto)]
 
+mod birth;
+mod block;
 mod broken;
 pub mod codec;
 mod damaged;
@@ -20,6 +22,8 @@ mod refusal;
 mod spots;
 mod text;
 
+pub use birth::Birth;
+pub use block::Block;
 pub use damaged::{Damaged, FileFault};
 pub use document::{Document, Hit, Operation, Row, Term};
 pub use fields::{Fields, Numbers};
