@@ -2,6 +2,7 @@ pub mod Limits
 pub mod Text
 pub mod Documents
 pub mod Births
+pub mod Counts
 pub mod FileNames
 pub mod Tree
 pub mod Query

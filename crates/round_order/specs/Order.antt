@@ -2,7 +2,7 @@
 use Rattle.std.specs.Prelude.{◌≡◌, ℕ, ◌+◌, ◌==◌, if◌then◌else◌, Bool, true, false, List, [], ◌∷◌, map}
 use Rattle.std.specs.List.{AllByRecursion}
 use Rattle.ix_base.specs.declared.document.Operation.{Operation}
-use Rattle.ix_base.specs.declared.document.Operation.TheVariants.{Add, Update, DeleteTerm, DeleteQuery, SetNumber, Commit}
+use Rattle.ix_base.specs.declared.document.Operation.TheVariants.{Add, AddBlock, Update, UpdateBlock, DeleteTerm, DeleteQuery, SetNumber, Commit}
 use Rattle.row_fates.specs.Fate.{Numbered}
 
 -- an operation with the number of the worker that it is of
@@ -22,7 +22,9 @@ seconds ts = map (λ (t : Working). t.1) ts
 -- whether an operation is a commit
 abbrev pub is_commit : Operation → Bool
 is_commit (Add doc) = false
+is_commit (AddBlock docs) = false
 is_commit (Update term doc) = false
+is_commit (UpdateBlock term docs) = false
 is_commit (DeleteTerm term) = false
 is_commit (DeleteQuery query) = false
 is_commit (SetNumber term name value) = false
