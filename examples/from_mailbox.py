@@ -3,15 +3,19 @@
 
 usage: from_mailbox.py MBOX..
 
-A letter becomes an update by its key, which is its Message-ID without the angle brackets: so where the script is run
-again, letters take the place of themselves. Its parts:
+A letter becomes a document whose key is its Message-ID without the angle brackets, and each file that is attached to it
+one more, with the key KEY#1, KEY#2 and so on. All of them are one block, an update by the exact text `letter`: so where
+the script is run again, a letter and its attachments take the place of themselves, all or none. What they have:
 
-text   subject; body: its plain text
-exact  from: the address; for each address that it went to the name to:ADDRESS, and for each label (Keywords,
-       X-Gmail-Labels) the name label:LABEL, both with the text yes, since a document has one text of each name
-num    date: as 20240301; read: 0, and then 1 by a set where the letter is flagged as read (R)
+text   of a letter subject, and body: its plain text; of an attachment name, and body where it is plain text
+exact  letter: the letter's key; of a letter from: the address; for each address that it went to the name to:ADDRESS,
+       and for each label (Keywords, X-Gmail-Labels) the name label:LABEL, both with the text yes, since a document has
+       one text of each name; of an attachment type: as image/png
+num    of a letter date: as 20240301; read: 0, and then 1 by a set where the letter is flagged as read (R); of an
+       attachment size: in bytes
 
-A letter that is flagged as deleted (D) becomes a delete by its key.
+A block has 64 documents at most: attachments behind the 63rd are left out. A letter that is flagged as deleted (D)
+becomes a delete by the exact text `letter`.
 """
 import email
 import email.policy
@@ -51,6 +55,7 @@ def document_of(letter, key):
     several = [f"to:{address}" for address in addresses_in(letter, "to", "cc")]
     several += [f"label:{label}" for label in labels_of(letter)]
     exact = {clean(name): "yes" for name in several if len(clean(name).encode()) <= 255}
+    exact["letter"] = key
     exact.update({"from": clean(address) for address in addresses_in(letter, "from")[:1]})
     num = {"read": 0}
     if letter["date"] and letter["date"].datetime:
@@ -59,16 +64,27 @@ def document_of(letter, key):
     return {"key": key, "text": text, "exact": exact, "num": num}
 
 
+def attachments_of(letter, key):
+    """The files that are attached to the letter, as documents, 63 at most."""
+    parts = [part for part in letter.walk() if not part.is_multipart() and part.get_filename()]
+    for number, part in enumerate(parts[:63], 1):
+        text = {"name": clean(part.get_filename())}
+        if part.get_content_type() == "text/plain":
+            text["body"] = clean(part.get_content())
+        exact = {"letter": key, "type": part.get_content_type()}
+        yield {"key": f"{key}#{number}", "text": text, "exact": exact, "num": {"size": len(part.get_payload(decode=True))}}
+
+
 def lines_of(letter, key):
     """The lines of a letter, without their caller."""
     flags = letter.get("status", "") + letter.get("x-status", "")
-    by_key = {"field": "key", "term": key}
+    by_letter = {"field": "letter", "term": key}
     if "D" in flags:
-        yield {"op": "delete", **by_key}
+        yield {"op": "delete", **by_letter}
         return
-    yield {"op": "update", **by_key, "doc": document_of(letter, key)}
+    yield {"op": "update_block", **by_letter, "docs": [document_of(letter, key), *attachments_of(letter, key)]}
     if "R" in flags:
-        yield {"op": "set", **by_key, "num": "read", "value": 1}
+        yield {"op": "set", "field": "key", "term": key, "num": "read", "value": 1}
 
 
 def main():

@@ -1,8 +1,8 @@
 #!/usr/bin/env python3
 """Prints what the files of an index hold, read by docs/FORMATS.md alone: a line for each commit and, below the last
 one, a line for each of its live rows, with the numbers that were set in it, and one for each term of each of its
-segments, with the places where it stands in the segment's rows, live or not: the births of the rows, and the
-positions in each.
+segments, with the places where it stands in the segment's rows, live or not: the birth and the place of each row, and the
+positions in it.
 
 usage: look.py DIR
 
@@ -62,11 +62,13 @@ def read_commit(directory, number):
 
 def read_rows(directory, segment):
     file = Reader(os.path.join(directory, f"seg_{segment}.row"))
-    file.mark(b"IXROW001")
+    mark = file.take(8)
+    if mark not in (b"IXROW001", b"IXROW002"):
+        sys.exit(f"{file.path}: no mark of a file of rows")
     file.number(8)
     rows = []
     for _ in range(file.number(4)):
-        row = {"birth": file.number(8), "key": file.text()}
+        row = {"birth": file.number(8), "place": file.number(4) if mark == b"IXROW002" else 0, "key": file.text()}
         row["text"] = {file.text(): file.text() for _ in range(file.number(4))}
         row["exact"] = {file.text(): file.text() for _ in range(file.number(4))}
         row["num"] = {file.text(): file.number(8, signed=True) for _ in range(file.number(8))}
@@ -112,8 +114,8 @@ def read_postings(directory, segment, births):
     for _ in range(file.number(8)):
         term = {"segment": segment, "field": file.text(), "term": file.text(), "rows": []}
         for _ in range(file.number(4)):
-            birth = births[file.number(4)]
-            term["rows"].append([birth, [file.number(4) for _ in range(file.number(4))]])
+            birth, place = births[file.number(4)]
+            term["rows"].append([birth, place, [file.number(4) for _ in range(file.number(4))]])
         terms.append(term)
     file.end()
     return terms
@@ -129,10 +131,10 @@ def main():
     if numbers:
         segments = [(entry, read_rows(directory, entry["id"])) for entry in commit["segments"]]
         live = [row for entry, rows in segments for row in live_rows(directory, entry, rows)]
-        for row in sorted(live, key=lambda row: row["birth"]):
+        for row in sorted(live, key=lambda row: (row["birth"], row["place"])):
             print(json.dumps(row, ensure_ascii=False))
         for entry, rows in segments:
-            for term in read_postings(directory, entry["id"], [row["birth"] for row in rows]):
+            for term in read_postings(directory, entry["id"], [(row["birth"], row["place"]) for row in rows]):
                 print(json.dumps(term, ensure_ascii=False))
 
 

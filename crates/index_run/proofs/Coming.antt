@@ -3,6 +3,7 @@ use Rattle.std.proofs.Common.{◌≡◌, ◌∙◌, ℕ, ◌+◌, ◌<◌, ◌�
 use Rattle.std.specs.Prelude.{Option, Some, None}
 use Rattle.std.specs.List.{AllByRecursion, AllZip}
 use Rattle.std.proofs.lemmas.List.{append-nil, map-append}
+use Rattle.ix_base.specs.Counts.{doc_count}
 use Rattle.ix_base.specs.Steps.{after}
 use Rattle.ix_base.specs.declared.document.Row.{Row}
 use Rattle.ix_outside.specs.Calls.{LeavesOnly}
@@ -159,12 +160,12 @@ pairs_due first log w s pairs pending at is =
 
 -- the commit of the log's last line has the rows of all its lines
 docs_written : (first w : State) (log : List Line) (c : CommitInfo) → IsWriterOn first log w
-    → c.number ≡ w.published.upto → ((rows : List Row) → HasRows w rows → c.docs ≡ length rows)
+    → c.number ≡ w.published.upto → ((rows : List Row) → HasRows w rows → c.docs ≡ doc_count rows)
     → IsDocs first log c.number c.docs
 docs_written first w log c on is docs_of rows has =
     let at_end : c.number ≡ first.published.upto + length log = is ∙ on.upto in
     docs_of (after rows first.published.upto (operations log)) (on.rows rows has)
-    ∙ ap length (sym (rows_at_all first.published.upto rows log c.number at_end))
+    ∙ ap doc_count (sym (rows_at_all first.published.upto rows log c.number at_end))
 
 module _ (r : Run) (lines : List Line) (shares : List Share) (commits : List Pair) (pairs : Pairs) (w v : State)
     (old now : Option Disk) (come : HasCome r lines shares commits pairs w old) where
@@ -172,7 +173,7 @@ module _ (r : Run) (lines : List Line) (shares : List Share) (commits : List Pai
   log = come.log
 
   pub come_written : (c : CommitInfo) → CommitLaws → w.pending ≡ Some c.number → v ≡ on_commit w → IsReady v
-      → w.published.next_id ≤ 2 ^ 62 → ((rows : List Row) → HasRows w rows → c.docs ≡ length rows)
+      → w.published.next_id ≤ 2 ^ 62 → ((rows : List Row) → HasRows w rows → c.docs ≡ doc_count rows)
       → ((rows : List Row) → HasRows w rows → HasRows v rows)
       → (w.published.next_id ≤ 2 ^ 62 → Changes (Commits pairs w v) (told_files old) (told_files now))
       → (w.published.next_id ≤ 2 ^ 62 → Follows (Commits pairs w v) (MayHold old) (MayHold now))

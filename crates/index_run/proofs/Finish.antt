@@ -4,6 +4,7 @@ use Rattle.std.proofs.Common.{length, map, Some, None, Ok, Err, Result, refl, sy
 use Rattle.std.specs.Prelude.{Option, IfOk, IfErr, IsSomeAnd, count_by}
 use Rattle.std.specs.List.{AllByRecursion}
 use Rattle.std.specs.declared.alloc.Global.{Global}
+use Rattle.ix_base.specs.Counts.{doc_count}
 use Rattle.ix_base.specs.Hits.{hit_of}
 use Rattle.ix_base.specs.declared.damaged.Damaged.{Damaged}
 use Rattle.ix_base.specs.declared.document.Row.{Row}
@@ -216,12 +217,12 @@ over_spelled g r lines outcomes w now f told last begun here o told_now =
 -- what became of the lines, by what was given
 outcomes_given : (g : Given) (r : Run) (log lines : List Line) (outcomes : List Outcome) → IsOnGiven g r.first
     → AreOutcomes (IsDocs r.first log) (base_of r) log [] lines outcomes
-    → AreOutcomes (λ (s docs : ℕ). docs ≡ length (rows_at g.base g.rows log s)) g.base log [] lines outcomes
+    → AreOutcomes (λ (s docs : ℕ). docs ≡ doc_count (rows_at g.base g.rows log s)) g.base log [] lines outcomes
 outcomes_given g r log lines outcomes on are =
     subst
-    (λ (n : ℕ). AreOutcomes (λ (s docs : ℕ). docs ≡ length (rows_at n g.rows log s)) n log [] lines outcomes)
+    (λ (n : ℕ). AreOutcomes (λ (s docs : ℕ). docs ≡ doc_count (rows_at n g.rows log s)) n log [] lines outcomes)
     on.number
-    (outcomes_weaker (IsDocs r.first log) (λ (s docs : ℕ). docs ≡ length (rows_at (base_of r) g.rows log s))
+    (outcomes_weaker (IsDocs r.first log) (λ (s docs : ℕ). docs ≡ doc_count (rows_at (base_of r) g.rows log s))
     (λ s docs is. is g.rows on.rows) (base_of r) log [] lines outcomes are)
 
 -- the text is the report
@@ -233,9 +234,9 @@ over_report : (g : Given) (r : Run) (lines : List Line) (outcomes : List Outcome
 over_report g r lines outcomes w now f text same rise can on o has told =
     let are = outcomes_given g r o.log lines outcomes on o.outcomes in
     let asked =
-    asked_by (λ (s docs : ℕ). docs ≡ length (rows_at g.base g.rows o.log s)) g.base o.log lines outcomes are in
+    asked_by (λ (s docs : ℕ). docs ≡ doc_count (rows_at g.base g.rows o.log s)) g.base o.log lines outcomes are in
     told (rows_of g.base g.rows o.log) (can_search g o.log lines f outcomes can o.numbering rise has asked)
-    (searches_last (λ (s docs : ℕ). docs ≡ length (rows_at g.base g.rows o.log s)) g r.first o.log lines outcomes w can on
+    (searches_last (λ (s docs : ℕ). docs ≡ doc_count (rows_at g.base g.rows o.log s)) g r.first o.log lines outcomes w can on
     o.writer rise o.numbering are)
     ∙ texts_with_none g.base g.rows o.log lines outcomes (no_rows g can) are
     ∙ ap (λ (ls : List Line). report g.base g.rows ls o.log) (sym same)

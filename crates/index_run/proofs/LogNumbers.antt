@@ -1,17 +1,17 @@
 -- The numbers of a log's commits, and the rows by a log's operations.
 use Rattle.std.proofs.Common.{◌≡◌, ◌≢◌, ◌⊎◌, inl, inr, ℕ, ◌+◌, ◌-◌, ◌≤◌}
-use Rattle.std.proofs.Common.{List, [], ◌∷◌, ◌++◌, length, take, sym, ap, ◌∙◌, arith}
+use Rattle.std.proofs.Common.{List, [], ◌∷◌, ◌++◌, length, take, if◌then◌else◌, sym, ap, ◌∙◌, arith}
 use Rattle.std.proofs.lemmas.Bool.{cases_lt}
-use Rattle.std.proofs.lemmas.List.{length-append, take-append-le}
+use Rattle.std.proofs.lemmas.List.{take-append-le}
 use Rattle.std.proofs.lemmas.List.Elements.{filter_map-append}
 use Rattle.std.proofs.Math.Seq.{take-length}
 use Rattle.ix_base.specs.declared.document.Operation.{Operation}
-use Rattle.ix_base.specs.declared.document.Operation.TheVariants.{Add, Update, DeleteTerm, DeleteQuery, SetNumber}
+use Rattle.ix_base.specs.declared.document.Operation.TheVariants.{Add, AddBlock, Update, UpdateBlock, DeleteTerm, DeleteQuery, SetNumber}
 use Rattle.ix_base.specs.declared.document.Operation.TheVariants.{Commit}
 use Rattle.ix_base.specs.declared.document.Row.{Row}
 use Rattle.ix_base.specs.Steps.{after, numbered_from, step}
 use Rattle.op_script.specs.declared.script.Line.{Line}
-use Rattle.row_fates.specs.Fate.{added, rows_added}
+use Rattle.row_fates.specs.Fate.{adding, adds}
 use Rattle.run_log.specs.Headline.{act_operation, commit_numbers, operations, rows_at}
 
 -- ---- numbers
@@ -55,22 +55,18 @@ after_append rows last (x ∷ xs) ys =
     after_append (step rows (last + 1) x) (last + 1) xs ys
     ∙ ap (λ (k : ℕ). after (after (step rows (last + 1) x) (last + 1) xs) k ys) n
 
--- ---- rows that are added
+-- ---- operations that add
 
-one_added : (n : ℕ) (op : Operation) → length (added n op) ≤ 1
-one_added n (Add doc) = omega arith
-one_added n (Update term doc) = omega arith
-one_added n (DeleteTerm term) = omega arith
-one_added n (DeleteQuery query) = omega arith
-one_added n (SetNumber term name value) = omega arith
-one_added n (Commit pairs) = omega arith
+one_adds : (op : Operation) → (if adds op then 1 else 0) ≤ 1
+one_adds (Add doc) = omega arith
+one_adds (AddBlock docs) = omega arith
+one_adds (Update term doc) = omega arith
+one_adds (UpdateBlock term docs) = omega arith
+one_adds (DeleteTerm term) = omega arith
+one_adds (DeleteQuery query) = omega arith
+one_adds (SetNumber term name value) = omega arith
+one_adds (Commit pairs) = omega arith
 
-pub few_added : (last : ℕ) (ops : List Operation) → length (rows_added (numbered_from last ops)) ≤ length ops
+pub few_added : (last : ℕ) (ops : List Operation) → adding (numbered_from last ops) ≤ length ops
 few_added last [] = omega arith
-few_added last (op ∷ ops) =
-    omega (
-      arith,
-      length-append (added (last + 1) op) (rows_added (numbered_from (last + 1) ops)),
-      one_added (last + 1) op,
-      few_added (last + 1) ops,
-    )
+few_added last (op ∷ ops) = omega (arith, one_adds op, few_added (last + 1) ops)

@@ -4,8 +4,9 @@ use Rattle.std.specs.Prelude.{Option, Some, None, slice_index, slice_set}
 use Rattle.std.specs.List.{AllByRecursion}
 use Rattle.std.proofs.lemmas.Bool.Decides.{eqb_tells}
 use Rattle.std.proofs.lemmas.List.{append-nil, get_or-replicate, get_or-set_same, get_or-set_other}
+use Rattle.ix_base.specs.Counts.{doc_count}
 use Rattle.ix_base.specs.declared.document.Operation.{Operation}
-use Rattle.ix_base.specs.declared.document.Operation.TheVariants.{Add, Update, DeleteTerm, DeleteQuery, SetNumber, Commit}
+use Rattle.ix_base.specs.declared.document.Operation.TheVariants.{Add, AddBlock, Update, UpdateBlock, DeleteTerm, DeleteQuery, SetNumber, Commit}
 use Rattle.ix_base.specs.declared.document.Row.{Row}
 use Rattle.ix_base.specs.declared.query.Query.{Query}
 use Rattle.ix_base.specs.declared.refusal.Refusal.{Refusal}
@@ -54,7 +55,9 @@ outcome_next Docs base log done outcomes l o are is = outcome_more Docs base log
 done_weaker : (Docs More : ℕ → ℕ → Type 0) → ((s docs : ℕ) → Docs s docs → More s docs)
     → (s : ℕ) (op : Operation) (answer : Answer) → IsDone Docs s op answer → IsDone More s op answer
 done_weaker Docs More says s (Add doc) answer is = is
+done_weaker Docs More says s (AddBlock docs) answer is = is
 done_weaker Docs More says s (Update t doc) answer is = is
+done_weaker Docs More says s (UpdateBlock t docs) answer is = is
 done_weaker Docs More says s (DeleteTerm t) answer is = is
 done_weaker Docs More says s (DeleteQuery q) answer is = is
 done_weaker Docs More says s (SetNumber t n v) answer is = is
@@ -92,7 +95,7 @@ outcomes_weaker Docs More says base log before (l ∷ lines) (o ∷ outcomes) ar
 
 -- the commit s has as many rows as the log says
 abbrev pub HasCount : ℕ → List Row → List Line → ℕ → ℕ → Type 0
-HasCount base rows log s docs = docs ≡ length (rows_at base rows log s)
+HasCount base rows log s docs = docs ≡ doc_count (rows_at base rows log s)
 
 -- what an answer searches has the log's rows
 abbrev pub HasRows : (ℕ → List Row) → ℕ → List Row → List Line → Answer → Type 0
@@ -103,7 +106,9 @@ done_told : (rows_by : ℕ → List Row) (base : ℕ) (rows : List Row) (log : L
     (op : Operation) (answer : Answer) → IsDone (HasCount base rows log) (number_of base log line) op answer
     → answer_text rows_by line answer ≡ done_text base rows log line op
 done_told rows_by base rows log line (Add doc) answer is = ap (answer_text rows_by line) is
+done_told rows_by base rows log line (AddBlock docs) answer is = ap (answer_text rows_by line) is
 done_told rows_by base rows log line (Update t doc) answer is = ap (answer_text rows_by line) is
+done_told rows_by base rows log line (UpdateBlock t docs) answer is = ap (answer_text rows_by line) is
 done_told rows_by base rows log line (DeleteTerm t) answer is = ap (answer_text rows_by line) is
 done_told rows_by base rows log line (DeleteQuery q) answer is = ap (answer_text rows_by line) is
 done_told rows_by base rows log line (SetNumber t n v) answer is = ap (answer_text rows_by line) is
@@ -149,7 +154,7 @@ texts_told rows_by base rows log before (l ∷ lines) (o ∷ outcomes) are has =
 -- The texts of the outcomes are the report, where each search finds the log's rows.
 pub texts_found : (rows_by : ℕ → List Row) (base : ℕ) (rows : List Row) (log lines : List Line)
     (outcomes : List Outcome)
-    → AreOutcomes (λ (s docs : ℕ). docs ≡ length (rows_at base rows log s)) base log [] lines outcomes
+    → AreOutcomes (λ (s docs : ℕ). docs ≡ doc_count (rows_at base rows log s)) base log [] lines outcomes
     → AllByRecursion (λ (o : Outcome). HasRows rows_by base rows log o.answer) outcomes
     → texts rows_by outcomes ≡ report base rows lines log
 texts_found rows_by base rows log lines outcomes are has = texts_told rows_by base rows log [] lines outcomes are has
@@ -159,7 +164,9 @@ texts_found rows_by base rows log lines outcomes are has = texts_told rows_by ba
 done_other : (Docs : ℕ → ℕ → Type 0) (s : ℕ) (op : Operation) (answer : Answer) → IsDone Docs s op answer
     → (number : ℕ) (query : Query) → answer ≡ Searched number query → ⊥
 done_other Docs s (Add doc) answer is number query searches = cc
+done_other Docs s (AddBlock docs) answer is number query searches = cc
 done_other Docs s (Update t doc) answer is number query searches = cc
+done_other Docs s (UpdateBlock t docs) answer is number query searches = cc
 done_other Docs s (DeleteTerm t) answer is number query searches = cc
 done_other Docs s (DeleteQuery q) answer is number query searches = cc
 done_other Docs s (SetNumber t n v) answer is number query searches = cc
@@ -225,7 +232,7 @@ asked_le base log lines number query asks =
 pub texts_by : (rows_by : ℕ → List Row) (base : ℕ) (rows : List Row) (log lines : List Line)
     (outcomes : List Outcome)
     → ((s : ℕ) → base ≤ s → rows_by s ≡ rows_at base rows log s)
-    → AreOutcomes (λ (s docs : ℕ). docs ≡ length (rows_at base rows log s)) base log [] lines outcomes
+    → AreOutcomes (λ (s docs : ℕ). docs ≡ doc_count (rows_at base rows log s)) base log [] lines outcomes
     → texts rows_by outcomes ≡ report base rows lines log
 texts_by rows_by base rows log lines outcomes rows_are are =
     texts_found rows_by base rows log lines outcomes are
@@ -252,7 +259,7 @@ rows_of-is base rows log (suc s) none le = refl
 -- the same by rows of which the number 0 has none
 pub texts_with_none : (base : ℕ) (rows : List Row) (log lines : List Line)
     (outcomes : List Outcome) → (base ≡ 0 → rows ≡ [])
-    → AreOutcomes (λ (s docs : ℕ). docs ≡ length (rows_at base rows log s)) base log [] lines outcomes
+    → AreOutcomes (λ (s docs : ℕ). docs ≡ doc_count (rows_at base rows log s)) base log [] lines outcomes
     → texts (rows_of base rows log) outcomes ≡ report base rows lines log
 texts_with_none base rows log lines outcomes none are =
     texts_by (rows_of base rows log) base rows log lines outcomes (λ s le. rows_of-is base rows log s none le) are

@@ -6,7 +6,7 @@ use Rattle.std.proofs.lemmas.List.{length-replicate}
 use Rattle.std.specs.List.{AllByRecursion}
 use Rattle.ix_base.specs.Refusals.{refusal}
 use Rattle.ix_base.specs.declared.document.Operation.{Operation}
-use Rattle.ix_base.specs.declared.document.Operation.TheVariants.{Add, Update, DeleteTerm, DeleteQuery, SetNumber}
+use Rattle.ix_base.specs.declared.document.Operation.TheVariants.{Add, AddBlock, Update, UpdateBlock, DeleteTerm, DeleteQuery, SetNumber}
 use Rattle.ix_base.specs.declared.document.Operation.TheVariants.{Commit}
 use Rattle.ix_base.specs.declared.query.Query.{Query}
 use Rattle.op_script.specs.declared.script.Act.{Act}
@@ -38,7 +38,9 @@ use Rattle.index_run.specs.Outcomes.{AreLasts, AreOutcomes, IsAnswer, IsDone, Is
 
 pub searches : (a : Act) (query : Query) → kind_of a ≡ kind.Search query → a ≡ Search query
 searches (Do (Add doc)) query is = absurd (cc)
+searches (Do (AddBlock docs)) query is = absurd (cc)
 searches (Do (Update term doc)) query is = absurd (cc)
+searches (Do (UpdateBlock term docs)) query is = absurd (cc)
 searches (Do (DeleteTerm term)) query is = absurd (cc)
 searches (Do (DeleteQuery other)) query is = absurd (cc)
 searches (Do (SetNumber term name value)) query is = absurd (cc)
@@ -47,7 +49,9 @@ searches (Search other) query is = cc
 
 pub writes : (a : Act) → kind_of a ≡ kind.Write → (is_doing a ≡ true) × (is_commit a ≡ false)
 writes (Do (Add doc)) is = (refl, refl)
+writes (Do (AddBlock docs)) is = (refl, refl)
 writes (Do (Update term doc)) is = (refl, refl)
+writes (Do (UpdateBlock term docs)) is = (refl, refl)
 writes (Do (DeleteTerm term)) is = (refl, refl)
 writes (Do (DeleteQuery query)) is = (refl, refl)
 writes (Do (SetNumber term name value)) is = (refl, refl)
@@ -56,7 +60,9 @@ writes (Search query) is = absurd (cc)
 
 pub commits : (a : Act) → kind_of a ≡ kind.Commit → (pairs : List (List ℕ × List ℕ)) × (a ≡ Do (Commit pairs))
 commits (Do (Add doc)) is = absurd (cc)
+commits (Do (AddBlock docs)) is = absurd (cc)
 commits (Do (Update term doc)) is = absurd (cc)
+commits (Do (UpdateBlock term docs)) is = absurd (cc)
 commits (Do (DeleteTerm term)) is = absurd (cc)
 commits (Do (DeleteQuery query)) is = absurd (cc)
 commits (Do (SetNumber term name value)) is = absurd (cc)
@@ -87,7 +93,9 @@ searched Docs base log done lasts l o query are low act line answer =
 told_number : (Docs : ℕ → ℕ → Type 0) (s n : ℕ) (op : Operation) (answer : Answer) → is_commit (Do op) ≡ false → n ≡ s
     → answer ≡ Numbered n → IsDone Docs s op answer
 told_number Docs s n (Add doc) answer other is e = e ∙ ap Numbered is
+told_number Docs s n (AddBlock docs) answer other is e = e ∙ ap Numbered is
 told_number Docs s n (Update term doc) answer other is e = e ∙ ap Numbered is
+told_number Docs s n (UpdateBlock term docs) answer other is e = e ∙ ap Numbered is
 told_number Docs s n (DeleteTerm term) answer other is e = e ∙ ap Numbered is
 told_number Docs s n (DeleteQuery query) answer other is e = e ∙ ap Numbered is
 told_number Docs s n (SetNumber term name value) answer other is e = e ∙ ap Numbered is

@@ -5,10 +5,11 @@ use Rattle.std.specs.Prelude.{Option, None, count_by}
 use Rattle.std.specs.List.{AllByRecursion}
 use Rattle.std.proofs.Math.Seq.{take-length}
 use Rattle.std.proofs.lemmas.List.Sums.{sum_by-cons}
+use Rattle.ix_base.specs.Births.{first_birth, last_birth}
 use Rattle.ix_base.specs.Hits.{hit_of}
 use Rattle.ix_base.specs.Refusals.{refusal}
 use Rattle.ix_base.specs.declared.document.Operation.{Operation}
-use Rattle.ix_base.specs.declared.document.Operation.TheVariants.{Add, Update, DeleteTerm, DeleteQuery, SetNumber, Commit}
+use Rattle.ix_base.specs.declared.document.Operation.TheVariants.{Add, AddBlock, Update, UpdateBlock, DeleteTerm, DeleteQuery, SetNumber, Commit}
 use Rattle.ix_base.specs.declared.document.Row.{Row}
 use Rattle.ix_base.specs.declared.refusal.Refusal.{Refusal}
 use Rattle.ix_outside.specs.Files.{Files}
@@ -33,9 +34,9 @@ use Rattle.index_run.specs.Telling.{commits, is_committed}
 
 -- ---- the last commit
 
-born_below : (low limit : ℕ) (rows : List Row) → BirthsRise low limit rows → BornBy limit rows
-born_below low limit [] rise = tt
-born_below low limit (row ∷ rows) rise = (rise.1, born_below (row.birth + 1) limit rows rise.2)
+born_below : (low base : ℕ) (rows : List Row) → BirthsRise low (last_birth base) rows → BornBy base rows
+born_below low base [] rise = tt
+born_below low base (row ∷ rows) rise = (rise.1, born_below (row.birth + 1) base rows rise.2)
 
 -- the rows at the beginning were born by its number
 born_given : (g : Given) → CanRun g → BornBy g.base g.rows
@@ -43,7 +44,7 @@ born_given g can = by can.1
   where
     by : HasNoCommit g ⊎ ((1 ≤ g.base) × IsLawful g.files g.base g.next g.rows) → BornBy g.base g.rows
     by (inl none) = subst (BornBy g.base) (sym none.2) tt
-    by (inr on) = born_below 1 g.base g.rows on.1.holds.holds.rows_are.births
+    by (inr on) = born_below (first_birth 1) g.base g.rows on.1.holds.holds.rows_are.births
 
 comes : MadeRuns → (lines log : List Line) (base : ℕ) (rows : List Row) → IsMade lines → Interleaves lines log
     → BornBy base rows → ComesTo lines log base rows
@@ -75,7 +76,9 @@ last_above law lines log base made numbering =
 done_commits : (Docs : ℕ → ℕ → Type 0) (s : ℕ) (op : Operation) (answer : Answer) → IsDone Docs s op answer
     → commits answer ≡ is_commit (Do op)
 done_commits Docs s (Add doc) answer is = ap commits is
+done_commits Docs s (AddBlock docs) answer is = ap commits is
 done_commits Docs s (Update t doc) answer is = ap commits is
+done_commits Docs s (UpdateBlock t docs) answer is = ap commits is
 done_commits Docs s (DeleteTerm t) answer is = ap commits is
 done_commits Docs s (DeleteQuery q) answer is = ap commits is
 done_commits Docs s (SetNumber t n v) answer is = ap commits is
@@ -83,7 +86,9 @@ done_commits Docs s (Commit pairs) answer is = ap commits is.2
 
 refused_commits : (op : Operation) (r : Refusal) → refusal op ≡ Some r → is_commit (Do op) ≡ false
 refused_commits (Add doc) r is = refl
+refused_commits (AddBlock docs) r is = refl
 refused_commits (Update t doc) r is = refl
+refused_commits (UpdateBlock t docs) r is = refl
 refused_commits (DeleteTerm t) r is = refl
 refused_commits (DeleteQuery q) r is = refl
 refused_commits (SetNumber t n v) r is = refl

@@ -7,7 +7,7 @@ use Rattle.std.proofs.lemmas.Bool.Decides.{eqb_tells}
 use Rattle.ix_base.specs.Refusals.{refusal}
 use Rattle.ix_base.specs.Steps.{after}
 use Rattle.ix_base.specs.declared.document.Operation.{Operation}
-use Rattle.ix_base.specs.declared.document.Operation.TheVariants.{Add, Update, DeleteTerm, DeleteQuery, SetNumber, Commit}
+use Rattle.ix_base.specs.declared.document.Operation.TheVariants.{Add, AddBlock, Update, UpdateBlock, DeleteTerm, DeleteQuery, SetNumber, Commit}
 use Rattle.ix_base.specs.declared.document.Row.{Row}
 use Rattle.ix_base.specs.declared.refusal.Refusal.{Refusal}
 use Rattle.op_script.specs.Shape.{LinesRise}
@@ -39,7 +39,9 @@ NumberUpTo since answer = (s : ℕ) → answer ≡ Numbered s → s ≤ since
 done_upto : (Docs : ℕ → ℕ → Type 0) (s since : ℕ) (op : Operation) (answer : Answer) → IsDone Docs s op answer
     → NumberUpTo since answer → is_commit (Do op) ≡ false → s ≤ since
 done_upto Docs s since (Add doc) answer is upto other = upto s is
+done_upto Docs s since (AddBlock docs) answer is upto other = upto s is
 done_upto Docs s since (Update t doc) answer is upto other = upto s is
+done_upto Docs s since (UpdateBlock t docs) answer is upto other = upto s is
 done_upto Docs s since (DeleteTerm t) answer is upto other = upto s is
 done_upto Docs s since (DeleteQuery q) answer is upto other = upto s is
 done_upto Docs s since (SetNumber t n v) answer is upto other = upto s is
@@ -133,7 +135,9 @@ commit_behind base since front more l le apart behind = by (is_commit l.act) ref
 
 commit_is : (a : Act) → is_commit a ≡ true → (pairs : List (List ℕ × List ℕ)) × (a ≡ Do (Commit pairs))
 commit_is (Do (Add doc)) e = absurd cc
+commit_is (Do (AddBlock docs)) e = absurd cc
 commit_is (Do (Update t doc)) e = absurd cc
+commit_is (Do (UpdateBlock t docs)) e = absurd cc
 commit_is (Do (DeleteTerm t)) e = absurd cc
 commit_is (Do (DeleteQuery q)) e = absurd cc
 commit_is (Do (SetNumber t n v)) e = absurd cc

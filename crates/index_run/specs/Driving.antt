@@ -2,6 +2,7 @@
 use Rattle.std.specs.Prelude.{◌≡◌, ℕ, ◌+◌, ◌≤◌, List, [], ◌∷◌, ◌++◌, length, map, Option, Some, None, IsSomeAnd, true}
 use Rattle.std.specs.Prelude.{IfOk, IfSome, OnErr, OnOk}
 use Rattle.std.specs.List.{AllByRecursion, AllZip}
+use Rattle.ix_base.specs.Counts.{doc_count}
 use Rattle.ix_base.specs.declared.document.Row.{Row}
 use Rattle.ix_outside.specs.Calls.{LeavesOnly}
 use Rattle.ix_outside.specs.Crash.{MayHold}
@@ -69,7 +70,7 @@ pub record IsAt (r : Run) (log : List Line) (w : State) (now : Option Disk) : Ty
 -- the commit s has so many rows, where the writer had some when the run began
 abbrev pub IsDocs : State → List Line → ℕ → ℕ → Type 0
 IsDocs first log s docs = (rows : List Row) → HasRows first rows
-    → docs ≡ length (rows_at first.published.upto rows log s)
+    → docs ≡ doc_count (rows_at first.published.upto rows log s)
 
 -- ---- between two rounds
 

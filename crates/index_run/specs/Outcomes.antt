@@ -2,7 +2,7 @@
 use Rattle.std.specs.Prelude.{◌≡◌, ℕ, zero, suc, ◌<◌, ◌≤◌, List, [], ◌∷◌, ◌++◌, slice_index, Option, Some, None}
 use Rattle.std.specs.List.{AllByRecursion}
 use Rattle.ix_base.specs.declared.document.Operation.{Operation}
-use Rattle.ix_base.specs.declared.document.Operation.TheVariants.{Add, Update, DeleteTerm, DeleteQuery, SetNumber, Commit}
+use Rattle.ix_base.specs.declared.document.Operation.TheVariants.{Add, AddBlock, Update, UpdateBlock, DeleteTerm, DeleteQuery, SetNumber, Commit}
 use Rattle.ix_base.specs.declared.document.Row.{Row}
 use Rattle.ix_base.specs.declared.query.Query.{Query}
 use Rattle.ix_base.specs.declared.refusal.Refusal.{Refusal}
@@ -20,7 +20,9 @@ use Rattle.segment_core.specs.LiveRows.{Lived}
 -- What becomes of an operation that gets the number s: a commit is told how many rows it has.
 abbrev pub IsDone : (ℕ → ℕ → Type 0) → ℕ → Operation → Answer → Type 0
 IsDone Docs s (Add doc) answer = answer ≡ Numbered s
+IsDone Docs s (AddBlock docs) answer = answer ≡ Numbered s
 IsDone Docs s (Update term doc) answer = answer ≡ Numbered s
+IsDone Docs s (UpdateBlock term docs) answer = answer ≡ Numbered s
 IsDone Docs s (DeleteTerm term) answer = answer ≡ Numbered s
 IsDone Docs s (DeleteQuery query) answer = answer ≡ Numbered s
 IsDone Docs s (SetNumber term name value) answer = answer ≡ Numbered s
