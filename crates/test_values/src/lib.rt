@@ -2,7 +2,7 @@
 //! line is told.
 #![tactic(auto)]
 
-use ix_base::{Document, Fields, Name, Numbers, Row, Term, Text};
+use ix_base::{Birth, Block, Document, Fields, Name, Numbers, Row, Term, Text};
 use std::alloc::Global;
 use std::fmt::Write;
 use std::test::Fail;
@@ -46,10 +46,23 @@ pub fn document_of(alloc: Global, key: &str) -> Result<Document, Fail> {
     Ok(Document::of_key(alloc, text_of(alloc, key)?))
 }
 
-/// The row of this birth, whose document has this key and nothing else.
-pub fn row_of(alloc: Global, birth: u64, key: &str) -> Result<Row, Fail> {
+/// The block of documents of these keys, with nothing else in them. It fails where they are none, or
+/// above 64.
+pub fn block_of(alloc: Global, keys: &[&str]) -> Result<Block, Fail> {
+    let mut docs = Vec::new(alloc);
+    for key in keys {
+        docs.push(document_of(alloc, key)?)?;
+    }
+    Ok(Block::new(docs).ok_or("no block")?)
+}
+
+/// The row that the operation of this number adds alone, whose document has this key and nothing else.
+pub fn row_of(alloc: Global, number: u64, key: &str) -> Result<Row, Fail> {
     let doc = document_of(alloc, key)?;
-    Ok(Row { birth, doc })
+    Ok(Row {
+        birth: Birth::first(number),
+        doc,
+    })
 }
 
 /// Appends a word and these numbers, each behind a blank.
