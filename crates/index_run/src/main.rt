@@ -29,6 +29,8 @@ mod tests;
 #[cfg(test)]
 mod tests_beside;
 #[cfg(test)]
+mod tests_blocks;
+#[cfg(test)]
 mod tests_calls;
 #[cfg(test)]
 mod tests_commands;

@@ -22,7 +22,7 @@ fn are_told<R: Outside>(rt: &R, stores: Vec<Damage>) -> Result<(), Fail> {
 fn changed_files(rt: HostRuntime) -> Result<(), Fail> {
     let whole = one_document(&rt)?;
     let stores = cuts(rt.alloc(), &whole)?;
-    assert!(rt; stores.len() == 64 + 50 + 57 + 29 + 36);
+    assert!(rt; stores.len() == 64 + 54 + 57 + 29 + 36);
     are_told(&rt, stores)?;
     are_told(&rt, changes(rt.alloc(), &whole)?)?;
     are_told(&rt, counts(rt.alloc(), &whole)?)

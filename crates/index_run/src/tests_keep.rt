@@ -20,11 +20,11 @@ $ run --threads 1 --keep 1
 > {"docs":2,"line":2,"seq":4}
 = 0
 files 9
-has seg_1.row 4958524f57303031..
+has seg_1.row 4958524f57303032..
 has seg_1.pst 4958505354303031..
 has seg_1_2.liv 49584c4956303031..
 has seg_1_2.val 495856414c303031..
-has seg_2.row 4958524f57303031..
+has seg_2.row 4958524f57303032..
 has seg_2.pst 4958505354303031..
 has seg_2_4.liv 49584c4956303031..
 has seg_2_4.val 495856414c303031..

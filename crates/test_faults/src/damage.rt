@@ -113,7 +113,7 @@ fn changed(alloc: Global, whole: &MemoryStore, cases: &[Change]) -> Result<Vec<D
 /// The store with one field changed, a byte more at the end of a file, or a file of its segment gone.
 pub fn changes(alloc: Global, whole: &MemoryStore) -> Result<Vec<Damage>, Fail> {
     use Part::*;
-    let cases: [Change; 19] = [
+    let cases: [Change; 20] = [
         // The count of documents, the next id (that of the segment, and above 2^62), and the commit that
         // wrote the segment's live bits.
         (Commit, 16, &[0, 0, 0, 0, 0, 0, 0, 2], Commit, 16),
@@ -123,6 +123,8 @@ pub fn changes(alloc: Global, whole: &MemoryStore) -> Result<Vec<Damage>, Fail> 
         // A birth of 0, and one above the number of the commit.
         (Rows, 20, &[0, 0, 0, 0, 0, 0, 0, 0], Rows, 20),
         (Rows, 20, &[0, 0, 0, 0, 0, 0, 0, 3], Rows, 20),
+        // A place that no document of a block has.
+        (Rows, 28, &[0, 0, 0, 64], Rows, 28),
         // A name without bytes, and one of 256.
         (Posts, 28, &[0, 0, 0, 0], Posts, 28),
         (Posts, 28, &[0, 0, 1, 0], Posts, 28),
@@ -136,12 +138,12 @@ pub fn changes(alloc: Global, whole: &MemoryStore) -> Result<Vec<Damage>, Fail> 
         (Posts, 0, b"IXPST002", Posts, 0),
         // A byte more.
         (Commit, 64, &[0], Commit, 64),
-        (Rows, 50, &[0], Rows, 50),
+        (Rows, 54, &[0], Rows, 54),
         (Posts, 57, &[0], Posts, 57),
         (Live, 29, &[0], Live, 29),
         (Values, 36, &[0], Values, 36),
         // No UTF-8 in the key.
-        (Rows, 32, &[0xff], Rows, 28),
+        (Rows, 36, &[0xff], Rows, 32),
     ];
     let mut stores = changed(alloc, whole, &cases)?;
     for part in [Rows, Posts, Live, Values] {
@@ -156,7 +158,7 @@ pub fn counts(alloc: Global, whole: &MemoryStore) -> Result<Vec<Damage>, Fail> {
     use Part::*;
     let four: &'static [u8] = &[0xff, 0xff, 0xff, 0xff];
     let eight: &'static [u8] = &[0xff, 0xff, 0xff, 0xff, 0xff, 0xff, 0xff, 0xff];
-    let cases: [Change; 19] = [
+    let cases: [Change; 20] = [
         (Commit, 16, eight, Commit, 16),
         (Commit, 36, four, Commit, 60),
         (Commit, 32, eight, Commit, 60),
@@ -164,10 +166,11 @@ pub fn counts(alloc: Global, whole: &MemoryStore) -> Result<Vec<Damage>, Fail> {
         (Commit, 60, four, Commit, 64),
         (Rows, 16, four, Rows, 16),
         (Rows, 28, four, Rows, 28),
-        (Rows, 34, four, Rows, 38),
+        (Rows, 32, four, Rows, 32),
         (Rows, 38, four, Rows, 42),
-        (Rows, 46, four, Rows, 50),
-        (Rows, 42, eight, Rows, 50),
+        (Rows, 42, four, Rows, 46),
+        (Rows, 50, four, Rows, 54),
+        (Rows, 46, eight, Rows, 54),
         (Posts, 16, four, Posts, 16),
         (Posts, 20, eight, Posts, 57),
         (Posts, 28, four, Posts, 28),

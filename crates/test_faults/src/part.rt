@@ -42,7 +42,7 @@ impl Part {
     pub fn fields(self) -> &'static [u64] {
         match self {
             Part::Commit => &[0, 8, 16, 24, 32, 40, 48, 52, 60],
-            Part::Rows => &[0, 8, 16, 20, 28, 34, 38, 42],
+            Part::Rows => &[0, 8, 16, 20, 28, 32, 38, 42, 46],
             Part::Posts => &[0, 8, 16, 20, 28, 35, 41, 45, 49, 53],
             Part::Live | Part::Values => &[0, 8, 16, 24, 28],
         }
@@ -52,7 +52,7 @@ impl Part {
     pub fn len(self) -> usize {
         match self {
             Part::Commit => 64,
-            Part::Rows => 50,
+            Part::Rows => 54,
             Part::Posts => 57,
             Part::Live => 29,
             Part::Values => 36,
