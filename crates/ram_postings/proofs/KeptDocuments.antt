@@ -1,5 +1,5 @@
 -- Documents whose terms are kept, as lists grow.
-use Rattle.std.proofs.Common.{◌≡◌, ℕ, zero, suc, ◌<◌, ◌+◌, ◌==◌, Bool, true, false, List, [], ◌∷◌, ◌++◌, map, get_or, set, refl, sym, ap, ◌∙◌, arith}
+use Rattle.std.proofs.Common.{◌≡◌, ℕ, ◌<◌, ◌+◌, ◌==◌, Bool, true, false, List, [], ◌∷◌, ◌++◌, get_or, refl, sym, ◌∙◌, arith}
 use Rattle.std.proofs.lemmas.Bool.{eqb-true, eq-eqb}
 use Rattle.std.proofs.lemmas.List.Quantifiers.{all_pairs_push}
 use Rattle.std.proofs.lemmas.List.Elements.{All-weaker, All-push, All-nil}
@@ -8,8 +8,7 @@ use Rattle.ix_base.specs.Inversion.{IsInversion, posted}
 use Rattle.ix_base.specs.declared.document.Term.{Term}
 use Rattle.ix_base.specs.declared.postings.Posting.{Posting}
 use Rattle.ix_base.specs.declared.postings.Postings.{Postings}
-use Rattle.ram_postings.specs.Kept.{kept, SameButFor, IsKept, AreKept, placed_of}
-use Rattle.ram_postings.specs.declared.entry.Entry.{Entry}
+use Rattle.ram_postings.specs.Kept.{kept, SameButFor, IsKept, AreKept}
 
 -- no document has the mark that was taken
 pub kept_grows : (docs : List (Document × ℕ)) (next : ℕ) (old new : List (Term × List Posting)) → AreKept docs next old → SameButFor next old new → AreKept docs (next + 1) new
@@ -41,12 +40,6 @@ kept_more docs next old new doc postings h others ok inversion =
       lists_below = grown.lists_below;
       exact = All-push (IsKept new) docs (doc, next) grown.exact (λ t x. ok t x ∙ inversion.exact t.field t.bytes 0 x);
     }
-
-pub placed_born : (es : List Entry) (place : ℕ) (e : Entry) → e.doc ≡ (get_or es place e).doc → e.mark ≡ (get_or es place e).mark
-    → map placed_of (set es place e) ≡ map placed_of es
-placed_born [] place e doc mark = refl
-placed_born (x ∷ es) zero e doc mark = λ i. (doc i, mark i) ∷ map placed_of es
-placed_born (x ∷ es) (suc place) e doc mark = ap (λ (l : List (Document × ℕ)). placed_of x ∷ l) (placed_born es place e doc mark)
 
 pub kept_none : AreKept [] 0 []
 kept_none = record {

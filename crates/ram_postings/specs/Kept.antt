@@ -4,6 +4,7 @@ use Rattle.std.specs.List.{slice_get, slice_index_or}
 use Rattle.std.specs.Option.{option_map_or}
 use Rattle.std.specs.Map.{lookup}
 use Rattle.std.specs.Ordering.{eq_by_cmp}
+use Rattle.ix_base.specs.Births.{first_birth}
 use Rattle.ix_base.specs.Inversion.{term_cmp, posted, posted_at}
 use Rattle.ix_base.specs.Matches.{stands_at}
 use Rattle.ix_base.specs.Terms.{terms}
@@ -75,12 +76,12 @@ StandInNumbers numbers entries =
 abbrev pub staged_of : Entry → Staged
 staged_of e = record { doc = e.doc; birth = e.birth }
 
--- the mark of a document that has its number
+-- the mark of a document that was born
 abbrev pub mark_of : ℕ → Option ℕ → List ℕ
 mark_of mark None = []
-mark_of mark (Some n) = mark ∷ []
+mark_of mark (Some birth) = mark ∷ []
 
--- the marks of those that have their number
+-- the marks of those that were born
 abbrev pub born_marks : List Entry → List ℕ
 born_marks [] = []
 born_marks (e ∷ es) = mark_of e.mark e.birth ++ born_marks es
@@ -100,10 +101,10 @@ pub record AreKept (docs : List (Document × ℕ)) (next : ℕ) (lists : List (T
   pub lists_below : IsKeptBelow next lists
   pub exact : All (IsKept lists) docs
 
--- the numbers of the operations rise from 1 at least
+-- the births rise, from the first one of the operation 1 at least
 pub record AreBirths (rows : List Row) : Type 0 where
   pub rise : AllPairs (λ a b. a.birth < b.birth) rows
-  pub positive : All (λ row. 1 ≤ row.birth) rows
+  pub positive : All (λ row. first_birth 1 ≤ row.birth) rows
 
 pub record IsBuffer (staged : List Entry) (next : ℕ) (lists : List (Term × List Posting)) : Type 0 where
   pub few : length staged < 2147483648

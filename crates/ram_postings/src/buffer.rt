@@ -1,9 +1,10 @@
 //! The buffer: documents staged, and the places of their terms.
-ghost use Rattle.std.specs.Prelude.{◌≡◌, ◌<◌, ◌≤◌, ◌∷◌, ◌++◌, [], None, All, length, map, drop, IfOk, OnOk, OnErr};
+ghost use Rattle.std.specs.Prelude.{◌≡◌, ◌+◌, ◌<◌, ◌≤◌, ◌∷◌, ◌++◌, [], None, All, length, map, drop, IfOk, OnOk, OnErr};
+ghost use Rattle.ix_base.specs.Births.{first_birth};
 ghost use Rattle.ix_base.specs.Inversion.{IsInversion};
-ghost use Rattle.ram_postings.specs.Buffer.{waiting, born_rows, with_birth};
+ghost use Rattle.ram_postings.specs.Buffer.{waiting, born_rows, with_births};
 
-use crate::entry::Entry;
+use crate::entry::{Entry, give_births};
 use crate::freezing::{Frozen, postings_of};
 use crate::numbers::moved_rows;
 use crate::placing::place_terms;
@@ -19,7 +20,7 @@ use std::mem;
 pub struct RowId(pub u32);
 
 /// Documents that were staged, with the places of their terms. Contracts see it as the list of
-/// these documents, each with its number where it has one.
+/// these documents, each with its birth where it has one.
 ///
 /// Each attempt to stage takes a mark of its own. So where memory runs out nothing has to be undone:
 /// what such an attempt left in the lists has a mark that no document has.
@@ -56,7 +57,7 @@ impl RamPostings {
         }
     }
 
-    /// Stages a document, which then waits for its number, and returns its place. Where memory runs
+    /// Stages a document, which then waits for its birth, and returns its place. Where memory runs
     /// out the documents are as before; a buffer takes 2^32 - 1 attempts at most, and then says so
     /// too.
     pub fn stage(&mut self, analysed: Analysed) -> Result<RowId, NoMemory>
@@ -83,15 +84,18 @@ impl RamPostings {
         Ok(RowId(place))
     }
 
-    /// Gives the document at a place its number. It takes no memory.
-    pub fn born(&mut self, row: RowId, number: u64)
-        requires place { row.0 < length self.old }
-        requires waiting { All (λ staged. staged.birth ≡ None) (drop row.0 self.old) }
+    /// Gives neighbouring documents their births: `count` of them, 1 to 64, from the place `first` on,
+    /// which all wait, as all behind them do. In their order they become the documents of the operation
+    /// of this number. It takes no memory.
+    pub fn born_block(&mut self, first: RowId, count: u32, number: u64)
+        requires place { first.0 + count ≤ length self.old }
+        requires count { (1 ≤ count) × (count ≤ 64) }
+        requires waiting { All (λ staged. staged.birth ≡ None) (drop first.0 self.old) }
         requires positive { 1 ≤ number }
-        requires above { All (λ row. row.birth < number) (born_rows self.old) }
-        ensures { self.new ≡ with_birth self.old row.0 number }
+        requires above { All (λ row. row.birth < first_birth number) (born_rows self.old) }
+        ensures { self.new ≡ with_births self.old first.0 count (first_birth number) }
     {
-        self.staged[row.0 as usize].birth = Some(number);
+        give_births(self.staged.as_mut_slice(), first.0, count, number);
     }
 
     /// How many documents were staged, void ones among them.
@@ -101,7 +105,7 @@ impl RamPostings {
         self.staged.len() as u32
     }
 
-    /// Takes out the rows of the documents that have their number, and the inversion of them. The
+    /// Takes out the rows of the documents that were born, and the inversion of them. The
     /// documents are moved, and the buffer then has none. The only error is out of memory: the buffer
     /// is as before.
     pub fn take_frozen(&mut self) -> Result<Frozen, NoMemory>

@@ -101,7 +101,7 @@ fn terms_of(
     Ok(terms)
 }
 
-/// The inversion of the rows of those documents that have their number.
+/// The inversion of the rows of those documents that were born.
 pub fn postings_of(
     alloc: Global,
     staged: &[Entry],

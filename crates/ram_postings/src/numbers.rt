@@ -7,7 +7,7 @@ use crate::entry::Entry;
 use ix_base::{NoMemory, Row};
 use std::alloc::Global;
 
-/// Puts a document that has its number behind the rows, which have room for one. It takes no memory.
+/// Puts a document that was born behind the rows, which have room for one. It takes no memory.
 fn move_row(rows: &mut Vec<Row>, entry: Entry)
     requires { length rows.old.items < vec_capacity rows.old }
     ensures rows { rows.new.items ≡ rows.old.items ++ row_of entry.doc entry.birth }
@@ -19,7 +19,7 @@ fn move_row(rows: &mut Vec<Row>, entry: Entry)
     }
 }
 
-/// The rows of those documents that have their number, which are moved into a list that has room for
+/// The rows of those documents that were born, which are moved into a list that has room for
 /// all. It takes no memory.
 pub fn moved_rows(mut rows: Vec<Row>, staged: Vec<Entry>) -> Vec<Row>
     requires { (rows.items ≡ []) × (length staged.items ≤ vec_capacity rows) }
@@ -31,7 +31,7 @@ pub fn moved_rows(mut rows: Vec<Row>, staged: Vec<Entry>) -> Vec<Row>
     rows
 }
 
-/// The marks of those documents that have their number.
+/// The marks of those documents that were born.
 fn marks_of(alloc: Global, staged: &[Entry]) -> Result<Vec<u32>, NoMemory>
     ensures { IfOk result (λ marks. marks.items ≡ born_marks staged.now) }
 {
@@ -60,7 +60,7 @@ fn places_of(alloc: Global, marks: &[u32], bound: u32) -> Result<Vec<Option<u32>
     Ok(places)
 }
 
-/// The row of each mark, where the document of the mark has its number.
+/// The row of each mark, where the document of the mark was born.
 pub fn numbers_of(alloc: Global, staged: &[Entry], bound: u32) -> Result<Vec<Option<u32>>, NoMemory>
     requires rise { AllPairs (λ a b. a < b) (born_marks staged.now) }
     requires below { All (λ mark. mark < bound) (born_marks staged.now) }
