@@ -4,6 +4,7 @@ use Rattle.std.proofs.lemmas.List.{take_all, length-map}
 use Rattle.std.proofs.lemmas.List.Concat.{flat_map-cons}
 use Rattle.std.specs.List.{flat_map}
 use Rattle.ix_base.proofs.EntryLaws.{length-be32, length-text_bytes}
+use Rattle.ix_base.specs.Births.{number_of, place_of}
 use Rattle.ix_base.specs.Grouped.{grouped}
 use Rattle.ix_base.specs.Spelling.{be32, be64, signed64, text_bytes}
 use Rattle.ix_base.specs.Documents.{Document}
@@ -51,8 +52,10 @@ document_size doc =
     let text : length (fields doc.text ++ (fields doc.exact ++ numbers_bytes doc.num)) ≡ length (fields doc.text) + length (fields doc.exact ++ numbers_bytes doc.num) = length-append (fields doc.text) (fields doc.exact ++ numbers_bytes doc.num) in
     omega (arith, exact, text, length-append (text_bytes doc.key) (fields doc.text ++ (fields doc.exact ++ numbers_bytes doc.num)))
 
-pub row_size : (r : Row) → 8 + length (document r.doc) ≡ length (row r)
-row_size r = omega (arith, length-append (be64 r.birth) (document r.doc), length-be64 r.birth)
+pub row_size : (r : Row) → 12 + length (document r.doc) ≡ length (row r)
+row_size r =
+    let rest : List ℕ = be32 (place_of r.birth) ++ document r.doc in
+    omega (arith, length-append (be64 (number_of r.birth)) rest, length-append (be32 (place_of r.birth)) (document r.doc), length-be64 (number_of r.birth), length-be32 (place_of r.birth))
 
 -- ---- lists
 

@@ -2,6 +2,7 @@
 use Rattle.std.specs.Prelude.{◌≡◌, ℕ, ℤ, ◌+◌, ◌<◌, ◌≤◌, ◌^◌, List, [], ◌∷◌, Bool, true, false, length, map, FitsSigned, ⊤}
 use Rattle.std.specs.Int.{w64}
 use Rattle.std.specs.List.{AllByRecursion}
+use Rattle.ix_base.specs.Births.{first_birth, last_birth}
 use Rattle.ix_base.specs.Limits.{names_rise}
 use Rattle.ix_base.specs.Spelling.{IsText, IsName}
 use Rattle.ix_base.specs.Documents.{is_apart}
@@ -42,7 +43,7 @@ pub record DocumentFits (doc : Document) : Type 0 where
   pub num_rises : names_rise (map (λ pair. pair.0) doc.num) ≡ true
   pub apart : is_apart doc ≡ true
 
--- births rise, from some number up to a limit
+-- births rise, from some birth up to a limit
 abbrev pub BirthsRise : ℕ → ℕ → List Row → Type 0
 BirthsRise low limit [] = ⊤
 BirthsRise low limit (r ∷ rs) = (low ≤ r.birth) × (r.birth ≤ limit) × BirthsRise (r.birth + 1) limit rs
@@ -51,7 +52,7 @@ BirthsRise low limit (r ∷ rs) = (low ≤ r.birth) × (r.birth ≤ limit) × Bi
 pub record RowsFit (s : ℕ) (rows : List Row) : Type 0 where
   pub some : 1 ≤ length rows
   pub count : length rows < 2 ^ 32
-  pub births : BirthsRise 1 s rows
+  pub births : BirthsRise (first_birth 1) (last_birth s) rows
   pub documents : AllByRecursion (λ (r : Row). DocumentFits r.doc) rows
 
 -- the rows of a segment of n rows, in the commit numbered s, of which none has a birth that is known

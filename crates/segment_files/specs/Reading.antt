@@ -1,6 +1,7 @@
 -- What is read of a segment's files, field by field, or the first broken field.
 use Rattle.std.specs.Prelude.{ℕ, ◌+◌, List, length, Bool, true, not, ◌&&◌, ◌||◌, Option, Some, None, Result, Ok, Err, nat_lt, nat_le, ◌==◌, if◌then◌else◌}
 use Rattle.std.specs.Int.{w32, w64}
+use Rattle.ix_base.specs.Births.{birth_of, first_birth, number_of}
 use Rattle.ix_base.specs.Codec.{◌>>=◌, number_at, text_at, items_at}
 use Rattle.ix_base.specs.FileReading.{number_where, name_where, mark_at, ended}
 use Rattle.ix_base.specs.Limits.{text_lt}
@@ -10,24 +11,47 @@ use Rattle.ix_base.specs.declared.postings.Posting.{Posting}
 use Rattle.ix_base.specs.declared.postings.TermPostings.{TermPostings}
 use Rattle.ix_base.specs.declared.postings.Postings.{Postings}
 use Rattle.segment_files.specs.Fields.{document_at}
-use Rattle.segment_files.specs.Spelling.{rows_mark, posts_mark}
+use Rattle.segment_files.specs.Spelling.{old_rows_mark, rows_mark, posts_mark}
+use Rattle.segment_files.specs.declared.marks.RowFormat.{RowFormat}
+use Rattle.segment_files.specs.declared.marks.RowFormat.TheVariants.{First, Second}
 
 -- ---- rows
 
--- A birth is from `low` to the commit's number, and no earlier segment has it.
-unfoldable pub row_at : ℕ → (ℕ → Bool) → ℕ → List ℕ → Result (Row × List ℕ) ℕ
-row_at s known low bytes = do
-  birth ← number_where w64 (λ b. nat_le low b && (nat_le b s && not (known b))) bytes
+-- The mark of the second form, or else that of the first.
+abbrev pub marked_or : Result (List ℕ) ℕ → List ℕ → Result (RowFormat × List ℕ) ℕ
+marked_or (Ok rest) bytes = Ok (Second, rest)
+marked_or (Err left) bytes = mark_at old_rows_mark bytes >>= λ rest. Ok (First, rest)
+
+unfoldable pub format_at : List ℕ → Result (RowFormat × List ℕ) ℕ
+format_at bytes = marked_or (mark_at rows_mark bytes) bytes
+
+-- a place, below 64; in the first form it is 0 and takes no bytes
+unfoldable pub place_at : RowFormat → List ℕ → Result (ℕ × List ℕ) ℕ
+place_at First bytes = Ok (0, bytes)
+place_at Second bytes = number_where w32 (λ x. nat_lt x 64) bytes
+
+-- A birth is `low` or later, of an operation up to the commit's number, and no earlier segment has it. A number of which
+-- no birth may come is broken, and so is a birth that may not come, at its number.
+unfoldable pub birth_at : RowFormat → ℕ → (ℕ → Bool) → ℕ → List ℕ → Result (ℕ × List ℕ) ℕ
+birth_at format s known low bytes = do
+  number ← number_where w64 (λ x. nat_le (number_of low) x && nat_le x s) bytes
+  place ← place_at format number.1
+  if nat_le low (birth_of number.0 place.0) && not (known (birth_of number.0 place.0)) then Ok (birth_of number.0 place.0, place.1) else Err (length bytes)
+
+-- a row, of a file of this form
+unfoldable pub row_at : RowFormat → ℕ → (ℕ → Bool) → ℕ → List ℕ → Result (Row × List ℕ) ℕ
+row_at format s known low bytes = do
+  birth ← birth_at format s known low bytes
   doc ← document_at birth.1
   Ok (record { birth = birth.0; doc = doc.0 }, doc.1)
 
 -- the file of the segment of this id, of n rows and at least one, in the commit s
 unfoldable pub rows_in : ℕ → ℕ → ℕ → (ℕ → Bool) → List ℕ → Result (List Row) ℕ
 rows_in id n s known bytes = do
-  rest ← mark_at rows_mark bytes
-  own ← number_where w64 (λ x. x == id) rest
+  format ← format_at bytes
+  own ← number_where w64 (λ x. x == id) format.1
   count ← number_where w32 (λ x. x == n && nat_le 1 x) own.1
-  rows ← items_at (row_at s known) (λ (r : Row). r.birth + 1) 1 n count.1
+  rows ← items_at (row_at format.0 s known) (λ (r : Row). r.birth + 1) (first_birth 1) n count.1
   ended rows.0 rows.1
 
 -- ---- postings

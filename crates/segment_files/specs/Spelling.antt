@@ -1,6 +1,7 @@
 -- The bytes of a segment's files. Numbers are written with the highest byte first.
-use Rattle.std.specs.Prelude.{ℕ, ℤ, List, ◌++◌, length, codes}
-use Rattle.std.specs.List.{flat_map}
+use Rattle.std.specs.Prelude.{◌≡◌, ◌⊎◌, ℕ, ℤ, List, ◌++◌, length, codes}
+use Rattle.std.specs.List.{flat_map, AllByRecursion}
+use Rattle.ix_base.specs.Births.{number_of, place_of}
 use Rattle.ix_base.specs.Spelling.{be32, be64, signed64, text_bytes}
 use Rattle.ix_base.specs.Documents.{Document}
 use Rattle.ix_base.specs.declared.document.Row.{Row}
@@ -10,9 +11,12 @@ use Rattle.ix_base.specs.declared.postings.Postings.{Postings}
 
 -- ---- rows
 
--- what a file of rows begins with
+-- what a file of rows begins with, in the first form and in the second one
+unfoldable pub old_rows_mark : List ℕ
+old_rows_mark = codes "IXROW001"
+
 unfoldable pub rows_mark : List ℕ
-rows_mark = codes "IXROW001"
+rows_mark = codes "IXROW002"
 
 abbrev pub field : List ℕ × List ℕ → List ℕ
 field pair = text_bytes pair.0 ++ text_bytes pair.1
@@ -29,12 +33,28 @@ numbers_bytes pairs = be64 (length pairs) ++ flat_map number_bytes pairs
 abbrev pub document : Document → List ℕ
 document doc = text_bytes doc.key ++ (fields doc.text ++ (fields doc.exact ++ numbers_bytes doc.num))
 
+-- a row: the number and the place of its birth, and its document
 abbrev pub row : Row → List ℕ
-row r = be64 r.birth ++ document r.doc
+row r = be64 (number_of r.birth) ++ (be32 (place_of r.birth) ++ document r.doc)
 
 -- the rows of the segment of this id
 abbrev pub rows_file : ℕ → List Row → List ℕ
 rows_file id rows = rows_mark ++ (be64 id ++ (be32 (length rows) ++ flat_map row rows))
+
+-- the same in the first form, in which no places stand
+abbrev pub old_row : Row → List ℕ
+old_row r = be64 (number_of r.birth) ++ document r.doc
+
+abbrev pub old_rows_file : ℕ → List Row → List ℕ
+old_rows_file id rows = old_rows_mark ++ (be64 id ++ (be32 (length rows) ++ flat_map old_row rows))
+
+-- each of these rows is of the first document of its operation, or of the only one
+abbrev pub AllFirst : List Row → Type 0
+AllFirst rows = AllByRecursion (λ (r : Row). place_of r.birth ≡ 0) rows
+
+-- The bytes spell the rows of the segment of this id: in the second form, or in the first one, where each place is 0.
+abbrev pub SpellsRows : ℕ → List Row → List ℕ → Type 0
+SpellsRows id rows bytes = (bytes ≡ rows_file id rows) ⊎ (AllFirst rows × (bytes ≡ old_rows_file id rows))
 
 -- ---- postings
 

@@ -4,35 +4,38 @@ ghost use Rattle.std.specs.BTreeSet.{contains};
 ghost use Rattle.std.specs.Ordering.{nat_cmp};
 ghost use Rattle.ix_base.specs.declared.document.Row.{Row};
 ghost use Rattle.ix_base.specs.declared.file_name.FileName.TheVariants.{Rows};
+ghost use Rattle.ix_base.specs.Births.{first_birth};
 ghost use Rattle.ix_base.specs.Codec.{Gives, items_at};
 ghost use Rattle.ix_base.specs.FileReading.{GivesFile, placed};
 ghost use Rattle.segment_files.specs.Fits.{IsSegment};
 ghost use Rattle.segment_files.specs.Reading.{row_at, rows_in};
-ghost use Rattle.segment_files.specs.Spelling.{rows_file};
+ghost use Rattle.segment_files.specs.Spelling.{SpellsRows};
 
-use crate::marks::rows_mark_at;
-use crate::read_documents::row_of;
+use crate::marks::{RowFormat, row_format_of};
+use crate::read_rows::row_of;
 use ix_base::codec::{Broken, u32_at, u64_at};
-use ix_base::{FileFault, FileName, List, Row};
+use ix_base::{Birth, FileFault, FileName, List, Row};
 use std::alloc::Global;
 use std::collections::BTreeSet;
 
-/// So many rows, and the bytes after them.
+/// So many rows of a file of this form, and the bytes after them.
 fn row_list<'a>(
     alloc: Global,
     count: u32,
     bytes: &'a [u8],
+    format: RowFormat,
     number: u64,
-    earlier: &BTreeSet<u64>,
+    earlier: &BTreeSet<Birth>,
 ) -> Result<(Vec<Row>, &'a [u8]), Broken>
-    ensures { Gives (λ x. (x.0.items, x.1.now)) result (items_at
-        (row_at number (contains nat_cmp earlier.now)) (λ row. row.birth + 1) 1 count bytes.now) }
+    ensures { Gives (λ x. (x.0.items, x.1.now)) result
+        (items_at (row_at format number (contains nat_cmp earlier.now)) (λ row. row.birth + 1)
+        (first_birth 1) count bytes.now) }
 {
     let mut rows = Vec::new(alloc);
-    let mut last = 0;
+    let mut last = Birth::new(0, 63);
     let mut rest = bytes;
     for _ in 0..count {
-        let (row, after) = row_of(alloc, rest, number, earlier, last)?;
+        let (row, after) = row_of(alloc, rest, format, number, earlier, last)?;
         last = row.birth;
         rows.push(row)?;
         rest = after;
@@ -48,12 +51,12 @@ fn rows_of(
     id: u64,
     row_count: u32,
     number: u64,
-    earlier: &BTreeSet<u64>,
+    earlier: &BTreeSet<Birth>,
 ) -> Result<Vec<Row>, Broken>
     ensures { Gives (λ rows. rows.items) result
         (rows_in id row_count number (contains nat_cmp earlier.now) bytes.now) }
 {
-    let own = rows_mark_at(bytes)?;
+    let (format, own) = row_format_of(bytes)?;
     let (own_id, counted) = u64_at(own)?;
     if own_id != id {
         return Err(Broken::At(own.len()));
@@ -62,7 +65,7 @@ fn rows_of(
     if count != row_count || count == 0 {
         return Err(Broken::At(counted.len()));
     }
-    let (rows, rest) = row_list(alloc, row_count, rest, number, earlier)?;
+    let (rows, rest) = row_list(alloc, row_count, rest, format, number, earlier)?;
     if !rest.is_empty() {
         return Err(Broken::At(rest.len()));
     }
@@ -76,7 +79,7 @@ fn placed_rows(
     id: u64,
     row_count: u32,
     number: u64,
-    earlier: &BTreeSet<u64>,
+    earlier: &BTreeSet<Birth>,
 ) -> Result<List<Row>, FileFault>
     ensures { GivesFile (λ x. x) result (placed (Rows id) bytes.now
         (rows_in id row_count number (contains nat_cmp earlier.now) bytes.now)) }
@@ -87,7 +90,7 @@ fn placed_rows(
     }
 }
 
-/// The rows that the file of a segment spells: the segment has this id and `row_count` rows, the
+/// The rows that the file of a segment spells, in either form: the segment has this id and `row_count` rows, the
 /// commit has this number, and the earlier segments of the commit have these births.
 ///
 /// It returns `Damaged` exactly where the bytes are not in the grammar of such a file, with the
@@ -98,15 +101,15 @@ pub fn decode_row(
     id: u64,
     row_count: u32,
     number: u64,
-    earlier: &BTreeSet<u64>,
+    earlier: &BTreeSet<Birth>,
 ) -> Result<List<Row>, FileFault>
     // What is read is spelled so, each byte of it.
     ensures found { IfOk result (λ rows. IsSegment number row_count
-        (contains nat_cmp earlier.now) rows × (bytes.now ≡ rows_file id rows)) }
+        (contains nat_cmp earlier.now) rows × SpellsRows id rows bytes.now) }
     // What is spelled so is read, unless memory runs out.
     ensures only { (rows : List Row)
         → IsSegment number row_count (contains nat_cmp earlier.now) rows
-        → bytes.now ≡ rows_file id rows → GivesFile (λ x. x) result (Ok rows) }
+        → SpellsRows id rows bytes.now → GivesFile (λ x. x) result (Ok rows) }
     // Which place is the first broken one.
     ensures exact { GivesFile (λ x. x) result (placed (Rows id) bytes.now
         (rows_in id row_count number (contains nat_cmp earlier.now) bytes.now)) }

@@ -68,12 +68,13 @@ fn put_document(out: &mut Vec<u8>, doc: &Document) -> Result<(), NoMemory>
     Ok(())
 }
 
-/// Appends a row.
+/// Appends a row: the number and the place of its birth, and its document.
 pub(crate) fn put_row(out: &mut Vec<u8>, item: &Row) -> Result<(), NoMemory>
     ensures bytes { OnOk result (out.new.items ≡ out.old.items ++ row item.now) }
     ensures fits { OnOk result (DocumentFits item.now.doc) }
 {
-    put_u64(out, item.birth)?;
+    put_u64(out, item.birth.number())?;
+    put_u32(out, item.birth.place())?;
     put_document(out, &item.doc)?;
     Ok(())
 }

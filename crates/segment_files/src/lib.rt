@@ -13,6 +13,7 @@ mod read_documents;
 mod read_pairs;
 mod read_places;
 mod read_posts;
+mod read_rows;
 mod read_terms;
 mod sizes;
 

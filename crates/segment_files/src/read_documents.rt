@@ -1,15 +1,11 @@
-//! Documents and rows from bytes: each reader returns the value and the bytes after it.
-ghost use Rattle.std.specs.Prelude.{◌≡◌, ◌+◌, map, length, true, Option, Some, None, IfOk};
-ghost use Rattle.std.specs.BTreeSet.{contains};
-ghost use Rattle.std.specs.Ordering.{nat_cmp};
+//! Documents from bytes: each reader returns the value and the bytes after it.
+ghost use Rattle.std.specs.Prelude.{◌≡◌, map, length, true, Option, Some, None, IfOk};
 ghost use Rattle.ix_base.specs.Codec.{text_at, name_at, Gives, items_at, left_by};
 ghost use Rattle.segment_files.specs.Fields.{field_at, fields_at, numbered_at, numbers_at, document_at, comes_after, is_free_name, may_name};
-ghost use Rattle.segment_files.specs.Reading.{row_at};
 
 use ix_base::codec::{Broken, i64_at, name_at, text_at, u32_at, u64_at};
-use ix_base::{Document, Fields, Name, Numbers, Row, Text};
+use ix_base::{Document, Fields, Name, Numbers, Text};
 use std::alloc::Global;
-use std::collections::BTreeSet;
 
 /// A copy of the text at the start of the bytes.
 pub(crate) fn text_of(alloc: Global, bytes: &[u8]) -> Result<(Text, &[u8]), Broken>
@@ -145,8 +141,9 @@ fn numbers_of(alloc: Global, bytes: &[u8]) -> Result<(Numbers, &[u8]), Broken>
     number_list(alloc, count, rest)
 }
 
+/// The document at the start of the bytes.
 #[tactic(auto, unfolding(crate::specs::Fields::document_at))]
-fn document_of(alloc: Global, bytes: &[u8]) -> Result<(Document, &[u8]), Broken>
+pub(crate) fn document_of(alloc: Global, bytes: &[u8]) -> Result<(Document, &[u8]), Broken>
     ensures { Gives (λ x. (x.0, x.1.now)) result (document_at bytes.now) }
 {
     let (key, rest) = text_of(alloc, bytes)?;
@@ -160,24 +157,4 @@ fn document_of(alloc: Global, bytes: &[u8]) -> Result<(Document, &[u8]), Broken>
         num,
     };
     Ok((doc, rest))
-}
-
-/// A row of the commit of this number, whose birth is after the last one and in no earlier segment.
-#[tactic(auto, unfolding(crate::specs::Reading::row_at))]
-pub(crate) fn row_of<'a>(
-    alloc: Global,
-    bytes: &'a [u8],
-    number: u64,
-    earlier: &BTreeSet<u64>,
-    last: u64,
-) -> Result<(Row, &'a [u8]), Broken>
-    ensures { Gives (λ x. (x.0, x.1.now)) result
-        (row_at number (contains nat_cmp earlier.now) (last + 1) bytes.now) }
-{
-    let (birth, rest) = u64_at(bytes)?;
-    if birth <= last || number < birth || earlier.contains(&birth) {
-        return Err(Broken::At(bytes.len()));
-    }
-    let (doc, rest) = document_of(alloc, rest)?;
-    Ok((Row { birth, doc }, rest))
 }

@@ -70,7 +70,7 @@ fn behind_document(room: u64, doc: &Document) -> Option<u64>
 fn behind_row(room: u64, item: &Row) -> Option<u64>
     ensures { Leaves room (length (row item.now)) result }
 {
-    behind_document(behind(room, 8)?, &item.doc)
+    behind_document(behind(room, 12)?, &item.doc)
 }
 
 /// What is left of a room, in bytes, behind these rows of a file: `None` exactly where they take more.
