@@ -1,6 +1,7 @@
 -- What a merge of segments is: the segments that are merged, and the segment that is made of them.
 use Rattle.std.specs.Prelude.{◌≡◌, ◌≢◌, ℕ, ◌<◌, ◌≤◌, ◌^◌, List, [], Option, Some, None, length, Contains, AllPairs, IsPermutation}
 use Rattle.std.specs.List.{AllByRecursion, AllZip}
+use Rattle.ix_base.specs.Births.{first_birth, last_birth}
 use Rattle.ix_base.specs.Inversion.{IsPostings}
 use Rattle.segment_core.specs.LiveRows.{Lived, MarksLater, live, all_live, stored_rows}
 use Rattle.segment_core.specs.Segments.{IsInverted}
@@ -23,8 +24,8 @@ row_count segments = length (stored_rows segments)
 abbrev pub IsOrdered : Lived → Type 0
 IsOrdered s = IsPostings s.segment.postings.terms
 
--- Segments can be merged: births rise in each from 1 up to some limit, no two rows of them have one birth, their
--- postings are in order, and fewer than 2^31 of their rows are live.
+-- Segments can be merged: births rise in each, of operations from 1 up to some limit, no two rows of them have one
+-- birth, their postings are in order, and fewer than 2^31 of their rows are live.
 pub record CanMerge (sources : List Lived) : Type 0 where
   pub limit : ℕ
   pub rise : EachRises limit sources
@@ -60,7 +61,7 @@ pub record IsMerged (sources : List Lived) (id applied : ℕ) (s : Lived) : Type
   pub applied_is : s.live.applied ≡ applied
   pub rows : IsPermutation (live s) (all_live sources)
   pub some : live s ≢ []
-  pub births : (limit : ℕ) → EachRises limit sources → BirthsRise 1 limit s.segment.rows
+  pub births : (limit : ℕ) → EachRises limit sources → BirthsRise (first_birth 1) (last_birth limit) s.segment.rows
   pub stored : (b : ℕ) → births_at b s.segment.rows ≤ births_at b (stored_rows sources)
 
 -- What is merged of sources: nothing exactly where no row of them is live.

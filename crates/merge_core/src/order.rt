@@ -9,7 +9,7 @@ ghost use Rattle.merge_core.specs.Choosing.{AreBirths};
 
 use crate::next_row::{birth_at, first_births, next_source, source_at};
 use crate::origin::Origin;
-use ix_base::NoMemory;
+use ix_base::{Birth, NoMemory};
 use segment_core::LiveSegment;
 use std::alloc::Global;
 
@@ -18,13 +18,13 @@ use std::alloc::Global;
 pub(crate) struct Order {
     next: Vec<u32>,
     /// The birth of that row, if one is left.
-    births: Vec<Option<u64>>,
+    births: Vec<Option<Birth>>,
     origins: Vec<Origin>,
 }
 
 impl Order {
     /// No row of sources whose first rows have these births was looked at yet.
-    fn start(alloc: Global, births: Vec<Option<u64>>) -> Result<Order, NoMemory>
+    fn start(alloc: Global, births: Vec<Option<Birth>>) -> Result<Order, NoMemory>
         ensures next { IfOk result (λ order. order.next.items ≡ replicate (length births.items) 0) }
         ensures births { IfOk result (λ order. order.births.items ≡ births.items) }
         ensures origins { IfOk result (λ order. order.origins.items ≡ []) }
