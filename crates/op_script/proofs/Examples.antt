@@ -18,9 +18,21 @@ one_commit : script (codes " {\"op\":\"commit\",\"c\":0}\r") ≡ Ok (record { li
 unfolding script serde_json_on_literals is_utf8 chars encode_utf8
 one_commit = refl
 
+block_of_two : script (codes "{\"c\":7,\"op\":\"add_block\",\"docs\":[{\"key\":\"a1\"},{\"key\":\"a2\"}]}") ≡ Ok (record { line = 1; caller = 7; act = act.Do (operation.AddBlock (record { key = codes "a1"; text = []; exact = []; num = [] } ∷ record { key = codes "a2"; text = []; exact = []; num = [] } ∷ [])) } ∷ [])
+unfolding script serde_json_on_literals is_utf8 chars encode_utf8
+block_of_two = refl
+
+block_of_none : script (codes "{\"c\":7,\"op\":\"add_block\",\"docs\":[]}") ≡ Err (record { line = 1; why = why.Doc })
+unfolding script serde_json_on_literals is_utf8 chars encode_utf8
+block_of_none = refl
+
 one_update : script (codes "{\"c\":7,\"op\":\"update\",\"field\":\"key\",\"term\":\"a1\",\"doc\":{\"key\":\"a2\"}}") ≡ Ok (record { line = 1; caller = 7; act = act.Do (operation.Update (record { field = codes "key"; bytes = codes "a1" }) (record { key = codes "a2"; text = []; exact = []; num = [] })) } ∷ [])
 unfolding script serde_json_on_literals is_utf8 chars encode_utf8
 one_update = refl
+
+update_of_a_block : script (codes "{\"c\":7,\"op\":\"update_block\",\"field\":\"key\",\"term\":\"a1\",\"docs\":[{\"key\":\"a2\"}]}") ≡ Ok (record { line = 1; caller = 7; act = act.Do (operation.UpdateBlock (record { field = codes "key"; bytes = codes "a1" }) (record { key = codes "a2"; text = []; exact = []; num = [] } ∷ [])) } ∷ [])
+unfolding script serde_json_on_literals is_utf8 chars encode_utf8
+update_of_a_block = refl
 
 one_delete : script (codes "{\"c\":7,\"op\":\"delete\",\"field\":\"key\",\"term\":\"a1\"}") ≡ Ok (record { line = 1; caller = 7; act = act.Do (operation.DeleteTerm (record { field = codes "key"; bytes = codes "a1" })) } ∷ [])
 unfolding script serde_json_on_literals is_utf8 chars encode_utf8

@@ -1,6 +1,7 @@
 mod Values
 mod Names
 mod Pairs
+mod BlockLists
 mod Lines
 mod Shapes
 mod Apart

@@ -5,7 +5,7 @@ use Rattle.serde_json.specs.Find.{get, as_number, as_i64, as_str}
 use Rattle.ix_base.specs.Limits.{is_name}
 use Rattle.ix_base.specs.Documents.{Document}
 use Rattle.ix_base.specs.declared.query.Query.{Query}
-use Rattle.op_script.specs.Documents.{document_of}
+use Rattle.op_script.specs.Documents.{document_of, block_of}
 use Rattle.op_script.specs.Queries.{query_of}
 use Rattle.op_script.specs.declared.script.Why.{Why}
 
@@ -28,6 +28,9 @@ query_at at d = option_and_then query_of (get at d)
 
 abbrev pub document_at : List ℕ → Data → Option Document
 document_at at d = option_and_then document_of (get at d)
+
+abbrev pub block_at : List ℕ → Data → Option (List Document)
+block_at at d = option_and_then block_of (get at d)
 
 -- what f makes of the value, or this reason where there is none
 abbrev pub given : {X Y : Type 0} → Why → Option X → (X → Result Y Why) → Result Y Why

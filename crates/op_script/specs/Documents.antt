@@ -1,8 +1,8 @@
--- Which document a value is.
-use Rattle.std.specs.Prelude.{ℕ, ℤ, List, [], ◌∷◌, length, nat_lt, Bool, ◌&&◌, if◌then◌else◌, codes, Option, Some, None, option_map, option_and_then}
+-- Which document a value is, and which documents of a block.
+use Rattle.std.specs.Prelude.{ℕ, ℤ, List, [], ◌∷◌, length, nat_lt, nat_le, Bool, ◌&&◌, if◌then◌else◌, codes, Option, Some, None, option_map, option_and_then}
 use Rattle.std.specs.Option.{option_map_or}
-use Rattle.serde_json.specs.Data.{Data, null, boolean, number, string, array, object, Members, no_members, member}
-use Rattle.serde_json.specs.Find.{get, as_str}
+use Rattle.serde_json.specs.Data.{Data, null, boolean, number, string, array, object, Items, no_items, item, Members, no_members, member}
+use Rattle.serde_json.specs.Find.{get, as_str, as_array}
 use Rattle.ix_base.specs.Limits.{is_name, names_are_apart}
 use Rattle.ix_base.specs.Documents.{Document}
 use Rattle.op_script.specs.Values.{member_names, names_of, has_only, whole_of}
@@ -63,3 +63,16 @@ abbrev pub document_of : Data → Option Document
 document_of d = if has_only document_names d && are_apart d
     then document_from (option_and_then as_str (get (codes "key") d)) (texts_at (codes "text") d) (texts_at (codes "exact") d) (numbers_at (codes "num") d)
     else None
+
+-- the documents of a list, where each value is one
+abbrev pub documents_of : Items → Option (List Document)
+documents_of no_items = Some []
+documents_of (item d ds) = option_and_then (λ doc. option_map (λ rest. doc ∷ rest) (documents_of ds)) (document_of d)
+
+-- a block has 1 to 64 documents
+abbrev pub block_by : List Document → Option (List Document)
+block_by docs = if nat_le 1 (length docs) && nat_le (length docs) 64 then Some docs else None
+
+-- the documents of the block that a value is
+abbrev pub block_of : Data → Option (List Document)
+block_of d = option_and_then block_by (option_and_then documents_of (as_array d))

@@ -8,7 +8,7 @@ use Rattle.op_script.specs.Values.{value_of}
 use Rattle.op_script.specs.Documents.{texts_at}
 use Rattle.op_script.specs.Lines.{lines_of, is_blank}
 use Rattle.op_script.specs.Verbs.{verb_named, has_members}
-use Rattle.op_script.specs.Arguments.{text_at, name_at, number_at, query_at, document_at, given}
+use Rattle.op_script.specs.Arguments.{text_at, name_at, number_at, query_at, document_at, block_at, given}
 use Rattle.op_script.specs.declared.script.Act.{Act}
 use Rattle.op_script.specs.declared.script.Act.TheVariants as act
 use Rattle.op_script.specs.declared.script.Line.{Line}
@@ -31,10 +31,15 @@ verb_of d = option_and_then verb_named (option_and_then as_str (get (codes "op")
 -- what the line asks for; its members are tested in this order, and the first that is wrong counts
 abbrev pub act_of : Verb → Data → Result Act Why
 act_of verb.Add d = given why.Doc (document_at (codes "doc") d) (λ doc. Ok (act.Do (operation.Add doc)))
+act_of verb.AddBlock d = given why.Doc (block_at (codes "docs") d) (λ docs. Ok (act.Do (operation.AddBlock docs)))
 act_of verb.Update d =
     given why.Name (name_at (codes "field") d) (λ field.
     given why.Text (text_at (codes "term") d) (λ bytes.
     given why.Doc (document_at (codes "doc") d) (λ doc. Ok (act.Do (operation.Update (record { field = field; bytes = bytes }) doc)))))
+act_of verb.UpdateBlock d =
+    given why.Name (name_at (codes "field") d) (λ field.
+    given why.Text (text_at (codes "term") d) (λ bytes.
+    given why.Doc (block_at (codes "docs") d) (λ docs. Ok (act.Do (operation.UpdateBlock (record { field = field; bytes = bytes }) docs)))))
 act_of verb.Delete d =
     given why.Name (name_at (codes "field") d) (λ field.
     given why.Text (text_at (codes "term") d) (λ bytes. Ok (act.Do (operation.DeleteTerm (record { field = field; bytes = bytes })))))

@@ -8,16 +8,20 @@ use Rattle.op_script.specs.declared.verbs.Verb.TheVariants as verb
 
 abbrev pub verb_named : List ℕ → Option Verb
 verb_named name = if bytes_eq name (codes "add") then Some verb.Add
+    else (if bytes_eq name (codes "add_block") then Some verb.AddBlock
     else (if bytes_eq name (codes "update") then Some verb.Update
+    else (if bytes_eq name (codes "update_block") then Some verb.UpdateBlock
     else (if bytes_eq name (codes "delete") then Some verb.Delete
     else (if bytes_eq name (codes "delete_query") then Some verb.DeleteQuery
     else (if bytes_eq name (codes "set") then Some verb.Set
     else (if bytes_eq name (codes "commit") then Some verb.Commit
-    else (if bytes_eq name (codes "search") then Some verb.Search else None))))))
+    else (if bytes_eq name (codes "search") then Some verb.Search else None))))))))
 
 abbrev pub members_of : Verb → List (List ℕ)
 members_of verb.Add = codes "c" ∷ codes "op" ∷ codes "doc" ∷ []
+members_of verb.AddBlock = codes "c" ∷ codes "op" ∷ codes "docs" ∷ []
 members_of verb.Update = codes "c" ∷ codes "op" ∷ codes "field" ∷ codes "term" ∷ codes "doc" ∷ []
+members_of verb.UpdateBlock = codes "c" ∷ codes "op" ∷ codes "field" ∷ codes "term" ∷ codes "docs" ∷ []
 members_of verb.Delete = codes "c" ∷ codes "op" ∷ codes "field" ∷ codes "term" ∷ []
 members_of verb.DeleteQuery = codes "c" ∷ codes "op" ∷ codes "query" ∷ []
 members_of verb.Set = codes "c" ∷ codes "op" ∷ codes "field" ∷ codes "term" ∷ codes "num" ∷ codes "value" ∷ []

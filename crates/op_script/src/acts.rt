@@ -6,7 +6,8 @@ ghost use Rattle.op_script.specs.Language.{act_of};
 ghost use Rattle.op_script.specs.declared.verbs.Verb.{Verb};
 ghost use Rattle.op_script.specs.declared.script.Why.{Why};
 
-use crate::arguments::{data_at, document_at, name_at, number_at, query_at, text_at};
+use crate::arguments::{block_at, data_at, document_at, name_at, number_at, query_at, text_at};
+use crate::blocks::block_from;
 use crate::documents::{data_from, document_from};
 use crate::line_fault::LineFault;
 use crate::members::{name_from, text_from};
@@ -28,6 +29,18 @@ pub fn add_in(alloc: Global, value: &Value) -> Result<Act, LineFault>
     Ok(Act::Do(Operation::Add(document_from(alloc, doc)?)))
 }
 
+/// An addition of a block.
+pub fn add_block_in(alloc: Global, value: &Value) -> Result<Act, LineFault>
+    ensures ok { IfOk result (λ act. act_of Verb.AddBlock (view value.now) ≡ Ok act) }
+    ensures bad { (why : Why) → result ≡ Err (LineFault.Bad why)
+        → act_of Verb.AddBlock (view value.now) ≡ Err why }
+    ensures memory { result ≡ Err LineFault.NoMemory
+        → IsOk (act_of Verb.AddBlock (view value.now)) }
+{
+    let docs = block_at(value, "docs")?;
+    Ok(Act::Do(Operation::AddBlock(block_from(alloc, docs)?)))
+}
+
 /// An update: the term, and then the document.
 pub fn update_in(alloc: Global, value: &Value) -> Result<Act, LineFault>
     ensures ok { IfOk result (λ act. act_of Verb.Update (view value.now) ≡ Ok act) }
@@ -40,6 +53,21 @@ pub fn update_in(alloc: Global, value: &Value) -> Result<Act, LineFault>
     let doc = document_at(value, "doc")?;
     let term = term_from(alloc, field, bytes)?;
     Ok(Act::Do(Operation::Update(term, document_from(alloc, doc)?)))
+}
+
+/// An update with a block: the term, and then the documents.
+pub fn update_block_in(alloc: Global, value: &Value) -> Result<Act, LineFault>
+    ensures ok { IfOk result (λ act. act_of Verb.UpdateBlock (view value.now) ≡ Ok act) }
+    ensures bad { (why : Why) → result ≡ Err (LineFault.Bad why)
+        → act_of Verb.UpdateBlock (view value.now) ≡ Err why }
+    ensures memory { result ≡ Err LineFault.NoMemory
+        → IsOk (act_of Verb.UpdateBlock (view value.now)) }
+{
+    let field = name_at(value, "field")?;
+    let bytes = text_at(value, "term")?;
+    let docs = block_at(value, "docs")?;
+    let term = term_from(alloc, field, bytes)?;
+    Ok(Act::Do(Operation::UpdateBlock(term, block_from(alloc, docs)?)))
 }
 
 /// A deletion by a term.

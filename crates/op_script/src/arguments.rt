@@ -3,11 +3,12 @@
 ghost use Rattle.std.specs.Prelude.{◌≡◌, true, is_some, codes, IfErr, IfOk, OnOk, Some, None};
 ghost use Rattle.serde_json.specs.View.{view};
 ghost use Rattle.ix_base.specs.Limits.{is_name};
-ghost use Rattle.op_script.specs.Arguments.{text_at, name_at, number_at, query_at, document_at};
-ghost use Rattle.op_script.specs.Documents.{document_of, texts_at};
+ghost use Rattle.op_script.specs.Arguments.{text_at, name_at, number_at, query_at, document_at, block_at};
+ghost use Rattle.op_script.specs.Documents.{document_of, block_of, texts_at};
 ghost use Rattle.op_script.specs.Queries.{query_of};
 ghost use Rattle.op_script.specs.declared.script.Why.{Why};
 
+use crate::blocks::is_block;
 use crate::document_check::{are_texts_at, is_document};
 use crate::members::is_name;
 use crate::query_check::is_query;
@@ -85,6 +86,24 @@ pub fn document_at<'a>(value: &'a Value, at: &str) -> Result<&'a Value, Why>
         return Err(Why::Doc);
     };
     if is_document(found) {
+        Ok(found)
+    } else {
+        Err(Why::Doc)
+    }
+}
+
+/// The value at a member, where it is a block of documents.
+pub fn block_at<'a>(value: &'a Value, at: &str) -> Result<&'a Value, Why>
+    ensures ok { IfOk result (λ found. block_at at.now (view value.now)
+        ≡ block_of (view found.now)) }
+    ensures block { IfOk result (λ found. is_some (block_of (view found.now)) ≡ true) }
+    ensures bad { IfErr result (λ why. (why ≡ Why.Doc)
+        × (block_at at.now (view value.now) ≡ None)) }
+{
+    let Some(found) = value.get(at) else {
+        return Err(Why::Doc);
+    };
+    if is_block(found) {
         Ok(found)
     } else {
         Err(Why::Doc)

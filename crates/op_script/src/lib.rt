@@ -4,6 +4,7 @@
 
 mod acts;
 mod arguments;
+mod blocks;
 mod document_check;
 mod documents;
 mod input_lines;

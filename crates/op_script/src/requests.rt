@@ -6,7 +6,10 @@ ghost use Rattle.op_script.specs.Lines.{is_blank};
 ghost use Rattle.op_script.specs.declared.script.BadLine.{BadLine};
 ghost use Rattle.op_script.specs.declared.script.Why.{Why};
 
-use crate::acts::{add_in, commit_in, delete_in, delete_query_in, search_in, set_in, update_in};
+use crate::acts::{
+    add_block_in, add_in, commit_in, delete_in, delete_query_in, search_in, set_in,
+    update_block_in, update_in,
+};
 use crate::input_lines::is_blank;
 use crate::line_fault::LineFault;
 use crate::members::read_value;
@@ -97,7 +100,9 @@ fn act_in(alloc: Global, verb: Verb, value: &Value) -> Result<Act, LineFault>
 {
     match verb {
         Verb::Add => add_in(alloc, value),
+        Verb::AddBlock => add_block_in(alloc, value),
         Verb::Update => update_in(alloc, value),
+        Verb::UpdateBlock => update_block_in(alloc, value),
         Verb::Delete => delete_in(alloc, value),
         Verb::DeleteQuery => delete_query_in(alloc, value),
         Verb::Set => set_in(alloc, value),

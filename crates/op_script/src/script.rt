@@ -50,7 +50,7 @@ pub enum Why {
     Number,
     /// The query isn't one.
     Query,
-    /// The document isn't one.
+    /// The document isn't one, or the documents aren't a list of 1 to 64.
     Doc,
     /// The data of a commit isn't an object of at most 65,535 names with a text each.
     Data,

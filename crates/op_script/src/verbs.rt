@@ -10,7 +10,9 @@ use serde_json::Value;
 #[derive(Clone, Copy, Debug, PartialEq, Eq)]
 pub enum Verb {
     Add,
+    AddBlock,
     Update,
+    UpdateBlock,
     Delete,
     DeleteQuery,
     Set,
@@ -24,8 +26,12 @@ pub fn verb_named(name: &str) -> Option<Verb>
 {
     if name == "add" {
         Some(Verb::Add)
+    } else if name == "add_block" {
+        Some(Verb::AddBlock)
     } else if name == "update" {
         Some(Verb::Update)
+    } else if name == "update_block" {
+        Some(Verb::UpdateBlock)
     } else if name == "delete" {
         Some(Verb::Delete)
     } else if name == "delete_query" {
@@ -47,7 +53,9 @@ pub fn has_members_of(verb: Verb, value: &Value) -> bool
 {
     match verb {
         Verb::Add => has_exactly(value, &["c", "op", "doc"]),
+        Verb::AddBlock => has_exactly(value, &["c", "op", "docs"]),
         Verb::Update => has_exactly(value, &["c", "op", "field", "term", "doc"]),
+        Verb::UpdateBlock => has_exactly(value, &["c", "op", "field", "term", "docs"]),
         Verb::Delete => has_exactly(value, &["c", "op", "field", "term"]),
         Verb::DeleteQuery => has_exactly(value, &["c", "op", "query"]),
         Verb::Set => has_exactly(value, &["c", "op", "field", "term", "num", "value"]),
