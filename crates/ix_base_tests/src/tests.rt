@@ -5,14 +5,15 @@ use ix_base::codec::{
     u32_at, u64_at,
 };
 use ix_base::{
-    Analysed, Document, Fields, FileName, List, Name, Numbers, Operation, PhraseText, Postings,
-    Queries, Query, Row, Spots, Term, TermPostings, Text,
+    Analysed, Birth, Block, Document, Fields, FileName, List, Name, Numbers, Operation, PhraseText,
+    Postings, Queries, Query, Row, Spots, Term, TermPostings, Text,
 };
 use std::alloc::Global;
+use std::cmp::Ordering;
 use std::fmt::Write;
 use std::test::Fail;
 use test_texts::{show_query, show_term, shown_postings};
-use test_values::{document_of, field_of, name_of, number_of, term_of, text_of};
+use test_values::{block_of, document_of, field_of, name_of, number_of, term_of, text_of};
 
 fn phrase_of(alloc: Global, phrase: &str) -> Result<PhraseText, Fail> {
     Ok(PhraseText::new(text_of(alloc, phrase)?).ok_or("long")?)
@@ -102,13 +103,27 @@ fn show_document(out: &mut String, doc: &Document) -> Result<(), Fail> {
     show_numbers(out, &doc.num)
 }
 
+fn show_block(out: &mut String, docs: &Block) -> Result<(), Fail> {
+    for doc in docs.as_slice() {
+        out.push_str("+")?;
+        show_document(out, doc)?;
+    }
+    Ok(())
+}
+
 fn show_operation(out: &mut String, operation: &Operation) -> Result<(), Fail> {
     match operation {
         Operation::Add(doc) => show_document(out, doc),
+        Operation::AddBlock(docs) => show_block(out, docs),
         Operation::Update(term, doc) => {
             show_term(out, term)?;
             out.push_str(" by ")?;
             show_document(out, doc)
+        }
+        Operation::UpdateBlock(term, docs) => {
+            show_term(out, term)?;
+            out.push_str(" by ")?;
+            show_block(out, docs)
         }
         Operation::DeleteTerm(term) => show_term(out, term),
         Operation::DeleteQuery(query) => show_query(out, query, 2),
@@ -178,7 +193,8 @@ fn show_copied(alloc: Global, out: &mut String, doc: &Document) -> Result<(), Fa
 fn show_row(alloc: Global, out: &mut String, row: &Row) -> Result<(), Fail> {
     let copy = row.clone_in(alloc)?;
     show_document(out, &copy.doc)?;
-    Ok(write!(out, " birth {}", copy.birth)?)
+    let (number, place) = (copy.birth.number(), copy.birth.place());
+    Ok(write!(out, " birth {number}.{place}")?)
 }
 
 fn show_letter(alloc: Global, out: &mut String) -> Result<(), Fail> {
@@ -188,7 +204,8 @@ fn show_letter(alloc: Global, out: &mut String) -> Result<(), Fail> {
 
 fn show_short_row(alloc: Global, out: &mut String) -> Result<(), Fail> {
     let doc = document_of(alloc, "a2")?;
-    show_row(alloc, out, &Row { birth: 9, doc })
+    let birth = Birth::new(9, 63);
+    show_row(alloc, out, &Row { birth, doc })
 }
 
 #[test]
@@ -196,7 +213,7 @@ fn copies_of_documents(rt: HostRuntime) -> Result<(), Fail> {
     let mut out = String::new(rt.alloc());
     show_letter(rt.alloc(), &mut out)?;
     show_short_row(rt.alloc(), &mut out)?;
-    let want = "a1 text body=Quick FOX exact tag=x num price=-7a2 text exact num birth 9";
+    let want = "a1 text body=Quick FOX exact tag=x num price=-7a2 text exact num birth 9.63";
     assert!(rt; out.as_str() == want);
     Ok(())
 }
@@ -206,6 +223,11 @@ fn update(alloc: Global) -> Result<Operation, Fail> {
     Ok(Operation::Update(term_of(alloc, "tag", "x")?, doc))
 }
 
+fn update_block(alloc: Global) -> Result<Operation, Fail> {
+    let docs = block_of(alloc, &["a2"])?;
+    Ok(Operation::UpdateBlock(term_of(alloc, "tag", "x")?, docs))
+}
+
 fn setting(alloc: Global) -> Result<Operation, Fail> {
     let term = term_of(alloc, "tag", "x")?;
     let num = name_of(alloc, "n")?;
@@ -213,7 +235,7 @@ fn setting(alloc: Global) -> Result<Operation, Fail> {
     Ok(Operation::SetNumber { term, num, value })
 }
 
-/// An operation of each kind, from 0 to 5.
+/// An operation of each kind, from 0 to 7.
 fn operation_of(alloc: Global, kind: u32) -> Result<Operation, Fail> {
     match kind {
         0 => Ok(Operation::Add(letter(alloc)?)),
@@ -221,6 +243,8 @@ fn operation_of(alloc: Global, kind: u32) -> Result<Operation, Fail> {
         2 => Ok(Operation::DeleteTerm(term_of(alloc, "key", "a1")?)),
         3 => Ok(Operation::DeleteQuery(nested(alloc)?)),
         4 => setting(alloc),
+        5 => Ok(Operation::AddBlock(block_of(alloc, &["a2", "a1"])?)),
+        6 => update_block(alloc),
         _ => Ok(Operation::Commit(field_of(alloc, "body", "Quick FOX")?)),
     }
 }
@@ -244,16 +268,64 @@ tag:x by a2 text exact num
 key:a1
 +(key:a1)(+|(all)-(body~a b))|(all)-
 tag:x n=-9223372036854775808
++a2 text exact num+a1 text exact num
+tag:x by +a2 text exact num
 commit body=Quick FOX
 ";
 
 #[test]
 fn copies_of_operations(rt: HostRuntime) -> Result<(), Fail> {
     let mut out = String::new(rt.alloc());
-    for kind in 0..6 {
+    for kind in 0..8 {
         show_copy(rt.alloc(), &mut out, kind)?;
     }
     assert!(rt; out.as_str() == OPERATIONS, "{}", out.as_str());
+    Ok(())
+}
+
+/// Births by their number, and then by their place.
+#[test]
+fn births_in_order(rt: HostRuntime) {
+    let cases = [
+        (Birth::first(3), Birth::new(3, 0), Ordering::Equal),
+        (Birth::new(3, 0), Birth::new(3, 1), Ordering::Less),
+        (Birth::new(3, 63), Birth::new(4, 0), Ordering::Less),
+        (Birth::new(4, 0), Birth::new(3, 9), Ordering::Greater),
+        (
+            Birth::new(u64::MAX, 63),
+            Birth::new(u64::MAX, 62),
+            Ordering::Greater,
+        ),
+    ];
+    for (left, right, want) in cases {
+        assert!(rt; left.cmp(&right) == want);
+        assert!(rt; (left == right) == (want == Ordering::Equal));
+    }
+}
+
+#[test]
+fn births_before_an_operation(rt: HostRuntime) {
+    let last = Birth::new(3, 63);
+    assert!(rt; !last.is_before(2) && !last.is_before(3) && last.is_before(4));
+}
+
+/// Whether so many documents are a block of as many.
+fn is_block(alloc: Global, count: usize) -> Result<bool, Fail> {
+    let mut docs = Vec::new(alloc);
+    for _ in 0..count {
+        docs.push(document_of(alloc, "a1")?)?;
+    }
+    Ok(match Block::new(docs) {
+        Some(block) => block.as_slice().len() == count,
+        None => false,
+    })
+}
+
+#[test]
+fn blocks_have_1_to_64_documents(rt: HostRuntime) -> Result<(), Fail> {
+    for (count, want) in [(0, false), (1, true), (64, true), (65, false)] {
+        assert!(rt; is_block(rt.alloc(), count)? == want, "{count}");
+    }
     Ok(())
 }
 
