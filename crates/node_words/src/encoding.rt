@@ -13,10 +13,11 @@ use ix_base::codec::{put_i64, put_name};
 use ix_base::{NoMemory, Operation, Refusal, Refused, Term};
 use std::alloc::Global;
 
-/// The words that spell the operation, without its document: one head word and the bytes of its
-/// fields. The operation is refused for `Refusal::Term` exactly where its own term has more than
-/// 32,766 bytes, and for `Refusal::Query` exactly where it deletes by a query of more than 131,072
-/// bytes; no memory is taken then. `NoMemory` is returned only where it is not refused.
+/// The words that spell the operation, without its documents: one head word and the bytes of its
+/// fields. A block has the words of the same operation with one document. The operation is refused
+/// for `Refusal::Term` exactly where its own term has more than 32,766 bytes, and for
+/// `Refusal::Query` exactly where it deletes by a query of more than 131,072 bytes; no memory is
+/// taken then. `NoMemory` is returned only where it is not refused.
 pub fn encode(alloc: Global, operation: &Operation) -> Result<Vec<u64>, Refused>
     ensures words { IfOk result (λ words. Spells words.items (entry_of operation.now)) }
     ensures refusal { MatchResult result (λ _. own_refusal operation.now ≡ None)
@@ -44,8 +45,10 @@ fn refusal(operation: &Operation) -> Option<Refusal>
     ensures { result ≡ own_refusal operation.now }
 {
     match operation {
-        Operation::Add(_) | Operation::Commit(_) => None,
-        Operation::Update(term, _) | Operation::DeleteTerm(term) => term_refusal(term),
+        Operation::Add(_) | Operation::AddBlock(_) | Operation::Commit(_) => None,
+        Operation::Update(term, _)
+        | Operation::UpdateBlock(term, _)
+        | Operation::DeleteTerm(term) => term_refusal(term),
         Operation::SetNumber { term, .. } => term_refusal(term),
         Operation::DeleteQuery(query) => {
             let size = query_size(query);
@@ -67,8 +70,8 @@ fn kind_of(operation: &Operation) -> u64
     ensures { result ≡ kind_of (entry_of operation.now) }
 {
     match operation {
-        Operation::Add(_) => 1,
-        Operation::Update(..) => 2,
+        Operation::Add(_) | Operation::AddBlock(_) => 1,
+        Operation::Update(..) | Operation::UpdateBlock(..) => 2,
         Operation::DeleteTerm(_) => 3,
         Operation::DeleteQuery(_) => 4,
         Operation::SetNumber { .. } => 5,
@@ -76,7 +79,7 @@ fn kind_of(operation: &Operation) -> u64
     }
 }
 
-/// Appends the bytes of the operation's fields, without its document.
+/// Appends the bytes of the operation's fields, without its documents.
 fn put_operation(out: &mut Vec<u8>, operation: &Operation) -> Result<(), NoMemory>
     requires { own_refusal operation.now ≡ None }
     ensures bytes { OnOk result (out.new.items
@@ -84,8 +87,10 @@ fn put_operation(out: &mut Vec<u8>, operation: &Operation) -> Result<(), NoMemor
     ensures entry { OnOk result (IsEntry (entry_of operation.now)) }
 {
     match operation {
-        Operation::Add(_) | Operation::Commit(_) => Ok(()),
-        Operation::Update(term, _) | Operation::DeleteTerm(term) => put_term(out, term),
+        Operation::Add(_) | Operation::AddBlock(_) | Operation::Commit(_) => Ok(()),
+        Operation::Update(term, _)
+        | Operation::UpdateBlock(term, _)
+        | Operation::DeleteTerm(term) => put_term(out, term),
         Operation::DeleteQuery(query) => put_query(out, query),
         Operation::SetNumber { term, num, value } => {
             put_term(out, term)?;
