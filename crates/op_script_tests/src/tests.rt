@@ -142,6 +142,25 @@ const SCRIPTS: &str = r#"
 {"c":0,"op":"add","doc":{"key":"a","text":{"key":""}}} => 1 Doc
 {"c":0,"op":"add","doc":{"key":"a","text":""}} => 1 Doc
 
+# Blocks of documents.
+{"c":0,"op":"add_block","docs":[{"key":"a"},{"key":"b"}]} => 1 lines
+{"c":0,"op":"update_block","field":"key","term":"a","docs":[{"key":"b"}]} => 1 lines
+{"c":0,"op":"add_block","docs":[{"key":"a"}<63 ,{"key":"b"}>]} => 1 lines
+{"c":0,"op":"add_block","docs":[{"key":"a"}<64 ,{"key":"b"}>]} => 1 Doc
+{"c":0,"op":"add_block","docs":[]} => 1 Doc
+{"c":0,"op":"add_block","docs":{"key":"a"}} => 1 Doc
+{"c":0,"op":"add_block","docs":"a"} => 1 Doc
+{"c":0,"op":"add_block","docs":[{"key":"a"},{"key":7},{"key":"b"}]} => 1 Doc
+{"c":0,"op":"add_block"} => 1 Members
+{"c":0,"op":"add_block","doc":{"key":"a"}} => 1 Members
+{"c":0,"op":"add_block","docs":[{"key":"a"}],"x":1} => 1 Members
+{"c":0,"op":"add","docs":[{"key":"a"}]} => 1 Members
+{"c":0,"op":"update_block","field":"","term":1,"docs":[]} => 1 Name
+{"c":0,"op":"update_block","field":"key","term":1,"docs":[]} => 1 Text
+{"c":0,"op":"update_block","field":"key","term":"a","docs":[{"key":"b"},{}]} => 1 Doc
+{"c":0,"op":"update_block","docs":[{"key":"a"}]} => 1 Members
+{"c":0,"op":"update_block","field":"key","term":"a","docs":[{"key":"b"}],"x":1} => 1 Members
+
 # The data of a commit.
 {"c":0,"op":"commit","data":{}} => 1 lines
 {"c":0,"op":"commit","data":{"src":"x","key":""}} => 1 lines
