@@ -1,5 +1,6 @@
 -- Changes without the settings that later ones replace make the same of every row.
 use Rattle.std.proofs.Common.{◌≡◌, ◌∙◌, ℕ, zero, suc, ◌<◌, ◌⊎◌, List, [], ◌∷◌, ◌++◌, length, get_or, Bool, true, false, ◌&&◌, ◌||◌, map, None, Some, nat_lt, refl, sym, ap, subst, arith, inl, inr, if◌then◌else◌}
+use Rattle.ix_base.specs.Births.{first_birth}
 use Rattle.ix_base.specs.Matches.{holds_term}
 use Rattle.ix_base.specs.Steps.{Named, with_number}
 use Rattle.ix_base.specs.declared.document.Term.{Term}
@@ -23,7 +24,7 @@ abbrev put_if : Bool → Bool → Setting → List Named → List Named
 put_if acts holds s ns = if acts then (if holds then with_number s.num s.value ns else ns) else ns
 
 abbrev put : Setting → Row → List Named → List Named
-put s row ns = put_if (nat_lt row.birth s.number) (holds_term s.term.field s.term.bytes row.doc) s ns
+put s row ns = put_if (nat_lt row.birth (first_birth s.number)) (holds_term s.term.field s.term.bytes row.doc) s ns
 
 -- of two settings the first may come last, or it is set over
 put_apart : (a h b g : Bool) (s t : Setting) (ns : List Named)
@@ -35,15 +36,15 @@ put_apart true true true false s t ns = inl refl
 put_apart true true true true s t ns = swap_or_over s.num t.num s.value t.value ns
 
 put_over : (s t : Setting) (row : Row) (ns : List Named) → Replaces t s → put t row (put s row ns) ≡ put t row ns
-put_over s t row ns r = by (nat_lt row.birth s.number) (nat_lt row.birth t.number) (holds_term s.term.field s.term.bytes row.doc) refl refl refl
+put_over s t row ns r = by (nat_lt row.birth (first_birth s.number)) (nat_lt row.birth (first_birth t.number)) (holds_term s.term.field s.term.bytes row.doc) refl refl refl
   where
     same : holds_term t.term.field t.term.bytes row.doc ≡ holds_term s.term.field s.term.bytes row.doc
     same = ap (λ (u : Term). holds_term u.field u.bytes row.doc) r.term
 
-    by : (a b h : Bool) → nat_lt row.birth s.number ≡ a → nat_lt row.birth t.number ≡ b → holds_term s.term.field s.term.bytes row.doc ≡ h → put t row (put_if a h s ns) ≡ put t row ns
+    by : (a b h : Bool) → nat_lt row.birth (first_birth s.number) ≡ a → nat_lt row.birth (first_birth t.number) ≡ b → holds_term s.term.field s.term.bytes row.doc ≡ h → put t row (put_if a h s ns) ≡ put t row ns
     by false b h p q e = refl
     by true b false p q e = refl
-    by true false true p q e = absurd (omega (arith, r.number, ltb-true row.birth s.number p, ltb-false row.birth t.number q))
+    by true false true p q e = absurd (omega (arith, r.number, ltb-true row.birth (first_birth s.number) p, ltb-false row.birth (first_birth t.number) q))
     by true true true p q e =
         let acts : (ms : List Named) → put t row ms ≡ with_number t.num t.value ms = λ ms. ap (λ (b : Bool). put_if b (holds_term t.term.field t.term.bytes row.doc) t ms) q ∙ ap (λ (h : Bool). put_if true h t ms) (same ∙ e) in
         acts (with_number s.num s.value ns)
@@ -61,7 +62,7 @@ undone : (s : Setting) (ts : List Setting) (row : Row) → ReplacedIn s ts → (
 undone s [] row r ns = absurd r
 undone s (t ∷ ts) row (inl r) ns = ap (numbers_given (map setting ts) row) (put_over s t row ns r)
 undone s (t ∷ ts) row (inr r) ns =
-    elim (put_apart (nat_lt row.birth s.number) (holds_term s.term.field s.term.bytes row.doc) (nat_lt row.birth t.number) (holds_term t.term.field t.term.bytes row.doc) s t ns) [
+    elim (put_apart (nat_lt row.birth (first_birth s.number)) (holds_term s.term.field s.term.bytes row.doc) (nat_lt row.birth (first_birth t.number)) (holds_term t.term.field t.term.bytes row.doc) s t ns) [
       | inl swapped ↦ ap (numbers_given (map setting ts) row) swapped ∙ undone s ts row r (put t row ns)
       | inr over ↦ ap (numbers_given (map setting ts) row) over
     ]
@@ -69,7 +70,7 @@ undone s (t ∷ ts) row (inr r) ns =
 -- settings remove no row
 none_removed : (ss : List Setting) (row : Row) → is_removed (map setting ss) row ≡ false
 none_removed [] row = refl
-none_removed (s ∷ ss) row = by (nat_lt row.birth s.number) (none_removed ss row)
+none_removed (s ∷ ss) row = by (nat_lt row.birth (first_birth s.number)) (none_removed ss row)
   where
     by : (b : Bool) → is_removed (map setting ss) row ≡ false → (b && false) || is_removed (map setting ss) row ≡ false
     by true e = e
