@@ -12,6 +12,7 @@ import ranges
 import rounds
 import text
 import threads
+from started import start
 from tools import main
 
 
@@ -21,4 +22,4 @@ def phases(quick):
 
 
 if __name__ == "__main__":
-    main(phases)
+    start(main, phases)

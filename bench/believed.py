@@ -11,6 +11,8 @@ import re
 from pathlib import Path
 from typing import NamedTuple
 
+from started import start
+
 TOP = Path("crates/index_run/src/call.rt")
 OPENING = {"(": 1, "{": 1, "[": 1, ")": -1, "}": -1, "]": -1}
 KEYWORDS = ("abbrev", "unfoldable", "record", "data", "pub")
@@ -250,4 +252,4 @@ def main():
 
 
 if __name__ == "__main__":
-    main()
+    start(main)

@@ -14,6 +14,7 @@ import sys
 import tempfile
 
 from make_script import generated, write_lines
+from started import start
 from tools import measured
 
 
@@ -60,4 +61,4 @@ def main():
 
 
 if __name__ == "__main__":
-    sys.exit(main())
+    start(main)

@@ -4,6 +4,7 @@ query, of a phrase that stands in every row, go to eight segments on one, two an
 exclude all rows, so that each is answered anew.
 """
 from make_script import adds, lines, small
+from started import start
 from tools import Phase, Run, main, nothing
 
 # Options with which a run of up to 7,000 small documents leaves one new segment, a longer one a segment for each round
@@ -67,4 +68,4 @@ def phases(quick):
 
 
 if __name__ == "__main__":
-    main(phases)
+    start(main, phases)

@@ -13,6 +13,8 @@ plain  the same with no number set
 import json
 import sys
 
+from started import start
+
 
 def change(op, key, **further):
     """A line that changes the documents of a key."""
@@ -55,6 +57,12 @@ def lines(kind, *sizes):
     return commits(*sizes, kind == "idle")
 
 
-if __name__ == "__main__":
+def main():
+    if len(sys.argv) < 4:
+        sys.exit(__doc__.strip())
     for line in lines(sys.argv[1], *map(int, sys.argv[2:])):
         print(json.dumps(line))
+
+
+if __name__ == "__main__":
+    start(main)

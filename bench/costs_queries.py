@@ -14,6 +14,8 @@ import subprocess
 import sys
 import tempfile
 
+from started import start
+
 COMMIT = {"c": 0, "op": "commit"}
 
 
@@ -101,4 +103,4 @@ def main(words):
 
 
 if __name__ == "__main__":
-    main(sys.argv[1:])
+    start(main, sys.argv[1:])

@@ -13,6 +13,8 @@ import json
 import sqlite3
 import sys
 
+from started import start
+
 TABLES = """
     create table docs (id integer primary key, key text, kind text, tag text, n integer);
     create index by_key on docs (key);
@@ -119,4 +121,4 @@ def main():
 
 
 if __name__ == "__main__":
-    main()
+    start(main)

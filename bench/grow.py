@@ -1,6 +1,7 @@
 #!/usr/bin/env python3
 """Phases of small documents in growing sizes: written, updated, deleted, with numbers set; and three questions."""
 from make_script import SEARCHES, lines
+from started import start
 from tools import Phase, Run, main
 
 KINDS = ["write", "update", "delete", "set"]
@@ -20,4 +21,4 @@ def phases(quick):
 
 
 if __name__ == "__main__":
-    main(phases)
+    start(main, phases)

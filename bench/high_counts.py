@@ -19,6 +19,8 @@ import subprocess
 import sys
 import tempfile
 
+from started import start
+
 SCRIPT = (
     '{"c":0,"op":"add","doc":{"key":"m1","text":{"body":"Hi you"},"exact":{"box":"in"},"num":{"size":-2}}}\n'
     '{"c":0,"op":"set","field":"key","term":"m1","num":"size","value":7}\n'
@@ -95,4 +97,5 @@ def main():
     sys.exit(not good)
 
 
-main()
+if __name__ == "__main__":
+    start(main)

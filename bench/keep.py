@@ -3,6 +3,7 @@
 there, and with the last alone; and a run of many commits that keeps the last alone.
 """
 from commits import one_by_one
+from started import start
 from tools import Phase, Run, main
 
 
@@ -24,4 +25,4 @@ def phases(quick):
 
 
 if __name__ == "__main__":
-    main(phases)
+    start(main, phases)

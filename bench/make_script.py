@@ -22,6 +22,8 @@ import json
 import random
 import sys
 
+from started import start
+
 CALLERS = 4
 VOCABULARY = 30_000
 COMMON = 200
@@ -158,7 +160,11 @@ def write_lines(made, out):
         print(json.dumps(line, separators=(",", ":")), file=out)
 
 
-if __name__ == "__main__":
+def main():
     if len(sys.argv) != 3:
         sys.exit(__doc__)
     write_lines(lines(sys.argv[1], int(sys.argv[2])), sys.stdout)
+
+
+if __name__ == "__main__":
+    start(main)

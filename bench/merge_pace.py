@@ -7,6 +7,8 @@ of it, of a buffer's rows at most. See "How far a merge goes after a round" in d
 """
 import sys
 
+from started import start
+
 ROW, SEGMENT = 10e3, 5e3  # instructions taken for a merged row, and for a segment in each commit
 BUFFER = 1000
 
@@ -62,4 +64,5 @@ def main():
             print(f"  {rows_each or 'all':>4} rows for an operation: {index.read:>10,} rows read, {index.most:>5} segments at most, {cost:6.2f} G")
 
 
-main()
+if __name__ == "__main__":
+    start(main)

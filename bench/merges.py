@@ -3,6 +3,7 @@
 words, whose last commit is then asked no question, one and many.
 """
 from make_script import generated, lines
+from started import start
 from tools import Phase, Run, main, nothing
 
 MERGES = [2, 8, 64]
@@ -24,4 +25,4 @@ def phases(quick):
 
 
 if __name__ == "__main__":
-    main(phases)
+    start(main, phases)

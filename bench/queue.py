@@ -13,6 +13,8 @@ import subprocess
 import sys
 import tempfile
 
+from started import start
+
 TOP = pathlib.Path(__file__).resolve().parent.parent
 TEXTS = TOP / "bench" / "queue"
 CRATES = ["ix_base", "queue_rule", "delete_queue"]
@@ -107,4 +109,4 @@ def main():
 
 
 if __name__ == "__main__":
-    main()
+    start(main)

@@ -4,6 +4,7 @@ number, and searches for a range. Each range has ten documents. Beside them the 
 no number.
 """
 from commits import ALONE, one_by_one
+from started import start
 from tools import Phase, Run, main
 
 SEGMENTS = 14
@@ -83,4 +84,4 @@ def phases(quick):
 
 
 if __name__ == "__main__":
-    main(phases)
+    start(main, phases)

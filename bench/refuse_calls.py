@@ -21,6 +21,8 @@ import subprocess
 import sys
 import tempfile
 
+from started import start
+
 ERRORS = {
     "openat": ("EACCES", "EMFILE", "EIO", "EINTR"),
     "read": ("EIO", "EINTR"),
@@ -213,4 +215,5 @@ def main():
     sys.exit(0 if good else 1)
 
 
-main()
+if __name__ == "__main__":
+    start(main)

@@ -18,6 +18,8 @@ import subprocess
 import sys
 import tempfile
 
+from started import start
+
 LIBRARY = r"""
 #include <errno.h>
 #include <fcntl.h>
@@ -188,4 +190,4 @@ def main():
 
 
 if __name__ == "__main__":
-    sys.exit(main())
+    start(main)

@@ -3,6 +3,7 @@
 lines, each by one writer, in few segments and many, merged and not; two of them in small buffers and by more writers.
 """
 from make_script import lines
+from started import start
 from tools import Phase, Run, main
 
 KINDS = ["write", "add", "update", "delete", "set", "generated"]
@@ -21,4 +22,4 @@ def phases(quick):
 
 
 if __name__ == "__main__":
-    main(phases)
+    start(main, phases)

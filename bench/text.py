@@ -1,6 +1,7 @@
 #!/usr/bin/env python3
 """Phases of documents of 50 to 200 words: written, opened by a process that asks nothing, and asked questions."""
 from make_script import lines
+from started import start
 from tools import Phase, Run, main
 
 
@@ -13,4 +14,4 @@ def phases(quick):
 
 
 if __name__ == "__main__":
-    main(phases)
+    start(main, phases)

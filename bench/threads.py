@@ -5,6 +5,7 @@ run of the script with a bad last line, which does nothing; `index` a run withou
 import itertools
 
 from make_script import adds, commits, long
+from started import start
 from tools import Phase, Run, main
 
 CALLERS = 8
@@ -31,4 +32,4 @@ def phases(quick):
 
 
 if __name__ == "__main__":
-    main(phases)
+    start(main, phases)

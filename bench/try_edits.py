@@ -15,6 +15,8 @@ import subprocess
 import sys
 import tempfile
 
+from started import start
+
 TOP = os.path.dirname(os.path.dirname(os.path.abspath(__file__)))
 EDITS = os.path.join(TOP, "bench", "edits")
 
@@ -44,4 +46,4 @@ def main():
 
 
 if __name__ == "__main__":
-    sys.exit(main())
+    start(main)

@@ -12,6 +12,8 @@ import sys
 import tempfile
 import time
 
+from started import start
+
 SIZE = 64 << 20
 ADD = '{"c":0,"op":"add","doc":{"key":"k","text":{"b":"%s"}}}\n'
 
@@ -89,4 +91,5 @@ def main():
             print(f"| `{command}` | {name} | {status} | {seconds:.1f} | {memory:,} |", flush=True)
 
 
-main()
+if __name__ == "__main__":
+    start(main)

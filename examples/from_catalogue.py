@@ -22,6 +22,7 @@ costs less than CENTS, and searches for what costs up to twice as much.
 import argparse
 import csv
 import json
+import sys
 from decimal import Decimal
 
 
@@ -69,7 +70,7 @@ def lines_of_cut(products, percent, least):
 
 
 def main():
-    parser = argparse.ArgumentParser()
+    parser = argparse.ArgumentParser(description=__doc__, formatter_class=argparse.RawDescriptionHelpFormatter)
     parser.add_argument("--cut", type=int, metavar="PERCENT")
     parser.add_argument("--least", type=int, default=0, metavar="CENTS")
     parser.add_argument("new")
@@ -81,4 +82,7 @@ def main():
         print(json.dumps({"c": 0, **line}))
 
 
-main()
+try:
+    main()
+except OSError as error:
+    sys.exit(f"from_catalogue.py: {error.filename}: {error.strerror}")

@@ -88,8 +88,13 @@ def lines_of(letter, key):
 
 
 def main():
+    if len(sys.argv) < 2 or {"-h", "--help"} & {*sys.argv[1:]}:
+        sys.exit(print(__doc__.strip()))
     for caller, path in enumerate(sys.argv[1:]):
-        box = mailbox.mbox(path, create=False)
+        try:
+            box = mailbox.mbox(path, create=False)
+        except (OSError, mailbox.Error):
+            sys.exit(f"from_mailbox.py: {path}: no mailbox that can be read")
         for number in box.keys():
             letter = email.message_from_bytes(box.get_bytes(number), policy=email.policy.default)
             key = clean(letter.get("message-id", "")).strip(" <>") or f"{path}/{number}"

@@ -122,6 +122,8 @@ def read_postings(directory, segment, births):
 
 
 def main():
+    if len(sys.argv) != 2 or sys.argv[1] in ("-h", "--help"):
+        sys.exit(print(__doc__.strip()))
     directory = sys.argv[1]
     names = [re.fullmatch(r"segments_([1-9][0-9]*)", name) for name in os.listdir(directory)]
     numbers = sorted(int(name[1]) for name in names if name)
@@ -138,4 +140,7 @@ def main():
                 print(json.dumps(term, ensure_ascii=False))
 
 
-main()
+try:
+    main()
+except OSError as error:
+    sys.exit(f"look.py: {error.filename}: {error.strerror}")
