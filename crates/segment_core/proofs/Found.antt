@@ -1,6 +1,7 @@
 -- The rows that were found by an update, and their marks.
 use Rattle.std.proofs.Common.{◌≡◌, ◌∙◌, ℕ, zero, suc, ◌<◌, ◌≤◌, List, [], ◌∷◌, ◌++◌, Bool, true, false, cond, length, nat_lt, get_or, refl, sym, ap, arith, if◌then◌else◌}
 use Rattle.std.proofs.lemmas.Bool.{lt-ltb}
+use Rattle.ix_base.specs.Births.{first_birth}
 use Rattle.ix_base.specs.declared.document.Row.{Row}
 use Rattle.live_docs.specs.declared.live_docs.Mark.{Mark}
 use Rattle.live_docs.specs.Marks.{changed_at}
@@ -11,7 +12,7 @@ use borrow.Author.Tests.{ltb-true}
 
 -- ---- by the rows that were found
 
-birth_at : (n : ℕ) (pre : List Row) (row : Row) (rest : List Row) → born_before n (pre ++ row ∷ rest) (length pre) ≡ nat_lt row.birth n
+birth_at : (n : ℕ) (pre : List Row) (row : Row) (rest : List Row) → born_before n (pre ++ row ∷ rest) (length pre) ≡ nat_lt row.birth (first_birth n)
 birth_at n [] row rest = refl
 birth_at n (x ∷ pre) row rest = birth_at n pre row rest
 
@@ -20,13 +21,13 @@ change_at f [] m rest = refl
 change_at f (x ∷ pre) m rest = ap (λ (ms : List Mark). x ∷ ms) (change_at f pre m rest)
 
 pub hit_at : (n : ℕ) (f : Mark → Mark) (pre : List Row) (row : Row) (rest : List Row) (mpre : List Mark) (m : Mark) (mrest : List Mark) (k : ℕ) → k ≡ length pre → length mpre ≡ length pre
-    → hit n f (pre ++ row ∷ rest) k (mpre ++ m ∷ mrest) ≡ mpre ++ (if nat_lt row.birth n then f m else m) ∷ mrest
+    → hit n f (pre ++ row ∷ rest) k (mpre ++ m ∷ mrest) ≡ mpre ++ (if nat_lt row.birth (first_birth n) then f m else m) ∷ mrest
 hit_at n f pre row rest mpre m mrest k at same =
     ap (λ i. cond (born_before n (pre ++ row ∷ rest) i) (changed_at f k (mpre ++ m ∷ mrest)) (mpre ++ m ∷ mrest)) at
     ∙ (ap (λ b. cond b (changed_at f k (mpre ++ m ∷ mrest)) (mpre ++ m ∷ mrest)) (birth_at n pre row rest)
-    ∙ (ap (λ i. cond (nat_lt row.birth n) (changed_at f i (mpre ++ m ∷ mrest)) (mpre ++ m ∷ mrest)) (at ∙ sym same)
-    ∙ (ap (λ ms. cond (nat_lt row.birth n) ms (mpre ++ m ∷ mrest)) (change_at f mpre m mrest)
-    ∙ by (nat_lt row.birth n))))
+    ∙ (ap (λ i. cond (nat_lt row.birth (first_birth n)) (changed_at f i (mpre ++ m ∷ mrest)) (mpre ++ m ∷ mrest)) (at ∙ sym same)
+    ∙ (ap (λ ms. cond (nat_lt row.birth (first_birth n)) ms (mpre ++ m ∷ mrest)) (change_at f mpre m mrest)
+    ∙ by (nat_lt row.birth (first_birth n)))))
   where
     by : (b : Bool) → cond b (mpre ++ f m ∷ mrest) (mpre ++ m ∷ mrest) ≡ mpre ++ (if b then f m else m) ∷ mrest
     by true = refl
@@ -75,9 +76,9 @@ passed_more low o rest rows marks le = sym (ap (λ b. marks_after (cond b (o ∷
 
 -- ---- as the calls tell it
 
-pub born_at : (n : ℕ) (rows : List Row) (i : ℕ) (row : Row) → i < length rows → row ≡ get_or rows i row → nat_lt row.birth n ≡ born_before n rows i
+pub born_at : (n : ℕ) (rows : List Row) (i : ℕ) (row : Row) → i < length rows → row ≡ get_or rows i row → nat_lt row.birth (first_birth n) ≡ born_before n rows i
 born_at n [] i row lt e = absurd (omega arith)
-born_at n (x ∷ rows) zero row lt e = ap (λ (r : Row). nat_lt r.birth n) e
+born_at n (x ∷ rows) zero row lt e = ap (λ (r : Row). nat_lt r.birth (first_birth n)) e
 born_at n (x ∷ rows) (suc i) row lt e = born_at n rows i row (omega arith) e
 
 pub born_past : (n : ℕ) (rows : List Row) (i : ℕ) → length rows ≤ i → false ≡ born_before n rows i

@@ -3,6 +3,7 @@ use Rattle.std.proofs.Common.{◌≡◌, ◌∙◌, ℕ, zero, suc, ℤ, ◌+◌
 use Rattle.std.specs.Str.{bytes_eq}
 use Rattle.std.proofs.lemmas.List.{length-append}
 use Rattle.std.proofs.lemmas.Slice.Eq.{bytes_eq-Decides}
+use Rattle.ix_base.specs.Births.{first_birth}
 use Rattle.ix_base.specs.Matches.{matches, holds_term, stands_at, value_of}
 use Rattle.ix_base.specs.Query.{tree_of}
 use Rattle.ix_base.specs.Inversion.{at_row, rows_where, rows_from}
@@ -26,7 +27,7 @@ use Rattle.segment_core.proofs.Found.{hit_at, taken_more}
 
 -- a row that passes the test now and was born before the number
 abbrev pub where_now : ℕ → (Document → Bool) → (Mark → Mark) → Row → Mark → Mark
-where_now n test f row m = if nat_lt row.birth n then (if test (now row.doc m) then f m else m) else m
+where_now n test f row m = if nat_lt row.birth (first_birth n) then (if test (now row.doc m) then f m else m) else m
 
 found_from : (n : ℕ) (f : Mark → Mark) (test : Document → Bool) (rest : List Row) (mrest : List Mark) (pre : List Row) (mpre : List Mark) (k : ℕ)
     → k ≡ length pre → length mpre ≡ length pre → length mrest ≡ length rest
@@ -62,9 +63,9 @@ found_from n f test (row ∷ rest) (m ∷ mrest) pre mpre k at same long =
     same_mark false = refl
 
     by : (t : Bool) → ((x : Mark) → hits n f P R (mpre ++ x ∷ mrest) ≡ mpre ++ x ∷ W)
-        → hits n f P (if t then k ∷ R else R) (mpre ++ m ∷ mrest) ≡ mpre ++ (if nat_lt row.birth n then (if t then f m else m) else m) ∷ W
-    by true more = ap (hits n f P R) (hit_at n f pre row rest mpre m mrest k at same) ∙ more (if nat_lt row.birth n then f m else m)
-    by false more = more m ∙ ap (λ (x : Mark). mpre ++ x ∷ W) (sym (same_mark (nat_lt row.birth n)))
+        → hits n f P (if t then k ∷ R else R) (mpre ++ m ∷ mrest) ≡ mpre ++ (if nat_lt row.birth (first_birth n) then (if t then f m else m) else m) ∷ W
+    by true more = ap (hits n f P R) (hit_at n f pre row rest mpre m mrest k at same) ∙ more (if nat_lt row.birth (first_birth n) then f m else m)
+    by false more = more m ∙ ap (λ (x : Mark). mpre ++ x ∷ W) (sym (same_mark (nat_lt row.birth (first_birth n))))
 
 -- the rows that were found by a test are those that pass it
 found_now : (n : ℕ) (f : Mark → Mark) (test : Document → Bool) (rows : List Row) (marks : List Mark) → length marks ≡ length rows

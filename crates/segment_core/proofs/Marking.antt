@@ -2,12 +2,13 @@
 use Rattle.std.proofs.Common.{◌≡◌, ◌∙◌, ℕ, List, [], ◌∷◌, ◌++◌, Bool, true, false, cond, length, replicate, Option, Some, None, nat_lt, refl, sym, ap, if◌then◌else◌}
 use Rattle.std.specs.List.{filter_map, cons_option, AllByRecursion}
 use Rattle.std.specs.Option.{option_and_then}
+use Rattle.ix_base.specs.Births.{first_birth}
 use Rattle.ix_base.specs.Matches.{matches, holds_term}
 use Rattle.ix_base.specs.Query.{tree_of}
 use Rattle.ix_base.specs.Steps.{Named, with_value}
 use Rattle.ix_base.specs.declared.document.Row.{Row}
 use Rattle.ix_base.specs.declared.document.Operation.{Operation}
-use Rattle.ix_base.specs.declared.document.Operation.TheVariants.{Add, Update, DeleteTerm, DeleteQuery, SetNumber, Commit}
+use Rattle.ix_base.specs.declared.document.Operation.TheVariants.{Add, AddBlock, Update, UpdateBlock, DeleteTerm, DeleteQuery, SetNumber, Commit}
 use Rattle.live_docs.specs.declared.live_docs.Mark.{Mark}
 use Rattle.live_docs.specs.Marks.{fresh, killed}
 use Rattle.row_fates.specs.Fate.{Numbered, effect, touched, fate, renumbered}
@@ -28,23 +29,18 @@ dead vs = record { live = false; values = vs }
 abbrev shown : List Named → Row → Row
 shown vs row = renumbered (with_numbers vs row.doc.num) row
 
+-- a row that a removal hits is gone, and another one stays as it is
+killed_or_shown : (h : Bool) (row : Row) (vs : List Named) → marked row (if h then killed (alive vs) else alive vs) ≡ cond h None (Some (shown vs row))
+killed_or_shown true row vs = refl
+killed_or_shown false row vs = refl
+
 effect_follows : (op : Operation) (row : Row) (vs : List Named) → marked row (mark_effect op row.doc (alive vs)) ≡ effect op (shown vs row)
 effect_follows (Add doc) row vs = refl
-effect_follows (Update t doc) row vs = by (holds_term t.field t.bytes row.doc)
-  where
-    by : (h : Bool) → marked row (if h then killed (alive vs) else alive vs) ≡ cond h None (Some (shown vs row))
-    by true = refl
-    by false = refl
-effect_follows (DeleteTerm t) row vs = by (holds_term t.field t.bytes row.doc)
-  where
-    by : (h : Bool) → marked row (if h then killed (alive vs) else alive vs) ≡ cond h None (Some (shown vs row))
-    by true = refl
-    by false = refl
-effect_follows (DeleteQuery q) row vs = by (matches (tree_of q) (now row.doc (alive vs)))
-  where
-    by : (h : Bool) → marked row (if h then killed (alive vs) else alive vs) ≡ cond h None (Some (shown vs row))
-    by true = refl
-    by false = refl
+effect_follows (AddBlock docs) row vs = refl
+effect_follows (Update t doc) row vs = killed_or_shown (holds_term t.field t.bytes row.doc) row vs
+effect_follows (UpdateBlock t docs) row vs = killed_or_shown (holds_term t.field t.bytes row.doc) row vs
+effect_follows (DeleteTerm t) row vs = killed_or_shown (holds_term t.field t.bytes row.doc) row vs
+effect_follows (DeleteQuery q) row vs = killed_or_shown (matches (tree_of q) (now row.doc (alive vs))) row vs
 effect_follows (SetNumber t name value) row vs = by (holds_term t.field t.bytes row.doc)
   where
     by : (h : Bool) → marked row (if h then valued_live name value (alive vs) else alive vs) ≡ Some (if h then with_value name value (shown vs row) else shown vs row)
@@ -52,23 +48,17 @@ effect_follows (SetNumber t name value) row vs = by (holds_term t.field t.bytes 
     by false = refl
 effect_follows (Commit pairs) row vs = refl
 
+killed_or_dead : (h : Bool) (row : Row) (vs : List Named) → marked row (if h then killed (dead vs) else dead vs) ≡ None
+killed_or_dead true row vs = refl
+killed_or_dead false row vs = refl
+
 dead_stays : (op : Operation) (row : Row) (vs : List Named) → marked row (mark_effect op row.doc (dead vs)) ≡ None
 dead_stays (Add doc) row vs = refl
-dead_stays (Update t doc) row vs = by (holds_term t.field t.bytes row.doc)
-  where
-    by : (h : Bool) → marked row (if h then killed (dead vs) else dead vs) ≡ None
-    by true = refl
-    by false = refl
-dead_stays (DeleteTerm t) row vs = by (holds_term t.field t.bytes row.doc)
-  where
-    by : (h : Bool) → marked row (if h then killed (dead vs) else dead vs) ≡ None
-    by true = refl
-    by false = refl
-dead_stays (DeleteQuery q) row vs = by (matches (tree_of q) (now row.doc (dead vs)))
-  where
-    by : (h : Bool) → marked row (if h then killed (dead vs) else dead vs) ≡ None
-    by true = refl
-    by false = refl
+dead_stays (AddBlock docs) row vs = refl
+dead_stays (Update t doc) row vs = killed_or_dead (holds_term t.field t.bytes row.doc) row vs
+dead_stays (UpdateBlock t docs) row vs = killed_or_dead (holds_term t.field t.bytes row.doc) row vs
+dead_stays (DeleteTerm t) row vs = killed_or_dead (holds_term t.field t.bytes row.doc) row vs
+dead_stays (DeleteQuery q) row vs = killed_or_dead (matches (tree_of q) (now row.doc (dead vs))) row vs
 dead_stays (SetNumber t name value) row vs = by (holds_term t.field t.bytes row.doc)
   where
     by : (h : Bool) → marked row (if h then valued_live name value (dead vs) else dead vs) ≡ None
@@ -78,12 +68,12 @@ dead_stays (Commit pairs) row vs = refl
 
 follows : (n : ℕ) (op : Operation) (row : Row) (l : Bool) (vs : List Named)
     → marked row (mark_touched (n, op) row (record { live = l; values = vs })) ≡ option_and_then (touched (n, op)) (marked row (record { live = l; values = vs }))
-follows n op row true vs = by (nat_lt row.birth n)
+follows n op row true vs = by (nat_lt row.birth (first_birth n))
   where
     by : (b : Bool) → marked row (if b then mark_effect op row.doc (alive vs) else alive vs) ≡ (if b then effect op (shown vs row) else Some (shown vs row))
     by true = effect_follows op row vs
     by false = refl
-follows n op row false vs = by (nat_lt row.birth n)
+follows n op row false vs = by (nat_lt row.birth (first_birth n))
   where
     by : (b : Bool) → marked row (if b then mark_effect op row.doc (dead vs) else dead vs) ≡ None
     by true = dead_stays op row vs

@@ -3,6 +3,7 @@ use Rattle.std.proofs.Common.{◌≡◌, ◌≢◌, ℕ, ◌+◌, ◌<◌, ◌�
 use Rattle.std.specs.List.{AllByRecursion}
 use Rattle.std.specs.Prelude.{◌==◌, if◌then◌else◌}
 use Rattle.std.proofs.lemmas.Bool.{eqb-true}
+use Rattle.ix_base.specs.Births.{first_birth, last_birth}
 use Rattle.ix_base.specs.declared.document.Row.{Row}
 use Rattle.segment_files.specs.Fits.{BirthsRise}
 use Rattle.segment_core.specs.LiveRows.{Lived, stored_rows}
@@ -16,9 +17,9 @@ births_at b (r ∷ rs) = (if r.birth == b then 1 else 0) + births_at b rs
 abbrev pub BirthsDiffer : List Lived → Type 0
 BirthsDiffer segments = (b : ℕ) → births_at b (stored_rows segments) ≤ 1
 
--- in each segment births rise, from 1 up to s
+-- in each segment births rise, from the first of number 1 up to the last of number s
 abbrev pub EachRises : ℕ → List Lived → Type 0
-EachRises s segments = AllByRecursion (λ (g : Lived). BirthsRise 1 s g.segment.rows) segments
+EachRises s segments = AllByRecursion (λ (g : Lived). BirthsRise (first_birth 1) (last_birth s) g.segment.rows) segments
 
 -- ---- laws
 

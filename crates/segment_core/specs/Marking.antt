@@ -1,11 +1,12 @@
 -- What operations make of the marks of rows.
 use Rattle.std.specs.Prelude.{ℕ, ℤ, zero, suc, List, [], ◌∷◌, Bool, false, if◌then◌else◌, nat_lt}
+use Rattle.ix_base.specs.Births.{first_birth}
 use Rattle.ix_base.specs.Matches.{matches, holds_term}
 use Rattle.ix_base.specs.Query.{tree_of}
 use Rattle.ix_base.specs.Documents.{Document}
 use Rattle.ix_base.specs.declared.document.Row.{Row}
 use Rattle.ix_base.specs.declared.document.Operation.{Operation}
-use Rattle.ix_base.specs.declared.document.Operation.TheVariants.{Add, Update, DeleteTerm, DeleteQuery, SetNumber, Commit}
+use Rattle.ix_base.specs.declared.document.Operation.TheVariants.{Add, AddBlock, Update, UpdateBlock, DeleteTerm, DeleteQuery, SetNumber, Commit}
 use Rattle.live_docs.specs.Marks.{killed, valued, changed_at}
 use Rattle.live_docs.specs.declared.live_docs.Mark.{Mark}
 use Rattle.row_fates.specs.Fate.{Numbered}
@@ -28,7 +29,9 @@ documents_now (row ∷ rows) (m ∷ marks) = now row.doc m ∷ documents_now row
 -- what an operation makes of the mark of a row that stands when it comes
 abbrev pub mark_effect : Operation → Document → Mark → Mark
 mark_effect (Add added) doc m = m
+mark_effect (AddBlock added) doc m = m
 mark_effect (Update term added) doc m = if holds_term term.field term.bytes doc then killed m else m
+mark_effect (UpdateBlock term added) doc m = if holds_term term.field term.bytes doc then killed m else m
 mark_effect (DeleteTerm term) doc m = if holds_term term.field term.bytes doc then killed m else m
 mark_effect (DeleteQuery query) doc m = if matches (tree_of query) (now doc m) then killed m else m
 mark_effect (SetNumber term name value) doc m =
@@ -37,7 +40,7 @@ mark_effect (Commit pairs) doc m = m
 
 -- an operation acts only on rows that were born before it
 abbrev pub mark_touched : Numbered → Row → Mark → Mark
-mark_touched o row m = if nat_lt row.birth o.0 then mark_effect o.1 row.doc m else m
+mark_touched o row m = if nat_lt row.birth (first_birth o.0) then mark_effect o.1 row.doc m else m
 
 -- each mark changed, by the row that it is of
 abbrev pub with_rows : (Row → Mark → Mark) → List Row → List Mark → List Mark
@@ -55,13 +58,13 @@ marks_after (o ∷ ops) rows marks = marks_after ops rows (marks_touched o rows 
 
 -- ---- by the rows that were found
 
--- whether there is a row of this index, born before the number
+-- whether there is a row of this index, born before the operation of this number
 abbrev pub born_before : ℕ → List Row → ℕ → Bool
 born_before number [] i = false
-born_before number (row ∷ rows) zero = nat_lt row.birth number
+born_before number (row ∷ rows) zero = nat_lt row.birth (first_birth number)
 born_before number (row ∷ rows) (suc i) = born_before number rows i
 
--- the marks with that of one found row changed, if the row was born before the number
+-- the marks with that of one found row changed, if the row was born before the operation of this number
 abbrev pub hit : ℕ → (Mark → Mark) → List Row → ℕ → List Mark → List Mark
 hit number change rows i marks = if born_before number rows i then changed_at change i marks else marks
 

@@ -21,18 +21,18 @@ use live_docs::LiveDocs;
 use query_core::{Inverted, answer};
 use std::alloc::Global;
 
-/// Whether there is a row of this index that was born before the number.
+/// Whether there is a row of this index that was born before the operation of this number.
 fn is_born_before(number: u64, rows: &[Row], row: u32) -> bool
     ensures born { result ≡ born_before number rows.now row }
     ensures within { IsTrue result → row < length rows.now }
 {
     match rows.get(row as usize) {
-        Some(row) => row.birth < number,
+        Some(row) => row.birth.is_before(number),
         None => false,
     }
 }
 
-/// Kills the row if it was born before the number.
+/// Kills the row if it was born before the operation of this number.
 fn kill_older(number: u64, rows: &[Row], row: u32, live: &mut LiveDocs)
     requires { length live.old.marks ≡ length rows.now }
     ensures { let marks = hit number killed rows.now row live.old.marks in
@@ -76,7 +76,7 @@ fn set_in_live(
     set_number(alloc, setting, row, live)
 }
 
-/// Sets a number of the row if it is live and was born before the setting's own number.
+/// Sets a number of the row if it is live and was born before the setting.
 fn set_older(
     alloc: Global,
     setting: &Setting,
@@ -96,7 +96,7 @@ fn set_older(
     }
 }
 
-/// Kills those of the found rows that were born before the number.
+/// Kills those of the found rows that were born before the operation of this number.
 fn kill_found(rows: &[Row], live: &mut LiveDocs, found: &[u32], number: u64)
     requires { length live.old.marks ≡ length rows.now }
     ensures { let marks = hits number killed rows.now found.now live.old.marks in

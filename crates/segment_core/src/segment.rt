@@ -24,7 +24,7 @@ pub(crate) fn own_number(rows: &[Row], row: u32, name: &Name) -> Option<i64>
 #[derive(Drop)]
 pub struct Segment {
     pub id: u64,
-    /// By rising birth.
+    /// By rising birth: by the number of the operation, and then by the place among its documents.
     pub rows: List<Row>,
     pub postings: Postings,
 }
