@@ -115,8 +115,8 @@ fn part(
     ))
 }
 
-/// Ends the round that is out, and then takes a step of a merge, as far as the round's operations bring
-/// it. This is done only where one of them got a number in the round: a merge may take an id, and so the
+/// Ends the round that is out, and then takes a step of a merge, as far as the round's operations and
+/// documents bring it. This is done only where one of them got a number in the round: a merge may take an id, and so the
 /// ids stay few.
 fn end_round<R: Threads + Sync, S: Store>(
     rt: &R,
@@ -140,11 +140,13 @@ fn end_round<R: Threads + Sync, S: Store>(
     ensures open { OnOk result (IsStuck parts → ⊥) }
 {
     let before = writer.upto();
+    let documents = documents_in(&parts);
     let end = match writer.end_round(rt, parts) {
         Ok(end) => end,
         Err(refused) => return Err(refused.fault),
     };
-    let rows = writer.rows_of_step(operations_of(end, writer.upto() - before));
+    let operations = operations_of(end, writer.upto() - before);
+    let rows = writer.rows_of_step(work_of(operations, documents));
     if rows > 0 {
         if writer.next_id() > MOST {
             return Err(WriterFault::NoMemory);
@@ -162,6 +164,31 @@ fn operations_of(end: RoundEnd, numbers: u64) -> u64
         RoundEnd::Committed(_) => numbers.saturating_sub(1),
         RoundEnd::Turned | RoundEnd::Ran => numbers,
     }
+}
+
+/// How many documents a round's writers staged, those of refused lines among them.
+fn documents_in(parts: &RoundParts) -> u64 {
+    let mut documents: u64 = 0;
+    for pieces in parts.pieces.as_slice() {
+        for piece in pieces.as_slice() {
+            documents = documents.saturating_add(piece.frozen.rows.len() as u64);
+        }
+    }
+    for writer in parts.writers.as_slice() {
+        documents = documents.saturating_add(u64::from(writer.buffered()));
+    }
+    documents
+}
+
+/// How much work a round was that had so many operations, and staged so many documents: a block is one
+/// operation. It was none where no operation got a number.
+fn work_of(operations: u64, documents: u64) -> u64
+    ensures { operations ≡ 0 → result ≡ 0 }
+{
+    if operations == 0 {
+        return 0;
+    }
+    operations.max(documents)
 }
 
 /// Ends the round that is out: its lines stand behind those of the rounds before. A commit with which it

@@ -14,7 +14,8 @@ returns-in_ok-merge_step-clause-ended g c = λ told parts.
     let e = c.in-Ok.ensures.ended c.requires.on told parts in
     let some : old.published.upto < mid.published.upto =
     (
-    let more = some_number _ _ _ c.operations_of.ensures c.rows_of_step-rows.ensures.none c.if-rows-gt0.true in
+    let more = some_number _ _ _ c.operations_of-operations.ensures
+    (λ none. c.rows_of_step-rows.ensures.none (c.work_of.ensures none)) c.if-rows-gt0.true in
     let was = c.upto-before.ensures in
     let is = c.upto.ensures in
     omega (arith, more, was, is)
