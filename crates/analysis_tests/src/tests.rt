@@ -1,5 +1,5 @@
 use analysis::{analyse, invert, long_term, phrase_terms};
-use ix_base::{Document, Fields, Numbers, PhraseText, Refusal, Refused, Row, Text};
+use ix_base::{Birth, Document, Fields, Numbers, PhraseText, Refusal, Refused, Row, Text};
 use std::alloc::Global;
 use std::test::Fail;
 use test_texts::shown_postings;
@@ -89,11 +89,11 @@ fn terms_of_a_document(rt: HostRuntime) -> Result<(), Fail> {
 fn terms_of_two_rows(rt: HostRuntime) -> Result<(), Fail> {
     let alloc = rt.alloc();
     let first = Row {
-        birth: 1,
+        birth: Birth::new(1, 0),
         doc: quotation(alloc)?,
     };
     let second = Row {
-        birth: 2,
+        birth: Birth::new(1, 1),
         doc: remark(alloc)?,
     };
     let rows = vec![in alloc; first, second]?;
