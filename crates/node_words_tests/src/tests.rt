@@ -1,4 +1,6 @@
-use ix_base::{Name, NoMemory, Operation, PhraseText, Query, Refusal, Refused, Term, Text};
+use ix_base::{
+    Block, Document, Name, NoMemory, Operation, PhraseText, Query, Refusal, Refused, Term, Text,
+};
 use node_words::{Entry, decode, encode};
 use std::alloc::Global;
 use std::fmt::Write;
@@ -174,11 +176,20 @@ fn words_by_hand(rt: HostRuntime) -> Result<(), Fail> {
     Ok(())
 }
 
-/// A delete of the field `key` by the term `a1`.
-fn delete_of_key(alloc: Global) -> Result<Operation, NoMemory> {
+/// The term `a1` of the field `key`.
+fn key_term(alloc: Global) -> Result<Term, NoMemory> {
     let field = name(alloc, "key")?;
     let bytes = text(alloc, "a1")?;
-    Ok(Operation::DeleteTerm(Term { field, bytes }))
+    Ok(Term { field, bytes })
+}
+
+/// A block of two documents, with the keys `p1` and `p2`.
+fn two_documents(alloc: Global) -> Result<Block, NoMemory> {
+    let mut docs = Vec::new(alloc);
+    for key in ["p1", "p2"] {
+        docs.push(Document::of_key(alloc, text(alloc, key)?))?;
+    }
+    Block::new(docs).ok_or(NoMemory)
 }
 
 /// Whether the words of the operation are those that are written so.
@@ -190,13 +201,28 @@ fn has_words(alloc: Global, operation: &Operation, text: &str) -> Result<bool, N
     }
 }
 
+/// A delete, and two blocks, which have the words of an add and of an update by their term.
 #[test]
-fn one_delete(rt: HostRuntime) {
-    let Ok(delete) = delete_of_key(rt.alloc()) else {
-        panic!(rt; "memory");
-    };
-    let text = "000000030000000d 000000036b657900 0000026131000000";
-    assert!(rt; has_words(rt.alloc(), &delete, text) == Ok(true));
+fn words_of_operations(rt: HostRuntime) -> Result<(), Fail> {
+    let alloc = rt.alloc();
+    let cases = [
+        (
+            Operation::DeleteTerm(key_term(alloc)?),
+            "000000030000000d 000000036b657900 0000026131000000",
+        ),
+        (
+            Operation::AddBlock(two_documents(alloc)?),
+            "0000000100000000",
+        ),
+        (
+            Operation::UpdateBlock(key_term(alloc)?, two_documents(alloc)?),
+            "000000020000000d 000000036b657900 0000026131000000",
+        ),
+    ];
+    for (operation, text) in &cases {
+        assert!(rt; has_words(alloc, operation, text)?, "{text}");
+    }
+    Ok(())
 }
 
 /// Whether the words spell an entry.
