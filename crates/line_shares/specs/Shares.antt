@@ -3,7 +3,7 @@ use Rattle.std.specs.Prelude.{◌≡◌, ℕ, ◌+◌, ◌-◌, ◌<◌, ◌≤�
 use Rattle.std.specs.Prelude.{List, [], ◌∷◌, ◌++◌, None, length, map}
 use Rattle.std.specs.List.{filter, AllByRecursion}
 use Rattle.ix_base.specs.declared.document.Operation.{Operation}
-use Rattle.ix_base.specs.declared.document.Operation.TheVariants.{Add, Update, DeleteTerm, DeleteQuery, SetNumber, Commit}
+use Rattle.ix_base.specs.declared.document.Operation.TheVariants.{Add, AddBlock, Update, UpdateBlock, DeleteTerm, DeleteQuery, SetNumber, Commit}
 use Rattle.op_script.specs.declared.script.Act.{Act}
 use Rattle.op_script.specs.declared.script.Act.TheVariants.{Do, Search}
 use Rattle.op_script.specs.declared.script.Line.{Line}
@@ -34,7 +34,9 @@ task_of l = record { line = l.line; operation = operation_of l.act }
 
 abbrev pub kind_of_operation : Operation → Kind
 kind_of_operation (Add doc) = kind.Write
+kind_of_operation (AddBlock docs) = kind.Write
 kind_of_operation (Update term doc) = kind.Write
+kind_of_operation (UpdateBlock term docs) = kind.Write
 kind_of_operation (DeleteTerm term) = kind.Write
 kind_of_operation (DeleteQuery query) = kind.Write
 kind_of_operation (SetNumber term name value) = kind.Write

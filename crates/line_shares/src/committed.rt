@@ -81,7 +81,9 @@ fn pairs_of(operation: &Operation) -> Option<&Fields>
     match operation {
         Operation::Commit(pairs) => Some(pairs),
         Operation::Add(_)
+        | Operation::AddBlock(_)
         | Operation::Update(_, _)
+        | Operation::UpdateBlock(_, _)
         | Operation::DeleteTerm(_)
         | Operation::DeleteQuery(_)
         | Operation::SetNumber { .. } => None,

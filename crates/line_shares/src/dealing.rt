@@ -98,7 +98,9 @@ fn kind_of(operation: &Operation) -> Kind
 {
     match operation {
         Operation::Add(_)
+        | Operation::AddBlock(_)
         | Operation::Update(_, _)
+        | Operation::UpdateBlock(_, _)
         | Operation::DeleteTerm(_)
         | Operation::DeleteQuery(_)
         | Operation::SetNumber { .. } => Kind::Write,

@@ -2,7 +2,7 @@
 ghost use Rattle.std.specs.Prelude.{◌<◌};
 
 use crate::fold::Options;
-use crate::script::{Act, Document, Leaf, Line, Query, Term};
+use crate::script::{Act, Block, Document, Leaf, Line, Query, Term};
 use ix_base::NoMemory;
 use std::alloc::Global;
 
@@ -62,6 +62,17 @@ impl Draws {
         }
     }
 
+    /// A block of one to four documents, or of 64.
+    fn block(&mut self) -> Block {
+        Block {
+            first: self.document(),
+            count: match self.below(10) {
+                0 => 64,
+                _ => 1 + self.below(4),
+            },
+        }
+    }
+
     /// Mostly a term that few documents have.
     fn term(&mut self) -> Term {
         match self.below(6) {
@@ -99,17 +110,19 @@ impl Draws {
         }
     }
 
-    /// Adds in two of five, and each other operation often enough.
+    /// Adds in two of five, some of them blocks, and each other operation often enough.
     fn act(&mut self) -> Act {
-        match self.below(20) {
-            0..8 => Act::Add(self.document()),
-            8..10 => Act::Update(self.term(), self.document()),
-            10 => Act::Delete(self.term()),
-            11 => Act::DeleteQuery(self.query()),
-            12 => Act::SetPrice(self.term(), self.value()),
-            13 => Act::SetRank(self.term(), self.value()),
-            14..16 => Act::Commit,
-            16 => Act::Search(Query::One(Leaf::All)),
+        match self.below(22) {
+            0..7 => Act::Add(self.document()),
+            7..9 => Act::AddBlock(self.block()),
+            9..11 => Act::Update(self.term(), self.document()),
+            11 => Act::UpdateBlock(self.term(), self.block()),
+            12 => Act::Delete(self.term()),
+            13 => Act::DeleteQuery(self.query()),
+            14 => Act::SetPrice(self.term(), self.value()),
+            15 => Act::SetRank(self.term(), self.value()),
+            16..18 => Act::Commit,
+            18 => Act::Search(Query::One(Leaf::All)),
             _ => Act::Search(self.query()),
         }
     }

@@ -2,7 +2,8 @@
 //! what the program is made of. The numbers of the lines are read off the run's own report, since they
 //! may differ from run to run; all else in the report follows from them.
 use crate::script::{
-    Act, Document, Leaf, Line, Query, Term, numbers_text, phrase_sought, word_sought, words_of,
+    Act, Block, Document, Leaf, Line, Query, Term, documents_of, numbers_text, phrase_sought,
+    word_sought, words_of,
 };
 use ix_base::NoMemory;
 use std::alloc::Global;
@@ -78,13 +79,26 @@ fn is_hit(document: &Document, query: Query) -> bool {
     }
 }
 
+/// Adds the documents of a block.
+fn add_all(documents: &mut Vec<Document>, block: Block) -> Result<(), NoMemory> {
+    for document in documents_of(*documents.allocator(), block)?.iter() {
+        documents.push(*document)?;
+    }
+    Ok(())
+}
+
 /// Does what a line asks for.
 fn do_act(documents: &mut Vec<Document>, act: Act) -> Result<(), NoMemory> {
     match act {
         Act::Add(document) => documents.push(document)?,
+        Act::AddBlock(block) => add_all(documents, block)?,
         Act::Update(term, document) => {
             documents.retain(|one| !has_term(one, term));
             documents.push(document)?;
+        }
+        Act::UpdateBlock(term, block) => {
+            documents.retain(|one| !has_term(one, term));
+            add_all(documents, block)?;
         }
         Act::Delete(term) => documents.retain(|one| !has_term(one, term)),
         Act::DeleteQuery(query) => documents.retain(|one| !is_hit(one, query)),

@@ -18,5 +18,5 @@ pub use large::{
     asked_four_times, deletes_and_report, members, script_and_report, script_of_names,
 };
 pub use made::plain_sum;
-pub use script::{Act, Document, Leaf, Line, Query, Term, document_of, script_of};
+pub use script::{Act, Block, Document, Leaf, Line, Query, Term, document_of, script_of};
 pub use sizes::{TwoRuns, ten_thousand, three_hundred};

@@ -55,6 +55,14 @@ pub struct Document {
     pub rank: Option<i64>,
 }
 
+/// Documents that a line adds together: so many, of which this is the first. Each other one has the next key,
+/// tag and text after the one before it, as far as that has them, and its numbers.
+#[derive(Clone, Copy)]
+pub struct Block {
+    pub first: Document,
+    pub count: u64,
+}
+
 /// A field and a term: the number in a key or in a tag, or the place of a word in the table.
 #[derive(Clone, Copy)]
 pub enum Term {
@@ -89,7 +97,9 @@ pub enum Query {
 #[derive(Clone, Copy)]
 pub enum Act {
     Add(Document),
+    AddBlock(Block),
     Update(Term, Document),
+    UpdateBlock(Term, Block),
     Delete(Term),
     DeleteQuery(Query),
     SetPrice(Term, i64),
@@ -114,6 +124,19 @@ pub fn document_of(key: u64) -> Document {
         price: None,
         rank: None,
     }
+}
+
+/// The documents of a block, in order.
+pub(crate) fn documents_of(alloc: Global, block: Block) -> Result<Vec<Document>, NoMemory> {
+    let mut documents = Vec::new(alloc);
+    let mut next = block.first;
+    for _ in 0..block.count {
+        documents.push(next)?;
+        next.key = next.key.wrapping_add(1);
+        next.tag = next.tag.map(|tag| tag.wrapping_add(1));
+        next.body = next.body.map(|body| body.wrapping_add(1));
+    }
+    Ok(documents)
 }
 
 /// The words of the document's text, each between spaces.
@@ -157,6 +180,19 @@ fn document_text(alloc: Global, document: &Document) -> Result<String, NoMemory>
         write!(text, ",\"text\":{{\"body\":\"{shown}\"}}")?;
     }
     text.push_str("}")?;
+    Ok(text)
+}
+
+/// The member `docs` of a block.
+fn block_text(alloc: Global, block: Block) -> Result<String, NoMemory> {
+    let mut text = String::from_str(alloc, "\"docs\":[")?;
+    for (place, document) in documents_of(alloc, block)?.iter().enumerate() {
+        if place > 0 {
+            text.push_str(",")?;
+        }
+        text.push_str(&document_text(alloc, document)?)?;
+    }
+    text.push_str("]")?;
     Ok(text)
 }
 
@@ -229,10 +265,19 @@ fn act_text(alloc: Global, act: Act) -> Result<String, NoMemory> {
             let document = document_text(alloc, &document)?;
             format!(in alloc; "\"op\":\"add\",\"doc\":{document}")?
         }
+        Act::AddBlock(block) => {
+            let docs = block_text(alloc, block)?;
+            format!(in alloc; "\"op\":\"add_block\",{docs}")?
+        }
         Act::Update(term, document) => {
             let term = term_text(alloc, term)?;
             let document = document_text(alloc, &document)?;
             format!(in alloc; "\"op\":\"update\",{term},\"doc\":{document}")?
+        }
+        Act::UpdateBlock(term, block) => {
+            let term = term_text(alloc, term)?;
+            let docs = block_text(alloc, block)?;
+            format!(in alloc; "\"op\":\"update_block\",{term},{docs}")?
         }
         Act::Delete(term) => {
             let term = term_text(alloc, term)?;

@@ -2,7 +2,7 @@
 use Rattle.std.proofs.Common.{◌≡◌, ◌⊎◌, inl, inr, ◌∙◌, ℕ, suc, ◌+◌, ◌<◌, ◌≤◌, Bool, true, false, cond, List, [], ◌∷◌, ◌++◌, length, refl, sym, ap, subst, arith}
 use Rattle.std.specs.List.{AllByRecursion}
 use Rattle.ix_base.specs.declared.document.Operation.{Operation}
-use Rattle.ix_base.specs.declared.document.Operation.TheVariants.{Add, Update, DeleteTerm, DeleteQuery, SetNumber, Commit}
+use Rattle.ix_base.specs.declared.document.Operation.TheVariants.{Add, AddBlock, Update, UpdateBlock, DeleteTerm, DeleteQuery, SetNumber, Commit}
 use Rattle.op_script.specs.declared.script.Line.{Line}
 use Rattle.op_script.specs.declared.script.Act.{Act}
 use Rattle.op_script.specs.declared.script.Act.TheVariants.{Do}
@@ -60,7 +60,9 @@ no_operation (l ∷ ls) doing e =
 -- an act is a commit where its operation is one
 commits_by : (op : Operation) → commits (Do op) ≡ is_commit op
 commits_by (Add doc) = refl
+commits_by (AddBlock docs) = refl
 commits_by (Update term doc) = refl
+commits_by (UpdateBlock term docs) = refl
 commits_by (DeleteTerm term) = refl
 commits_by (DeleteQuery query) = refl
 commits_by (SetNumber term name value) = refl

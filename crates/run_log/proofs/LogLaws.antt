@@ -3,7 +3,7 @@ use Rattle.std.proofs.Common.{◌≡◌, ◌≢◌, ◌⊎◌, inl, inr, ◌∙�
 use Rattle.std.specs.List.{AllByRecursion, filter}
 use Rattle.std.proofs.lemmas.Bool.{eq-eqb}
 use Rattle.std.proofs.lemmas.Bool.Decides.{eqb_tells}
-use Rattle.ix_base.specs.declared.document.Operation.TheVariants.{Add, Update, DeleteTerm, DeleteQuery, SetNumber, Commit}
+use Rattle.ix_base.specs.declared.document.Operation.TheVariants.{Add, AddBlock, Update, UpdateBlock, DeleteTerm, DeleteQuery, SetNumber, Commit}
 use Rattle.op_script.specs.Shape.{LinesRise}
 use Rattle.op_script.specs.declared.script.Act.{Act}
 use Rattle.op_script.specs.declared.script.Act.TheVariants.{Do, Search}
@@ -58,7 +58,9 @@ each_at P (n ∷ ns) s each (inr i) = each_at P ns s each.1 i
 pub commit_numbered : (a : Act) → is_commit a ≡ true → is_numbered a ≡ true
 commit_numbered (Search q) is = absurd cc
 commit_numbered (Do (Add doc)) is = absurd cc
+commit_numbered (Do (AddBlock docs)) is = absurd cc
 commit_numbered (Do (Update t doc)) is = absurd cc
+commit_numbered (Do (UpdateBlock t docs)) is = absurd cc
 commit_numbered (Do (DeleteTerm t)) is = absurd cc
 commit_numbered (Do (DeleteQuery q)) is = absurd cc
 commit_numbered (Do (SetNumber t n v)) is = absurd cc

@@ -19,6 +19,7 @@ use Rattle.ix_base.specs.Refusals.{refusal}
 use Rattle.ix_base.specs.Steps.{after}
 use Rattle.op_script.specs.declared.script.Act.{Act}
 use Rattle.op_script.specs.declared.script.Act.TheVariants.{Do, Search}
+use Rattle.ix_base.specs.Counts.{doc_count}
 use Rattle.ix_base.specs.Hits.{hits}
 use Rattle.ix_base.specs.declared.refusal.Refusal.{Refusal}
 use Rattle.report_text.specs.Lines.{text_line, write_value, commit_value, refused_value, search_value}
@@ -170,7 +171,7 @@ last_commit base log caller found (l ∷ ls) = last_commit base log caller
 abbrev pub done_text : ℕ → List Row → List Line → ℕ → Operation → List ℕ
 done_text base rows log line (Commit pairs) =
     let s = number_of base log line in
-    text_line (commit_value (length (rows_at base rows log s)) line s)
+    text_line (commit_value (doc_count (rows_at base rows log s)) line s)
 done_text base rows log line op = text_line (write_value line (number_of base log line))
 
 -- the text of a line that was refused, and otherwise this one

@@ -14,6 +14,6 @@ pub struct Task {
 pub enum Reply {
     /// The operation was done, and has this sequence number.
     Numbered(u64),
-    /// It is refused for itself or for its document. It got no number.
+    /// It is refused for itself or for a document. It got no number.
     Refused(Refusal),
 }
