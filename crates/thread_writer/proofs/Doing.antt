@@ -2,13 +2,12 @@
 use Rattle.std.proofs.Common.{◌≡◌, ◌∙◌, ℕ, ◌+◌, ◌<◌, true, false, not, List, [], ◌∷◌, ◌++◌, slice_index, refl, sym, ap, subst, arith, append-nil, append_assoc, eq-eqb, ne_eqb}
 use Rattle.std.specs.List.{AllByRecursion}
 use Rattle.std.proofs.lemmas.List.Elements.{filter-append}
-use Rattle.std.proofs.lemmas.List.Concat.{flat_map-append}
 use Rattle.ix_base.specs.Entry.{Entry, entry_of, kind_of, turn}
 use Rattle.ix_base.proofs.EntryLaws.{head_again, most_bytes}
 use Rattle.ix_base.specs.Words.{Spells, head_kind, entry_words}
 use Rattle.ix_base.specs.declared.document.Row.{Row}
 use Rattle.ix_base.specs.declared.document.Operation.{Operation}
-use Rattle.ix_base.specs.declared.document.Operation.TheVariants.{Add, Update, DeleteTerm, DeleteQuery, SetNumber, Commit}
+use Rattle.ix_base.specs.declared.document.Operation.TheVariants.{Add, AddBlock, Update, UpdateBlock, DeleteTerm, DeleteQuery, SetNumber, Commit}
 use Rattle.queue_rule.specs.declared.view.Own.{Own}
 use Rattle.queue_rule.specs.Chain.{own}
 use Rattle.delete_queue.specs.declared.queue.DeleteQueue.{DeleteQueue}
@@ -20,7 +19,7 @@ use Rattle.row_fates.specs.Fate.{Numbered, added, rows_added}
 use Rattle.ram_postings.specs.Buffer.{born_rows}
 use Rattle.thread_writer.specs.declared.piece.Piece.{Piece}
 use Rattle.thread_writer.specs.declared.piece.HandedBack.{HandedBack}
-use Rattle.thread_writer.specs.Writing.{is_turn, numbered_own, Tells, piece_rows, IsPiece, Did}
+use Rattle.thread_writer.specs.Writing.{is_turn, numbered_own, Tells, IsPiece, Gave, Did}
 use Rattle.thread_writer.proofs.Pieces.{all_stay}
 
 -- ---- kinds
@@ -36,7 +35,9 @@ turns words is = eq-eqb _ 7 (kind_is words turn is)
 
 pub operation_kind : (op : Operation) → kind_of (entry_of op) < 7
 operation_kind (Add doc) = omega arith
+operation_kind (AddBlock docs) = omega arith
 operation_kind (Update term doc) = omega arith
+operation_kind (UpdateBlock term docs) = omega arith
 operation_kind (DeleteTerm term) = omega arith
 operation_kind (DeleteQuery query) = omega arith
 operation_kind (SetNumber term name value) = omega arith
@@ -66,6 +67,22 @@ added_more : (ops : List Numbered) (o : Numbered) → rows_added (ops ++ o ∷ [
 added_more [] o = append-nil _
 added_more (x ∷ ops) o = ap (λ (rs : List Row). added x.0 x.1 ++ rs) (added_more ops o) ∙ sym (append_assoc (added x.0 x.1) (rows_added ops) (added o.0 o.1))
 
+-- one more operation adds its rows to those that are left
+gave_more : (told : List Numbered) (gave : List Piece) (rest : List Row) (o : Numbered) → Gave told gave rest → Gave (told ++ o ∷ []) gave (rest ++ added o.0 o.1)
+gave_more told [] rest o is = ap (λ (rs : List Row). rs ++ added o.0 o.1) is ∙ sym (added_more told o)
+gave_more told (p ∷ gave) rest o is = (
+  is.0,
+  is.1 ++ o ∷ [],
+  ap (λ (l : List Numbered). l ++ o ∷ []) is.2 ∙ append_assoc is.0 is.1 (o ∷ []),
+  is.3,
+  gave_more is.1 gave rest o is.4,
+)
+
+-- the rows that were left are those of a piece
+gave_end : (told : List Numbered) (gave : List Piece) (rest : List Row) (p : Piece) → p.frozen.rows.items ≡ rest → Gave told gave rest → Gave told (gave ++ p ∷ []) []
+gave_end told [] rest p rows is = (told, [], sym (append-nil told), rows ∙ is, refl)
+gave_end told (x ∷ gave) rest p rows is = (is.0, is.1, is.2, is.3, gave_end is.1 gave rest p rows is.4)
+
 -- ---- from call to call
 
 -- the writer was told a number
@@ -77,9 +94,7 @@ did_more q old new words op n grows mine number spells rows told gave did = reco
   tells =
       subst (Tells (base_of q) (told ++ (n, op) ∷ [])) (sym (ap numbered_own mine ∙ own_more (own_of old.seat) (seen_of new.seat) words (is_no_turn words op spells)))
       (tells_more (base_of q) n (seen_of new.seat) told (numbered_own (own_of old.seat)) words op did.tells number spells);
-  rows =
-      ap (λ (rs : List Row). piece_rows gave ++ rs) rows ∙ sym (append_assoc (piece_rows gave) (born_rows old.rest) (added n op))
-      ∙ ap (λ (rs : List Row). rs ++ added n op) did.rows ∙ sym (added_more told (n, op));
+  rows = subst (Gave (told ++ (n, op) ∷ []) gave) (sym rows) (gave_more told gave (born_rows old.rest) (n, op) did.rows);
   pieces = all_stay q old.seat new.seat gave grows did.pieces;
 }
 
@@ -89,7 +104,7 @@ pub did_same : (q : DeleteQueue) (old new : HandedBack) → Grows old.seat new.s
     → (told : List Numbered) (gave : List Piece) → Did q old told gave → Did q new told gave
 did_same q old new grows mine rows told gave did = record {
   tells = subst (Tells (base_of q) told) (sym mine) did.tells;
-  rows = ap (λ (rs : List Row). piece_rows gave ++ rs) rows ∙ did.rows;
+  rows = subst (Gave told gave) (sym rows) did.rows;
   pieces = all_stay q old.seat new.seat gave grows did.pieces;
 }
 
@@ -115,10 +130,7 @@ pub did_give : (q : DeleteQueue) (old new : HandedBack) (p : Piece) → Grows ol
     → (told : List Numbered) (gave : List Piece) → Did q old told gave → Did q new told (gave ++ p ∷ [])
 did_give q old new p grows mine rest rows is told gave did = record {
   tells = subst (λ (os : List Own). Tells (base_of q) told (numbered_own os)) (sym mine) did.tells;
-  rows =
-      ap (λ xs. piece_rows (gave ++ p ∷ []) ++ born_rows xs) rest ∙ append-nil (piece_rows (gave ++ p ∷ []))
-      ∙ flat_map-append (λ (p : Piece). p.frozen.rows.items) gave (p ∷ []) ∙ ap (λ (rs : List Row). piece_rows gave ++ rs) (append-nil p.frozen.rows.items ∙ rows)
-      ∙ did.rows;
+  rows = subst (λ xs. Gave told (gave ++ p ∷ []) (born_rows xs)) (sym rest) (gave_end told gave (born_rows old.rest) p rows did.rows);
   pieces = all_end (all_stay q old.seat new.seat gave grows did.pieces);
 }
   where

@@ -1,5 +1,6 @@
 -- A buffer given off as a piece.
 use Rattle.std.proofs.Common.{◌≡◌, ◌∙◌, ℕ, ◌+◌, List, [], Result, Ok, Err, OnErr, map, length, sym, ap, subst, arith}
+use Rattle.ix_base.specs.Births.{last_birth}
 use Rattle.ix_base.specs.Inversion.{IsInversion}
 use Rattle.ix_base.specs.declared.document.Row.{Row}
 use Rattle.delete_queue.specs.declared.queue.DeleteQueue.{DeleteQueue}
@@ -44,8 +45,8 @@ read_writer q old new w r = let size = r.size in let some = w.some in let most =
     seat = r.seat;
     slice = r.slice;
     births =
-        subst (λ (p : Place). BirthsRise (base_of q + p.at) (born_rows new.rows)) (sym r.from)
-        (subst (λ xs. BirthsRise (base_of q + old.slice.from.at) (born_rows xs)) (sym r.rows) w.ready.births);
+        subst (λ (p : Place). BirthsRise (last_birth (base_of q + p.at)) (born_rows new.rows)) (sym r.from)
+        (subst (λ xs. BirthsRise (last_birth (base_of q + old.slice.from.at)) (born_rows xs)) (sym r.rows) w.ready.births);
     born =
         subst (λ xs. BornBy (last_of new.seat) (born_rows xs)) (sym r.rows)
         (born_more (last_of old.seat) (last_of new.seat) (born_rows old.rows) r.grows.extends.last w.ready.born);
@@ -83,7 +84,7 @@ is_piece ends q old read begun p w r to nothing took rows inversion worker cut =
       begun = begun;
       nothing = nothing;
       took = took;
-      births = subst (BirthsRise (base_of q + read.slice.from.at)) (sym rows) later.ready.births;
+      births = subst (BirthsRise (last_birth (base_of q + read.slice.from.at))) (sym rows) later.ready.births;
       born = subst (λ (n : ℕ). BornBy n p.frozen.rows.items) (sym cut) (subst (BornBy (last_of read.seat)) (sym rows) later.ready.born);
       numbers =
           subst (λ (n : ℕ). AreWithin (base_of q + read.slice.from.at) n (numbers_behind (base_of q) read.slice.from.at took.entries)) (sym cut)

@@ -1,29 +1,24 @@
 -- What the functions inside the crate say of a line on its way.
-use Rattle.std.specs.Prelude.{◌≡◌, ℕ, ◌+◌, ◌≤◌, List, [], ◌∷◌, ◌++◌, length}
+use Rattle.std.specs.Prelude.{◌≡◌, ℕ, ◌+◌, ◌≤◌, List, ◌++◌, length}
+use Rattle.ix_base.specs.Births.{block_rows}
 use Rattle.ix_base.specs.Documents.{Document}
-use Rattle.ix_base.specs.Entry.{entry_of}
-use Rattle.ix_base.specs.Words.{entry_words}
-use Rattle.ix_base.specs.declared.document.Operation.{Operation}
-use Rattle.ix_base.specs.declared.document.Row.{Row}
 use Rattle.delete_queue.specs.declared.queue.DeleteQueue.{DeleteQueue}
 use Rattle.delete_queue.specs.Seats.{IsSeatOf, Grows, Links, own_of}
 use Rattle.delete_slice.specs.Slices.{IsSliceOf}
-use Rattle.row_fates.specs.Fate.{added}
 use Rattle.ram_postings.specs.Buffer.{born_rows}
 use Rattle.thread_writer.specs.declared.told.Told.{Told}
 use Rattle.thread_writer.specs.declared.writer.ThreadWriter.{ThreadWriter}
 use Rattle.thread_writer.specs.Answers.{MatchTold}
-use Rattle.thread_writer.specs.Writing.{documents_of}
 
--- An entry of these words was linked with the number n, these rows came into the buffer, and so many
--- documents were staged.
-pub record Puts (q : DeleteQueue) (words : List ℕ) (rows : List Row) (staged n : ℕ) (old new : ThreadWriter)
+-- An entry of these words was linked with the number n, and these documents came into the buffer as
+-- those of the operation of that number.
+pub record Puts (q : DeleteQueue) (words : List ℕ) (docs : List Document) (n : ℕ) (old new : ThreadWriter)
     : Type 0 where
   pub seat : IsSeatOf q new.seat
   pub grows : Grows old.seat new.seat
   pub links : Links old.seat new.seat words n
-  pub born : born_rows new.rows ≡ born_rows old.rows ++ rows
-  pub count : length new.rows ≡ length old.rows + staged
+  pub born : born_rows new.rows ≡ born_rows old.rows ++ block_rows n docs
+  pub count : length new.rows ≡ length old.rows + length docs
   pub slice : new.slice ≡ old.slice
   pub size : new.size ≡ old.size
 
@@ -37,20 +32,11 @@ pub record Keeps (q : DeleteQueue) (most : ℕ) (old new : ThreadWriter) : Type 
   pub slice : new.slice ≡ old.slice
   pub size : new.size ≡ old.size
 
--- An entry of these words was linked with the number that was told, and with it came the rows that it
--- adds; or nothing was linked.
-abbrev pub Does : DeleteQueue → List ℕ → (ℕ → List Row) → ℕ → Told → ThreadWriter → ThreadWriter → Type 0
-Does q words rows staged told old new =
-    MatchTold told (λ n. Puts q words (rows n) staged n old new) (Keeps q staged old new)
-
--- the row of a document that was added
-abbrev pub row_born : Document → ℕ → List Row
-row_born doc n = record { birth = n; doc = doc } ∷ []
-
--- the same for the entry and the rows of an operation
-abbrev pub DoesLine : DeleteQueue → Operation → Told → ThreadWriter → ThreadWriter → Type 0
-DoesLine q op told old new =
-    Does q (entry_words (entry_of op)) (λ n. added n op) (documents_of op) told old new
+-- An entry of these words was linked with the number that was told, and with it came these documents;
+-- or nothing was linked.
+abbrev pub Does : DeleteQueue → List ℕ → List Document → Told → ThreadWriter → ThreadWriter → Type 0
+Does q words docs told old new =
+    MatchTold told (λ n. Puts q words docs n old new) (Keeps q (length docs) old new)
 
 -- The slice was moved on, and its entries were read: the seat has seen and knows more. Nothing was
 -- linked, and the buffer is the same.

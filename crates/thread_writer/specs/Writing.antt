@@ -1,14 +1,16 @@
 -- What a thread's writer has done, and what its pieces are.
-use Rattle.std.specs.Prelude.{◌≡◌, ℕ, ◌+◌, ◌<◌, ◌≤◌, ◌==◌, Bool, true, false, not, if◌then◌else◌}
+use Rattle.std.specs.Prelude.{◌≡◌, ℕ, ◌+◌, ◌<◌, ◌≤◌, ◌==◌, Bool, not}
 use Rattle.std.specs.Prelude.{List, [], ◌∷◌, ◌++◌, length, map, slice_index}
 use Rattle.std.specs.List.{filter, flat_map, AllByRecursion}
+use Rattle.ix_base.specs.Births.{last_birth}
+use Rattle.ix_base.specs.Documents.{Document}
 use Rattle.ix_base.specs.Entry.{entry_of}
 use Rattle.ix_base.specs.Inversion.{IsInversion}
 use Rattle.ix_base.specs.Words.{head_kind, Spells}
 use Rattle.ix_base.specs.declared.document.Row.{Row}
 use Rattle.ix_base.specs.declared.document.Operation.{Operation}
-use Rattle.ix_base.specs.declared.document.Operation.TheVariants.{Add, Update, DeleteTerm}
-use Rattle.ix_base.specs.declared.document.Operation.TheVariants.{DeleteQuery, SetNumber, Commit}
+use Rattle.ix_base.specs.declared.document.Operation.TheVariants.{Add, AddBlock, Update, UpdateBlock}
+use Rattle.ix_base.specs.declared.document.Operation.TheVariants.{DeleteTerm, DeleteQuery, SetNumber, Commit}
 use Rattle.queue_rule.specs.declared.view.Own.{Own}
 use Rattle.delete_queue.specs.declared.queue.DeleteQueue.{DeleteQueue}
 use Rattle.delete_queue.specs.declared.seat.Seat.{Seat}
@@ -47,19 +49,27 @@ Tells base (t ∷ told) (o ∷ own) = (t.0 ≡ base + o.place) × Spells o.words
 abbrev pub piece_rows : List Piece → List Row
 piece_rows pieces = flat_map (λ (p : Piece). p.frozen.rows.items) pieces
 
+-- Each piece, in order, has the rows that the next operations add, and the rows that are left are those that the others
+-- add: no operation is split.
+abbrev pub Gave : List Numbered → List Piece → List Row → Type 0
+Gave told [] rest = rest ≡ rows_added told
+Gave told (p ∷ gave) rest =
+    (ops : List Numbered) × (more : List Numbered) × (told ≡ ops ++ more)
+    × (p.frozen.rows.items ≡ rows_added ops) × Gave more gave rest
+
 -- What a piece says of itself, in words that its writer's seat knows. Its updates took the entries
 -- after the place `from`, up to the place `to`, of a queue; each of its rows was born after `from`;
 -- the cut is the number of the last numbered entry up to `to`.
 pub record IsPiece (q : DeleteQueue) (s : Seat) (p : Piece) : Type 0 where
   pub worker : p.worker ≡ number_of s
   pub inversion : IsInversion (map (λ (row : Row). row.doc) p.frozen.rows.items) p.frozen.postings
-  pub few : length p.frozen.rows.items ≤ 65536
+  pub few : length p.frozen.rows.items ≤ 65599
   pub from : ℕ
   pub to : ℕ
   pub begun : Updates
   pub nothing : as_operations begun ≡ []
   pub took : TakesPart (Knows s) (base_of q) from to begun p.updates
-  pub births : BirthsRise (base_of q + from) p.frozen.rows.items
+  pub births : BirthsRise (last_birth (base_of q + from)) p.frozen.rows.items
   pub born : BornBy p.cut p.frozen.rows.items
   pub numbers : AreWithin (base_of q + from) p.cut (numbers_behind (base_of q) from took.entries)
   pub reach : p.cut ≤ base_of q + to
@@ -73,40 +83,42 @@ pub record IsPiece (q : DeleteQueue) (s : Seat) (p : Piece) : Type 0 where
 pub record IsReady (q : DeleteQueue) (h : HandedBack) : Type 0 where
   pub seat : IsSeatOf q h.seat
   pub slice : IsSliceOf h.seat h.slice
-  pub births : BirthsRise (base_of q + h.slice.from.at) (born_rows h.rest)
+  pub births : BirthsRise (last_birth (base_of q + h.slice.from.at)) (born_rows h.rest)
   pub born : BornBy (last_of h.seat) (born_rows h.rest)
 
 -- What a writer did so far: it was told these operations with their numbers, gave off these pieces,
--- and has the other rows in its buffer: together they are the rows that the operations add, in order,
--- each once.
+-- and has the other rows in its buffer.
 pub record Did (q : DeleteQueue) (h : HandedBack) (told : List Numbered) (gave : List Piece) : Type 0 where
   pub tells : Tells (base_of q) told (numbered_own (own_of h.seat))
-  pub rows : piece_rows gave ++ born_rows h.rest ≡ rows_added told
+  pub rows : Gave told gave (born_rows h.rest)
   pub pieces : AllByRecursion (IsPiece q h.seat) gave
 
 -- the parts of a writer
 abbrev pub parts_of : ThreadWriter → HandedBack
 parts_of w = record { seat = w.seat; rest = w.rows; slice = w.slice }
 
--- The writer's buffer holds at most as many documents as it may, void ones among them.
+-- The writer's buffer is full once it holds `size` documents, void ones among them. One block may come on top of one
+-- document less.
 pub record IsWriter (q : DeleteQueue) (w : ThreadWriter) : Type 0 where
   pub ready : IsReady q (parts_of w)
   pub some : 1 ≤ w.size
   pub most : w.size ≤ 65536
-  pub room : length w.rows ≤ w.size
+  pub room : length w.rows ≤ w.size + 63
 
--- whether an operation adds a document
-abbrev pub adds : Operation → Bool
-adds (Add doc) = true
-adds (Update term doc) = true
-adds (DeleteTerm term) = false
-adds (DeleteQuery query) = false
-adds (SetNumber term name value) = false
-adds (Commit pairs) = false
+-- the documents that an operation adds, in order
+abbrev pub added_documents : Operation → List Document
+added_documents (Add doc) = doc ∷ []
+added_documents (AddBlock docs) = docs
+added_documents (Update term doc) = doc ∷ []
+added_documents (UpdateBlock term docs) = docs
+added_documents (DeleteTerm term) = []
+added_documents (DeleteQuery query) = []
+added_documents (SetNumber term name value) = []
+added_documents (Commit pairs) = []
 
 -- how many documents an operation adds
 abbrev pub documents_of : Operation → ℕ
-documents_of op = if adds op then 1 else 0
+documents_of op = length (added_documents op)
 
 -- The writer was told the number n for an operation.
 pub record Numbers (q : DeleteQueue) (op : Operation) (n : ℕ) (old new : ThreadWriter) : Type 0 where
@@ -117,8 +129,8 @@ pub record Numbers (q : DeleteQueue) (op : Operation) (n : ℕ) (old new : Threa
   pub some : 0 < length (own_of new.seat)
   pub rows : length new.rows ≡ length old.rows + documents_of op
 
--- Nothing was told: own entries and born rows are as before. The seat may have seen more, and a
--- document may have been staged that never gets a number.
+-- Nothing was told: own entries and born rows are as before. The seat may have seen more, and
+-- documents may have been staged that never get a birth.
 pub record Stays (q : DeleteQueue) (old new : ThreadWriter) : Type 0 where
   pub own : own_of new.seat ≡ own_of old.seat
   pub rows : born_rows new.rows ≡ born_rows old.rows

@@ -1,5 +1,5 @@
 //! Giving a full buffer off.
-ghost use Rattle.std.specs.Prelude.{◌≡◌, ◌↔◌, ◌<◌, [], length, IfOk, OnOk, OnErr, IfSome, IfNone, IsSome};
+ghost use Rattle.std.specs.Prelude.{◌≡◌, ◌↔◌, ◌≤◌, ◌<◌, [], length, IfOk, OnOk, OnErr, IfSome, IfNone, IsSome};
 ghost use Rattle.delete_queue.specs.Seats.{Grows, own_of, seen_of};
 ghost use Rattle.delete_slice.specs.Taken.{TakesSlice};
 ghost use Rattle.frozen_packet.specs.Updates.{as_operations};
@@ -14,10 +14,11 @@ use frozen_packet::Updates;
 use ix_base::NoMemory;
 
 impl ThreadWriter {
-    /// Gives the buffer off as a piece where it is full: where it holds as many documents as it may,
-    /// void ones among them. The piece has the buffer's rows, the deletes and settings of the queue
-    /// from the beginning of the buffer to the queue's end, and the number up to which they go. The
-    /// writer then has an empty buffer, which begins there.
+    /// Gives the buffer off as a piece where it is full: where it holds as many documents as its size,
+    /// void ones among them, or up to 63 more after a block. The piece has the buffer's rows, with all
+    /// documents of each operation that added some, the deletes and settings of the queue from the
+    /// beginning of the buffer to the queue's end, and the number up to which they go. The writer then
+    /// has an empty buffer, which begins there.
     ///
     /// The only error is out of memory: nothing was given off. After it, and where the buffer isn't
     /// full, the writer is as before, but that its seat may have seen more.
@@ -28,7 +29,7 @@ impl ThreadWriter {
         ensures grows { Grows self.old.seat self.new.seat }
         ensures own { own_of self.new.seat ≡ own_of self.old.seat }
         ensures full { IfOk result (λ given. IsSome given
-            ↔ (length self.old.rows ≡ self.old.size)) }
+            ↔ (self.old.size ≤ length self.old.rows)) }
         ensures room { OnOk result (length self.new.rows < self.new.size) }
         ensures gives { IfOk result (λ given. IfSome given
             (λ piece. Gives queue.now piece self.old self.new)) }

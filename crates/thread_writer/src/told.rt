@@ -5,8 +5,8 @@
 pub enum Told {
     /// The operation was done, and has this sequence number.
     Numbered(u64),
-    /// Its own term, or else the first such term of its document, has more than 32,766 bytes: this
-    /// many. It got no number.
+    /// Its own term, or else the first such term of its documents, in order, has more than 32,766
+    /// bytes: this many. It got no number.
     RefusedTerm {
         size: u64,
     },

@@ -22,13 +22,14 @@ pub struct ThreadWriter {
     pub(crate) seat: Seat,
     pub(crate) rows: RamPostings,
     pub(crate) slice: Slice,
-    /// How many documents the buffer holds at most, void ones among them.
+    /// How many documents the buffer holds when it is full, void ones among them. A block may come on
+    /// top of one less.
     pub(crate) size: u32,
 }
 
 impl ThreadWriter {
-    /// The writer of a seat that has linked nothing. Its buffer holds 1 to 65,536 documents. It takes
-    /// no memory.
+    /// The writer of a seat that has linked nothing. Its buffer is full at 1 to 65,536 documents. It
+    /// takes no memory.
     pub fn make(alloc: Global, seat: Seat, buffer: u32) -> ThreadWriter
         requires seat { IsSeat seat }
         requires own { own_of seat ≡ [] }
