@@ -7,8 +7,8 @@ use std::fmt::Write;
 use std::test::Fail;
 use test_values::name_of;
 
-/// Appends a row of a segment where it is live: its key and its birth, and the number `n` where it was
-/// set, as ` a4=6`.
+/// Appends a row of a segment where it is live: its key and the number that it was born by, and the
+/// number `n` where it was set, as ` a4=6`.
 pub fn show_live_row(
     alloc: Global,
     out: &mut String,
@@ -20,7 +20,7 @@ pub fn show_live_row(
         return Ok(());
     }
     let row = &rows[at as usize];
-    write!(out, " {}{}", row.doc.key.as_str(), row.birth)?;
+    write!(out, " {}{}", row.doc.key.as_str(), row.birth.number())?;
     match segment.live().value(at, &name_of(alloc, "n")?) {
         Some(value) => write!(out, "={value}")?,
         None => {}
