@@ -1,11 +1,11 @@
 -- Births that no earlier segment has.
-use Rattle.std.proofs.Common.{◌≡◌, ◌≢◌, ℕ, ◌+◌, ◌<◌, ◌≤◌, Bool, true, false, cond, eqb, List, [], ◌∷◌, ◌++◌, refl, subst, arith}
+use Rattle.std.proofs.Common.{◌≡◌, ◌≢◌, ℕ, ◌≤◌, Bool, true, false, eqb, List, [], ◌∷◌, refl, subst, arith}
 use Rattle.std.specs.Prelude.{◌||◌}
 use Rattle.std.specs.List.{AllByRecursion}
-use Rattle.std.proofs.lemmas.Bool.{eqb-true, eq-eqb}
+use Rattle.std.proofs.lemmas.Bool.{eq-eqb}
+use Rattle.ix_base.specs.Births.{first_birth, last_birth}
 use Rattle.ix_base.specs.declared.document.Row.{Row}
 use Rattle.segment_core.specs.LiveRows.{Lived, stored_rows}
-use Rattle.segment_files.specs.Fits.{BirthsRise}
 use Rattle.segment_core.specs.Births.{births_at, births_append, BirthsDiffer, EachRises, at_most_one, by_bool, one_other, one_true, one_false}
 use Rattle.commit_point.specs.Loading.{Unknown}
 use Rattle.commit_point.specs.Reading.{has_birth}
@@ -49,7 +49,7 @@ once s known [] rise unknown b = (omega arith, λ e. refl)
 once s known (g ∷ gs) rise unknown b =
     let more = once s (λ x. known x || has_birth g.segment.rows x) gs rise.1 unknown.1 b in
     let sum = births_append b g.segment.rows (stored_rows gs) in
-    let here = at_most_one 1 s b g.segment.rows rise.0 in (
+    let here = at_most_one (first_birth 1) (last_birth s) b g.segment.rows rise.0 in (
       by_bool (has_birth g.segment.rows b)
           (λ e. omega (arith, sum, here, more.1 (or_right (known b) (has_birth g.segment.rows b) e)))
           (λ e. omega (arith, sum, absent b g.segment.rows e, more.0)),

@@ -1,5 +1,5 @@
 -- What a commit holds, other files that keep it hold.
-use Rattle.std.specs.Prelude.{◌≡◌, ℕ, List, [], ◌∷◌, Option, Some, None, IsSome, Contains, refl}
+use Rattle.std.specs.Prelude.{◌≡◌, ℕ, List, [], ◌∷◌, Option, Some, IsSome, Contains, refl}
 use Rattle.std.proofs.Common.{inl, inr, suc, sym, subst, ◌∙◌, arith}
 use Rattle.ix_base.specs.declared.document.Row.{Row}
 use Rattle.ix_base.specs.declared.file_name.FileName.{FileName}
@@ -7,6 +7,7 @@ use Rattle.ix_base.specs.declared.file_name.FileName.TheVariants.{Commit, Rows, 
 use Rattle.ix_outside.specs.Files.{Files}
 use Rattle.segment_core.specs.LiveRows.{Lived}
 use Rattle.commit_point.specs.declared.heads.HeadSegment.{HeadSegment}
+use Rattle.commit_point.proofs.RowsKept.{rows_kept}
 use Rattle.commit_point.specs.Holds.{HoldsInverted, HasSegments, HaveSegments, IsAmong, IsFileOf}
 use Rattle.commit_point.specs.Holds.{KeepsCommits, Lists, head_of, names_of}
 
@@ -28,7 +29,7 @@ segments_there files d t (e ∷ es) (g ∷ gs) same have = (
     count = have.0.count;
     whole = have.0.whole;
     applied = have.0.applied;
-    rows = same e (here e es) (Rows e.id) (inl refl) ∙ have.0.rows;
+    rows = rows_kept files d e.id g.segment.rows (same e (here e es) (Rows e.id) (inl refl)) have.0.rows;
     posts = same e (here e es) (Posts e.id) (inr (inl refl)) ∙ have.0.posts;
     live = same e (here e es) (Live e.id e.written) (inr (inr (inl refl))) ∙ have.0.live;
     values = same e (here e es) (Values e.id e.written) (inr (inr (inr (inl refl)))) ∙ have.0.values;

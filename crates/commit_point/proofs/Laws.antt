@@ -10,6 +10,7 @@ use Rattle.commit_point.specs.declared.heads.HeadSegment.{HeadSegment}
 use Rattle.commit_point.specs.declared.heads.Head.{Head}
 use Rattle.commit_point.specs.Fits.{IdsRise, EntryFits}
 use Rattle.commit_point.proofs.HeadReading.{head_again}
+use Rattle.commit_point.proofs.RowsKept.{rows_kept}
 use Rattle.commit_point.specs.Reading.{head_in}
 use Rattle.commit_point.specs.Holds.{Holds, HoldsInverted, HasSegments, HaveSegments, HasHead}
 use Rattle.commit_point.specs.Spelling.{commit_file}
@@ -41,7 +42,7 @@ segments_kept t s low limit Old old new (e ∷ es) (g ∷ gs) lt are same rise f
         count = have.0.count;
         whole = have.0.whole;
         applied = have.0.applied;
-        rows = same (Rows e.id) (are e.id rise.1) ∙ have.0.rows;
+        rows = rows_kept old new e.id g.segment.rows (same (Rows e.id) (are e.id rise.1)) have.0.rows;
         posts = same (Posts e.id) (are e.id rise.1) ∙ have.0.posts;
         live = same (Live e.id e.written) before ∙ have.0.live;
         values = same (Values e.id e.written) before ∙ have.0.values;

@@ -1,6 +1,5 @@
 pub mod PutFiles
 pub mod Joined
-pub mod Counting
 pub mod Names
 pub mod Made
 pub mod Making
@@ -18,6 +17,7 @@ pub mod HeadReading
 pub mod KeptLaws
 pub mod Laws
 pub mod PublishLaws
+pub mod RowsKept
 pub mod RowsLaws
 pub mod SegmentLaws
 pub mod StepLaws

@@ -8,7 +8,7 @@ use Rattle.ix_base.specs.declared.damaged.Damaged.{Damaged}
 use Rattle.ix_outside.specs.Files.{Files, Was}
 use Rattle.segment_core.specs.LiveRows.{Lived, stored_rows}
 use Rattle.live_files.specs.LiveSpelling.{live_bits, live_file, values_of, values_file}
-use Rattle.segment_files.specs.Spelling.{rows_file, posts_file}
+use Rattle.segment_files.specs.Spelling.{posts_file}
 use Rattle.commit_point.specs.declared.heads.HeadSegment.{HeadSegment}
 use Rattle.commit_point.specs.declared.heads.Head.{Head}
 use Rattle.commit_point.specs.Fits.{IdsRise, EntryFits, HeadFits}
@@ -65,9 +65,9 @@ fits_there s (suc i) (e ∷ es) d lt all = fits_there s i es d (omega arith) all
 one_more : (told : Option Files) (head : Head) (before : Files) (i : ℕ) (earlier now : ℕ → Bool) (segments : List Lived) (e : HeadSegment) (g : Lived) → HeadFits head → i < length head.segments → e ≡ get_or head.segments i e
     → SoFar told head before i earlier segments → SegmentRead told head.number earlier e g → ((b : ℕ) → now b ≡ (earlier b || has_birth g.segment.rows b)) → SoFar told head before (i + 1) now (segments ++ g ∷ [])
 one_more told head before i earlier now segments e g fits lt is so read more =
-    let see : SeenSegment told e so.files (Some (rows_file e.id g.segment.rows)) (Some (posts_file e.id e.rows g.segment.postings))
+    let see : SeenSegment told e so.files (Some read.rows.bytes) (Some (posts_file e.id e.rows g.segment.postings))
     (Some (live_file e.id e.written (live_bits g.live.marks))) (Some (values_file e.id e.written e.rows (values_of g.live.marks))) =
-    sees_all told e so.files _ _ _ _ so.was read.rows.0 read.postings.0 read.bits.0 read.values.0 in
+    sees_all told e so.files _ _ _ _ so.was read.rows.seen read.postings.0 read.bits.0 read.values.0 in
     let kept = have_kept so.files see.files head.number 1 e (take i head.segments) segments see.others (ids_so_far head i e fits lt is) so.each in
     record {
       files = see.files;
@@ -77,19 +77,19 @@ one_more told head before i earlier now segments e g fits lt is so read more =
           (have_push see.files head.number (take i head.segments) segments e g kept
           (record {
             id = read.id;
-            count = read.rows.1.count;
+            count = read.rows.segment.count;
             whole = read.whole;
             applied = read.applied;
-            rows = see.rows_there;
+            rows = record { bytes = read.rows.bytes; file = see.rows_there; spells = read.rows.spells };
             posts = see.posts_there;
             live = see.live_there;
             values = see.values_there;
-            rows_fit = read.rows.1.fits;
+            rows_fit = read.rows.segment.fits;
             posts_fit = read.postings.1;
             live_fit = read.bits.1;
             values_fit = read.values.1;
           }));
-      unknown = unknown_push (λ b. false) segments g so.unknown (all_congr earlier (λ b. has_birth (stored_rows segments) b) g.segment.rows so.known read.rows.1.unknown);
+      unknown = unknown_push (λ b. false) segments g so.unknown (all_congr earlier (λ b. has_birth (stored_rows segments) b) g.segment.rows so.known read.rows.segment.unknown);
       known = λ b. more b ∙ ap (λ (t : Bool). t || has_birth g.segment.rows b) (so.known b) ∙ sym (has_push segments g b);
     }
 

@@ -2,17 +2,17 @@
 use Rattle.std.proofs.Common.{◌≡◌, ◌∙◌, ℕ, ◌+◌, ◌<◌, ◌≤◌, ◌^◌, List, [], ◌∷◌, ◌++◌, Bool, true, false, cond, Option, Some, None, length, refl, ap, subst, inl, inr, arith}
 use Rattle.std.specs.Prelude.{◌⊎◌}
 use Rattle.std.specs.List.{AllByRecursion}
-use Rattle.std.proofs.lemmas.Bool.{ltb-true}
 use Rattle.ix_base.specs.declared.file_name.FileName.{FileName}
 use Rattle.ix_base.specs.declared.file_name.FileName.TheVariants.{Commit, Pending, Rows, Posts, Live, Values}
 use Rattle.ix_outside.specs.Files.{Files}
 use Rattle.live_docs.specs.MarkLaws.{same_marks_is}
-use Rattle.live_docs.specs.Marks.{same_marks, count_live}
+use Rattle.live_docs.specs.Marks.{same_marks}
 use Rattle.live_docs.specs.declared.live_docs.Mark.{Mark}
-use Rattle.segment_core.specs.LiveRows.{Lived, IsWhole, all_live, stored_rows}
+use Rattle.segment_core.specs.LiveRows.{Lived, IsWhole, stored_rows}
 use Rattle.live_files.specs.LiveFits.{LiveFits, ValuesFit}
 use Rattle.live_files.specs.LiveSpelling.{live_bits, values_of, live_file, values_file}
 use Rattle.segment_files.specs.Fits.{PairsFit}
+use Rattle.segment_files.specs.Spelling.{rows_file}
 use Rattle.commit_point.specs.declared.heads.CommitFormat.TheVariants.{Second}
 use Rattle.commit_point.specs.declared.heads.HeadSegment.{HeadSegment}
 use Rattle.commit_point.specs.declared.written.Written.{Written}
@@ -23,7 +23,7 @@ use Rattle.commit_point.specs.Holds.{Pairs, HasHead, HasSegment, HasSegments, Ha
 use Rattle.commit_point.specs.Publishing.{File, IsNoneOf, AreThere, SameBesides, IsWhole as IsAllThere, Publishes, MayPublish}
 use Rattle.commit_point.specs.Spelling.{commit_file}
 use Rattle.commit_point.specs.Writing.{CanWrite, CanCommit, SegmentIdsRise, WrittenUpTo, IsWritten, AreWritten, Commits, MayCommit, is_alive, listed, files_of, commit_files, entry_of, entries_of, new_head}
-use Rattle.commit_point.proofs.Counting.{live_first}
+use Rattle.commit_point.proofs.RowsKept.{rows_kept}
 use Rattle.commit_point.proofs.Names.{own, there_append, none_own, none_both, none_before, elsewhere_of}
 
 -- segments that can be written as a commit, and have a spelling
@@ -69,19 +69,15 @@ entries_fit s (g ∷ gs) (w ∷ ws) some can whole was = by (is_alive g) (entrie
     by true rest = (entry_fits s w g some can.0 whole.0 was.0, rest)
     by false rest = rest
 
--- each entry has a live row
-entries_few : (s : ℕ) (gs : List Lived) (ws : List (Option Written)) → AreWhole gs → length (entries_of s gs ws) ≤ length (all_live (listed gs))
-entries_few s [] ws whole = omega arith
-entries_few s (g ∷ gs) [] whole = omega arith
-entries_few s (g ∷ gs) (w ∷ ws) whole =
-    let first = live_first g gs whole.0 in
-    let here = by (is_alive g) refl (entries_few s gs ws whole.1) in
-    omega (arith, first, here)
+-- there are no more entries than segments
+entries_few : (s : ℕ) (gs : List Lived) (ws : List (Option Written)) → length (entries_of s gs ws) ≤ length gs
+entries_few s [] ws = omega arith
+entries_few s (g ∷ gs) [] = omega arith
+entries_few s (g ∷ gs) (w ∷ ws) = by (is_alive g) (entries_few s gs ws)
   where
-    by : (b : Bool) → is_alive g ≡ b → length (entries_of s gs ws) ≤ length (all_live (listed gs))
-        → length (cond b (entry_of s w g ∷ []) [] ++ entries_of s gs ws) ≤ count_live g.live.marks + length (all_live (listed gs))
-    by true e rest = let some = ltb-true 0 (count_live g.live.marks) e in omega (arith, some, rest)
-    by false e rest = omega (arith, rest)
+    by : (b : Bool) → length (entries_of s gs ws) ≤ length gs → length (cond b (entry_of s w g ∷ []) [] ++ entries_of s gs ws) ≤ length (g ∷ gs)
+    by true rest = omega arith
+    by false rest = omega arith
 
 pub head_made : (s next : ℕ) (pairs : Pairs) (gs : List Lived) (ws : List (Option Written)) (now : Files) → AreNew s next pairs gs ws → now (Commit s) ≡ Some (commit_file (new_head s next pairs gs ws))
     → HasHead now s (new_head s next pairs gs ws)
@@ -91,10 +87,10 @@ head_made s next pairs gs ws now new commit = record {
   fits = record {
     some = new.number;
     number = new.fits;
-    docs = new.spelling.docs;
+    docs = omega arith;
     next_some = new.some_id;
     next = new.room;
-    count = let few = entries_few s gs ws new.spelling.whole in omega (arith, few, new.spelling.docs);
+    count = let few = entries_few s gs ws in omega (arith, few, new.spelling.count);
     ids = ids_rise s 1 next gs ws new.can.ids;
     entries = entries_fit s gs ws new.number new.can.can new.spelling.whole new.can.written;
     pairs = new.fit;
@@ -140,7 +136,7 @@ segment_made s None g old new can whole encoded was there kept = record {
   count = refl;
   whole = whole;
   applied = can.applied;
-  rows = there.0;
+  rows = record { bytes = rows_file g.segment.id g.segment.rows; file = there.0; spells = inl refl };
   posts = there.1.0;
   live = there.1.1.0;
   values = there.1.1.1.0;
@@ -166,7 +162,7 @@ segment_made s (Some w) g old new can whole encoded was there kept = by (same_ma
           count = refl;
           whole = whole;
           applied = can.applied;
-          rows = kept (Rows g.segment.id) refl tt ∙ has.rows;
+          rows = rows_kept old new g.segment.id g.segment.rows (kept (Rows g.segment.id) refl tt) has.rows;
           posts = kept (Posts g.segment.id) refl tt ∙ has.posts;
           live = kept (Live g.segment.id w.v) refl tt ∙ has.live ∙ ap (λ (ms : List Mark). Some (live_file g.segment.id w.v (live_bits ms))) same;
           values = kept (Values g.segment.id w.v) refl tt ∙ has.values ∙ ap (λ (ms : List Mark). Some (values_file g.segment.id w.v (length g.segment.rows) (values_of ms))) same;
@@ -180,7 +176,7 @@ segment_made s (Some w) g old new can whole encoded was there kept = by (same_ma
       count = refl;
       whole = whole;
       applied = can.applied;
-      rows = kept (Rows g.segment.id) refl ((λ x. cc), ((λ x. cc), tt)) ∙ has.rows;
+      rows = rows_kept old new g.segment.id g.segment.rows (kept (Rows g.segment.id) refl ((λ x. cc), ((λ x. cc), tt))) has.rows;
       posts = kept (Posts g.segment.id) refl ((λ x. cc), ((λ x. cc), tt)) ∙ has.posts;
       live = there.0;
       values = there.1.0;

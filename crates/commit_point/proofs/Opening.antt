@@ -1,8 +1,9 @@
 -- What the reads of a whole commit come to.
-use Rattle.std.proofs.Common.{◌≡◌, ℕ, ◌<◌, ◌^◌, Bool, true, false, not, eqb, List, length, Option, Some, Result, Ok, Err, refl, sym, ap, subst, ◌∙◌, inl, inr}
+use Rattle.std.proofs.Common.{◌≡◌, ℕ, ◌<◌, ◌^◌, Bool, true, false, not, eqb, List, Option, Some, Result, Ok, Err, refl, sym, ap, subst, ◌∙◌, inl, inr}
 use Rattle.std.specs.Prelude.{IfOk, IfErr}
 use Rattle.std.specs.List.{AllByRecursion}
 use Rattle.std.proofs.lemmas.Bool.{eqb-true}
+use Rattle.ix_base.specs.Counts.{doc_count}
 use Rattle.ix_base.specs.FileReading.{of_file}
 use Rattle.segment_core.specs.LiveRows.{Lived, all_live}
 use Rattle.ix_base.specs.declared.file_name.FileName.TheVariants.{Commit}
@@ -33,13 +34,13 @@ see_head told s head reads =
     (see.files, see.was, see.there)
 
 -- a head with this number and sum is that of its entries and segments
-head_is : (s : ℕ) (head : Head) (segments : List Lived) → head.number ≡ s → head.docs ≡ length (all_live segments) → head ≡ head_of s head.next_id (head.format, head.pairs) head.segments segments
+head_is : (s : ℕ) (head : Head) (segments : List Lived) → head.number ≡ s → head.docs ≡ doc_count (all_live segments) → head ≡ head_of s head.next_id (head.format, head.pairs) head.segments segments
 head_is s head segments number docs =
     ap (λ (n : ℕ). record { number = n; docs = head.docs; next_id = head.next_id; segments = head.segments; format = head.format; pairs = head.pairs }) number
     ∙ ap (λ (d : ℕ). record { number = s; docs = d; next_id = head.next_id; segments = head.segments; format = head.format; pairs = head.pairs }) docs
 
 pub opens : (told next_told : Option Files) (s : ℕ) (head : Head) (segments : List Lived) → next_told ≡ told → Reads told (Commit s) (Some (commit_file head)) → head.number ≡ s → HeadFits head
-    → ((before : Files) → Was next_told before → AreRead next_told head before segments) → eqb head.docs (length (all_live segments)) ≡ true
+    → ((before : Files) → Was next_told before → AreRead next_told head before segments) → eqb head.docs (doc_count (all_live segments)) ≡ true
     → (files : Files) × Was told files × HasSegments files s head.next_id head.segments segments
 opens told next_told s head segments same reads number fits each docs =
     let seen = see_head told s head reads in
@@ -75,19 +76,19 @@ segment_breaks told next_told s head d same reads number fits each =
     (at.files, subst (λ (o : Option Files). Was o at.files) same at.was, rw (head_reads at.files s head there number fits, broken) refl)
 
 -- what the test of the number of rows says
-counts : (head : Head) (segments seen : List Lived) (b : Bool) → seen ≡ segments → b ≡ eqb head.docs (length (all_live seen)) → eqb head.docs (length (all_live segments)) ≡ b
-counts head segments seen b is test = ap (λ (gs : List Lived). eqb head.docs (length (all_live gs))) (sym is) ∙ sym test
+counts : (head : Head) (segments seen : List Lived) (b : Bool) → seen ≡ segments → b ≡ eqb head.docs (doc_count (all_live seen)) → eqb head.docs (doc_count (all_live segments)) ≡ b
+counts head segments seen b is test = ap (λ (gs : List Lived). eqb head.docs (doc_count (all_live gs))) (sym is) ∙ sym test
 
-pub counts_right : (head : Head) (segments seen : List Lived) (b : Bool) → seen ≡ segments → b ≡ eqb head.docs (length (all_live seen)) → not b ≡ false → eqb head.docs (length (all_live segments)) ≡ true
+pub counts_right : (head : Head) (segments seen : List Lived) (b : Bool) → seen ≡ segments → b ≡ eqb head.docs (doc_count (all_live seen)) → not b ≡ false → eqb head.docs (doc_count (all_live segments)) ≡ true
 counts_right head segments seen true is test right = counts head segments seen true is test
 counts_right head segments seen false is test right = absurd cc
 
-pub counts_wrong : (head : Head) (segments seen : List Lived) (b : Bool) → seen ≡ segments → b ≡ eqb head.docs (length (all_live seen)) → not b ≡ true → eqb head.docs (length (all_live segments)) ≡ false
+pub counts_wrong : (head : Head) (segments seen : List Lived) (b : Bool) → seen ≡ segments → b ≡ eqb head.docs (doc_count (all_live seen)) → not b ≡ true → eqb head.docs (doc_count (all_live segments)) ≡ false
 counts_wrong head segments seen true is test wrong = absurd cc
 counts_wrong head segments seen false is test wrong = counts head segments seen false is test
 
 pub docs_break : (told next_told : Option Files) (s : ℕ) (head : Head) (segments : List Lived) → next_told ≡ told → Reads told (Commit s) (Some (commit_file head)) → head.number ≡ s → HeadFits head
-    → ((before : Files) → Was next_told before → AreRead next_told head before segments) → eqb head.docs (length (all_live segments)) ≡ false → (files : Files) × Was told files × (reading files s ≡ Err (record { file = Commit s; at = 16 }))
+    → ((before : Files) → Was next_told before → AreRead next_told head before segments) → eqb head.docs (doc_count (all_live segments)) ≡ false → (files : Files) × Was told files × (reading files s ≡ Err (record { file = Commit s; at = 16 }))
 unfolding reading
 docs_break told next_told s head segments same reads number fits each wrong =
     let seen = see_head told s head reads in

@@ -2,6 +2,7 @@
 use Rattle.std.specs.Prelude.{◌≡◌, ◌⊎◌, ℕ, ◌+◌, ◌<◌, ◌≤◌, List, [], ◌∷◌, length, Contains, IsPermutation}
 use Rattle.std.proofs.Common.{zero, suc, get_or, refl, sym, ap, subst, ◌∙◌, inl, inr, arith}
 use Rattle.std.proofs.lemmas.List.Sorted.{Contains-permutation, IsPermutation-sym}
+use Rattle.ix_base.specs.Births.{first_birth, last_birth}
 use Rattle.ix_base.specs.declared.document.Row.{Row}
 use Rattle.segment_core.specs.LiveRows.{Lived, all_live}
 use Rattle.segment_files.specs.Fits.{BirthsRise}
@@ -54,10 +55,10 @@ same_rows l m s t (x ∷ xs) (y ∷ ys) p q there back =
     tail_back above is (inl e) = absurd (omega (arith, ap (λ (r : Row). r.birth) (sym is ∙ e)))
     tail_back above is (inr h) = h
 
-pub one_order : (s t : ℕ) (all xs ys : List Row) → IsPermutation all xs → IsPermutation all ys → BirthsRise 1 s xs
-    → BirthsRise 1 t ys → xs ≡ ys
+pub one_order : (s t : ℕ) (all xs ys : List Row) → IsPermutation all xs → IsPermutation all ys
+    → BirthsRise (first_birth 1) (last_birth s) xs → BirthsRise (first_birth 1) (last_birth t) ys → xs ≡ ys
 one_order s t all xs ys p q rise rise' =
-    same_rows 1 1 s t xs ys rise rise'
+    same_rows (first_birth 1) (first_birth 1) (last_birth s) (last_birth t) xs ys rise rise'
     (λ z h. in_from ys z (Contains-permutation all ys z q (Contains-permutation xs all z (IsPermutation-sym all xs p) (in_to xs z h))))
     (λ z h. in_from xs z (Contains-permutation all xs z p (Contains-permutation ys all z (IsPermutation-sym all ys q) (in_to ys z h))))
 

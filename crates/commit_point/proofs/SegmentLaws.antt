@@ -1,8 +1,9 @@
 -- What the files of a commit spell is what is read of them, so it is one value.
-use Rattle.std.proofs.Common.{◌≡◌, ℕ, ◌+◌, ◌^◌, ◌<◌, ◌≤◌, Bool, true, false, eqb, List, [], ◌∷◌, length, Some, Result, Ok, refl, sym, ap, ◌∙◌, arith}
+use Rattle.std.proofs.Common.{◌≡◌, ℕ, ◌+◌, ◌^◌, ◌<◌, ◌≤◌, Bool, true, false, eqb, List, [], ◌∷◌, Some, Result, Ok, refl, sym, ap, ◌∙◌, arith}
 use Rattle.std.specs.Prelude.{◌||◌}
 use Rattle.std.specs.List.{AllByRecursion}
 use Rattle.std.proofs.lemmas.Bool.{eq-eqb}
+use Rattle.ix_base.specs.Counts.{doc_count}
 use Rattle.ix_base.specs.FileReading.{placed, of_file}
 use Rattle.ix_base.specs.declared.damaged.Damaged.{Damaged}
 use Rattle.ix_base.specs.declared.document.Row.{Row}
@@ -22,13 +23,13 @@ use Rattle.live_files.specs.LiveMarks.{marks_of}
 use Rattle.live_files.specs.LiveReading.{live_in, values_in}
 use Rattle.live_files.specs.LiveSpelling.{SetValue, live_file, values_file, live_bits, values_of}
 use Rattle.segment_files.specs.Reading.{rows_in, posts_in}
-use Rattle.segment_files.specs.Spelling.{rows_file, posts_file}
+use Rattle.segment_files.specs.Spelling.{posts_file}
 use Rattle.commit_point.specs.declared.heads.Head.{Head}
 use Rattle.commit_point.specs.declared.heads.HeadSegment.{HeadSegment}
 use Rattle.commit_point.proofs.BirthLaws.{unknown_of}
 use Rattle.commit_point.specs.Fits.{IdsRise, EntryFits, HeadFits}
 use Rattle.commit_point.proofs.HeadReading.{head_again}
-use Rattle.commit_point.specs.Holds.{HasSegment, HaveSegments, HasSegments, head_of}
+use Rattle.commit_point.specs.Holds.{HasRows, HasSegment, HaveSegments, HasSegments, head_of}
 use Rattle.commit_point.specs.Loading.{Unknown}
 use Rattle.commit_point.specs.Reading.{head_in, head_from, segment_from, segments_from, reading, has_birth}
 use Rattle.commit_point.specs.Spelling.{commit_file}
@@ -48,10 +49,11 @@ entry_short s limit e s_fits room below fits =
 
 -- rows, postings, live bits and set numbers that are there are read
 pub rows_read : (files : Files) (s : ℕ) (known : ℕ → Bool) (e : HeadSegment) (rows : List Row) → e.id < 2 ^ 64
-    → s < 2 ^ 64 → files (Rows e.id) ≡ Some (rows_file e.id rows) → IsSegment s e.rows known rows
+    → s < 2 ^ 64 → HasRows files e.id rows → IsSegment s e.rows known rows
     → of_file (Rows e.id) (rows_in e.id e.rows s known) (files (Rows e.id)) ≡ Ok rows
-rows_read files s known e rows id_fits s_fits file segment =
-    ap (of_file (Rows e.id) (rows_in e.id e.rows s known)) file ∙ ap (placed (Rows e.id) (rows_file e.id rows)) (rows_again e.id e.rows s known rows id_fits s_fits segment)
+rows_read files s known e rows id_fits s_fits has segment =
+    ap (of_file (Rows e.id) (rows_in e.id e.rows s known)) has.file
+    ∙ ap (placed (Rows e.id) has.bytes) (rows_again e.id e.rows s known has.bytes rows id_fits s_fits segment has.spells)
 
 pub posts_read : (files : Files) (e : HeadSegment) (postings : Postings) → EntryShort e
     → files (Posts e.id) ≡ Some (posts_file e.id e.rows postings) → PostingsFit e.rows postings
@@ -125,7 +127,7 @@ pub has_reads : (files : Files) (s next : ℕ) (entries : List HeadSegment) (seg
 unfolding reading
 has_reads files s next entries segments h =
     let head = head_of s next h.tail entries segments in
-    let docs : eqb (length (all_live segments)) (length (all_live segments)) ≡ true = eq-eqb _ _ refl in
+    let docs : eqb (doc_count (all_live segments)) (doc_count (all_live segments)) ≡ true = eq-eqb _ _ refl in
     rw (
       head_reads files s head h.head.file refl h.head.fits,
       segments_read files s 1 next (λ b. false) entries segments h.head.fits.number h.head.fits.next h.head.fits.ids h.head.fits.entries h.each (unknown_of segments h.differ),

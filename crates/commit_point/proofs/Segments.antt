@@ -16,12 +16,13 @@ use Rattle.segment_core.specs.LiveRows.{Lived, stored_rows}
 use Rattle.live_files.specs.LiveReading.{live_in, values_in}
 use Rattle.live_files.specs.LiveSpelling.{live_file}
 use Rattle.segment_files.specs.Reading.{rows_in, posts_in}
-use Rattle.segment_files.specs.Spelling.{rows_file, posts_file}
+use Rattle.segment_files.specs.Spelling.{posts_file}
 use Rattle.commit_point.specs.Fits.{IdsRise, EntryFits}
 use Rattle.commit_point.specs.Holds.{HasSegment, HaveSegments}
 use Rattle.commit_point.specs.Reading.{segment_from, segments_from, has_birth}
 use Rattle.commit_point.specs.Loading.{Unknown}
 use Rattle.segment_core.specs.Births.{EachRises}
+use Rattle.commit_point.proofs.RowsKept.{rows_kept}
 use Rattle.commit_point.proofs.SegmentLaws.{EntryShort, entry_short, rows_read, posts_read, live_read, segment_reads}
 use Rattle.commit_point.specs.SegmentReads.{SegmentBroken}
 
@@ -126,7 +127,7 @@ have_kept files now s low last (e ∷ es) (p ∷ ps) same ids have =
         count = have.0.count;
         whole = have.0.whole;
         applied = have.0.applied;
-        rows = same (Rows e.id) (λ is. let same_id : e.id ≡ last.id = cc in apart same_id) (λ f. cc) (λ f. cc) (λ f. cc) ∙ have.0.rows;
+        rows = rows_kept files now e.id p.segment.rows (same (Rows e.id) (λ is. let same_id : e.id ≡ last.id = cc in apart same_id) (λ f. cc) (λ f. cc) (λ f. cc)) have.0.rows;
         posts = same (Posts e.id) (λ f. cc) (λ is. let same_id : e.id ≡ last.id = cc in apart same_id) (λ f. cc) (λ f. cc) ∙ have.0.posts;
         live = same (Live e.id e.written) (λ f. cc) (λ f. cc) (λ is. let same_id : e.id ≡ last.id = cc in apart same_id) (λ f. cc) ∙ have.0.live;
         values = same (Values e.id e.written) (λ f. cc) (λ f. cc) (λ f. cc) (λ is. let same_id : e.id ≡ last.id = cc in apart same_id) ∙ have.0.values;
@@ -227,22 +228,22 @@ breaks_there told s known e d before short s_fits was (inl broken) =
     let h : of_file (Rows e.id) (rows_in e.id e.rows s known) (see.files (Rows e.id)) ≡ Err d = ap (of_file (Rows e.id) (rows_in e.id e.rows s known)) see.rows_there ∙ broken.broken in
     record { files = see.files; was = see.was; others = see.others; broken = rw h refl }
 breaks_there told s known e d before short s_fits was (inr (rows, rows_are, inl broken)) =
-    let see : SeenSegment told e before (Some (rows_file e.id rows)) broken.found (before (Live e.id e.written)) (before (Values e.id e.written)) =
-    sees_all told e before _ _ _ _ was rows_are.0 broken.seen (reads_itself told before _ was) (reads_itself told before _ was) in
-    let first = rows_read see.files s known e rows short.id s_fits see.rows_there rows_are.1 in
+    let see : SeenSegment told e before (Some rows_are.bytes) broken.found (before (Live e.id e.written)) (before (Values e.id e.written)) =
+    sees_all told e before _ _ _ _ was rows_are.seen broken.seen (reads_itself told before _ was) (reads_itself told before _ was) in
+    let first = rows_read see.files s known e rows short.id s_fits (record { bytes = rows_are.bytes; file = see.rows_there; spells = rows_are.spells }) rows_are.segment in
     let h : of_file (Posts e.id) (posts_in e.id e.rows) (see.files (Posts e.id)) ≡ Err d = ap (of_file (Posts e.id) (posts_in e.id e.rows)) see.posts_there ∙ broken.broken in
     record { files = see.files; was = see.was; others = see.others; broken = rw (first, h) refl }
 breaks_there told s known e d before short s_fits was (inr (rows, rows_are, inr (postings, postings_are, inl broken))) =
-    let see : SeenSegment told e before (Some (rows_file e.id rows)) (Some (posts_file e.id e.rows postings)) broken.found (before (Values e.id e.written)) =
-    sees_all told e before _ _ _ _ was rows_are.0 postings_are.0 broken.seen (reads_itself told before _ was) in
-    let first = rows_read see.files s known e rows short.id s_fits see.rows_there rows_are.1 in
+    let see : SeenSegment told e before (Some rows_are.bytes) (Some (posts_file e.id e.rows postings)) broken.found (before (Values e.id e.written)) =
+    sees_all told e before _ _ _ _ was rows_are.seen postings_are.0 broken.seen (reads_itself told before _ was) in
+    let first = rows_read see.files s known e rows short.id s_fits (record { bytes = rows_are.bytes; file = see.rows_there; spells = rows_are.spells }) rows_are.segment in
     let second = posts_read see.files e postings short see.posts_there postings_are.1 in
     let h : of_file (Live e.id e.written) (live_in e.id e.written e.rows) (see.files (Live e.id e.written)) ≡ Err d = ap (of_file (Live e.id e.written) (live_in e.id e.written e.rows)) see.live_there ∙ broken.broken in
     record { files = see.files; was = see.was; others = see.others; broken = rw (first, second, h) refl }
 breaks_there told s known e d before short s_fits was (inr (rows, rows_are, inr (postings, postings_are, inr (bits, bits_are, broken)))) =
-    let see : SeenSegment told e before (Some (rows_file e.id rows)) (Some (posts_file e.id e.rows postings)) (Some (live_file e.id e.written bits)) broken.found =
-    sees_all told e before _ _ _ _ was rows_are.0 postings_are.0 bits_are.0 broken.seen in
-    let first = rows_read see.files s known e rows short.id s_fits see.rows_there rows_are.1 in
+    let see : SeenSegment told e before (Some rows_are.bytes) (Some (posts_file e.id e.rows postings)) (Some (live_file e.id e.written bits)) broken.found =
+    sees_all told e before _ _ _ _ was rows_are.seen postings_are.0 bits_are.0 broken.seen in
+    let first = rows_read see.files s known e rows short.id s_fits (record { bytes = rows_are.bytes; file = see.rows_there; spells = rows_are.spells }) rows_are.segment in
     let second = posts_read see.files e postings short see.posts_there postings_are.1 in
     let third = live_read see.files e bits short see.live_there bits_are.1 in
     let h : of_file (Values e.id e.written) (values_in e.id e.written e.rows) (see.files (Values e.id e.written)) ≡ Err d = ap (of_file (Values e.id e.written) (values_in e.id e.written e.rows)) see.values_there ∙ broken.broken in

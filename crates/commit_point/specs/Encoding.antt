@@ -2,14 +2,14 @@
 use Rattle.std.specs.Prelude.{◌≡◌, ℕ, ◌<◌, ◌^◌, List, [], ◌∷◌, true, false, Option, None, length, ⊤, if◌then◌else◌}
 use Rattle.std.specs.List.{AllByRecursion}
 use Rattle.ix_base.specs.declared.document.Row.{Row}
-use Rattle.segment_core.specs.LiveRows.{Lived, IsWhole, all_live}
+use Rattle.segment_core.specs.LiveRows.{Lived, IsWhole}
 use Rattle.segment_files.specs.Fits.{DocumentFits, PostingsFit}
 use Rattle.live_files.specs.LiveFits.{LiveFits, ValuesFit}
 use Rattle.live_files.specs.LiveSpelling.{live_bits, values_of}
 use Rattle.commit_point.specs.declared.heads.HeadSegment.{HeadSegment}
 use Rattle.commit_point.specs.declared.written.Written.{Written}
 use Rattle.commit_point.specs.Publishing.{File}
-use Rattle.commit_point.specs.Writing.{is_same, is_alive, files_of, entry_of, listed}
+use Rattle.commit_point.specs.Writing.{is_same, is_alive, files_of, entry_of}
 
 -- the segment as the commit file of s names it, where it has a live row
 abbrev pub own_entries : ℕ → Option Written → Lived → List HeadSegment
@@ -40,9 +40,9 @@ AreEncoded [] ws = ⊤
 AreEncoded (g ∷ gs) [] = ⊤
 AreEncoded (g ∷ gs) (w ∷ ws) = IsEncodedAlive w g × AreEncoded gs ws
 
--- The segments have a spelling in a commit's files: each has a mark for each row, what is written of it fits, and the
--- number of live rows does.
+-- The segments have a spelling in a commit's files: each has a mark for each row, what is written of it fits, and how
+-- many there are does.
 pub record HaveSpelling (gs : List Lived) (ws : List (Option Written)) : Type 0 where
   pub whole : AreWhole gs
   pub encoded : AreEncoded gs ws
-  pub docs : length (all_live (listed gs)) < 2 ^ 64
+  pub count : length gs < 2 ^ 64

@@ -1,6 +1,8 @@
 -- What the files of a commit spell, as a relation on bytes apart from any code.
-use Rattle.std.specs.Prelude.{◌≡◌, ◌⊎◌, ℕ, ◌+◌, ◌==◌, ◌<◌, ◌≤◌, ◌^◌, List, [], ◌∷◌, length, Some, IsSome, ⊤, IsPermutation, Contains, if◌then◌else◌}
+use Rattle.std.specs.Prelude.{◌≡◌, ◌⊎◌, ℕ, ◌<◌, ◌≤◌, ◌^◌, List, [], ◌∷◌, length, Some, IsSome, ⊤, IsPermutation, Contains}
 use Rattle.std.specs.List.{AllByRecursion}
+use Rattle.ix_base.specs.Births.{first_birth, last_birth}
+use Rattle.ix_base.specs.Counts.{doc_count}
 use Rattle.ix_base.specs.declared.file_name.FileName.{FileName}
 use Rattle.ix_base.specs.declared.file_name.FileName.TheVariants.{Commit, Rows, Posts, Live, Values}
 use Rattle.ix_base.specs.declared.document.Row.{Row}
@@ -11,7 +13,7 @@ use Rattle.segment_core.specs.Segments.{IsInverted}
 use Rattle.segment_files.specs.Fits.{RowsFit, PostingsFit, BirthsRise}
 use Rattle.live_files.specs.LiveFits.{LiveFits, ValuesFit}
 use Rattle.live_files.specs.LiveSpelling.{live_file, values_file, live_bits, values_of}
-use Rattle.segment_files.specs.Spelling.{rows_file, posts_file}
+use Rattle.segment_files.specs.Spelling.{SpellsRows, posts_file}
 use Rattle.commit_point.specs.declared.heads.HeadSegment.{HeadSegment}
 use Rattle.commit_point.specs.declared.heads.CommitFormat.{CommitFormat}
 use Rattle.commit_point.specs.declared.heads.Head.{Head}
@@ -34,6 +36,12 @@ Pairs = List (List ℕ × List ℕ)
 abbrev pub HasPairs : Files → ℕ → Pairs → Type 0
 HasPairs files s pairs = (head : Head) × HasHead files s head × (head.pairs ≡ pairs)
 
+-- the file of the rows of the segment of this id spells these rows, in either form
+pub record HasRows (files : Files) (id : ℕ) (rows : List Row) : Type 0 where
+  pub bytes : List ℕ
+  pub file : files (Rows id) ≡ Some bytes
+  pub spells : SpellsRows id rows bytes
+
 -- The four files of a segment that a commit file names spell this segment: its rows and postings, its live bits and its
 -- set numbers. All operations up to s are in it.
 pub record HasSegment (files : Files) (s : ℕ) (e : HeadSegment) (g : Lived) : Type 0 where
@@ -41,7 +49,7 @@ pub record HasSegment (files : Files) (s : ℕ) (e : HeadSegment) (g : Lived) : 
   pub count : length g.segment.rows ≡ e.rows
   pub whole : IsWhole g.segment g.live
   pub applied : g.live.applied ≡ s
-  pub rows : files (Rows e.id) ≡ Some (rows_file e.id g.segment.rows)
+  pub rows : HasRows files e.id g.segment.rows
   pub posts : files (Posts e.id) ≡ Some (posts_file e.id e.rows g.segment.postings)
   pub live : files (Live e.id e.written) ≡ Some (live_file e.id e.written (live_bits g.live.marks))
   pub values : files (Values e.id e.written) ≡ Some (values_file e.id e.written e.rows (values_of g.live.marks))
@@ -64,7 +72,7 @@ Tail = CommitFormat × Pairs
 abbrev pub head_of : ℕ → ℕ → Tail → List HeadSegment → List Lived → Head
 head_of s next tail entries segments = record {
   number = s;
-  docs = length (all_live segments);
+  docs = doc_count (all_live segments);
   next_id = next;
   segments = entries;
   format = tail.0;
@@ -79,10 +87,10 @@ pub record HasSegments (files : Files) (s next : ℕ) (entries : List HeadSegmen
   pub each : HaveSegments files s entries segments
   pub differ : BirthsDiffer segments
 
--- the live rows of the segments, by rising birth; births are at most s
+-- the live rows of the segments, by rising birth; they are born by the operation s or before
 pub record AreRowsOf (s : ℕ) (segments : List Lived) (rows : List Row) : Type 0 where
   pub merged : IsPermutation (all_live segments) rows
-  pub births : BirthsRise 1 s rows
+  pub births : BirthsRise (first_birth 1) (last_birth s) rows
 
 -- The files of commit s spell these rows, by birth, and this next id.
 pub record Holds (files : Files) (s next : ℕ) (rows : List Row) : Type 0 where

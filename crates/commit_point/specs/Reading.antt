@@ -1,9 +1,10 @@
 -- What is read of a commit, field by field: what its commit file says and its segments, or the first broken place.
-use Rattle.std.specs.Prelude.{ℕ, ◌+◌, ◌^◌, List, [], ◌∷◌, length, Bool, false, ◌&&◌, ◌||◌, Result, Ok, Err, nat_lt, nat_le, ◌==◌, if◌then◌else◌}
+use Rattle.std.specs.Prelude.{ℕ, ◌+◌, ◌^◌, List, [], ◌∷◌, Bool, false, ◌&&◌, ◌||◌, Result, Ok, Err, nat_lt, nat_le, ◌==◌, if◌then◌else◌}
 use Rattle.std.specs.Int.{w32, w64}
 use Rattle.std.specs.List.{list_any}
 use Rattle.ix_base.specs.Codec.{◌>>=◌, number_at, items_at}
 use Rattle.ix_base.specs.FileReading.{number_where, mark_at, ended, ◌then◌, of_file}
+use Rattle.ix_base.specs.Counts.{doc_count}
 use Rattle.ix_base.specs.declared.damaged.Damaged.{Damaged}
 use Rattle.ix_base.specs.declared.document.Row.{Row}
 use Rattle.ix_base.specs.declared.file_name.FileName.TheVariants.{Commit, Rows, Posts, Live, Values}
@@ -82,9 +83,9 @@ segments_from files s known (e ∷ es) =
     segments_from files s (λ b. known b || has_birth g.segment.rows b) es then λ more.
     Ok (g ∷ more)
 
--- What the commit file of s says, and its segments. The number of live rows is tested last.
+-- What the commit file of s says, and its segments. How many live rows it tells is tested last.
 unfoldable pub reading : Files → ℕ → Result (Head × List Lived) Damaged
 reading files s =
     head_from files s then λ head.
     segments_from files s (λ b. false) head.segments then λ segments.
-    (if head.docs == length (all_live segments) then Ok (head, segments) else Err (record { file = Commit s; at = 16 }))
+    (if head.docs == doc_count (all_live segments) then Ok (head, segments) else Err (record { file = Commit s; at = 16 }))

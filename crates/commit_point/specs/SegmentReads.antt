@@ -11,15 +11,18 @@ use Rattle.live_files.specs.LiveFits.{LiveFits, ValuesFit}
 use Rattle.live_files.specs.LiveReading.{live_in, values_in}
 use Rattle.live_files.specs.LiveSpelling.{SetValue, live_file, values_file, live_bits, values_of}
 use Rattle.segment_files.specs.Reading.{rows_in, posts_in}
-use Rattle.segment_files.specs.Spelling.{rows_file, posts_file}
+use Rattle.segment_files.specs.Spelling.{SpellsRows, posts_file}
 use Rattle.commit_point.specs.declared.heads.HeadSegment.{HeadSegment}
 use Rattle.commit_point.specs.Loading.{IsBroken}
 
 -- ---- one file
 
--- the rows of a segment of the commit s were read
-abbrev pub RowsRead : Option Files → ℕ → (ℕ → Bool) → HeadSegment → List Row → Type 0
-RowsRead told s known e rows = Reads told (Rows e.id) (Some (rows_file e.id rows)) × IsSegment s e.rows known rows
+-- the rows of a segment of the commit s were read, in either form
+pub record RowsRead (told : Option Files) (s : ℕ) (known : ℕ → Bool) (e : HeadSegment) (rows : List Row) : Type 0 where
+  pub bytes : List ℕ
+  pub seen : Reads told (Rows e.id) (Some bytes)
+  pub spells : SpellsRows e.id rows bytes
+  pub segment : IsSegment s e.rows known rows
 
 abbrev pub RowsBroken : Option Files → ℕ → (ℕ → Bool) → HeadSegment → Damaged → Type 0
 RowsBroken told s known e d = IsBroken told (Rows e.id) (rows_in e.id e.rows s known) d

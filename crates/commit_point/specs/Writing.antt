@@ -1,6 +1,7 @@
 -- What making a commit does to the files.
 use Rattle.std.specs.Prelude.{◌≡◌, ◌≢◌, ◌⊎◌, ℕ, ◌+◌, ◌<◌, ◌≤◌, List, [], ◌∷◌, ◌++◌, Bool, true, false, Option, length, Some, None, IfSome, ⊤, if◌then◌else◌, nat_lt}
 use Rattle.std.specs.List.{filter, AllByRecursion}
+use Rattle.ix_base.specs.Births.{first_birth, last_birth}
 use Rattle.ix_base.specs.declared.file_name.FileName.{FileName}
 use Rattle.ix_base.specs.declared.file_name.FileName.TheVariants.{Commit, Pending, Rows, Posts, Live, Values}
 use Rattle.ix_base.specs.Inversion.{IsPostings}
@@ -86,11 +87,11 @@ commit_steps s next pairs gs ws = publishes (commit_files s gs ws) (Pending s) (
 
 -- ---- what can be written
 
--- A segment can be in the commit s: it has a row, births rise and are at most s, its postings are in order and name its
+-- A segment can be in the commit s: it has a row, births rise and are those of operations from 1 to s, its postings are in order and name its
 -- own rows, and the operations up to s are in it.
 pub record CanWrite (s : ℕ) (g : Lived) : Type 0 where
   pub some : 1 ≤ length g.segment.rows
-  pub births : BirthsRise 1 s g.segment.rows
+  pub births : BirthsRise (first_birth 1) (last_birth s) g.segment.rows
   pub ordered : IsPostings g.segment.postings.terms
   pub below : RowsBelow (length g.segment.rows) g.segment.postings
   pub applied : g.live.applied ≡ s

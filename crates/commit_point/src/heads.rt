@@ -25,7 +25,7 @@ pub enum CommitFormat {
 #[derive(Drop)]
 pub struct Head {
     pub number: u64,
-    /// How many live rows the commit has.
+    /// How many live rows the commit has, or `u64::MAX` where there are more.
     pub docs: u64,
     /// The id that the next segment takes.
     pub next_id: u64,

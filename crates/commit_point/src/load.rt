@@ -17,7 +17,7 @@ ghost use Rattle.commit_point.specs.Spelling.{commit_file};
 use crate::decode::decode_commit;
 use crate::fault::OpenFault;
 use crate::heads::{Head, HeadSegment};
-use ix_base::{Damaged, FileFault, FileName, List, Name, NoMemory, Postings, Row};
+use ix_base::{Birth, Damaged, FileFault, FileName, List, Name, NoMemory, Postings, Row};
 use ix_outside::{Store, StoreFault};
 use live_docs::LiveDocs;
 use live_files::{decode_liv, decode_val, live_docs_of};
@@ -78,7 +78,7 @@ fn read_rows<S: Store>(
     store: &mut S,
     number: u64,
     entry: HeadSegment,
-    earlier: &BTreeSet<u64>,
+    earlier: &BTreeSet<Birth>,
 ) -> Result<List<Row>, OpenFault>
     ensures found { IfOk result (λ rows.
         RowsRead (told_files (S.disk store.old)) number (contains nat_cmp earlier.now) entry rows) }
@@ -206,7 +206,7 @@ fn read_segment<S: Store>(
     store: &mut S,
     number: u64,
     entry: HeadSegment,
-    earlier: &BTreeSet<u64>,
+    earlier: &BTreeSet<Birth>,
 ) -> Result<LiveSegment, OpenFault>
     ensures found { IfOk result (λ segment.
         SegmentRead (told_files (S.disk store.old)) number
@@ -234,7 +234,7 @@ fn read_segment<S: Store>(
 
 /// Adds the births of a segment's rows to those of earlier ones. After an error some of them may
 /// stand there.
-fn add_births(earlier: &mut BTreeSet<u64>, rows: &[Row]) -> Result<(), NoMemory>
+fn add_births(earlier: &mut BTreeSet<Birth>, rows: &[Row]) -> Result<(), NoMemory>
     ensures { OnOk result ((b : ℕ)
         → contains nat_cmp earlier.new b
         ≡ (contains nat_cmp earlier.old b || has_birth rows.now b)) }
@@ -248,7 +248,7 @@ fn add_births(earlier: &mut BTreeSet<u64>, rows: &[Row]) -> Result<(), NoMemory>
 /// Appends a segment, and adds the births of its rows to those of earlier ones. After an error some
 /// of them may stand there.
 fn take_in(
-    earlier: &mut BTreeSet<u64>,
+    earlier: &mut BTreeSet<Birth>,
     segments: &mut Vec<LiveSegment>,
     segment: LiveSegment,
 ) -> Result<(), NoMemory>

@@ -1,5 +1,6 @@
 //! Reading a commit back.
-ghost use Rattle.std.specs.Prelude.{◌≡◌, ◌≤◌, ◌↔◌, ◌==◌, ℕ, length, List, IfOk, IfErr, IsSome, IsTrue, Some, None, Err};
+ghost use Rattle.std.specs.Prelude.{◌≡◌, ◌≤◌, ◌↔◌, ◌==◌, ℕ, List, IfOk, IfErr, IsSome, IsTrue, Some, None, Err};
+ghost use Rattle.ix_base.specs.Counts.{doc_count};
 ghost use Rattle.ix_base.specs.declared.file_name.FileName.TheVariants.{Commit};
 ghost use Rattle.ix_outside.specs.Disk.{told_files};
 ghost use Rattle.ix_outside.specs.Causes.{Rose};
@@ -16,6 +17,7 @@ use crate::fault::OpenFault;
 use crate::heads::{Head, HeadSegment};
 use crate::listing::list_commits;
 use crate::load::{read_head, read_segments};
+use crate::prepare::live_rows;
 use ix_base::{Damaged, FileName, List};
 use ix_outside::{Store, StoreFault};
 use segment_core::LiveSegment;
@@ -33,18 +35,11 @@ pub struct Opened {
     pub segments: List<LiveSegment>,
 }
 
-/// Whether so many rows of the segments are live in all.
+/// Whether a commit of these segments tells that it has so many live rows.
 fn have_rows(segments: &[LiveSegment], docs: u64) -> bool
-    ensures { result ≡ (docs == length (all_live segments.now)) }
+    ensures { result ≡ (docs == doc_count (all_live segments.now)) }
 {
-    let mut left = docs;
-    for segment in segments {
-        match left.checked_sub(u64::from(segment.live().live_count())) {
-            Some(fewer) => left = fewer,
-            None => return false,
-        }
-    }
-    left == 0
+    docs == live_rows(segments)
 }
 
 /// Reads the commit of this number, whose commit file should be there.

@@ -1,6 +1,7 @@
 //! The files of a commit as bytes, before one of them is written.
-ghost use Rattle.std.specs.Prelude.{◌≡◌, ◌<◌, ◌^◌, ◌++◌, true, None, length, OnOk, IfOk, IfSome};
+ghost use Rattle.std.specs.Prelude.{◌≡◌, ◌<◌, ◌^◌, ◌++◌, true, None, length, OnOk, IfOk};
 ghost use Rattle.std.specs.List.{AllByRecursion};
+ghost use Rattle.ix_base.specs.Counts.{doc_count};
 ghost use Rattle.ix_base.specs.Inversion.{IsPostings};
 ghost use Rattle.segment_core.specs.LiveRows.{IsWhole, all_live};
 ghost use Rattle.segment_files.specs.Fits.{DocumentFits, PairsFit, PostingsFit, RowsBelow};
@@ -35,16 +36,18 @@ pub fn is_alive(segment: &LiveSegment) -> bool
     segment.live().live_count() > 0
 }
 
-/// How many rows of these segments are live, where a `u64` can say it.
-fn live_rows(segments: &[LiveSegment]) -> Option<u64>
-    ensures rows { IfSome result (λ count. count ≡ length (all_live (listed segments.now))) }
-    ensures whole { IfSome result (λ count. AreWhole segments.now) }
+/// How many rows of these segments are live, or `u64::MAX` where there are more. Segments that a commit
+/// leaves out have none.
+pub(crate) fn live_rows(segments: &[LiveSegment]) -> u64
+    ensures rows { result ≡ doc_count (all_live segments.now) }
+    ensures listed { result ≡ doc_count (all_live (listed segments.now)) }
+    ensures whole { AreWhole segments.now }
 {
     let mut count = 0u64;
     for segment in segments {
-        count = count.checked_add(u64::from(segment.live().live_count()))?;
+        count = count.saturating_add(u64::from(segment.live().live_count()));
     }
-    Some(count)
+    count
 }
 
 /// Whether the live docs of the segment are those that were written last.
@@ -240,8 +243,7 @@ fn files(
     Ok(files)
 }
 
-/// The commit of this number of these segments, whose next id this is, with these pairs, as bytes:
-/// out of memory also where a `u64` can't say how many rows are live.
+/// The commit of this number of these segments, whose next id this is, with these pairs, as bytes.
 pub(crate) fn prepare(
     alloc: Global,
     number: u64,
@@ -261,7 +263,7 @@ pub(crate) fn prepare(
     ensures spelling { OnOk result (HaveSpelling segments.now written.now) }
     ensures pairs { OnOk result (PairsFit pairs.now) }
 {
-    let docs = live_rows(segments).ok_or(NoMemory)?;
+    let docs = live_rows(segments);
     let files = files(alloc, number, segments, written)?;
     let entries = entries(alloc, number, segments, written)?;
     let head = Head {

@@ -23,7 +23,7 @@ use segment_core::LiveSegment;
 use std::alloc::Global;
 
 /// Writes these segments as the commit of this number, whose next id this is, and returns what its
-/// commit file says: among that, the number of its live rows and the commit with which the live docs
+/// commit file says: among that, how many live rows it has (`u64::MAX` where there are more) and the commit with which the live docs
 /// of each segment were written. The caller's pairs of a name and a text stand in the commit file.
 ///
 /// `written` says of each segment, at the same place, what is on the store of it: `None` where the
@@ -31,7 +31,6 @@ use std::alloc::Global;
 /// and postings are written where it is new, and live bits and set numbers where they differ from
 /// those written last. Then the commit file is written under its pending name and renamed. Each file
 /// is synced before the next is written, and last the directory.
-/// More live rows than a `u64` can count are refused as out of memory, and nothing is written.
 ///
 /// After an error every file is as before but those that this commit writes, and the commit isn't
 /// there or, where `renamed` is set, is there whole.

@@ -59,7 +59,7 @@ returns-in-Ok-publish-clause-acknowledged g c room =
 
 pub returns-in-Ok-publish-clause-settled : goal.returns-in-Ok-publish-clause-settled
 returns-in-Ok-publish-clause-settled g c room =
-    settles c.args.number c.args.next_id c.args.pairs.now c.args.segments.now c.args.written.now _ _ (returns-in-Ok-publish-clause-ok g c room)
+    settles c.args.number c.args.next_id c.args.pairs.now c.args.segments.now c.args.written.now _ _ c.requires.can (returns-in-Ok-publish-clause-ok g c room)
     (returns-in-Ok-publish-clause-acknowledged g c room)
 
 pub returns-in-Ok-publish-clause-durable : goal.returns-in-Ok-publish-clause-durable
