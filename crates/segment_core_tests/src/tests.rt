@@ -1,6 +1,6 @@
 //! A segment of two rows, asked by hand.
 use analysis::invert;
-use ix_base::{Document, Fields, List, Numbers, Row};
+use ix_base::{Birth, Document, Fields, List, Numbers, Row};
 use query_core::Inverted;
 use segment_core::Segment;
 use std::alloc::Global;
@@ -8,7 +8,7 @@ use std::test::*;
 use test_values::{field_of, term_of, text_of};
 
 /// A row whose document has this key and these words.
-pub(crate) fn row_of(alloc: Global, birth: u64, key: &str, words: &str) -> Result<Row, Fail> {
+pub(crate) fn row_of(alloc: Global, birth: Birth, key: &str, words: &str) -> Result<Row, Fail> {
     let text = field_of(alloc, "body", words)?;
     let (exact, num) = (Fields::none(alloc), Numbers::none(alloc));
     let doc = Document::new(text_of(alloc, key)?, text, exact, num);
@@ -19,8 +19,8 @@ pub(crate) fn row_of(alloc: Global, birth: u64, key: &str, words: &str) -> Resul
 /// The segment of two rows.
 fn two_rows(alloc: Global) -> Result<Segment, Fail> {
     let mut rows = Vec::new(alloc);
-    rows.push(row_of(alloc, 3, "k1", "the fox, the Fox")?)?;
-    rows.push(row_of(alloc, 5, "k2", "a fox")?)?;
+    rows.push(row_of(alloc, Birth::first(3), "k1", "the fox, the Fox")?)?;
+    rows.push(row_of(alloc, Birth::first(5), "k2", "a fox")?)?;
     let postings = invert(alloc, rows.as_slice()).ok().ok_or("memory")?;
     Ok(Segment {
         id: 7,

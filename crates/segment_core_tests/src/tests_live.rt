@@ -6,7 +6,7 @@ ghost use Rattle.segment_core.specs.LiveRows.{CanBuild};
 use crate::tests::row_of;
 use analysis::invert;
 use frozen_packet::Updates;
-use ix_base::Query;
+use ix_base::{Birth, Query};
 use node_words::Entry;
 use ram_postings::Frozen;
 use segment_core::{LiveSegment, build};
@@ -16,14 +16,14 @@ use std::test::*;
 use test_segments::show_mark;
 use test_values::{name_of, term_of};
 
-/// Rows born by the operations 3, 5 and 7.
+/// Rows born by the operations 3, 5 and 7, that of 5 as the last document of 64.
 fn three_rows(alloc: Global) -> Result<Frozen, Fail>
     ensures { IfOk result (λ frozen. CanBuild frozen.rows.items frozen.postings) }
 {
     let mut rows = Vec::new(alloc);
-    rows.push(row_of(alloc, 3, "k1", "the fox")?)?;
-    rows.push(row_of(alloc, 5, "k2", "a fox")?)?;
-    rows.push(row_of(alloc, 7, "k3", "no dog")?)?;
+    rows.push(row_of(alloc, Birth::first(3), "k1", "the fox")?)?;
+    rows.push(row_of(alloc, Birth::new(5, 63), "k2", "a fox")?)?;
+    rows.push(row_of(alloc, Birth::first(7), "k3", "no dog")?)?;
     let postings = invert(alloc, rows.as_slice())?;
     Ok(Frozen { rows, postings })
 }
