@@ -1,5 +1,5 @@
 -- Where callers work apart, what a log leaves of each caller is what the caller's own lines leave.
-use Rattle.std.proofs.Common.{◌≡◌, ◌≢◌, ◌∙◌, ℕ, Bool, true, false, cond, eqb, List, [], ◌∷◌, ◌++◌, Option, Some, None, IfSome, refl, sym, ap, subst, inl, inr, append-nil}
+use Rattle.std.proofs.Common.{◌≡◌, ◌≢◌, ◌∙◌, ℕ, zero, suc, take, Bool, true, false, cond, eqb, List, [], ◌∷◌, ◌++◌, Option, Some, None, IfSome, refl, sym, ap, subst, inl, inr, append-nil}
 use Rattle.std.proofs.lemmas.Bool.Decides.{eqb_tells}
 use Rattle.std.proofs.lemmas.List.Elements.{filter-append}
 use Rattle.std.specs.List.{filter_map, cons_option, AllByRecursion}
@@ -9,7 +9,7 @@ use Rattle.ix_base.specs.Matches.{matches, holds_term}
 use Rattle.ix_base.specs.Query.{tree_of}
 use Rattle.ix_base.specs.Steps.{Named, after, with_number}
 use Rattle.ix_base.specs.declared.document.Operation.{Operation}
-use Rattle.ix_base.specs.declared.document.Operation.TheVariants.{Add, Update, DeleteTerm, DeleteQuery, SetNumber, Commit}
+use Rattle.ix_base.specs.declared.document.Operation.TheVariants.{Add, AddBlock, Update, UpdateBlock, DeleteTerm, DeleteQuery, SetNumber, Commit}
 use Rattle.op_script.specs.declared.script.Line.{Line}
 use Rattle.op_script.specs.declared.script.Act.{Act}
 use Rattle.op_script.specs.declared.script.Act.TheVariants.{Do, Search}
@@ -24,7 +24,9 @@ use Rattle.made_runs.proofs.Tagged.{Tagged, tag_left, tag_all, tagged_by, tagged
 -- an operation leaves a document that it doesn't touch
 untouched : (op : Operation) (doc : Document) → touches op doc ≡ false → left_by op doc ≡ Some doc
 untouched (Add added) doc e = refl
+untouched (AddBlock docs) doc e = refl
 untouched (Update term added) doc e = ap (λ (b : Bool). cond b None (Some doc)) e
+untouched (UpdateBlock term docs) doc e = ap (λ (b : Bool). cond b None (Some doc)) e
 untouched (DeleteTerm term) doc e = ap (λ (b : Bool). cond b None (Some doc)) e
 untouched (DeleteQuery query) doc e = ap (λ (b : Bool). cond b None (Some doc)) e
 untouched (SetNumber term name value) doc e =
@@ -49,7 +51,9 @@ module _ (Owns : ℕ → Document → Type 0) where
 
   owned_left : Stays → (op : Operation) (c : ℕ) (doc : Document) → Owns c doc → IfSome (left_by op doc) (λ (d : Document). Owns c d)
   owned_left stays (Add added) c doc owned = owned
+  owned_left stays (AddBlock docs) c doc owned = owned
   owned_left stays (Update term added) c doc owned = owned_or_gone c doc (holds_term term.field term.bytes doc) owned
+  owned_left stays (UpdateBlock term docs) c doc owned = owned_or_gone c doc (holds_term term.field term.bytes doc) owned
   owned_left stays (DeleteTerm term) c doc owned = owned_or_gone c doc (holds_term term.field term.bytes doc) owned
   owned_left stays (DeleteQuery query) c doc owned = owned_or_gone c doc (matches (tree_of query) doc) owned
   owned_left stays (SetNumber term name value) c doc owned = by_test (holds_term term.field term.bytes doc)
@@ -69,9 +73,17 @@ module _ (Owns : ℕ → Document → Type 0) where
       by_left None first rest = rest
       by_left (Some doc) first rest = (first, rest)
 
+  block_owned : (c room : ℕ) (docs : List Document) → AllByRecursion (Owns c) docs → AreOwned (tag_all c (take room docs))
+  block_owned c zero [] owned = tt
+  block_owned c zero (doc ∷ docs) owned = tt
+  block_owned c (suc room) [] owned = tt
+  block_owned c (suc room) (doc ∷ docs) owned = (owned.0, block_owned c room docs owned.1)
+
   added_owned : (c : ℕ) (op : Operation) → Adds (Owns c) op → AreOwned (tag_all c (added_by op))
   added_owned c (Add doc) adds = (adds, tt)
+  added_owned c (AddBlock docs) adds = block_owned c 64 docs adds
   added_owned c (Update term doc) adds = (adds, tt)
+  added_owned c (UpdateBlock term docs) adds = block_owned c 64 docs adds
   added_owned c (DeleteTerm term) adds = tt
   added_owned c (DeleteQuery query) adds = tt
   added_owned c (SetNumber term name value) adds = tt

@@ -1,5 +1,5 @@
 -- The numbers of a made script's documents, and how many documents there are.
-use Rattle.std.proofs.Common.{◌≡◌, ◌∙◌, ℕ, zero, suc, ◌+◌, ◌*◌, ◌/◌, ◌%◌, ◌^◌, ◌<◌, ◌≤◌, Bool, true, false, cond, List, [], ◌∷◌, ◌++◌, codes, length, pos, Option, Some, None, IfSome, refl, sym, ap, subst, arith, mod-lt, length-append}
+use Rattle.std.proofs.Common.{◌≡◌, ◌∙◌, ℕ, zero, suc, ◌+◌, ◌*◌, ◌/◌, ◌%◌, ◌^◌, ◌<◌, ◌≤◌, Bool, true, false, cond, List, [], ◌∷◌, ◌++◌, codes, length, take, pos, Option, Some, None, IfSome, refl, sym, ap, subst, arith, mod-lt, length-append}
 use Rattle.std.proofs.lemmas.Int.{ints}
 use Rattle.std.specs.List.{AllByRecursion, filter_map, cons_option}
 use Rattle.ix_base.specs.Documents.{Document}
@@ -8,7 +8,7 @@ use Rattle.ix_base.specs.Query.{tree_of}
 use Rattle.ix_base.specs.Steps.{Named, with_number}
 use Rattle.ix_base.specs.declared.document.Hit.{Hit}
 use Rattle.ix_base.specs.declared.document.Operation.{Operation}
-use Rattle.ix_base.specs.declared.document.Operation.TheVariants.{Add, Update, DeleteTerm, DeleteQuery, SetNumber, Commit}
+use Rattle.ix_base.specs.declared.document.Operation.TheVariants.{Add, AddBlock, Update, UpdateBlock, DeleteTerm, DeleteQuery, SetNumber, Commit}
 use Rattle.op_script.specs.declared.script.Line.{Line}
 use Rattle.run_log.specs.Headline.{act_operation, operations}
 use Rattle.run_log.proofs.Lists.{each_in_both}
@@ -35,9 +35,10 @@ pub record IsCounted (doc : Document) : Type 0 where
   pub small : number ≤ 4095
   pub is : doc.num ≡ (codes "n", pos number) ∷ []
 
--- an operation adds and leaves such documents
+-- an operation adds such a document, one at most, and leaves such documents
 pub record KeepsCounted (op : Operation) : Type 0 where
   pub adds : Adds IsCounted op
+  pub one : length (added_by op) ≤ 1
   pub leaves : (doc : Document) → IsCounted doc → IfSome (left_by op doc) IsCounted
 
 gone_or_left : (doc : Document) (b : Bool) → IsCounted doc → IfSome (cond b None (Some doc)) IsCounted
@@ -60,24 +61,34 @@ pub drawn_counts : (caller draw : ℕ) → draw / 8 ≤ 4095 → KeepsCounted (d
 unfolding drawn_operation
 drawn_counts caller draw small =
     each_kind KeepsCounted (draw % 8) caller (draw / 8)
-    (record { adds = new_is_counted caller (draw / 8) small; leaves = λ doc counted. counted })
+    (record { adds = new_is_counted caller (draw / 8) small; one = omega arith; leaves = λ doc counted. counted })
     (record {
       adds = new_is_counted caller (draw / 8) small;
+      one = omega arith;
       leaves = λ doc counted. gone_or_left doc (holds_term (codes "key") (key_term caller (draw / 8)).bytes doc) counted;
     })
-    (record { adds = tt; leaves = λ doc counted. gone_or_left doc (holds_term (codes "tag") (tag_term caller (draw / 8)).bytes doc) counted })
+    (record { adds = tt; one = omega arith; leaves = λ doc counted. gone_or_left doc (holds_term (codes "tag") (tag_term caller (draw / 8)).bytes doc) counted })
     (record {
       adds = tt;
+      one = omega arith;
       leaves = λ doc counted. set_is_counted (draw / 8) doc (holds_term (codes "tag") (tag_term caller (draw / 8)).bytes doc) small counted;
     })
-    (record { adds = tt; leaves = λ doc counted. gone_or_left doc (matches (tree_of (query_of caller (draw / 8))) doc) counted })
+    (record { adds = tt; one = omega arith; leaves = λ doc counted. gone_or_left doc (matches (tree_of (query_of caller (draw / 8))) doc) counted })
 
 pub commit_counts : KeepsCounted (Commit [])
-commit_counts = record { adds = tt; leaves = λ doc counted. counted }
+commit_counts = record { adds = tt; one = omega arith; leaves = λ doc counted. counted }
+
+block_counted : (room : ℕ) (docs : List Document) → AllByRecursion IsCounted docs → AllByRecursion IsCounted (take room docs)
+block_counted zero [] counted = tt
+block_counted zero (doc ∷ docs) counted = tt
+block_counted (suc room) [] counted = tt
+block_counted (suc room) (doc ∷ docs) counted = (counted.0, block_counted room docs counted.1)
 
 added_counted : (op : Operation) → Adds IsCounted op → AllByRecursion IsCounted (added_by op)
 added_counted (Add doc) adds = (adds, tt)
+added_counted (AddBlock docs) adds = block_counted 64 docs adds
 added_counted (Update term doc) adds = (adds, tt)
+added_counted (UpdateBlock term docs) adds = block_counted 64 docs adds
 added_counted (DeleteTerm term) adds = tt
 added_counted (DeleteQuery query) adds = tt
 added_counted (SetNumber term name value) adds = tt
@@ -118,7 +129,7 @@ hit_counted doc hit same counted =
     subst (λ (num : List Named). HasMadeNumber (record { key = hit.key; num = num })) (sym (same ∙ counted.is))
     (omega (arith, ints), omega (arith, ints, counted.small))
 
--- ---- an operation adds one document at most
+-- ---- where each operation adds one document at most
 
 chosen_few : {X Y : Type 0} (f : X → Option Y) (xs : List X) → length (filter_map f xs) ≤ length xs
 chosen_few f [] = omega arith
@@ -128,23 +139,16 @@ chosen_few {X} {Y} f (x ∷ xs) = by (f x) (chosen_few f xs)
     by None le = omega (arith, le)
     by (Some y) le = omega (arith, le)
 
-one_added : (op : Operation) → length (added_by op) ≤ 1
-one_added (Add doc) = omega arith
-one_added (Update term doc) = omega arith
-one_added (DeleteTerm term) = omega arith
-one_added (DeleteQuery query) = omega arith
-one_added (SetNumber term name value) = omega arith
-one_added (Commit pairs) = omega arith
-
-pub folded_few : (docs : List Document) (ops : List Operation) → length (folded docs ops) ≤ length docs + length ops
-folded_few docs [] = omega arith
-folded_few docs (op ∷ ops) =
+pub folded_few : (docs : List Document) (ops : List Operation) → AllByRecursion KeepsCounted ops
+    → length (folded docs ops) ≤ length docs + length ops
+folded_few docs [] keeps = omega arith
+folded_few docs (op ∷ ops) keeps =
     omega (
       arith,
-      folded_few (filter_map (left_by op) docs ++ added_by op) ops,
+      folded_few (filter_map (left_by op) docs ++ added_by op) ops keeps.1,
       length-append (filter_map (left_by op) docs) (added_by op),
       chosen_few (left_by op) docs,
-      one_added op,
+      keeps.0.one,
     )
 
 pub operations_few : (ls : List Line) → length (operations ls) ≤ length ls

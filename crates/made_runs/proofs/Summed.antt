@@ -222,7 +222,7 @@ made_numbers seed lines callers base rows log some few born numbering =
       as_many (left_rows script) (run_rows base rows log) moved,
       length-map (left_rows script) (λ (row : Row). row.doc),
       ap (λ (docs : List Document). length docs) left,
-      folded_few [] (operations script),
+      folded_few [] (operations script) (made_counts seed lines callers some few),
       operations_few script,
       made_length seed lines callers,
     ) in

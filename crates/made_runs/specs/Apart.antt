@@ -6,7 +6,7 @@ use Rattle.ix_base.specs.Matches.{matches, holds_term}
 use Rattle.ix_base.specs.Query.{tree_of}
 use Rattle.ix_base.specs.Steps.{Named, after}
 use Rattle.ix_base.specs.declared.document.Operation.{Operation}
-use Rattle.ix_base.specs.declared.document.Operation.TheVariants.{Add, Update, DeleteTerm, DeleteQuery, SetNumber, Commit}
+use Rattle.ix_base.specs.declared.document.Operation.TheVariants.{Add, AddBlock, Update, UpdateBlock, DeleteTerm, DeleteQuery, SetNumber, Commit}
 use Rattle.op_script.specs.declared.script.Line.{Line}
 use Rattle.op_script.specs.declared.script.Act.TheVariants.{Do}
 use Rattle.run_log.specs.Headline.{operations}
@@ -15,16 +15,20 @@ use Rattle.made_runs.specs.Born.{documents}
 -- whether an operation removes or changes a document that stands when it comes
 abbrev pub touches : Operation → Document → Bool
 touches (Add added) doc = false
+touches (AddBlock docs) doc = false
 touches (Update term added) doc = holds_term term.field term.bytes doc
+touches (UpdateBlock term docs) doc = holds_term term.field term.bytes doc
 touches (DeleteTerm term) doc = holds_term term.field term.bytes doc
 touches (DeleteQuery query) doc = matches (tree_of query) doc
 touches (SetNumber term name value) doc = holds_term term.field term.bytes doc
 touches (Commit pairs) doc = false
 
--- what an operation adds is such a document
+-- each document that an operation adds is such a one
 abbrev pub Adds : (Document → Type 0) → Operation → Type 0
 Adds P (Add doc) = P doc
+Adds P (AddBlock docs) = AllByRecursion P docs
 Adds P (Update term doc) = P doc
+Adds P (UpdateBlock term docs) = AllByRecursion P docs
 Adds P (DeleteTerm term) = ⊤
 Adds P (DeleteQuery query) = ⊤
 Adds P (SetNumber term name value) = ⊤
