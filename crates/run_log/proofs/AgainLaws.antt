@@ -1,6 +1,6 @@
 -- On files that have the first of a log's commits the next run can begin.
-use Rattle.std.proofs.Common.{◌≡◌, ◌⊎◌, inl, inr, ℕ, ◌+◌, ◌*◌, ◌<◌, ◌≤◌, ◌^◌, List, [], ◌∷◌, ◌++◌, length, take, Some, None}
-use Rattle.std.proofs.Common.{refl, sym, ap, subst, ◌∙◌, arith}
+use Rattle.std.proofs.Common.{◌≡◌, ◌⊎◌, inl, inr, ℕ, ◌+◌, ◌*◌, ◌<◌, ◌≤◌, ◌^◌, List, [], ◌∷◌, ◌++◌, length, take}
+use Rattle.std.proofs.Common.{refl, sym, subst, arith}
 use Rattle.std.specs.Prelude.{Option, IsSome}
 use Rattle.ix_base.specs.declared.file_name.FileName.TheVariants.{Commit}
 use Rattle.ix_outside.specs.Files.{Files}
@@ -8,7 +8,7 @@ use Rattle.commit_point.specs.Holds.{IsLawful}
 use Rattle.op_script.specs.declared.script.Line.{Line}
 use Rattle.run_log.proofs.CommitLaws.{AllBelow, commits_rise, each_at, in_last, in_most, rises_last, split_last}
 use Rattle.run_log.proofs.CountLaws.{same_count}
-use Rattle.run_log.specs.Headline.{CanRun, CanRunOn, Given, HasFirst, HasNoCommit, HasOnly, HasRoom, HasSome, Interleaves, IsIn, IsLast, IsNewCommit, commit_numbers, numbered, rows_at}
+use Rattle.run_log.specs.Headline.{CanRun, CanRunOn, Given, HasFirst, HasNoCommit, HasOnly, HasRoom, HasSome, Interleaves, IsIn, IsNewCommit, commit_numbers, numbered, rows_at}
 use Rattle.commit_point.proofs.KeptLaws.{inverted_there, there_by}
 use Rattle.run_log.proofs.OnlyLaws.{lists_back, none_of}
 use Rattle.run_log.specs.Numbering.{Rises}

@@ -1,5 +1,5 @@
 -- Files that keep the same commits and have no other.
-use Rattle.std.specs.Prelude.{◌≡◌, ℕ, List, Option, Some, None, IsSome, refl}
+use Rattle.std.specs.Prelude.{◌≡◌, ℕ, Option, Some, None, IsSome, refl}
 use Rattle.std.proofs.Common.{inl, sym}
 use Rattle.ix_base.specs.declared.file_name.FileName.TheVariants.{Commit}
 use Rattle.ix_outside.specs.Files.{Files}
