@@ -69,6 +69,13 @@ impl ThreadWriter {
         queue.close(&mut self.seat, Closing::Turn)
     }
 
+    /// How many documents its buffer holds, void ones among them.
+    pub fn buffered(&self) -> u32
+        ensures { result ≡ length self.now.rows }
+    {
+        self.rows.rows()
+    }
+
     /// Ends the writer and gives its parts back. It takes no memory.
     pub fn hand_back(self) -> HandedBack
         ensures { result ≡ parts_of self }
