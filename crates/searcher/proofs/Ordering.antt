@@ -4,6 +4,7 @@ use Rattle.std.specs.Prelude.{IsPermutation}
 use Rattle.std.specs.List.{filter, sum_by}
 use Rattle.std.proofs.lemmas.List.Sorted.{Contains-permutation, IsPermutation-sym, sum_by-IsPermutation}
 use Rattle.std.proofs.lemmas.List.Sums.{sum_by-cons}
+use Rattle.ix_base.specs.Births.{first_birth, last_birth}
 use Rattle.ix_base.specs.Hits.{hits, hit_of, matching}
 use Rattle.ix_base.specs.Matches.{matches}
 use Rattle.ix_base.specs.Query.{tree_of}
@@ -106,6 +107,6 @@ pub hits_by_birth : (query : Query) (segments : List Lived) (rows : List Row) (f
 hits_by_birth query segments rows found by searches =
     let test = λ (row : Row). matches (tree_of query) row.doc in
     let climbs = climbs_from birth_of 0 by.sorted (λ d some. omega arith) by.rise in
-    let rises = rise_tested test 1 searches.number rows searches.rows_are.births in
+    let rises = rise_tested test (first_birth 1) (last_birth searches.number) rows searches.rows_are.births in
     let alike = tested_alike test (all_live segments) rows by.sorted searches.rows_are.merged by.merged in
-    by.are ∙ ap (map (λ (f : Found). f.hit)) (sym (one_order birth_of 1 0 (tested test rows) by.sorted rises climbs alike)) ∙ hits_of (matching query rows)
+    by.are ∙ ap (map (λ (f : Found). f.hit)) (sym (one_order birth_of (first_birth 1) 0 (tested test rows) by.sorted rises climbs alike)) ∙ hits_of (matching query rows)

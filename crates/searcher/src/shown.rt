@@ -4,14 +4,14 @@ ghost use Rattle.std.specs.Option.{option_map};
 ghost use Rattle.searcher.specs.Finding.{found_of, live_at};
 
 use crate::numbers::numbers_with;
-use ix_base::{Hit, NoMemory, Row};
+use ix_base::{Birth, Hit, NoMemory, Row};
 use live_docs::LiveDocs;
 use std::alloc::Global;
 
 /// A hit, with the birth of its row.
 #[derive(Drop)]
 pub struct Found {
-    pub birth: u64,
+    pub birth: Birth,
     pub hit: Hit,
 }
 
