@@ -1,6 +1,6 @@
 -- The commit of a round, among what its workers were told.
-use Rattle.std.proofs.Common.{◌≡◌, ◌≢◌, ◌⊎◌, ◌∙◌, inl, inr, ℕ, zero, suc, ◌+◌, ◌<◌, ◌≤◌, List, [], ◌∷◌, ◌++◌, length, map, drop, slice_index_or}
-use Rattle.std.proofs.Common.{Option, Some, None, eqb, true, false, refl, sym, ap, subst, arith, eq-eqb, ne_eqb}
+use Rattle.std.proofs.Common.{◌≡◌, ◌⊎◌, ◌∙◌, inl, inr, ℕ, zero, suc, ◌+◌, ◌<◌, ◌≤◌, List, [], ◌∷◌, ◌++◌, length, map, drop, slice_index_or}
+use Rattle.std.proofs.Common.{Option, Some, None, eqb, true, refl, sym, ap, arith, eq-eqb, ne_eqb}
 use Rattle.std.proofs.lemmas.Bool.Decides.{eqb_tells}
 use Rattle.std.specs.List.{AllByRecursion, AllZip}
 use Rattle.ix_base.specs.declared.document.Operation.{Operation}
@@ -14,7 +14,7 @@ use Rattle.worker_tasks.specs.declared.task.Reply.{Reply}
 use Rattle.worker_tasks.specs.declared.task.Reply.TheVariants.{Numbered, Refused}
 use Rattle.worker_tasks.specs.declared.task.Task.{Task}
 use Rattle.worker_tasks.specs.Replies.{told_in}
-use Rattle.line_shares.specs.Committed.{commit_among, commit_in, commit_of, either, told_count, told_past}
+use Rattle.line_shares.specs.Committed.{commit_among, commit_in, commit_of, told_count, told_past}
 use Rattle.line_shares.specs.Shares.{GoesOn}
 use Rattle.line_shares.specs.Tells.{pairs_since}
 
