@@ -1,10 +1,12 @@
 -- The files of a segment spell the same rows and postings, whichever commit lists it.
-use Rattle.std.proofs.Common.{◌≡◌, inl, inr, ◌∙◌, ℕ, ◌+◌, ◌^◌, ◌<◌, ◌≤◌, Bool, true, false, eqb, List, [], ◌∷◌, ◌++◌, length, Some, Result, Ok, refl, sym, ap, subst, arith}
+use Rattle.std.proofs.Common.{◌≡◌, inl, inr, ◌∙◌, ℕ, ◌+◌, ◌^◌, ◌<◌, ◌≤◌, Bool, true, false, eqb, List, [], ◌∷◌, ◌++◌, drop, length, Some, Result, Ok, refl, sym, ap, subst, arith}
 use Rattle.std.specs.Int.{w32}
 use Rattle.std.specs.List.{AllByRecursion, flat_map, list_any}
 use Rattle.std.proofs.lemmas.Bool.{cases_lt, eqb-true}
+use Rattle.std.proofs.lemmas.List.{drop_at}
+use Rattle.ix_base.specs.Births.{first_birth, last_birth}
 use Rattle.ix_base.specs.Codec.{number_at}
-use Rattle.ix_base.proofs.CodecLaws.{ok_is, same_front, u32_again}
+use Rattle.ix_base.proofs.CodecLaws.{ok_is, u32_again}
 use Rattle.ix_base.specs.Inversion.{IsInversion}
 use Rattle.ix_base.specs.Spelling.{be32, be64}
 use Rattle.ix_base.specs.declared.document.Row.{Row}
@@ -17,10 +19,10 @@ use Rattle.segment_files.proofs.PostsRead.{posts_again}
 use Rattle.segment_files.proofs.RowLaws.{rows_again}
 use Rattle.segment_files.specs.Fits.{BirthsRise, IsSegment, PostingsFit, RowsFit}
 use Rattle.segment_files.specs.Reading.{posts_in, rows_in}
-use Rattle.segment_files.specs.Spelling.{posts_file, row, rows_file, rows_mark}
+use Rattle.segment_files.specs.Spelling.{SpellsRows, old_row, old_rows_mark, posts_file, row, rows_mark}
 use Rattle.commit_point.specs.declared.heads.HeadSegment.{HeadSegment}
 use Rattle.commit_point.specs.Fits.{IdsRise}
-use Rattle.commit_point.specs.Holds.{AreInverted, HasSegment, HaveSegments}
+use Rattle.commit_point.specs.Holds.{AreInverted, HasRows, HasSegment, HaveSegments}
 use Rattle.index_check.specs.Earlier.{CanSpell, IsComparedOr, IsSoundId}
 
 -- ---- rows
@@ -30,7 +32,7 @@ births_later low s t [] le rise = tt
 births_later low s t (r ∷ rs) le rise = (rise.0, omega (arith, le, rise.1), births_later (r.birth + 1) s t rs le rise.2)
 
 fit_later : (s t : ℕ) (rows : List Row) → s ≤ t → RowsFit s rows → RowsFit t rows
-fit_later s t rows le fits = record { some = fits.some; count = fits.count; births = births_later 1 s t rows le fits.births; documents = fits.documents }
+fit_later s t rows le fits = record { some = fits.some; count = fits.count; births = births_later (first_birth 1) (last_birth s) (last_birth t) rows (omega (arith, le)) fits.births; documents = fits.documents }
 
 none_known : (rows : List Row) → AllByRecursion (λ (r : Row). false ≡ false) rows
 none_known [] = tt
@@ -39,23 +41,43 @@ none_known (r ∷ rs) = (refl, none_known rs)
 is_segment : (s : ℕ) (rows : List Row) → RowsFit s rows → IsSegment s (length rows) (λ b. false) rows
 is_segment s rows fits = record { fits = fits; count = refl; unknown = none_known rows }
 
+eight_number : (n : ℕ) → length (be64 n) ≡ 8
+unfolding be64
+eight_number n = refl
+
+eight_mark : length rows_mark ≡ 8
+unfolding rows_mark
+eight_mark = refl
+
+eight_old_mark : length old_rows_mark ≡ 8
+unfolding old_rows_mark
+eight_old_mark = refl
+
+-- what stands behind a file's mark and its id begins with the count
+count_at : List ℕ → Result (ℕ × List ℕ) ℕ
+count_at bytes = number_at w32 (drop 8 (drop 8 bytes))
+
+file_count : (mark : List ℕ) (id n : ℕ) (tail : List ℕ) → length mark ≡ 8 → n < 2 ^ 32 → count_at (mark ++ (be64 id ++ (be32 n ++ tail))) ≡ Ok (n, tail)
+unfolding count_at
+file_count mark id n tail eight few = rw (drop_at mark (be64 id ++ (be32 n ++ tail)) 8 eight, drop_at (be64 id) (be32 n ++ tail) 8 (eight_number id)) (u32_again n tail few)
+
+-- the count of rows is read, in either form
+row_count : (id : ℕ) (rows : List Row) (bytes : List ℕ) → length rows < 2 ^ 32 → SpellsRows id rows bytes → (tail : List ℕ) × (count_at bytes ≡ Ok (length rows, tail))
+row_count id rows bytes few (inl is) = (flat_map row rows, ap count_at is ∙ file_count rows_mark id (length rows) (flat_map row rows) eight_mark few)
+row_count id rows bytes few (inr old) = (flat_map old_row rows, ap count_at old.1 ∙ file_count old_rows_mark id (length rows) (flat_map old_row rows) eight_old_mark few)
+
 one_read : (n m : ℕ) (us vs : List ℕ) (r : Result (ℕ × List ℕ) ℕ) → r ≡ Ok (n, us) → r ≡ Ok (m, vs) → n ≡ m
 one_read n m us vs r p q = ap (λ (x : ℕ × List ℕ). x.0) (ok_is (n, us) (m, vs) (sym p ∙ q))
 
-same_count : (id : ℕ) (a b : List Row) → length a < 2 ^ 32 → length b < 2 ^ 32 → rows_file id a ≡ rows_file id b → length a ≡ length b
-same_count id a b few few' same =
-    let behind : List Row → List ℕ = λ rows. be32 (length rows) ++ flat_map row rows in
-    let own = same_front rows_mark rows_mark (be64 id ++ behind a) (be64 id ++ behind b) refl same in
-    let counted = same_front (be64 id) (be64 id) (behind a) (behind b) refl own.1 in
-    one_read (length a) (length b) (flat_map row a) (flat_map row b) (number_at w32 (behind a)) (u32_again (length a) (flat_map row a) few) (ap (number_at w32) counted.1 ∙ u32_again (length b) (flat_map row b) few')
-
-same_rows : (id s : ℕ) (a b : List Row) → id < 2 ^ 64 → s < 2 ^ 64 → RowsFit s a → RowsFit s b → rows_file id a ≡ rows_file id b → a ≡ b
-same_rows id s a b id_fits s_fits p q same =
-    let count = same_count id a b p.count q.count same in
-    let one : rows_in id (length a) s (λ b. false) (rows_file id a) ≡ Ok a = rows_again id (length a) s (λ b. false) a id_fits s_fits (is_segment s a p) in
-    let two : rows_in id (length b) s (λ b. false) (rows_file id b) ≡ Ok b = rows_again id (length b) s (λ b. false) b id_fits s_fits (is_segment s b q) in
-    let moved : rows_in id (length a) s (λ b. false) (rows_file id a) ≡ rows_in id (length b) s (λ b. false) (rows_file id b) =
-    ap (λ (n : ℕ). rows_in id n s (λ b. false) (rows_file id a)) count ∙ ap (rows_in id (length b) s (λ b. false)) same in
+-- bytes spell one list of rows
+same_rows : (id s : ℕ) (a b : List Row) (bytes : List ℕ) → id < 2 ^ 64 → s < 2 ^ 64 → RowsFit s a → RowsFit s b → SpellsRows id a bytes → SpellsRows id b bytes → a ≡ b
+same_rows id s a b bytes id_fits s_fits p q spells spells_too =
+    let first = row_count id a bytes p.count spells in
+    let second = row_count id b bytes q.count spells_too in
+    let count : length a ≡ length b = one_read (length a) (length b) first.0 second.0 (count_at bytes) first.1 second.1 in
+    let one : rows_in id (length a) s (λ b. false) bytes ≡ Ok a = rows_again id (length a) s (λ b. false) bytes a id_fits s_fits (is_segment s a p) spells in
+    let two : rows_in id (length b) s (λ b. false) bytes ≡ Ok b = rows_again id (length b) s (λ b. false) bytes b id_fits s_fits (is_segment s b q) spells_too in
+    let moved : rows_in id (length a) s (λ b. false) bytes ≡ rows_in id (length b) s (λ b. false) bytes = ap (λ (n : ℕ). rows_in id n s (λ b. false) bytes) count in
     cc
 
 pub same_postings : (id n : ℕ) (p q : Postings) → id < 2 ^ 64 → n < 2 ^ 32 → PostingsFit n p → PostingsFit n q → posts_file id n p ≡ posts_file id n q → p ≡ q
@@ -74,10 +96,12 @@ record Same (g h : Lived) : Type 0 where
 shared_by : (files : Files) (s t u : ℕ) (e f : HeadSegment) (g h : Lived) → s ≤ u → t ≤ u → u < 2 ^ 64 → e.id < 2 ^ 64 → f.id ≡ e.id
     → HasSegment files s e g → HasSegment files t f h → Same g h
 shared_by files s t u e f g h s_le t_le u_fits id_fits is p q =
-    let rows_p : files (Rows e.id) ≡ Some (rows_file e.id g.segment.rows) = p.rows in
-    let rows_q : files (Rows e.id) ≡ Some (rows_file e.id h.segment.rows) = subst (λ (i : ℕ). files (Rows i) ≡ Some (rows_file i h.segment.rows)) is q.rows in
-    let rows_are : rows_file e.id g.segment.rows ≡ rows_file e.id h.segment.rows = cc in
-    let rows = same_rows e.id u g.segment.rows h.segment.rows id_fits u_fits (fit_later s u g.segment.rows s_le p.rows_fit) (fit_later t u h.segment.rows t_le q.rows_fit) rows_are in
+    let other : HasRows files e.id h.segment.rows = subst (λ (i : ℕ). HasRows files i h.segment.rows) is q.rows in
+    let own_file : files (Rows e.id) ≡ Some p.rows.bytes = p.rows.file in
+    let other_file : files (Rows e.id) ≡ Some other.bytes = other.file in
+    let bytes_are : other.bytes ≡ p.rows.bytes = cc in
+    let spells : SpellsRows e.id h.segment.rows p.rows.bytes = subst (SpellsRows e.id h.segment.rows) bytes_are other.spells in
+    let rows = same_rows e.id u g.segment.rows h.segment.rows p.rows.bytes id_fits u_fits (fit_later s u g.segment.rows s_le p.rows_fit) (fit_later t u h.segment.rows t_le q.rows_fit) p.rows.spells spells in
     let count : f.rows ≡ e.rows = sym q.count ∙ sym (ap (λ (rs : List Row). length rs) rows) ∙ p.count in
     let posts_p : files (Posts e.id) ≡ Some (posts_file e.id e.rows g.segment.postings) = p.posts in
     let posts_at : files (Posts e.id) ≡ Some (posts_file e.id f.rows h.segment.postings) = subst (λ (i : ℕ). files (Posts i) ≡ Some (posts_file i f.rows h.segment.postings)) is q.posts in

@@ -7,6 +7,7 @@ use Rattle.std.proofs.Math.Dec.{ltb}
 use Rattle.std.proofs.lemmas.Bool.{cases_lt, eq-eqb, ltb-false, ltb-true}
 use Rattle.std.proofs.lemmas.List.Sorted.{IsPermutation-append_left, IsPermutation-cons, IsPermutation-refl}
 use Rattle.std.proofs.lemmas.List.Sorted.{IsPermutation-to_front, IsPermutation-trans}
+use Rattle.ix_base.specs.Births.{first_birth, last_birth}
 use Rattle.ix_base.specs.declared.document.Row.{Row}
 use Rattle.ix_outside.specs.Files.{Files}
 use Rattle.live_docs.specs.declared.live_docs.Mark.{Mark}
@@ -72,21 +73,21 @@ put_rises low limit r (x ∷ xs) above most none rise =
         by_order (inr ge) = absurd (not_same (omega (arith, ge, ltb-false r.birth x.birth e)))
 
 abbrev Between : ℕ → Row → Type 0
-Between s r = (1 ≤ r.birth) × (r.birth ≤ s)
+Between s r = (first_birth 1 ≤ r.birth) × (r.birth ≤ last_birth s)
 
-ordered_rises : (s : ℕ) (rows : List Row) → AllByRecursion (Between s) rows → ((b : ℕ) → births_at b rows ≤ 1) → BirthsRise 1 s (in_order rows)
+ordered_rises : (s : ℕ) (rows : List Row) → AllByRecursion (Between s) rows → ((b : ℕ) → births_at b rows ≤ 1) → BirthsRise (first_birth 1) (last_birth s) (in_order rows)
 ordered_rises s [] between once = tt
 ordered_rises s (r ∷ rs) between once =
     let one : eqb r.birth r.birth ≡ true = eq-eqb r.birth r.birth refl in
     let first : births_at r.birth (r ∷ rs) ≡ 1 + births_at r.birth rs = rw one refl in
     let none : births_at r.birth (in_order rs) ≡ 0 = omega (arith, births_ordered r.birth rs, first, once r.birth) in
-    put_rises 1 s r (in_order rs) between.0.0 between.0.1 none (ordered_rises s rs between.1 (λ b. omega (arith, once b)))
+    put_rises (first_birth 1) (last_birth s) r (in_order rs) between.0.0 between.0.1 none (ordered_rises s rs between.1 (λ b. omega (arith, once b)))
 
 -- ---- the live rows are some of those that are stored
 
-between_of : (s low : ℕ) (rows : List Row) → 1 ≤ low → BirthsRise low s rows → AllByRecursion (Between s) rows
+between_of : (s low : ℕ) (rows : List Row) → first_birth 1 ≤ low → BirthsRise low (last_birth s) rows → AllByRecursion (Between s) rows
 between_of s low [] some rise = tt
-between_of s low (r ∷ rs) some rise = ((omega (arith, some, rise.0), rise.1), between_of s (r.birth + 1) rs (omega arith) rise.2)
+between_of s low (r ∷ rs) some rise = ((omega (arith, some, rise.0), rise.1), between_of s (r.birth + 1) rs (omega (arith, some, rise.0)) rise.2)
 
 live_between : (s : ℕ) (rows : List Row) (marks : List Mark) → AllByRecursion (Between s) rows → AllByRecursion (Between s) (live_rows rows marks)
 live_between s [] marks all = tt
@@ -121,7 +122,7 @@ all_between files s [] [] have = tt
 all_between files s [] (g ∷ gs) have = absurd have
 all_between files s (e ∷ es) [] have = absurd have
 all_between files s (e ∷ es) (g ∷ gs) have =
-    all_joined (Between s) (live g) (all_live gs) (live_between s g.segment.rows g.live.marks (between_of s 1 g.segment.rows (omega arith) have.0.rows_fit.births)) (all_between files s es gs have.1)
+    all_joined (Between s) (live g) (all_live gs) (live_between s g.segment.rows g.live.marks (between_of s (first_birth 1) g.segment.rows (omega arith) have.0.rows_fit.births)) (all_between files s es gs have.1)
 
 -- a commit that is spelled has rows
 pub some_rows : (files : Files) (s next : ℕ) (entries : List HeadSegment) (segments : List Lived) → HasSegments files s next entries segments
