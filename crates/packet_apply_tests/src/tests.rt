@@ -18,24 +18,24 @@ use std::test::*;
 use test_segments::show_mark;
 use test_values::{key_term, name_of, row_of};
 
-/// Two rows, with the keys `a` and `b`.
-fn two_rows(alloc: Global, birth: u64) -> Result<Frozen, Fail>
+/// Two rows of the operation `born`, with the keys `a` and `b`.
+fn two_rows(alloc: Global, born: u64) -> Result<Frozen, Fail>
     ensures { IfOk result (λ frozen. CanBuild frozen.rows.items frozen.postings) }
 {
     let mut rows = Vec::new(alloc);
-    rows.push(row_of(alloc, birth, "a")?)?;
-    rows.push(row_of(alloc, birth, "b")?)?;
+    rows.push(row_of(alloc, born, "a")?)?;
+    rows.push(row_of(alloc, born, "b")?)?;
     let postings = invert(alloc, rows.as_slice())?;
     Ok(Frozen { rows, postings })
 }
 
 /// The segment of the two rows, with all in it up to 7, which this packet meets.
-fn segment_of(alloc: Global, birth: u64, packet: &Packet) -> Result<LiveSegment, Fail>
+fn segment_of(alloc: Global, born: u64, packet: &Packet) -> Result<LiveSegment, Fail>
     requires { (packet.now.after ≡ 5) × (packet.now.upto ≡ 9) }
     ensures { IfOk result (Meets packet.now) }
 {
-    let frozen = two_rows(alloc, birth)?;
-    match build(alloc, birth, frozen, &Updates::new(alloc), 7)? {
+    let frozen = two_rows(alloc, born)?;
+    match build(alloc, born, frozen, &Updates::new(alloc), 7)? {
         Some(segment) => Ok(segment),
         None => Err("no row is live")?,
     }
@@ -89,10 +89,10 @@ fn shown(alloc: Global, segment: &LiveSegment) -> Result<String, Fail> {
     Ok(out)
 }
 
-/// A segment with rows of this birth, after the packet of this number.
-fn shown_after(alloc: Global, birth: u64, number: u64) -> Result<String, Fail> {
+/// A segment with rows of the operation `born`, after the packet of this number.
+fn shown_after(alloc: Global, born: u64, number: u64) -> Result<String, Fail> {
     let packet = packet_of(alloc, number)?;
-    let mut segment = segment_of(alloc, birth, &packet)?;
+    let mut segment = segment_of(alloc, born, &packet)?;
     let made = apply(alloc, &segment, &packet)?;
     segment.set_live(made);
     shown(alloc, &segment)
