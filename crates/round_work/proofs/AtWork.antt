@@ -144,7 +144,9 @@ none_only (Some r) = ⊥
 
 no_refusal : (is : Operation) (r : Refusal) → is_commit is ≡ true → refusal is ≡ Some r → ⊥
 no_refusal (op.Add doc) r commit refused = false≢true commit
+no_refusal (op.AddBlock docs) r commit refused = false≢true commit
 no_refusal (op.Update term doc) r commit refused = false≢true commit
+no_refusal (op.UpdateBlock term docs) r commit refused = false≢true commit
 no_refusal (op.DeleteTerm term) r commit refused = false≢true commit
 no_refusal (op.DeleteQuery query) r commit refused = false≢true commit
 no_refusal (op.SetNumber term name value) r commit refused = false≢true commit

@@ -110,7 +110,9 @@ commit_seen v i o sound at spells =
 pub committed_seen : (q : DeleteQueue) (t : Seat) (base n : ℕ) (before : List NumberedOperation) (is : Operation) → IsSeatOf q t → is_commit is ≡ true
     → Tells base (before ++ (n, is) ∷ []) (numbered_own (own_of t)) → SawClosed (the_view t)
 committed_seen q t base n before (op.Add doc) seat commit tells = absurd (false≢true commit)
+committed_seen q t base n before (op.AddBlock docs) seat commit tells = absurd (false≢true commit)
 committed_seen q t base n before (op.Update term doc) seat commit tells = absurd (false≢true commit)
+committed_seen q t base n before (op.UpdateBlock term docs) seat commit tells = absurd (false≢true commit)
 committed_seen q t base n before (op.DeleteTerm term) seat commit tells = absurd (false≢true commit)
 committed_seen q t base n before (op.DeleteQuery query) seat commit tells = absurd (false≢true commit)
 committed_seen q t base n before (op.SetNumber term name value) seat commit tells = absurd (false≢true commit)

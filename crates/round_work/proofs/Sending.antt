@@ -19,6 +19,7 @@ use Rattle.piece_queue.specs.contracts.sender.Sender as sender
 use Rattle.worker_tasks.specs.contracts.share.Share as share
 use Rattle.worker_tasks.specs.contracts.task.Task as task
 use Rattle.round_work.specs.contracts.worked.Stopped as stopped
+use Rattle.ix_base.proofs.block.Block.TheSendSync as block
 use Rattle.ix_base.proofs.document.Document.TheSendSync as document
 use Rattle.ix_base.proofs.document.Term.TheSendSync as term
 use Rattle.ix_base.proofs.fields.Fields.TheSendSync as fields
@@ -43,7 +44,7 @@ query_send = as_row_send query.the_field (knot.send-Query term.the_field_send na
     (knot.send-Queries (λ R s. vec.the_send R _ _ s global.the_send frees) term.the_send name.the_send phrase.the_send number_send))
 
 operation_send : IsSend operation.the_row
-operation_send = search (sendable, variants_send, document.the_send, term.the_send, query_send, name.the_send, fields.the_send) depth 14
+operation_send = search (sendable, variants_send, document.the_send, block.the_send, term.the_send, query_send, name.the_send, fields.the_send) depth 14
 
 task_send : IsSend task.the_row
 task_send = search (sendable, declared_send, operation_send) depth 14

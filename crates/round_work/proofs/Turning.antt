@@ -33,7 +33,9 @@ use Rattle.worker_tasks.specs.declared.task.Task.{Task}
 
 operation_kind : (is : Operation) → kind_of (entry_of is) < 7
 operation_kind (op.Add doc) = omega arith
+operation_kind (op.AddBlock docs) = omega arith
 operation_kind (op.Update term doc) = omega arith
+operation_kind (op.UpdateBlock term docs) = omega arith
 operation_kind (op.DeleteTerm term) = omega arith
 operation_kind (op.DeleteQuery query) = omega arith
 operation_kind (op.SetNumber term name value) = omega arith
