@@ -1,7 +1,7 @@
 //! Lines dealt out, against what was worked out by hand.
 ghost use Rattle.std.specs.Prelude.{◌≤◌};
 
-use ix_base::{Document, Fields, List, Operation, Query, Text};
+use ix_base::{Block, Document, Fields, List, Name, Operation, Query, Term, Text};
 use line_shares::{Dealt, Kind, Place, all_done, deal};
 use op_script::{Act, Line};
 use std::alloc::Global;
@@ -9,10 +9,37 @@ use std::fmt::Write;
 use std::test::*;
 use worker_tasks::{Share, Task};
 
+/// A text of these bytes.
+fn text_of(alloc: Global, text: &str) -> Result<Text, Fail> {
+    Ok(Text::new(String::from_str(alloc, text)?).ok_or("long")?)
+}
+
 /// An add of a document of this key.
 fn adding(alloc: Global, key: &str) -> Result<Act, Fail> {
-    let key = Text::new(String::from_str(alloc, key)?).ok_or("long")?;
+    let key = text_of(alloc, key)?;
     Ok(Act::Do(Operation::Add(Document::of_key(alloc, key))))
+}
+
+/// A block of two documents.
+fn block_of_two(alloc: Global) -> Result<Block, Fail> {
+    let mut docs = Vec::new(alloc);
+    for key in ["c1", "c2"] {
+        docs.push(Document::of_key(alloc, text_of(alloc, key)?))?;
+    }
+    Ok(Block::new(docs).ok_or("no block")?)
+}
+
+/// The term of a key.
+fn key_term(alloc: Global, key: &str) -> Result<Term, Fail> {
+    let field = Name::new(text_of(alloc, "key")?).ok_or("no name")?;
+    let bytes = text_of(alloc, key)?;
+    Ok(Term { field, bytes })
+}
+
+/// An update with a block.
+fn renewing(alloc: Global) -> Result<Act, Fail> {
+    let term = key_term(alloc, "c1")?;
+    Ok(Act::Do(Operation::UpdateBlock(term, block_of_two(alloc)?)))
 }
 
 /// What a line does.
@@ -25,10 +52,12 @@ fn kind_of<'a>(place: &'a Place) -> &'a str {
     }
 }
 
-/// The key of the document that a task adds, or what else it is to do.
+/// The key of the document that a task adds alone, or what else it is to do.
 fn work_of<'a>(task: &'a Task) -> &'a str {
     match &task.operation {
         Operation::Add(doc) => doc.key.as_str(),
+        Operation::AddBlock(_) => "block",
+        Operation::UpdateBlock(_, _) => "renewed",
         Operation::Commit(_) => "commit",
         _ => "other",
     }
@@ -69,21 +98,23 @@ fn dealt(alloc: Global, threads: u32, lines: Vec<Line>) -> Result<String, Fail>
     shown(alloc, &deal(alloc, threads, List::from_vec(lines))?)
 }
 
-/// What is done in each of five lines.
+/// What is done in each of seven lines.
 fn act_of(alloc: Global, line: u32) -> Result<Act, Fail> {
     match line {
         1 => adding(alloc, "a1"),
         2 => Ok(Act::Search(Query::All)),
         3 => Ok(Act::Do(Operation::Commit(Fields::none(alloc)))),
         5 => adding(alloc, "b1"),
+        7 => Ok(Act::Do(Operation::AddBlock(block_of_two(alloc)?))),
+        8 => renewing(alloc),
         _ => Ok(Act::Do(Operation::DeleteQuery(Query::All))),
     }
 }
 
-/// Five lines of three callers, with a line between them that is passed over.
-fn five_lines(alloc: Global) -> Result<Vec<Line>, Fail> {
+/// Seven lines of three callers, with a line between them that is passed over.
+fn seven_lines(alloc: Global) -> Result<Vec<Line>, Fail> {
     let mut lines = Vec::new(alloc);
-    for (line, caller) in [(1, 0), (2, 1), (3, 2), (5, 1), (6, 0)] {
+    for (line, caller) in [(1, 0), (2, 1), (3, 2), (5, 1), (6, 0), (7, 1), (8, 2)] {
         let act = act_of(alloc, line)?;
         lines.push(Line { line, caller, act })?;
     }
@@ -92,10 +123,10 @@ fn five_lines(alloc: Global) -> Result<Vec<Line>, Fail> {
 
 /// Callers 0 and 2 have the first of two workers, and caller 1 the other.
 #[test]
-fn five_lines_of_three_callers(rt: HostRuntime) -> Result<(), Fail> {
-    let shown = dealt(rt.alloc(), 2, five_lines(rt.alloc())?)?;
-    let expected =
-        " 1.0 write 2.1 all 3.2 commit 5.1 write 6.0 write; 1 a1 3 commit 6 other 0; 5 b1 0";
+fn seven_lines_of_three_callers(rt: HostRuntime) -> Result<(), Fail> {
+    let shown = dealt(rt.alloc(), 2, seven_lines(rt.alloc())?)?;
+    let expected = " 1.0 write 2.1 all 3.2 commit 5.1 write 6.0 write 7.1 write 8.2 write; \
+         1 a1 3 commit 6 other 8 renewed 0; 5 b1 7 block 0";
     assert!(rt; shown.as_str() == expected);
     Ok(())
 }

@@ -83,6 +83,7 @@ fn show_operation(out: &mut String, operation: &Operation) -> Result<(), Fail> {
             show_term(out, term)?;
             show_document(out, doc)?;
         }
+        Operation::AddBlock(_) | Operation::UpdateBlock(_, _) => out.push_str(" block")?,
         Operation::DeleteTerm(term) => {
             out.push_str(" delete")?;
             show_term(out, term)?;
