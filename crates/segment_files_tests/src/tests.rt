@@ -1,14 +1,23 @@
 //! Files as lines of hexadecimal, and where each is broken.
-use ix_base::{Damaged, Document, FileFault, Row, Text};
+use ix_base::{Birth, Damaged, Document, FileFault, Row, Text};
 use segment_files::{decode_pst, decode_row, encode_row};
 use std::alloc::Global;
 use std::collections::BTreeSet;
 use std::str;
 use std::test::Fail;
 
-/// The rows of one document, whose key is `a1`.
+/// The rows of one document, whose key is `a1`, added alone by the operation 1.
 const ROWS: &str =
+    "4958524f57303032 0000000000000001 00000001 0000000000000001 00000000 000000026131 00000000 00000000 0000000000000000";
+
+/// The same in the first form.
+const OLD_ROWS: &str =
     "4958524f57303031 0000000000000001 00000001 0000000000000001 000000026131 00000000 00000000 0000000000000000";
+
+/// The rows of two documents, whose keys are `a1` and `a2`, added together by the operation 1.
+const BLOCK: &str = "4958524f57303032 0000000000000001 00000002 \
+    0000000000000001 00000000 000000026131 00000000 00000000 0000000000000000 \
+    0000000000000001 00000001 000000026132 00000000 00000000 0000000000000000";
 
 /// The postings of the segment 1 of one row, whose key is `a1`.
 pub(crate) const POSTS: &str =
@@ -76,6 +85,7 @@ fn wrong_cut(alloc: Global, kind: &str, fields: &str) -> Result<Option<usize>, F
 #[test]
 fn cut_files_name_the_field(rt: HostRuntime) -> Result<(), Fail> {
     assert!(rt; wrong_cut(rt.alloc(), "rows", ROWS)? == None);
+    assert!(rt; wrong_cut(rt.alloc(), "rows", OLD_ROWS)? == None);
     assert!(rt; wrong_cut(rt.alloc(), "posts", POSTS)? == None);
     Ok(())
 }
@@ -84,12 +94,35 @@ fn cut_files_name_the_field(rt: HostRuntime) -> Result<(), Fail> {
 /// words how, and its fields.
 const FILES: &str = "\
 # Rows, changed.
-rows 1 1 20 no birth: 4958524f57303031 0000000000000001 00000001 0000000000000000 000000026131 00000000 00000000 0000000000000000
-rows 1 1 20 a birth after the commit: 4958524f57303031 0000000000000001 00000001 0000000000000003 000000026131 00000000 00000000 0000000000000000
-rows 1 1 8 another id: 4958524f57303031 0000000000000002 00000001 0000000000000001 000000026131 00000000 00000000 0000000000000000
+rows 1 1 0 no such form: 4958524f57303033 0000000000000001 00000001 0000000000000001 00000000 000000026131 00000000 00000000 0000000000000000
+rows 1 1 20 no number: 4958524f57303032 0000000000000001 00000001 0000000000000000 00000000 000000026131 00000000 00000000 0000000000000000
+rows 1 1 20 a number after the commit: 4958524f57303032 0000000000000001 00000001 0000000000000003 00000000 000000026131 00000000 00000000 0000000000000000
+rows 1 1 whole the last number and the last place: 4958524f57303032 0000000000000001 00000001 0000000000000002 0000003f 000000026131 00000000 00000000 0000000000000000
+rows 1 1 28 a place that there isn't: 4958524f57303032 0000000000000001 00000001 0000000000000001 00000040 000000026131 00000000 00000000 0000000000000000
+rows 1 1 28 the greatest number of four bytes as a place: 4958524f57303032 0000000000000001 00000001 0000000000000001 ffffffff 000000026131 00000000 00000000 0000000000000000
+rows 1 1 8 another id: 4958524f57303032 0000000000000002 00000001 0000000000000001 00000000 000000026131 00000000 00000000 0000000000000000
+rows 1 1 32 a key that is not UTF-8: 4958524f57303032 0000000000000001 00000001 0000000000000001 00000000 00000002ff31 00000000 00000000 0000000000000000
+rows 1 4294967295 16 very many rows are asked for: 4958524f57303032 0000000000000001 00000001 0000000000000001 00000000 000000026131 00000000 00000000 0000000000000000
+rows 1 1 54 a byte more: 4958524f57303032 0000000000000001 00000001 0000000000000001 00000000 000000026131 00000000 00000000 0000000000000000 00
+
+# Rows rise by their numbers and then by their places.
+rows 1 2 whole the next place: 4958524f57303032 0000000000000001 00000002 0000000000000001 00000000 000000026131 00000000 00000000 0000000000000000 0000000000000001 00000001 000000026131 00000000 00000000 0000000000000000
+rows 1 2 whole a later place: 4958524f57303032 0000000000000001 00000002 0000000000000001 00000000 000000026131 00000000 00000000 0000000000000000 0000000000000001 0000003f 000000026131 00000000 00000000 0000000000000000
+rows 1 2 whole a later number with an earlier place: 4958524f57303032 0000000000000001 00000002 0000000000000001 0000003f 000000026131 00000000 00000000 0000000000000000 0000000000000002 00000000 000000026131 00000000 00000000 0000000000000000
+rows 1 2 54 the same place: 4958524f57303032 0000000000000001 00000002 0000000000000001 00000001 000000026131 00000000 00000000 0000000000000000 0000000000000001 00000001 000000026131 00000000 00000000 0000000000000000
+rows 1 2 54 an earlier place: 4958524f57303032 0000000000000001 00000002 0000000000000001 00000001 000000026131 00000000 00000000 0000000000000000 0000000000000001 00000000 000000026131 00000000 00000000 0000000000000000
+rows 1 2 54 an earlier number with a later place: 4958524f57303032 0000000000000001 00000002 0000000000000002 00000000 000000026131 00000000 00000000 0000000000000000 0000000000000001 00000001 000000026131 00000000 00000000 0000000000000000
+rows 1 2 54 no place is left: 4958524f57303032 0000000000000001 00000002 0000000000000001 0000003f 000000026131 00000000 00000000 0000000000000000 0000000000000001 00000040 000000026131 00000000 00000000 0000000000000000
+rows 1 2 62 a place that there isn't, where one is left: 4958524f57303032 0000000000000001 00000002 0000000000000001 0000003e 000000026131 00000000 00000000 0000000000000000 0000000000000001 00000040 000000026131 00000000 00000000 0000000000000000
+
+# Rows in the first form, in which each place is 0.
+rows 1 1 20 no number: 4958524f57303031 0000000000000001 00000001 0000000000000000 000000026131 00000000 00000000 0000000000000000
+rows 1 1 20 a number after the commit: 4958524f57303031 0000000000000001 00000001 0000000000000003 000000026131 00000000 00000000 0000000000000000
 rows 1 1 28 a key that is not UTF-8: 4958524f57303031 0000000000000001 00000001 0000000000000001 00000002ff31 00000000 00000000 0000000000000000
-rows 1 4294967295 16 very many rows are asked for: 4958524f57303031 0000000000000001 00000001 0000000000000001 000000026131 00000000 00000000 0000000000000000
 rows 1 1 50 a byte more: 4958524f57303031 0000000000000001 00000001 0000000000000001 000000026131 00000000 00000000 0000000000000000 00
+rows 1 2 whole a later number: 4958524f57303031 0000000000000001 00000002 0000000000000001 000000026131 00000000 00000000 0000000000000000 0000000000000002 000000026131 00000000 00000000 0000000000000000
+rows 1 2 50 the same number: 4958524f57303031 0000000000000001 00000002 0000000000000001 000000026131 00000000 00000000 0000000000000000 0000000000000001 000000026131 00000000 00000000 0000000000000000
+rows 1 2 50 an earlier number: 4958524f57303031 0000000000000001 00000002 0000000000000002 000000026131 00000000 00000000 0000000000000000 0000000000000001 000000026131 00000000 00000000 0000000000000000
 
 # Postings, changed.
 posts 1 1 8 another id: 4958505354303031 0000000000000002 00000001 0000000000000001 000000036b6579 000000026131 00000001 00000000 00000001 00000000
@@ -154,50 +187,70 @@ fn broken_files_name_the_field(rt: HostRuntime) -> Result<(), Fail> {
     Ok(())
 }
 
+/// The births and keys of these rows, in order.
+fn told(alloc: Global, rows: &[Row]) -> Result<String, Fail> {
+    let mut told = String::new(alloc);
+    for row in rows {
+        let birth = row.birth;
+        let key = row.doc.key.as_str();
+        told.push_str(format!(in alloc; "{} {} {key};", birth.number(), birth.place())?.as_str())?;
+    }
+    Ok(told)
+}
+
+/// A row of this birth, whose document has this key alone.
+fn row(alloc: Global, birth: Birth, key: &str) -> Result<Row, Fail> {
+    let doc = Document::of_key(alloc, Text::copy_of(alloc, key)?);
+    Ok(Row { birth, doc })
+}
+
 #[test]
-fn spells_one_document(rt: HostRuntime) -> Result<(), Fail> {
+fn spells_rows_in_the_second_form(rt: HostRuntime) -> Result<(), Fail> {
     let alloc = rt.alloc();
-    let key = Text::copy_of(alloc, "a1")?;
-    let row = Row {
-        birth: 1,
-        doc: Document::of_key(alloc, key),
-    };
-    let rows = encode_row(alloc, 1, &[row])?;
-    assert!(rt; rows.as_slice() == bytes_of(alloc, ROWS)?.as_slice());
+    let first = row(alloc, Birth::first(1), "a1")?;
+    let second = row(alloc, Birth::new(1, 1), "a2")?;
+    let rows = [first, second];
+    let one = encode_row(alloc, 1, &rows[..1])?;
+    let both = encode_row(alloc, 1, &rows)?;
+    assert!(rt; one.as_slice() == bytes_of(alloc, ROWS)?.as_slice());
+    assert!(rt; both.as_slice() == bytes_of(alloc, BLOCK)?.as_slice());
     Ok(())
 }
 
 #[test]
-fn reads_one_document(rt: HostRuntime) -> Result<(), Fail> {
+fn reads_rows_of_both_forms(rt: HostRuntime) -> Result<(), Fail> {
     let alloc = rt.alloc();
-    let rows = decode_row(
-        alloc,
-        &bytes_of(alloc, ROWS)?,
-        1,
-        1,
-        2,
-        &BTreeSet::new(alloc),
-    )?;
-    assert!(rt; rows.len() == 1);
-    for row in rows.as_slice() {
-        assert!(rt; row.birth == 1);
-        assert!(rt; row.doc.key.as_str() == "a1");
+    for (file, count, rows) in [
+        (ROWS, 1, "1 0 a1;"),
+        (OLD_ROWS, 1, "1 0 a1;"),
+        (BLOCK, 2, "1 0 a1;1 1 a2;"),
+    ] {
+        let bytes = bytes_of(alloc, file)?;
+        let found = decode_row(alloc, &bytes, 1, count, 2, &BTreeSet::new(alloc))?;
+        assert!(rt; told(alloc, found.as_slice())?.as_str() == rows);
     }
     Ok(())
 }
 
-/// An earlier segment has a row of this birth.
+/// Earlier segments have a row of this birth: where it is that of a row, that row is broken at its number.
 #[test]
 fn a_birth_of_an_earlier_segment(rt: HostRuntime) -> Result<(), Fail> {
     let alloc = rt.alloc();
-    let mut earlier = BTreeSet::new(alloc);
-    earlier.insert(1)?;
-    let bytes = bytes_of(alloc, ROWS)?;
-    assert!(rt;
-        matches!(
-            decode_row(alloc, &bytes, 1, 1, 2, &earlier),
-            Err(FileFault::Damaged(Damaged { at: 20, .. }))
-        )
-    );
+    for (place, file, count, broken) in [
+        (0, ROWS, 1, Some(20)),
+        (0, OLD_ROWS, 1, Some(20)),
+        (1, OLD_ROWS, 1, None),
+        (1, BLOCK, 2, Some(54)),
+        (2, BLOCK, 2, None),
+    ] {
+        let mut earlier = BTreeSet::new(alloc);
+        earlier.insert(Birth::new(1, place))?;
+        let bytes = bytes_of(alloc, file)?;
+        let at = match decode_row(alloc, &bytes, 1, count, 2, &earlier) {
+            Err(FileFault::Damaged(Damaged { at, .. })) => Some(at),
+            _ => None,
+        };
+        assert!(rt; at == broken);
+    }
     Ok(())
 }
