@@ -199,17 +199,20 @@ fn told(alloc: Global, rows: &[Row]) -> Result<String, Fail> {
 }
 
 /// A row of this birth, whose document has this key alone.
-fn row(alloc: Global, birth: Birth, key: &str) -> Result<Row, Fail> {
-    let doc = Document::of_key(alloc, Text::copy_of(alloc, key)?);
-    Ok(Row { birth, doc })
+fn row(alloc: Global, birth: Birth, key: Text) -> Row {
+    let doc = Document::of_key(alloc, key);
+    Row { birth, doc }
 }
 
 #[test]
 fn spells_rows_in_the_second_form(rt: HostRuntime) -> Result<(), Fail> {
     let alloc = rt.alloc();
-    let first = row(alloc, Birth::first(1), "a1")?;
-    let second = row(alloc, Birth::new(1, 1), "a2")?;
-    let rows = [first, second];
+    let first = Text::copy_of(alloc, "a1")?;
+    let second = Text::copy_of(alloc, "a2")?;
+    let rows = [
+        row(alloc, Birth::first(1), first),
+        row(alloc, Birth::new(1, 1), second),
+    ];
     let one = encode_row(alloc, 1, &rows[..1])?;
     let both = encode_row(alloc, 1, &rows)?;
     assert!(rt; one.as_slice() == bytes_of(alloc, ROWS)?.as_slice());
