@@ -1,4 +1,4 @@
--- How many rows were born up to a number, and which rows stand behind them.
+-- How many rows were added up to a number, and which rows stand behind them.
 use Rattle.std.proofs.Common.{◌≡◌, ◌∙◌, ℕ, zero, suc, ◌+◌, ◌-◌, ◌^◌, ◌<◌, ◌≤◌, Bool, true, false, cond, leb, List, [], ◌∷◌, ◌++◌, length, map, take, drop, get_or, Some, None, refl, sym, ap, arith}
 use Rattle.std.specs.Prelude.{IsPermutation, min}
 use Rattle.std.specs.List.{filter, cons_option}
@@ -7,6 +7,7 @@ use Rattle.std.proofs.lemmas.List.{drop-map, flat_map_more, length-append, lengt
 use Rattle.std.proofs.lemmas.List.Elements.{filter-append}
 use Rattle.std.proofs.lemmas.List.Sorted.{sum_by-IsPermutation}
 use Rattle.std.proofs.lemmas.List.Sums.{count_by-le-length, length-filter}
+use Rattle.ix_base.specs.Births.{first_birth, last_birth}
 use Rattle.ix_base.specs.Hits.{hit_of, hits, matching}
 use Rattle.ix_base.specs.declared.document.Hit.{Hit}
 use Rattle.ix_base.specs.declared.document.Row.{Row}
@@ -23,16 +24,16 @@ use Rattle.store_answers.specs.Own.{born_up_to}
 
 -- ---- in a segment
 
--- 1 for a live row that was born up to this number, else 0
+-- 1 for a live row that an operation numbered up to this one added, else 0
 abbrev pub counted : ℕ → Row → Mark → ℕ
-counted base row mark = cond (leb row.birth base) (cond mark.live 1 0) 0
+counted base row mark = cond (leb row.birth (last_birth base)) (cond mark.live 1 0) 0
 
 next_counted : (base : ℕ) (row : Row) (mark : Mark) (rows : List Row)
     → born_up_to base (cons_option (marked row mark) rows) ≡ counted base row mark + born_up_to base rows
 next_counted base row mark rows = by mark.live
   where
-    born : (b : Bool) (r : Row) → length (cond b (r ∷ filter (λ (x : Row). leb x.birth base) rows) (filter (λ (x : Row). leb x.birth base) rows))
-        ≡ cond b 1 0 + length (filter (λ (x : Row). leb x.birth base) rows)
+    born : (b : Bool) (r : Row) → length (cond b (r ∷ filter (λ (x : Row). leb x.birth (last_birth base)) rows) (filter (λ (x : Row). leb x.birth (last_birth base)) rows))
+        ≡ cond b 1 0 + length (filter (λ (x : Row). leb x.birth (last_birth base)) rows)
     born true r = omega arith
     born false r = omega arith
 
@@ -41,9 +42,9 @@ next_counted base row mark rows = by mark.live
     dead false = omega arith
 
     by : (l : Bool) → born_up_to base (cons_option (cond l (Some (renumbered (with_numbers mark.values row.doc.num) row)) None) rows)
-        ≡ cond (leb row.birth base) (cond l 1 0) 0 + born_up_to base rows
-    by true = born (leb row.birth base) (renumbered (with_numbers mark.values row.doc.num) row)
-    by false = dead (leb row.birth base)
+        ≡ cond (leb row.birth (last_birth base)) (cond l 1 0) 0 + born_up_to base rows
+    by true = born (leb row.birth (last_birth base)) (renumbered (with_numbers mark.values row.doc.num) row)
+    by false = dead (leb row.birth (last_birth base))
 
 row_counted : (base : ℕ) (rows : List Row) (marks : List Mark) (i : ℕ) (row : Row) → i < length rows → length marks ≡ length rows
     → born_up_to base (live_rows (take (suc i) rows) (take (suc i) marks))
@@ -76,23 +77,23 @@ row_more base before now rows marks i row lt long is so adds =
     ap (λ (r : Row). counted base r (get_or marks i fresh)) is in
     omega (arith, so, adds, one, one_more base rows marks i row lt long)
 
-pub counted_one : (base : ℕ) (row : Row) (mark : Mark) → row.birth ≤ base → mark.live ≡ true → counted base row mark ≡ 1
+pub counted_one : (base : ℕ) (row : Row) (mark : Mark) → row.birth ≤ last_birth base → mark.live ≡ true → counted base row mark ≡ 1
 counted_one base row mark le lives =
-    ap (λ (b : Bool). cond b (cond mark.live 1 0) 0) (le-leb row.birth base le) ∙ ap (λ (b : Bool). cond b 1 0) lives
+    ap (λ (b : Bool). cond b (cond mark.live 1 0) 0) (le-leb row.birth (last_birth base) le) ∙ ap (λ (b : Bool). cond b 1 0) lives
 
-pub counted_later : (base : ℕ) (row : Row) (mark : Mark) → base < row.birth → counted base row mark ≡ 0
-counted_later base row mark lt = ap (λ (b : Bool). cond b (cond mark.live 1 0) 0) (lt-leb row.birth base lt)
+pub counted_later : (base : ℕ) (row : Row) (mark : Mark) → last_birth base < row.birth → counted base row mark ≡ 0
+counted_later base row mark lt = ap (λ (b : Bool). cond b (cond mark.live 1 0) 0) (lt-leb row.birth (last_birth base) lt)
 
-pub counted_dead : (base : ℕ) (row : Row) (mark : Mark) → row.birth ≤ base → mark.live ≡ false → counted base row mark ≡ 0
+pub counted_dead : (base : ℕ) (row : Row) (mark : Mark) → row.birth ≤ last_birth base → mark.live ≡ false → counted base row mark ≡ 0
 counted_dead base row mark le dead =
-    ap (λ (b : Bool). cond b (cond mark.live 1 0) 0) (le-leb row.birth base le) ∙ ap (λ (b : Bool). cond b 1 0) dead
+    ap (λ (b : Bool). cond b (cond mark.live 1 0) 0) (le-leb row.birth (last_birth base) le) ∙ ap (λ (b : Bool). cond b 1 0) dead
 
 -- ---- in segments
 
 born_append : (base : ℕ) (xs ys : List Row) → born_up_to base (xs ++ ys) ≡ born_up_to base xs + born_up_to base ys
 born_append base xs ys =
-    ap length (filter-append (λ (r : Row). leb r.birth base) xs ys)
-    ∙ length-append (filter (λ (r : Row). leb r.birth base) xs) (filter (λ (r : Row). leb r.birth base) ys)
+    ap length (filter-append (λ (r : Row). leb r.birth (last_birth base)) xs ys)
+    ∙ length-append (filter (λ (r : Row). leb r.birth (last_birth base)) xs) (filter (λ (r : Row). leb r.birth (last_birth base)) ys)
 
 -- one more segment
 pub segment_more : (base : ℕ) (segments : List Lived) (i : ℕ) (segment : Lived) → i < length segments
@@ -107,40 +108,40 @@ segment_more base segments i segment lt =
 
 same_count : (base : ℕ) (xs ys : List Row) → IsPermutation xs ys → born_up_to base ys ≡ born_up_to base xs
 same_count base xs ys moved =
-    length-filter (λ (r : Row). leb r.birth base) ys
-    ∙ sum_by-IsPermutation (λ (r : Row). cond (leb r.birth base) 1 0) xs ys moved
-    ∙ sym (length-filter (λ (r : Row). leb r.birth base) xs)
+    length-filter (λ (r : Row). leb r.birth (last_birth base)) ys
+    ∙ sum_by-IsPermutation (λ (r : Row). cond (leb r.birth (last_birth base)) 1 0) xs ys moved
+    ∙ sym (length-filter (λ (r : Row). leb r.birth (last_birth base)) xs)
 
 at_most_all : (base : ℕ) (rows : List Row) → born_up_to base rows ≤ length rows
 at_most_all base rows =
-    omega (arith, length-filter (λ (r : Row). leb r.birth base) rows, count_by-le-length (λ (r : Row). leb r.birth base) rows)
+    omega (arith, length-filter (λ (r : Row). leb r.birth (last_birth base)) rows, count_by-le-length (λ (r : Row). leb r.birth (last_birth base)) rows)
 
-none_up_to : (base low s : ℕ) (rows : List Row) → BirthsRise low s rows → base < low → born_up_to base rows ≡ 0
+none_up_to : (base low s : ℕ) (rows : List Row) → BirthsRise low s rows → last_birth base < low → born_up_to base rows ≡ 0
 none_up_to base low s [] rise lt = refl
 none_up_to base low s (r ∷ rs) rise lt =
-    ap (λ (b : Bool). length (cond b (r ∷ filter (λ (x : Row). leb x.birth base) rs) (filter (λ (x : Row). leb x.birth base) rs)))
-    (lt-leb r.birth base (omega (arith, lt, rise.0)))
+    ap (λ (b : Bool). length (cond b (r ∷ filter (λ (x : Row). leb x.birth (last_birth base)) rs) (filter (λ (x : Row). leb x.birth (last_birth base)) rs)))
+    (lt-leb r.birth (last_birth base) (omega (arith, lt, rise.0)))
     ∙ none_up_to base (r.birth + 1) s rs rise.2 (omega (arith, lt, rise.0))
 
-all_after : (base low s : ℕ) (rows : List Row) → BirthsRise low s rows → base < low → born_after base rows ≡ rows
+all_after : (base low s : ℕ) (rows : List Row) → BirthsRise low s rows → last_birth base < low → born_after base rows ≡ rows
 all_after base low s [] rise lt = refl
 all_after base low s (r ∷ rs) rise lt =
-    ap (λ (b : Bool). cond b (r ∷ born_after base rs) (born_after base rs)) (lt-ltb base r.birth (omega (arith, lt, rise.0)))
+    ap (λ (b : Bool). cond b (r ∷ born_after base rs) (born_after base rs)) (lt-ltb (last_birth base) r.birth (omega (arith, lt, rise.0)))
     ∙ ap (λ (xs : List Row). r ∷ xs) (all_after base (r.birth + 1) s rs rise.2 (omega (arith, lt, rise.0)))
 
 -- where births rise, the rows that were born later stand behind all others
 born_behind : (base low s : ℕ) (rows : List Row) → BirthsRise low s rows → drop (born_up_to base rows) rows ≡ born_after base rows
 born_behind base low s [] rise = refl
 born_behind base low s (r ∷ rs) rise =
-    by_bool (leb r.birth base)
+    by_bool (leb r.birth (last_birth base))
     (λ e.
-    ap (λ (b : Bool). drop (length (cond b (r ∷ filter (λ (x : Row). leb x.birth base) rs) (filter (λ (x : Row). leb x.birth base) rs))) (r ∷ rs)) e
+    ap (λ (b : Bool). drop (length (cond b (r ∷ filter (λ (x : Row). leb x.birth (last_birth base)) rs) (filter (λ (x : Row). leb x.birth (last_birth base)) rs))) (r ∷ rs)) e
     ∙ born_behind base (r.birth + 1) s rs rise.2
-    ∙ sym (ap (λ (b : Bool). cond b (r ∷ born_after base rs) (born_after base rs)) (le-ltb base r.birth (leb-true r.birth base e))))
+    ∙ sym (ap (λ (b : Bool). cond b (r ∷ born_after base rs) (born_after base rs)) (le-ltb (last_birth base) r.birth (leb-true r.birth (last_birth base) e))))
     (λ e.
     let from_here : BirthsRise r.birth s (r ∷ rs) = (omega arith, rise.1, rise.2) in
-    ap (λ (n : ℕ). drop n (r ∷ rs)) (none_up_to base r.birth s (r ∷ rs) from_here (leb-false r.birth base e))
-    ∙ sym (all_after base r.birth s (r ∷ rs) from_here (leb-false r.birth base e)))
+    ap (λ (n : ℕ). drop n (r ∷ rs)) (none_up_to base r.birth s (r ∷ rs) from_here (leb-false r.birth (last_birth base) e))
+    ∙ sym (all_after base r.birth s (r ∷ rs) from_here (leb-false r.birth (last_birth base) e)))
 
 -- ---- their hits
 
@@ -162,4 +163,4 @@ later_left base counted segments rows found left searches all few count behind =
     ∙ ap (λ (n : ℕ). drop n found) exact
     ∙ ap (drop (born_up_to base rows)) found_all
     ∙ drop-map hit_of (born_up_to base rows) rows
-    ∙ ap (map hit_of) (born_behind base 1 searches.number rows are.births)
+    ∙ ap (map hit_of) (born_behind base (first_birth 1) (last_birth searches.number) rows are.births)

@@ -20,7 +20,7 @@ use searcher::Searcher;
 use segment_core::LiveSegment;
 use std::alloc::Global;
 
-/// How many live rows of a segment were born up to this number.
+/// How many live rows of a segment were added by operations numbered up to this one.
 fn earlier_in(segment: &LiveSegment, base: u64) -> usize
     ensures { result ≡ born_up_to base (live segment.now) }
 {
@@ -28,14 +28,15 @@ fn earlier_in(segment: &LiveSegment, base: u64) -> usize
     let rows = segment.segment().rows.as_slice();
     let mut count = 0;
     for (place, row) in rows.iter().enumerate() {
-        if row.birth <= base && live.is_live(place as u32) {
+        if row.birth.number() <= base && live.is_live(place as u32) {
             count += 1;
         }
     }
     count
 }
 
-/// How many live rows of segments were born up to this number, or 2^64 - 1 where they are more.
+/// How many live rows of segments were added by operations numbered up to this one, or 2^64 - 1 where
+/// they are more.
 fn earlier(segments: &[LiveSegment], base: u64) -> usize
     ensures { result ≡ min (born_up_to base (all_live segments.now)) (2 ^ 64 - 1) }
 {
@@ -55,7 +56,7 @@ fn behind(mut hits: Vec<Hit>, count: usize) -> Result<Vec<Hit>, NoMemory>
     Ok(hits.split_off(first)?)
 }
 
-/// The hits of the rows that were born after this number, by birth.
+/// The hits of the rows that operations numbered above this one added, by birth.
 fn later_hits(alloc: Global, searcher: &Searcher, base: u64) -> Result<Vec<Hit>, NoMemory>
     ensures { IfOk result (λ hits. (rows : List Row) → Searches searcher.now.segments rows
         → hits.items ≡ map hit_of (born_after base rows)) }
@@ -65,9 +66,9 @@ fn later_hits(alloc: Global, searcher: &Searcher, base: u64) -> Result<Vec<Hit>,
     behind(hits, count)
 }
 
-/// The hits of the commit's rows that were born after this number, by birth: where it is the number
-/// of an earlier commit, of the rows that were added since then. The commit is one that a list has
-/// shown. The store is as before, whatever is returned.
+/// The hits of the commit's rows that operations numbered above this one added, by birth: where it is
+/// the number of an earlier commit, of the rows that were added since then. The commit is one that a
+/// list has shown. The store is as before, whatever is returned.
 ///
 /// - `Damaged` names the first broken place of the commit. A commit file that is gone since it was
 ///   listed is damaged at 0.
