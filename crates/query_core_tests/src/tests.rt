@@ -1,5 +1,5 @@
 use analysis::invert;
-use ix_base::{Document, Fields, List, Numbers, PhraseText, Queries, Query, Row, Term};
+use ix_base::{Birth, Document, Fields, List, Numbers, PhraseText, Queries, Query, Row, Term};
 use query_core::{Inverted, answer};
 use segment_core::Segment;
 use std::alloc::Global;
@@ -29,7 +29,8 @@ fn row_of(alloc: Global, key: &str, body: &str, num: Numbers) -> Result<Row, Fai
     let key = text_of(alloc, key)?;
     let doc = Document::new(key, text, Fields::none(alloc), num);
     let doc = doc.ok_or("names aren't apart")?;
-    Ok(Row { birth: 1, doc })
+    let birth = Birth::first(1);
+    Ok(Row { birth, doc })
 }
 
 /// The index of these rows.
