@@ -3,6 +3,7 @@ use Rattle.std.proofs.Common.{◌≡◌, ◌∙◌, ℕ, ◌+◌, ◌≤◌, Lis
 use Rattle.std.specs.List.{cons_option, AllByRecursion}
 use Rattle.std.proofs.lemmas.List.{append-nil}
 use Rattle.std.proofs.lemmas.List.Elements.{Contains-append_right}
+use Rattle.ix_base.specs.Births.{first_birth, last_birth}
 use Rattle.ix_base.specs.declared.document.Row.{Row}
 use Rattle.live_docs.specs.declared.live_docs.Mark.{Mark}
 use Rattle.segment_files.specs.Fits.{BirthsRise}
@@ -99,13 +100,13 @@ live_most (row ∷ rows) (m ∷ marks) = by (marked row m) (live_most rows marks
 pub fewer_live : (s : Lived) → length (live s) ≤ length s.segment.rows
 fewer_live s = live_most s.segment.rows s.live.marks
 
-pub source_of : (given : List Row) (updates : Updates) (s : Lived) → BirthsRise 1 4 given → length given ≡ 4 → IsBuilt given updates 1 9 s → AreSources (s ∷ [])
+pub source_of : (given : List Row) (updates : Updates) (s : Lived) → BirthsRise (first_birth 1) (last_birth 4) given → length given ≡ 4 → IsBuilt given updates 1 9 s → AreSources (s ∷ [])
 source_of given updates s rise long built = record {
   rise = search rules;
   can = record {
     limit = 4;
     rise = (own, tt);
-    differ = λ b. subst (λ (rs : List Row). births_at b rs ≤ 1) (sym (append-nil s.segment.rows)) (at_most_one 1 4 b s.segment.rows own);
+    differ = λ b. subst (λ (rs : List Row). births_at b rs ≤ 1) (sym (append-nil s.segment.rows)) (at_most_one (first_birth 1) (last_birth 4) b s.segment.rows own);
     ordered = (built.inverted.ordered, tt);
     few = omega (arith, fewer_live s, ap (λ (rs : List Row). length rs) built.rows, long, ap (λ (rs : List Row). length rs) (append-nil (live s)));
   };
@@ -113,5 +114,5 @@ source_of given updates s rise long built = record {
   same = (refl, tt);
 }
   where
-    own : BirthsRise 1 4 s.segment.rows
-    own = subst (BirthsRise 1 4) (sym built.rows) rise
+    own : BirthsRise (first_birth 1) (last_birth 4) s.segment.rows
+    own = subst (BirthsRise (first_birth 1) (last_birth 4)) (sym built.rows) rise

@@ -1,5 +1,5 @@
-//! Tests of `merge_core`: what reaches a source while a merge reads it, and segments whose rows were born in
-//! turn. Segments are picked in the tests of the crates above.
+//! Tests of `merge_core`: what reaches a source while a merge reads it, and segments to which the
+//! documents of blocks were dealt in turn. Segments are picked in the tests of the crates above.
 #![tactic(auto)]
 
 #[cfg(test)]

@@ -1,5 +1,6 @@
 //! What reaches the rows of a source while a merge reads it, worked out by hand.
 ghost use Rattle.std.specs.Prelude.{◌≡◌, ◌<◌, ℕ, [], ◌∷◌, length, IfOk, OnOk};
+ghost use Rattle.ix_base.specs.Births.{first_birth, last_birth};
 ghost use Rattle.segment_files.specs.Fits.{BirthsRise};
 ghost use Rattle.merge_core.specs.Merging.{row_count};
 ghost use Rattle.merge_core_tests.specs.Reading.{AreSources, Reads};
@@ -7,7 +8,7 @@ ghost use Rattle.merge_core_tests.specs.Reading.{AreSources, Reads};
 use crate::reading::{finished, read, read_all, start};
 use analysis::invert;
 use frozen_packet::Updates;
-use ix_base::Row;
+use ix_base::{Birth, Row};
 use merge_core::{Merge, reading_stays};
 use node_words::Entry;
 use ram_postings::Frozen;
@@ -19,17 +20,18 @@ use std::test::*;
 use test_segments::show_live_row;
 use test_values::{document_of, key_term, name_of};
 
-/// The row of this birth and key.
-fn born(alloc: Global, birth: u64, key: &str) -> Result<Row, Fail>
-    ensures { IfOk result (λ row. row.birth ≡ birth) }
+/// The row of this key that the operation of this number adds.
+fn born(alloc: Global, number: u64, key: &str) -> Result<Row, Fail>
+    ensures { IfOk result (λ row. row.birth ≡ first_birth number) }
 {
     let doc = document_of(alloc, key)?;
+    let birth = Birth::first(number);
     Ok(Row { birth, doc })
 }
 
 /// Rows with the keys `a` to `d`, born by the operations 1 to 4.
 fn four_rows(alloc: Global) -> Result<Vec<Row>, Fail>
-    ensures births { IfOk result (λ rows. BirthsRise 1 4 rows.items) }
+    ensures births { IfOk result (λ rows. BirthsRise (first_birth 1) (last_birth 4) rows.items) }
     ensures count { IfOk result (λ rows. length rows.items ≡ 4) }
 {
     let first = born(alloc, 1, "a")?;

@@ -1,4 +1,4 @@
-//! Segments whose rows were born in turn, merged: worked out by hand. That the postings of what is merged are
+//! Segments to which the documents of blocks were dealt in turn, merged: worked out by hand. That the postings of what is merged are
 //! the inversion of its rows is a clause of `Merge::finish`.
 ghost use Rattle.std.specs.Prelude.{◌≤◌};
 
@@ -19,21 +19,22 @@ fn merged(alloc: Global, count: u64, rows: u32) -> Result<LiveSegment, Fail>
     Ok(finished(merge, segments.as_slice())?.ok_or("nothing merged")?)
 }
 
-/// The births of the rows.
+/// The births of the rows: each the operation's number, and the place among its documents.
 fn births(alloc: Global, segment: &LiveSegment) -> Result<String, Fail> {
     let mut out = String::new(alloc);
     for row in segment.segment().rows.as_slice() {
-        write!(out, "{} ", row.birth)?;
+        write!(out, "{}.{} ", row.birth.number(), row.birth.place())?;
     }
     Ok(out)
 }
 
-/// Whatever the steps, the same rows are merged. Those of the operations 3 and 10 are dead.
+/// Whatever the steps, the same rows are merged, by number and then by place. Those of the third and the
+/// tenth document are dead.
 #[test]
 fn steps_of_all_sizes(rt: HostRuntime) -> Result<(), Fail> {
     for rows in [1, 2, 3, 4, 9, 10, 100] {
         let made = merged(rt.alloc(), 4, rows)?;
-        assert!(rt; births(rt.alloc(), &made)?.as_str() == "1 2 4 5 6 7 8 11 ");
+        assert!(rt; births(rt.alloc(), &made)?.as_str() == "1.0 1.1 1.3 2.0 2.1 2.2 2.3 3.2 ");
     }
     Ok(())
 }
