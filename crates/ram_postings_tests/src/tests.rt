@@ -29,11 +29,12 @@ pub fn inverted(alloc: Global, rows: &[Row]) -> Result<String, Fail>
     shown_postings(alloc, &invert(alloc, rows)?)
 }
 
-/// The rows with their births, and then the places of the terms in them.
+/// The rows with their births, each a number and a place, and then the places of the terms in them.
 pub fn shown_frozen(alloc: Global, frozen: &Frozen) -> Result<String, Fail> {
     let mut out = String::new(alloc);
     for row in frozen.rows.as_slice() {
-        write!(out, "{}{} ", row.doc.key.as_str(), row.birth)?;
+        let (key, birth) = (row.doc.key.as_str(), row.birth);
+        write!(out, "{key}{}.{} ", birth.number(), birth.place())?;
     }
     out.push_str(shown_postings(alloc, &frozen.postings)?.as_str())?;
     Ok(out)
@@ -58,7 +59,7 @@ fn nothing_staged(rt: HostRuntime) -> Result<(), Fail> {
     Ok(())
 }
 
-/// Two documents, of which neither has a number yet.
+/// Two documents, of which neither was born yet.
 fn two_waiting(alloc: Global) -> Result<RamPostings, Fail> {
     let mut buffer = RamPostings::new(alloc);
     buffer.stage(analyse(alloc, document_of(alloc, "a", "fish", "red")?)?)?;
@@ -75,7 +76,7 @@ fn waiting_documents(rt: HostRuntime) -> Result<(), Fail> {
     Ok(())
 }
 
-/// Three documents, of which the second one gets no number.
+/// Three documents, of which the second one isn't born.
 fn with_void_between(alloc: Global) -> Result<RamPostings, Fail> {
     let mut buffer = RamPostings::new(alloc);
     for (key, body, tag, void) in [
@@ -95,7 +96,7 @@ fn void_document_between(rt: HostRuntime) -> Result<(), Fail> {
     let buffer = with_void_between(rt.alloc())?;
     assert!(rt; buffer.rows() == 3);
     let expected =
-        "a1 c3 body:dog 0@1, 1@1,;body:fish 0@0,2, 1@4,;body:saw 1@2,;body:the 1@0,3,;key:a 0@0,;key:c 1@0,;tag:red 0@0, 1@0,;";
+        "a1.0 c3.0 body:dog 0@1, 1@1,;body:fish 0@0,2, 1@4,;body:saw 1@2,;body:the 1@0,3,;key:a 0@0,;key:c 1@0,;tag:red 0@0, 1@0,;";
     assert!(rt; shown_taken(rt.alloc(), buffer)?.as_str() == expected);
     Ok(())
 }
@@ -116,7 +117,32 @@ fn filled_again(alloc: Global) -> Result<RamPostings, Fail> {
 #[test]
 fn taken_and_filled_again(rt: HostRuntime) -> Result<(), Fail> {
     let buffer = filled_again(rt.alloc())?;
-    let expected = "d1 body:an 0@0,;body:owl 0@1,;key:d 0@0,;tag:blue 0@0,;";
+    let expected = "d1.0 body:an 0@0,;body:owl 0@1,;key:d 0@0,;tag:blue 0@0,;";
+    assert!(rt; shown_taken(rt.alloc(), buffer)?.as_str() == expected);
+    Ok(())
+}
+
+/// A void document, one that operation 6 adds alone, and three that operation 7 adds together.
+fn with_block(alloc: Global) -> Result<RamPostings, Fail> {
+    let mut buffer = RamPostings::new(alloc);
+    buffer.stage(analyse(alloc, document_of(alloc, "a", "fish", "red")?)?)?;
+    let alone = buffer.stage(analyse(alloc, document_of(alloc, "b", "dog", "red")?)?)?;
+    buffer.born_block(alone, 1, 6);
+    let first = buffer.stage(analyse(alloc, document_of(alloc, "c", "dog", "blue")?)?)?;
+    buffer.stage(analyse(alloc, document_of(alloc, "d", "owl", "red")?)?)?;
+    buffer.stage(analyse(alloc, document_of(alloc, "e", "owl", "blue")?)?)?;
+    buffer.born_block(first, 3, 7);
+    Ok(buffer)
+}
+
+/// The documents of a block have one number, and their places in the block, wherever they are in the
+/// buffer.
+#[test]
+fn block_of_three(rt: HostRuntime) -> Result<(), Fail> {
+    let buffer = with_block(rt.alloc())?;
+    assert!(rt; buffer.rows() == 5);
+    let expected =
+        "b6.0 c7.0 d7.1 e7.2 body:dog 0@0, 1@0,;body:owl 2@0, 3@0,;key:b 0@0,;key:c 1@0,;key:d 2@0,;key:e 3@0,;tag:blue 1@0, 3@0,;tag:red 0@0, 2@0,;";
     assert!(rt; shown_taken(rt.alloc(), buffer)?.as_str() == expected);
     Ok(())
 }

@@ -1,5 +1,6 @@
 //! Some thousand documents, void ones among them, against the inversion of their rows.
 ghost use Rattle.std.specs.Prelude.{◌<◌, ◌+◌, ◌∷◌, [], All, length, OnOk};
+ghost use Rattle.ix_base.specs.Births.{first_birth};
 ghost use Rattle.ix_base.specs.Inversion.{IsInversion};
 ghost use Rattle.ram_postings.specs.Buffer.{born_rows};
 
@@ -26,18 +27,21 @@ fn drawn_document(alloc: Global, number: u32) -> Result<Document, Fail> {
     document_of(alloc, key.as_str(), body.as_str(), "w7")
 }
 
-/// Stages a document, and gives it the number after its place unless it is to be void.
+/// Stages a document, which the operation of the number after its place adds alone unless it is to be
+/// void.
 pub(crate) fn add(buffer: &mut RamPostings, analysed: Analysed, void: bool) -> Result<(), Fail>
     requires inversion { IsInversion (analysed.doc ∷ []) analysed.postings }
-    requires births { All (λ row. row.birth < length buffer.old + 1) (born_rows buffer.old) }
-    ensures { OnOk result (All (λ row. row.birth < length buffer.new + 1) (born_rows buffer.new)) }
+    requires births { All (λ row. row.birth < first_birth (length buffer.old + 1))
+        (born_rows buffer.old) }
+    ensures { OnOk result (All (λ row. row.birth < first_birth (length buffer.new + 1))
+        (born_rows buffer.new)) }
 {
     if buffer.rows() > 1_000_000 {
         return Ok(());
     }
     let row = buffer.stage(analysed)?;
     if !void {
-        buffer.born(row, row.0 as u64 + 1);
+        buffer.born_block(row, 1, row.0 as u64 + 1);
     }
     Ok(())
 }
