@@ -1,6 +1,7 @@
 //! Commit files alone, and whole commits.
 use crate::tests_files::{
-    COMMIT, EARLIER, FULL, PAIRS, SECOND, SMALL, TWO_LIVE, bytes_of, store_of, told,
+    BLOCK, COMMIT, EARLIER, FULL, OLD_ROWS, PAIRS, SECOND, SMALL, TWO_LIVE, bytes_of, put_file,
+    store_of, told,
 };
 use commit_point::{
     CommitFormat, Head, HeadSegment, decode_commit, encode_commit, head, open_commit, read_commit,
@@ -88,7 +89,8 @@ fn opened(alloc: Global, files: [&str; 2], number: u64) -> Result<String, Fail> 
 }
 
 /// The commit with all kinds of fields is whole. One whose segment an earlier commit wrote has all operations
-/// up to its number in its live docs, and a row that isn't live doesn't count.
+/// up to its number in its live docs, and a row that isn't live doesn't count. Files of rows are read in both
+/// forms.
 #[test]
 fn commits_are_opened(rt: HostRuntime) -> Result<(), Fail> {
     for (files, number, want) in [
@@ -103,6 +105,11 @@ fn commits_are_opened(rt: HostRuntime) -> Result<(), Fail> {
             "next 2, 1 of 2; 1 with 0 terms at 3: a11 dead a22",
         ),
         ([EARLIER, TWO_LIVE], 3, "segments_3 16"),
+        (
+            [BLOCK, ""],
+            2,
+            "next 2, 1 of 2; 1 with 0 terms at 2: a11 a22 a32.1",
+        ),
     ] {
         assert!(rt; opened(rt.alloc(), files, number)?.as_str() == want);
     }
@@ -112,9 +119,12 @@ fn commits_are_opened(rt: HostRuntime) -> Result<(), Fail> {
 #[test]
 fn the_smallest_commit_is_whole(rt: HostRuntime) -> Result<(), Fail> {
     let alloc = rt.alloc();
-    let mut store = store_of(alloc, [COMMIT, SMALL])?;
-    assert!(rt; head(alloc, &mut store, 2)?.docs == 1);
-    let read = told(alloc, read_commit(alloc, &mut store, 2))?;
-    assert!(rt; read.as_str() == "next 2, 1 of 2; 1 with 1 terms at 2: a11");
+    for rows in ["", OLD_ROWS] {
+        let mut store = store_of(alloc, [SMALL, rows])?;
+        put_file(alloc, &mut store, COMMIT)?;
+        assert!(rt; head(alloc, &mut store, 2)?.docs == 1);
+        let read = told(alloc, read_commit(alloc, &mut store, 2))?;
+        assert!(rt; read.as_str() == "next 2, 1 of 2; 1 with 1 terms at 2: a11");
+    }
     Ok(())
 }

@@ -1,5 +1,5 @@
 //! The files of one commit, cut at every length and changed byte by byte.
-use crate::tests_files::{COMMIT, FULL, PAIRS, SECOND, SMALL, bytes_of, store_of, told};
+use crate::tests_files::{BLOCK, COMMIT, FULL, PAIRS, SECOND, SMALL, bytes_of, store_of, told};
 use commit_point::{open_commit, read_commit};
 use ix_base::FileName;
 use ix_outside::Store;
@@ -91,18 +91,21 @@ segments_2 59 00 52 no commit
 segments_2 59 03 52 a later commit
 segments_2 60 00 60 one byte more
 seg_1.row 0 00 0 another mark
+seg_1.row 7 33 0 the mark of no form
+seg_1.row 7 31 36 the mark of the first form, in which no place stands
 seg_1.row 15 02 8 another id
 seg_1.row 19 02 16 a row more
 seg_1.row 19 00 16 no row
-seg_1.row 27 00 20 no birth
-seg_1.row 27 03 20 a birth after the commit
-seg_1.row 32 ff 28 no UTF-8 in the key
-seg_1.row 41 00 38 a name without bytes
-seg_1.row 40 01 38 a name that is longer than names are
-seg_1.row 41 ff 38 a name that is longer than the file
-seg_1.row 70 03 82 an exact text that is longer
-seg_1.row 80 02 97 one number more
-seg_1.row 97 00 97 one byte more
+seg_1.row 27 00 20 no operation
+seg_1.row 27 03 20 an operation after the commit
+seg_1.row 31 40 28 a place that there isn't
+seg_1.row 36 ff 32 no UTF-8 in the key
+seg_1.row 45 00 42 a name without bytes
+seg_1.row 44 01 42 a name that is longer than names are
+seg_1.row 45 ff 42 a name that is longer than the file
+seg_1.row 74 03 86 an exact text that is longer
+seg_1.row 84 02 101 one number more
+seg_1.row 101 00 101 one byte more
 seg_1.pst 5 00 0 another mark
 seg_1.pst 15 02 8 another id
 seg_1.pst 19 02 16 a row more
@@ -161,6 +164,16 @@ segments_2 48 ff 44 no UTF-8 in a name
 segments_2 54 ff 51 a text that is longer than the file
 segments_2 60 61 56 a name that falls
 segments_2 65 00 65 a byte behind the last pair";
+
+/// Changes of a commit of rows that were added together.
+const BLOCK_CHANGES: &str = "\
+seg_1.row 61 01 54 the number and the place that the row before has
+seg_1.row 61 03 54 a number after the commit
+seg_1.row 65 01 88 the place that the row behind has
+seg_1.row 65 3f 88 a place with none behind it
+seg_1.row 95 01 88 an earlier number
+seg_1.row 99 00 88 the place that the row before has
+seg_1.row 99 40 96 a place that there isn't";
 
 /// A change of the smallest commit.
 const SMALL_CHANGE: &str = "seg_1_2.val 35 01 36 one number is counted, and none is there";
@@ -221,6 +234,7 @@ fn changed_files(rt: HostRuntime) -> Result<(), Fail> {
         ([COMMIT, FULL], CHANGES),
         ([SECOND, FULL], SECOND_CHANGES),
         ([PAIRS, ""], PAIR_CHANGES),
+        ([BLOCK, ""], BLOCK_CHANGES),
         ([COMMIT, SMALL], SMALL_CHANGE),
     ] {
         assert!(rt; told_otherwise(rt.alloc(), files, changes)? == None);

@@ -27,7 +27,7 @@ pub(crate) const PAIRS: &str = "segments_2 4958434f4d303032 0000000000000002 000
 /// terms, of which two are of one field; the row is live, and the number `size` was set to 7 in it. These
 /// are the files that the formats show.
 pub(crate) const FULL: &str = "\
-seg_1.row 4958524f57303031 0000000000000001 00000001 0000000000000001 000000026d31 00000001 00000004626f6479 \
+seg_1.row 4958524f57303032 0000000000000001 00000001 0000000000000001 00000000 000000026d31 00000001 00000004626f6479 \
     00000006486920796f75 00000001 00000003626f78 00000002696e 0000000000000001 0000000473697a65 fffffffffffffffe
 seg_1.pst 4958505354303031 0000000000000001 00000001 0000000000000004 \
     00000004626f6479 000000026869 00000001 00000000 00000001 00000000 \
@@ -39,10 +39,14 @@ seg_1_2.val 495856414c303031 0000000000000001 0000000000000002 00000001 \
     0000000000000001 00000000 0000000473697a65 0000000000000007
 ";
 
+/// The rows of the smallest segment in the first form.
+pub(crate) const OLD_ROWS: &str = "seg_1.row 4958524f57303031 0000000000000001 00000001 \
+    0000000000000001 000000026131 00000000 00000000 0000000000000000";
+
 /// The files of the smallest segment: the key `a1` and nothing else, the term of the key, one live row, and
 /// no number that was set.
 pub(crate) const SMALL: &str = "\
-seg_1.row 4958524f57303031 0000000000000001 00000001 0000000000000001 000000026131 00000000 00000000 \
+seg_1.row 4958524f57303032 0000000000000001 00000001 0000000000000001 00000000 000000026131 00000000 00000000 \
     0000000000000000
 seg_1.pst 4958505354303031 0000000000000001 00000001 0000000000000001 \
     000000036b6579 000000026131 00000001 00000000 00000001 00000000
@@ -51,7 +55,8 @@ seg_1_2.val 495856414c303031 0000000000000001 0000000000000002 00000001 00000000
 ";
 
 /// The files of the commit 3: one live row, in a segment of the two rows `a1` and `a2` without terms, whose
-/// live bits (the first row is dead) and numbers (none was set) the commit 2 wrote.
+/// live bits (the first row is dead) and numbers (none was set) the commit 2 wrote. All files are in the first
+/// forms.
 pub(crate) const EARLIER: &str = "\
 segments_3 4958434f4d303031 0000000000000003 0000000000000001 0000000000000002 0000000000000001 \
     0000000000000001 00000002 0000000000000002
@@ -67,6 +72,19 @@ seg_1_2.val 495856414c303031 0000000000000001 0000000000000002 00000002 00000000
 pub(crate) const TWO_LIVE: &str = "segments_3 4958434f4d303031 0000000000000003 0000000000000002 \
     0000000000000002 0000000000000001 0000000000000001 00000002 0000000000000002";
 
+/// A file of the rows of three documents, of which the operation 2 added two together.
+pub(crate) const BLOCK: &str = "\
+segments_2 4958434f4d303032 0000000000000002 0000000000000003 0000000000000002 0000000000000001 \
+    0000000000000001 00000003 0000000000000002 00000000
+seg_1.row 4958524f57303032 0000000000000001 00000003 \
+    0000000000000001 00000000 000000026131 00000000 00000000 0000000000000000 \
+    0000000000000002 00000000 000000026132 00000000 00000000 0000000000000000 \
+    0000000000000002 00000001 000000026133 00000000 00000000 0000000000000000
+seg_1.pst 4958505354303031 0000000000000001 00000003 0000000000000000
+seg_1_2.liv 49584c4956303031 0000000000000001 0000000000000002 00000003 07
+seg_1_2.val 495856414c303031 0000000000000001 0000000000000002 00000003 0000000000000000
+";
+
 /// The bytes of these fields.
 pub(crate) fn bytes_of(alloc: Global, fields: &str) -> Result<Vec<u8>, Fail> {
     let mut bytes = Vec::new(alloc);
@@ -79,7 +97,7 @@ pub(crate) fn bytes_of(alloc: Global, fields: &str) -> Result<Vec<u8>, Fail> {
 }
 
 /// Writes a file.
-fn put_file(alloc: Global, store: &mut MemoryStore, line: &str) -> Result<(), Fail> {
+pub(crate) fn put_file(alloc: Global, store: &mut MemoryStore, line: &str) -> Result<(), Fail> {
     let (name, fields) = line.split_once(' ').ok_or("no file")?;
     let Some(name) = FileName::parse(name) else {
         return Err("no name")?;
@@ -139,15 +157,18 @@ fn show_segment(out: &mut String, segment: &LiveSegment) -> Result<(), Fail> {
     Ok(())
 }
 
-/// A row, if there is one at this place: its key, its birth, whether it is dead, and the numbers that
-/// were set.
+/// A row, if there is one at this place: its key, its birth (of which the place is told where it isn't 0),
+/// whether it is dead, and the numbers that were set.
 fn show_row(out: &mut String, segment: &LiveSegment, at: u32) -> Result<(), Fail> {
     let rows = segment.segment().rows.as_slice();
     if at as usize >= rows.len() {
         return Ok(());
     }
     let row = &rows[at as usize];
-    write!(out, " {}{}", row.doc.key.as_str(), row.birth)?;
+    write!(out, " {}{}", row.doc.key.as_str(), row.birth.number())?;
+    if row.birth.place() > 0 {
+        write!(out, ".{}", row.birth.place())?;
+    }
     if !segment.live().is_live(at) {
         write!(out, " dead")?;
     }

@@ -1,14 +1,17 @@
 //! How many calls of a store a commit takes, which files it writes, and their bytes.
 ghost use Rattle.std.specs.Prelude.{◌≡◌, ◌<◌, ◌≤◌, length, IfOk};
+ghost use Rattle.ix_base.specs.Births.{first_birth, last_birth};
 ghost use Rattle.ix_base.specs.Inversion.{IsPostings};
 ghost use Rattle.segment_files.specs.Fits.{BirthsRise, RowsBelow};
 ghost use Rattle.commit_point.specs.Writing.{CanWrite, WrittenUpTo};
 
 use crate::tests::put_head;
-use crate::tests_files::{PAIRS, SECOND, SMALL, bytes_of};
+use crate::tests_files::{
+    COMMIT, OLD_ROWS, PAIRS, SECOND, SMALL, bytes_of, put_file, store_of, told,
+};
 use commit_point::{CommitRefused, Head, Written, decode_commit, head, open_commit, write_commit};
 use ix_base::{
-    Document, Fields, FileName, List, Name, Postings, Row, Spots, Term, TermPostings, Text,
+    Birth, Document, Fields, FileName, List, Name, Postings, Row, Spots, Term, TermPostings, Text,
 };
 use ix_memory::{FuseStore, SteadyStore};
 use ix_outside::Store;
@@ -34,13 +37,13 @@ fn key_postings(alloc: Global) -> Result<Postings, Fail>
     })
 }
 
-/// A row with this birth, whose key is `a1`.
-fn row_born(alloc: Global, birth: u64) -> Result<Row, Fail>
-    ensures { IfOk result (λ row. row.birth ≡ birth) }
+/// A row whose key is `a1`, of the document that the operation of this number added alone.
+fn row_born(alloc: Global, number: u64) -> Result<Row, Fail>
+    ensures { IfOk result (λ row. row.birth ≡ first_birth number) }
 {
     let key = Text::copy_of(alloc, "a1")?;
     Ok(Row {
-        birth,
+        birth: Birth::first(number),
         doc: Document::of_key(alloc, key),
     })
 }
@@ -59,15 +62,16 @@ fn live_of(alloc: Global, rows: u32, applied: u64, dead: bool) -> Result<LiveDoc
     Ok(live)
 }
 
-/// A segment of one row, with this birth.
-fn one_row(alloc: Global, id: u64, birth: u64, live: LiveDocs) -> Result<LiveSegment, Fail>
-    requires birth { (1 ≤ birth) × (birth ≤ live.applied) }
+/// A segment of one row, of the operation of this number.
+fn one_row(alloc: Global, id: u64, number: u64, live: LiveDocs) -> Result<LiveSegment, Fail>
+    requires birth { (1 ≤ number) × (number ≤ live.applied) }
     requires rows { length live.marks ≡ 1 }
     ensures id { IfOk result (λ segment. segment.segment.id ≡ id) }
-    ensures birth { IfOk result (λ segment. BirthsRise birth birth segment.segment.rows) }
+    ensures birth { IfOk result (λ segment.
+        BirthsRise (first_birth number) (last_birth number) segment.segment.rows) }
     ensures can { IfOk result (CanWrite live.applied) }
 {
-    let row = row_born(alloc, birth)?;
+    let row = row_born(alloc, number)?;
     let segment = Segment {
         id,
         rows: List::from_vec(vec![in alloc; row]?),
@@ -135,7 +139,8 @@ fn write_two<S: Store>(
 ) -> Result<Head, CommitRefused>
     requires number { 1 ≤ number }
     requires ids { (kept.segment.id ≡ 1) × (fresh.segment.id ≡ 2) }
-    requires births { BirthsRise 1 1 kept.segment.rows × BirthsRise 3 3 fresh.segment.rows }
+    requires births { BirthsRise (first_birth 1) (last_birth 1) kept.segment.rows
+        × BirthsRise (first_birth 3) (last_birth 3) fresh.segment.rows }
     requires can { CanWrite number kept × CanWrite number fresh }
     requires was { WrittenUpTo number was }
 {
@@ -290,5 +295,24 @@ fn pairs_are_read_back(rt: HostRuntime) -> Result<(), Fail> {
     let said = said_of_head(alloc, &mut store)?;
     assert!(rt; said.as_str() == "2 1 2 Second: 1 1 2; key=x s=");
     assert!(rt; open_commit(alloc, &mut store, 2).is_ok());
+    Ok(())
+}
+
+/// A commit on a store that was written before there were places: a segment that stays keeps its file of rows
+/// in the first form, and the new one has the second form. Both are read back.
+#[test]
+fn a_store_of_the_first_forms_is_written_on(rt: HostRuntime) -> Result<(), Fail> {
+    let alloc = rt.alloc();
+    let mut store = store_of(alloc, [SMALL, COMMIT])?;
+    put_file(alloc, &mut store, OLD_ROWS)?;
+    write_named(alloc, &mut store, "second", &Fields::none(alloc))?.ok_or("memory")?;
+    assert!(rt; has(alloc, &mut store, OLD_ROWS)?);
+    let rows = store.read(alloc, FileName::Rows(2))?.ok_or("no rows")?;
+    assert!(rt; rows.starts_with(b"IXROW002"));
+    let read = told(alloc, open_commit(alloc, &mut store, 4))?;
+    assert!(rt;
+        read.as_str()
+            == "next 3, 1 of 2, 2 of 4; 1 with 1 terms at 4: a11; 2 with 1 terms at 4: a13"
+    );
     Ok(())
 }
