@@ -1,9 +1,10 @@
 -- The commit of a writer.
 use Rattle.std.proofs.Common.{◌≡◌, ◌∙◌, ℕ, ◌<◌, ◌≤◌, cond, Bool, true, false, List, [], ◌∷◌, ◌++◌, Option, Some, None, length, refl, sym, ap, subst, inl, arith, IsPermutation}
-use Rattle.std.specs.Prelude.{◌↔◌, IfSome, IsSome, IsTrue, OnErr, Result, Ok, Err}
+use Rattle.std.specs.Prelude.{◌↔◌, ◌-◌, ◌^◌, min, IfSome, IsSome, IsTrue, OnErr, Result, Ok, Err}
 use Rattle.std.specs.List.{AllByRecursion, cons_option, filter}
 use Rattle.std.proofs.lemmas.Bool.{ltb-false}
 use Rattle.std.proofs.lemmas.List.Sorted.{length_permutation}
+use Rattle.ix_base.specs.Counts.{doc_count}
 use Rattle.ix_base.specs.declared.document.Row.{Row}
 use Rattle.ix_base.specs.declared.file_name.FileName.{FileName}
 use Rattle.ix_base.specs.declared.file_name.FileName.TheVariants.{Commit, Pending, Rows, Posts, Live, Values}
@@ -25,7 +26,8 @@ use Rattle.index_writer.specs.declared.fault.WriterFault.{WriterFault}
 use Rattle.index_writer.specs.declared.fault.WriterFault.TheVariants.{Store, NoMemory as OutOfMemory}
 use Rattle.index_writer.specs.declared.state.State.{State}
 use Rattle.index_writer.specs.Ready.{CanBePending, HasRows, IsReady, IsStored, NewIdsFrom}
-use Rattle.index_writer.specs.Storing.{Commits, GoesOn, MayCommit, SameBelow, Settles, on_commit, own_written, renewed}
+use Rattle.index_writer.specs.Standing.{Settles}
+use Rattle.index_writer.specs.Storing.{Commits, GoesOn, MayCommit, SameBelow, on_commit, own_written, renewed}
 
 -- ---- segments without a live row
 
@@ -135,8 +137,9 @@ listed_rows s rows has = record {
 pub listed_inverted : (s : State) (rows : List Row) → HasRows s rows → AreInverted (listed s.published.segments)
 listed_inverted s rows has = all_filter (λ (g : Lived). IsInverted g.segment) is_alive s.published.segments has.inverted
 
-pub counted : (s : State) (rows : List Row) → HasRows s rows → length (all_live (listed s.published.segments)) ≡ length rows
-counted s rows has = sym (length_permutation (all_live (listed s.published.segments)) rows (listed_rows s rows has).merged)
+pub counted : (s : State) (rows : List Row) → HasRows s rows → doc_count (all_live (listed s.published.segments)) ≡ doc_count rows
+counted s rows has =
+    ap (λ (n : ℕ). min n (2 ^ 64 - 1)) (sym (length_permutation (all_live (listed s.published.segments)) rows (listed_rows s rows has).merged))
 
 -- ---- the call
 
@@ -220,5 +223,6 @@ comes s files ready less goes = record {
 
 pub settles : (s : State) (old new : Option Disk) → IsReady s → s.last < s.published.upto
     → settling.Settles s.published.upto s.published.segments s.written old new → Settles s old new
-settles s old new ready less settled = λ files now told told_now goes images.
-    settled files now told told_now (comes s files ready less goes) goes.stored images
+settles s old new ready less settled = λ files now told told_now goes stands.
+    settled files now stands.own told told_now (comes s files ready less goes) stands.stored
+    (λ name some. let of = stands.of_last name some in ((s.last, of.0), of.1))

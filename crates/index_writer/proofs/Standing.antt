@@ -15,6 +15,7 @@ use Rattle.commit_point.specs.declared.heads.HeadSegment.{HeadSegment}
 use Rattle.commit_point.specs.declared.written.Written.{Written}
 use Rattle.commit_point.specs.Holds.{AreKept, HasSegment, HasSegments, HaveSegments, IsAmong, IsFileOf, Lists, head_of, names_of}
 use Rattle.commit_point.proofs.KeptLaws.{lists_there}
+use Rattle.commit_point.proofs.RowsKept.{rows_kept}
 use Rattle.commit_point.specs.Writing.{AreWritten, IsWritten, entries_of, entry_of, is_alive, listed, version}
 use Rattle.commit_pruning.specs.Choosing.{has_id, has_written, is_listed}
 use Rattle.commit_pruning.proofs.ListedLaws.{listed_by, own_listed}
@@ -76,7 +77,7 @@ segment_in files own a e g same has = record {
   count = has.count;
   whole = has.whole;
   applied = has.applied;
-  rows = same (Rows e.id) (inl refl) ∙ has.rows;
+  rows = rows_kept files own e.id g.segment.rows (same (Rows e.id) (inl refl)) has.rows;
   posts = same (Posts e.id) (inr (inl refl)) ∙ has.posts;
   live = same (Live e.id e.written) (inr (inr (inl refl))) ∙ has.live;
   values = same (Values e.id e.written) (inr (inr (inr (inl refl)))) ∙ has.values;
@@ -138,7 +139,7 @@ stand_onto own now t (g ∷ gs) (Some w ∷ ws) same stand = (λ alive. one (sta
         count = is.1.count;
         whole = is.1.whole;
         applied = is.1.applied;
-        rows = at _ _ is.1.rows;
+        rows = record { bytes = is.1.rows.bytes; file = at _ _ is.1.rows.file; spells = is.1.rows.spells };
         posts = at _ _ is.1.posts;
         live = at _ _ is.1.live;
         values = at _ _ is.1.values;

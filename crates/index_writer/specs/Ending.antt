@@ -22,9 +22,10 @@ rests_of i [] ps = []
 rests_of i (w ∷ ws) [] = []
 rests_of i (w ∷ ws) (p ∷ ps) = record { worker = i; rows = w.rows; gave = p } ∷ rests_of (i + 1) ws ps
 
--- a last piece can be made: the rows are few
+-- A last piece can be made: the rows are few. The documents of a block stay together, so a buffer may have 63 above the
+-- most that its size can be.
 abbrev pub CanEnd : Rest → Type 0
-CanEnd r = length r.rows ≤ 65536
+CanEnd r = length r.rows ≤ 65599
 
 -- The pieces that were given off with a last one, of one after another. The round's first operation has the number
 -- after the base.

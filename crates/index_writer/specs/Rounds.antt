@@ -8,7 +8,7 @@ use Rattle.ix_base.specs.declared.document.Operation.TheVariants.{Commit}
 use Rattle.ix_outside.specs.Files.{Files}
 use Rattle.delete_queue.specs.declared.queue.DeleteQueue.{DeleteQueue}
 use Rattle.delete_queue.specs.Seats.{base_of, number_of, own_of, seats_of}
-use Rattle.row_fates.specs.Fate.{Numbered, rows_added}
+use Rattle.row_fates.specs.Fate.{Numbered, adding}
 use Rattle.thread_writer.specs.declared.piece.Piece.{Piece}
 use Rattle.thread_writer.specs.declared.writer.ThreadWriter.{ThreadWriter}
 use Rattle.thread_writer.specs.Writing.{Did, IsWriter, parts_of}
@@ -76,8 +76,8 @@ EndsBy Turned ops new = (new.pending ≡ None) × NoCommit ops
 EndsBy Ran ops new = (new.pending ≡ None) × NoCommit ops
 
 -- A round ended: what its writers were told is one order of operations, numbered on from those before, and the segments
--- have the rows that these leave. What is on the store of segments still stands there. It takes an id for each row that
--- is added, at most.
+-- have the rows that these leave. What is on the store of segments still stands there. It takes an id for each operation
+-- that adds documents, at most.
 pub record Ends (told : List (List Numbered)) (end : RoundEnd) (old new : State) : Type 0 where
   pub ts : List Working
   pub order : (i : ℕ) → told_of i old.published.upto ts ≡ slice_index_or told i []
@@ -86,7 +86,7 @@ pub record Ends (told : List (List Numbered)) (end : RoundEnd) (old new : State)
   pub stored : (files : Files) → IsStored files old → IsStored files new
   pub ids : old.published.next_id ≤ new.published.next_id
   pub few : new.published.next_id
-      ≤ old.published.next_id + length (rows_added (numbered_from old.published.upto (seconds ts)))
+      ≤ old.published.next_id + adding (numbered_from old.published.upto (seconds ts))
   pub by_end : EndsBy end (seconds ts) new
   pub out : new.out ≡ false
   pub last : new.last ≡ old.last

@@ -1,9 +1,11 @@
 -- Whose files the writer's segments stand in, and what a writer can go on from once old commits are given up.
-use Rattle.std.specs.Prelude.{◌≡◌, ◌≤◌, ℕ, IsSome}
+use Rattle.std.specs.Prelude.{◌≡◌, ◌≤◌, ℕ, Option, Some, IsSome}
 use Rattle.ix_base.specs.declared.file_name.FileName.{FileName}
+use Rattle.ix_outside.specs.Crash.{MayHold}
+use Rattle.ix_outside.specs.Disk.{Disk, told_files}
 use Rattle.ix_outside.specs.Files.{Files}
 use Rattle.commit_point.specs.declared.open.Opened.{Opened}
-use Rattle.commit_point.specs.Holds.{HasSegments, IsFileOf, Pairs}
+use Rattle.commit_point.specs.Holds.{AreKept, HasSegments, IsFileOf, Pairs}
 use Rattle.commit_pruning.specs.Pruning.{MayBePruned}
 use Rattle.index_writer.specs.declared.state.State.{State}
 use Rattle.index_writer.specs.Ready.{IsStored, opened_on}
@@ -41,3 +43,9 @@ StandingStays =
 abbrev pub PrunedGoOn : Type 0
 PrunedGoOn = (keep : ℕ) (s : State) (files now : Files) → 1 ≤ keep → MayBePruned keep files now
     → GoesOn files s → StandsOnLast files s → GoesOn now s × StandsOnLast now s
+
+-- A writer's commit settles: where the writer can go on from the files, what is on the store of its segments stands in
+-- files of its last commit, and each commit was kept before, each commit is kept, the new one too.
+abbrev pub Settles : State → Option Disk → Option Disk → Type 0
+Settles s old new = (files now : Files) → told_files old ≡ Some files → told_files new ≡ Some now → GoesOn files s
+    → StandsOnLast files s → AreKept files (MayHold old) → AreKept now (MayHold new)

@@ -1,13 +1,11 @@
 -- What a commit does to the files, and to the state.
 use Rattle.std.specs.Prelude.{◌≡◌, ℕ, ◌<◌, List, [], ◌∷◌, Option, Some, None}
 use Rattle.ix_base.specs.declared.file_name.FileName.TheVariants.{Commit}
-use Rattle.ix_outside.specs.Crash.{MayHold}
-use Rattle.ix_outside.specs.Disk.{Disk, told_files}
 use Rattle.ix_outside.specs.Files.{Files}
 use Rattle.segment_core.specs.LiveRows.{Lived}
 use Rattle.commit_point.specs.declared.heads.HeadSegment.{HeadSegment}
 use Rattle.commit_point.specs.declared.written.Written.{Written}
-use Rattle.commit_point.specs.Holds.{AreKept, Lists, Pairs}
+use Rattle.commit_point.specs.Holds.{Lists, Pairs}
 use Rattle.commit_point.specs.Writing as commit
 use Rattle.commit_point.specs.Writing.{SameElsewhere, version}
 use Rattle.index_writer.specs.declared.state.State.{State}
@@ -60,9 +58,3 @@ pub record GoesOn (files : Files) (s : State) : Type 0 where
   pub none_above : (t : ℕ) → s.last < t → files (Commit t) ≡ None
   pub ids : (t : ℕ) (e : HeadSegment) → Lists files t e → e.id < s.since
   pub stored : IsStored files s
-
--- A writer's commit settles: where each commit was kept before, and what is on the store of its segments stands in the
--- files and in every image, each commit is kept, the new one too.
-abbrev pub Settles : State → Option Disk → Option Disk → Type 0
-Settles s old new = (files now : Files) → told_files old ≡ Some files → told_files new ≡ Some now → GoesOn files s
-    → ((d : Files) → MayHold old d → IsStored d s) → AreKept files (MayHold old) → AreKept now (MayHold new)

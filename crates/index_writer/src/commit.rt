@@ -1,6 +1,7 @@
 //! The commit of what is in the segments.
 ghost use Rattle.std.specs.Prelude.{◌≡◌, ◌≤◌, ◌<◌, ◌^◌, ◌↔◌, length, IsSome};
 ghost use Rattle.std.specs.Prelude.{IsTrue, Some, None, IfOk, OnOk, OnErr, Err, true, false};
+ghost use Rattle.ix_base.specs.Counts.{doc_count};
 ghost use Rattle.ix_base.specs.declared.document.Row.{Row};
 ghost use Rattle.std.specs.Prelude.{List as ListOf};
 ghost use Rattle.ix_base.specs.declared.file_name.FileName.TheVariants.{Commit};
@@ -12,7 +13,8 @@ ghost use Rattle.ix_outside.specs.Files.{Files, Changes};
 ghost use Rattle.ix_outside.specs.Images.{Follows, Reaches};
 ghost use Rattle.commit_point.specs.Steps.{KeepsMade, OnlyCommits};
 ghost use Rattle.index_writer.specs.Ready.{HasRows, IsSound};
-ghost use Rattle.index_writer.specs.Storing.{Commits, GoesOn, MayCommit, SameBelow, Settles, on_commit, renewed};
+ghost use Rattle.index_writer.specs.Standing.{Settles};
+ghost use Rattle.index_writer.specs.Storing.{Commits, GoesOn, MayCommit, SameBelow, on_commit, renewed};
 
 use crate::fault::WriterFault;
 use crate::round::CommitInfo;
@@ -26,10 +28,10 @@ use std::alloc::Global;
 
 impl<S: Store> IndexWriter<S> {
     /// Writes the commit with which the last round ended, with these pairs in its commit file, and
-    /// returns its number and how many rows it has. It asks that there is one, unless the writer is
-    /// closed. Only what is new or changed since the last commit is written. The commit lists the
-    /// segments with a live row. The writer's segments stay, those without one too, and a merge that
-    /// runs goes on after it.
+    /// returns its number and how many rows it has, or 2^64 - 1 where they are more. It asks that there
+    /// is one, unless the writer is closed. Only what is new or changed since the last commit is
+    /// written. The commit lists the segments with a live row. The writer's segments stay, those without
+    /// one too, and a merge that runs goes on after it.
     ///
     /// `Closed` comes exactly where the writer is closed; nothing changes then. After `Store` it is
     /// closed. After `NoMemory` all is as before, and the commit can be tried again; but where the
@@ -41,7 +43,7 @@ impl<S: Store> IndexWriter<S> {
         ensures on { OnOk result (self.new.state ≡ on_commit self.old.state) }
         ensures number { IfOk result (λ info. self.old.state.pending ≡ Some info.number) }
         ensures docs { (rows : ListOf Row) → HasRows self.old.state rows
-            → IfOk result (λ info. info.docs ≡ length rows) }
+            → IfOk result (λ info. info.docs ≡ doc_count rows) }
         ensures stands { (rows : ListOf Row) → HasRows self.old.state rows
             → OnOk result (HasRows self.new.state rows) }
         ensures made { self.old.state.published.next_id ≤ 2 ^ 62

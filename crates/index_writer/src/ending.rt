@@ -136,7 +136,7 @@ fn last_piece(
     worker: u64,
     mut rows: RamPostings,
 ) -> Result<Piece, NoMemory>
-    requires few { length rows ≤ 65536 }
+    requires few { length rows ≤ 65599 }
     ensures { IfOk result (IsLast base rows) }
 {
     let frozen = rows.take_frozen()?;

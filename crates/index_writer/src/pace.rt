@@ -9,19 +9,19 @@ use crate::writer::IndexWriter;
 const SEGMENTS: u64 = 4096;
 
 impl<S> IndexWriter<S> {
-    /// How many rows of its sources a merge is to read after a round of so many operations, a commit
-    /// not counted: for each of them as many as merges read of one row until 4,096 segments are one, and
-    /// a buffer's documents at most. So what merges cost follows what rounds bring, and none is gone on
-    /// with after a round without an operation.
-    pub fn rows_of_step(&self, operations: u64) -> u32
+    /// How many rows of its sources a merge is to read after a round that brought so much, counted in
+    /// operations but its commit, or in documents: for each of them as many as merges read of one row
+    /// until 4,096 segments are one, and at most as many as a buffer is given off after. So what merges
+    /// cost follows what rounds bring, and none is gone on with after a round that brought nothing.
+    pub fn rows_of_step(&self, brought: u64) -> u32
         requires ready { IsReady self.now.state }
         ensures rows { (levels : ℕ) → AreLevels self.now.state.merge levels
-            → result ≡ min self.now.state.buffer (operations * levels) }
-        ensures none { operations ≡ 0 → result ≡ 0 }
-        ensures some { 1 ≤ operations → 1 ≤ result }
+            → result ≡ min self.now.state.buffer (brought * levels) }
+        ensures none { brought ≡ 0 → result ≡ 0 }
+        ensures some { 1 ≤ brought → 1 ≤ result }
     {
         let buffer = u64::from(self.state.buffer);
-        let rows = operations.min(buffer) * levels(self.state.merge);
+        let rows = brought.min(buffer) * levels(self.state.merge);
         rows.min(buffer) as u32
     }
 }

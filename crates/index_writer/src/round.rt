@@ -34,6 +34,6 @@ pub enum RoundEnd {
 #[derive(Clone, Copy, Debug, PartialEq, Eq)]
 pub struct CommitInfo {
     pub number: u64,
-    /// How many rows it has.
+    /// How many rows it has, or 2^64 - 1 where they are more.
     pub docs: u64,
 }

@@ -20,7 +20,8 @@ pub struct State {
     /// The id that the next segment took at that commit: a segment that is new since then has an id
     /// from this one on.
     pub since: u64,
-    /// How many documents the buffer of a thread writer holds, 1 to 65,536.
+    /// After how many documents a thread writer gives its buffer off, 1 to 65,536. Those of a block stay
+    /// together, so the buffer may come to hold 63 more.
     pub buffer: u32,
     /// How many segments are merged into one, 2 to 64.
     pub merge: u32,

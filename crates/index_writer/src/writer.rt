@@ -22,9 +22,9 @@ pub struct IndexWriter<S> {
 }
 
 impl<S> IndexWriter<S> {
-    /// The writer of an index without a commit: no segment, the number 0, and 1 as the next id. The
-    /// buffers of its thread writers hold 1 to 65,536 documents, and 2 to 64 segments are merged into
-    /// one. It takes no memory.
+    /// The writer of an index without a commit: no segment, the number 0, and 1 as the next id. Its
+    /// thread writers give their buffers off after 1 to 65,536 documents, and 2 to 64 segments are
+    /// merged into one. It takes no memory.
     pub fn none(alloc: Global, store: S, buffer: u32, merge: u32) -> IndexWriter<S>
         requires buffer { (1 ≤ buffer) × (buffer ≤ 65536) }
         requires merge { (2 ≤ merge) × (merge ≤ 64) }
@@ -62,8 +62,8 @@ impl<S> IndexWriter<S> {
     }
 
     /// The writer on a commit that was read back. No merge runs: one that another writer had begun is
-    /// lost. The buffers of its thread writers hold 1 to 65,536 documents, and 2 to 64 segments are
-    /// merged into one. The only error is out of memory, and the store is given back then.
+    /// lost. Its thread writers give their buffers off after 1 to 65,536 documents, and 2 to 64 segments
+    /// are merged into one. The only error is out of memory, and the store is given back then.
     pub fn open(
         alloc: Global,
         store: S,
@@ -128,7 +128,8 @@ impl<S> IndexWriter<S> {
         self.state.last
     }
 
-    /// How many documents the buffer of a thread writer holds, 1 to 65,536.
+    /// After how many documents a thread writer gives its buffer off, 1 to 65,536. Those of a block stay
+    /// together, so the buffer may come to hold 63 more.
     pub fn buffer(&self) -> u32
         ensures { result ≡ self.now.state.buffer }
     {

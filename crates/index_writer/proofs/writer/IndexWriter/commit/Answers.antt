@@ -1,5 +1,6 @@
 use Rattle.std.proofs.Common.{◌∙◌, List, Option, length, refl, sym, ap, subst, inl, arith}
 use Rattle.std.specs.Prelude.{IsSome}
+use Rattle.ix_base.specs.Counts.{doc_count}
 use Rattle.ix_base.specs.declared.file_name.FileName.TheVariants.{Commit}
 use Rattle.ix_outside.proofs.CallLaws.{leaves_none}
 use Rattle.ix_outside.specs.Crash.{MayHold}
@@ -88,7 +89,7 @@ returns-in-Ok-clause-sound g c still =
 pub returns-in-Ok-clause-docs : goal.returns-in-Ok-clause-docs
 returns-in-Ok-clause-docs g c rows has =
     ap (λ (h : Head). h.docs) c.in-Ok.ensures.head
-    ∙ (ap (λ (gs : List Lived). length (all_live (commit.listed gs))) c.as_slice-segments.ensures ∙ counted c.args.self.now.state rows has)
+    ∙ (ap (λ (gs : List Lived). doc_count (all_live (commit.listed gs))) c.as_slice-segments.ensures ∙ counted c.args.self.now.state rows has)
 
 pub returns-in-Ok-clause-stands : goal.returns-in-Ok-clause-stands
 returns-in-Ok-clause-stands g c rows has =
