@@ -1,5 +1,7 @@
 //! Small stores, each with one thing changed.
-use crate::tests_stores::{COMMIT, EMPTY_COMMIT, POSTS, store, write_changed};
+use crate::tests_stores::{
+    COMMIT, EMPTY_COMMIT, OLD_ROWS, POSTS, ROWS, store, write_changed, write_file,
+};
 use index_check::{CheckFault, Difference, check};
 use ix_base::{Damaged, FileName};
 use ix_memory::MemoryStore;
@@ -69,6 +71,16 @@ fn sound_commits_are_told(rt: HostRuntime) -> Result<(), Fail> {
     Ok(())
 }
 
+/// A file of rows in the first form is as sound as one in the second.
+#[test]
+fn rows_of_the_first_form_are_sound(rt: HostRuntime) -> Result<(), Fail> {
+    let alloc = rt.alloc();
+    let mut store = store(alloc)?;
+    write_file(&mut store, FileName::Rows(1), &OLD_ROWS)?;
+    assert!(rt; told(alloc, &mut store) == None);
+    Ok(())
+}
+
 #[test]
 fn other_postings_are_told(rt: HostRuntime) -> Result<(), Fail> {
     let alloc = rt.alloc();
@@ -132,11 +144,14 @@ fn earlier_ids_are_kept(rt: HostRuntime) -> Result<(), Fail> {
 #[test]
 fn damage_is_told(rt: HostRuntime) -> Result<(), Fail> {
     let alloc = rt.alloc();
-    // A mark, a row that isn't there, and a number of documents that isn't that of the live rows.
+    // A mark, a row that isn't there, a number of documents that isn't that of the live rows, and a place and
+    // an operation that there aren't.
     for (file, bytes, change, at) in [
         (FileName::Posts(1), POSTS.as_slice(), (0, 0), 0),
         (FileName::Posts(1), POSTS.as_slice(), (48, 1), 45),
         (FileName::Commit(2), COMMIT.as_slice(), (23, 2), 16),
+        (FileName::Rows(1), ROWS.as_slice(), (31, 64), 28),
+        (FileName::Rows(1), ROWS.as_slice(), (27, 3), 20),
     ] {
         let damaged = Damaged { file, at };
         assert!(rt; told_of(alloc, file, bytes, change)? == Some(CheckFault::Damaged(damaged)));

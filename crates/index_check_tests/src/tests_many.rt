@@ -10,7 +10,7 @@ use std::test::*;
 /// How many rows the segment has.
 const ROWS: u32 = 3000;
 
-/// The number of the first commit, which is not below a row's birth.
+/// The number of the first commit, which is not below that of an operation that added rows.
 const FIRST: u64 = 3000;
 
 /// How many commits list the segment.
@@ -25,12 +25,14 @@ fn put_key(alloc: Global, out: &mut Vec<u8>, row: u32) -> Result<(), Fail> {
     Ok(())
 }
 
+/// The rows, of which 64 were added together at a time.
 fn rows_file(alloc: Global) -> Result<Vec<u8>, Fail> {
-    let mut out = Vec::from_slice(alloc, b"IXROW001")?;
+    let mut out = Vec::from_slice(alloc, b"IXROW002")?;
     put_u64(&mut out, 1)?;
     put_u32(&mut out, ROWS)?;
     for row in 0..ROWS {
-        put_u64(&mut out, u64::from(row) + 1)?;
+        put_u64(&mut out, u64::from(row / 64) + 1)?;
+        put_u32(&mut out, row % 64)?;
         put_key(alloc, &mut out, row)?;
         // No texts, no exact texts and no numbers.
         put_u32(&mut out, 0)?;

@@ -18,7 +18,13 @@ pub(crate) const EMPTY_COMMIT: [u8; 40] = [
 ];
 
 /// `seg_1.row`: the key `a1` and nothing else.
-pub(crate) const ROWS: [u8; 50] = [
+pub(crate) const ROWS: [u8; 54] = [
+    0x49, 0x58, 0x52, 0x4f, 0x57, 0x30, 0x30, 0x32, 0, 0, 0, 0, 0, 0, 0, 1, 0, 0, 0, 1, 0, 0, 0, 0,
+    0, 0, 0, 1, 0, 0, 0, 0, 0, 0, 0, 2, 0x61, 0x31, 0, 0, 0, 0, 0, 0, 0, 0, 0, 0, 0, 0, 0, 0, 0, 0,
+];
+
+/// The same in the first form.
+pub(crate) const OLD_ROWS: [u8; 50] = [
     0x49, 0x58, 0x52, 0x4f, 0x57, 0x30, 0x30, 0x31, 0, 0, 0, 0, 0, 0, 0, 1, 0, 0, 0, 1, 0, 0, 0, 0,
     0, 0, 0, 1, 0, 0, 0, 2, 0x61, 0x31, 0, 0, 0, 0, 0, 0, 0, 0, 0, 0, 0, 0, 0, 0, 0, 0,
 ];
@@ -76,6 +82,7 @@ pub(crate) fn write_file(
 ) -> Result<(), StoreFault> {
     match file {
         FileName::Commit(number) if number > 0 => store.write(FileName::Commit(number), bytes),
+        FileName::Rows(id) if id > 0 => store.write(FileName::Rows(id), bytes),
         FileName::Posts(id) if id > 0 => store.write(FileName::Posts(id), bytes),
         _ => Ok(()),
     }
