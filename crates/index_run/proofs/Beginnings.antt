@@ -13,6 +13,7 @@ use Rattle.index_writer.specs.Laws.{OpenedGoOn}
 use Rattle.index_writer.specs.Ready.{CanFollow, IsStored, opened_on}
 use Rattle.run_log.specs.Headline.{CanRun, Given, HasNoCommit, IsLast, IsOn}
 use Rattle.run_log.proofs.OnlyLaws.{none_of}
+use Rattle.index_writer.specs.Standing.{OpenedStand}
 use Rattle.index_run.specs.Beginning.{BeginsOn, CanBeginOn, IsBase, IsGivenCommit, IsOpened, IsSpelled, last_or_zero}
 use Rattle.index_run.specs.Doing.{IsOnGiven}
 use Rattle.index_run.proofs.LogNumbers.{nat_or}
@@ -186,9 +187,9 @@ opened_begins law g last size merge w on given is =
     subst (BeginsOn g) (sym is) (subst (λ (x : Opened). BeginsOn g (opened_on x size merge)) (sym last_is)
     (record { number = refl; next_id = refl; stored = stored }))
 
-pub opened_on_given : OpenedGoOn → (g : Given) (last : Opened) (size merge : ℕ) (w : State) → CanRun g
+pub opened_on_given : OpenedGoOn → OpenedStand → (g : Given) (last : Opened) (size merge : ℕ) (w : State) → CanRun g
     → IsGivenCommit g last → w ≡ opened_on last size merge → IsOnGiven g w
-opened_on_given law g last size merge w can given is =
+opened_on_given law stand g last size merge w can given is =
     let lawful = lawful_given g can given.some in
     let holds = lawful.holds.holds in
-    begins_lawful law g last size merge w can lawful (given.is holds.entries holds.segments holds.spelled) is
+    begins_lawful law stand g last size merge w can lawful (given.is holds.entries holds.segments holds.spelled) is

@@ -30,7 +30,8 @@ use Rattle.index_writer.specs.declared.round.RoundParts.{RoundParts}
 use Rattle.index_writer.specs.declared.state.State.{State}
 use Rattle.index_writer.specs.Rounds.{AreBegunFrom, ArePartsOf, IsBegun}
 use Rattle.index_writer.specs.Ready.{HasRows, IsReady, IsSound}
-use Rattle.index_writer.specs.Storing.{Commits, GoesOn as WriterGoesOn, MayCommit, Settles, on_commit}
+use Rattle.index_writer.specs.Standing.{Settles}
+use Rattle.index_writer.specs.Storing.{Commits, GoesOn as WriterGoesOn, MayCommit, on_commit}
 use Rattle.run_log.specs.Headline.{commit_numbers, numbered, operations, pairs_at}
 use Rattle.run_log.proofs.Lists.{each_behind, each_in_both, each_pair}
 use Rattle.run_log.proofs.NumberLaws.{commits_append, commits_within, rows_at_all, rows_at_front}
@@ -265,7 +266,7 @@ round_done r lines commits pairs threads w v round shares news worked parts now 
 docs_stay : (first : State) (log more : List Line) (s docs : ℕ) → s ≤ first.published.upto + length log
     → IsDocs first log s docs → IsDocs first (log ++ more) s docs
 docs_stay first log more s docs le are rows has =
-    are rows has ∙ ap length (sym (rows_at_front first.published.upto rows log more s le))
+    are rows has ∙ ap doc_count (sym (rows_at_front first.published.upto rows log more s le))
 
 all_stay : (first : State) (log more : List Line) (commits : List Pair)
     → map (λ (c : Pair). c.0) commits ≡ commit_numbers first.published.upto log

@@ -10,7 +10,7 @@ use Rattle.ix_outside.specs.Disk.{Disk, Told, told_files}
 use Rattle.ix_outside.specs.Files.{Files, Changes, onto, stays, then}
 use Rattle.ix_outside.specs.Images.{Follows, Reaches}
 use Rattle.commit_point.specs.declared.written.Written.{Written}
-use Rattle.commit_point.specs.Holds.{AreKept}
+use Rattle.commit_point.specs.Holds.{AreKept, IsFileOf}
 use Rattle.commit_point.proofs.StepLaws.{goes_none, goes_then}
 use Rattle.commit_point.specs.Steps.{KeepsMade, KeepsStanding, MakesCommits, OnlyCommits}
 use Rattle.commit_point.specs.Writing.{AreWritten}
@@ -21,7 +21,8 @@ use Rattle.index_writer.specs.declared.round.RoundEnd.{RoundEnd}
 use Rattle.index_writer.specs.declared.state.State.{State}
 use Rattle.index_writer.specs.Ready.{IsStored}
 use Rattle.index_run.specs.Merged.{EndsMerged}
-use Rattle.index_writer.specs.Storing.{Commits, GoesOn, MayCommit, Settles, on_commit}
+use Rattle.index_writer.specs.Standing.{Settles, StandsOnLast}
+use Rattle.index_writer.specs.Storing.{Commits, GoesOn, MayCommit, on_commit}
 use Rattle.run_log.specs.Headline.{commit_numbers}
 use Rattle.index_run.specs.Doing.{CanBegin, IsWriterOn}
 use Rattle.index_run.specs.Leaving.{CommitLaws, HasFront, HasSomeFront, IsDiskAfter, IsNextCommit, Stands, due_pairs, first_numbers}
@@ -55,6 +56,7 @@ stands_none first log files = record {
   front = front_none first log first.since files;
   stored = λ stored. stored;
   goes_on = λ goes. goes;
+  on_last = λ goes on. on;
 }
 
 pub disk_start : (first : State) (disk : Option Disk) → CanBegin first → IsDiskAfter first [] 0 first disk disk
@@ -67,7 +69,7 @@ disk_start first disk can = record {
       (λ c image. (c, image, (0, omega arith, front_none first [] (first.published.next_id + 2 * 0) c)));
   only = goes_none (λ step older. MakesCommits step) disk;
   standing = λ was told goes. goes_none KeepsStanding disk;
-  settled = λ was is told_was told_is goes images kept.
+  settled = λ was is told_was told_is goes on kept.
       let same : was ≡ is = cc in subst (λ (f : Files). AreKept f (MayHold disk)) same kept;
 }
 
@@ -82,6 +84,16 @@ same_goes_on files w v stored last since goes = record {
   stored = stored goes.stored;
 }
 
+-- what stands in files of the last commit, of the same ones
+same_on_last : (files : Files) (w v : State) → ((f : Files) → IsStored f w → IsStored f v) → v.last ≡ w.last
+    → StandsOnLast files w → StandsOnLast files v
+same_on_last files w v stored last on = record {
+  own = on.own;
+  of_last = λ name some.
+      (subst (λ (n : ℕ). IsFileOf files n name) (sym last) (on.of_last name some).0, (on.of_last name some).1);
+  stored = stored on.own on.stored;
+}
+
 stands_other : (first : State) (log : List Line) (numbers : List ℕ) (w v : State) (old new : Files)
     → ((files : Files) → IsStored files w → IsStored files v) → v.last ≡ w.last → v.since ≡ w.since
     → Stands first log numbers w old new → Stands first log numbers v old new
@@ -89,6 +101,7 @@ stands_other first log numbers w v old new stored last since stands = record {
   front = subst (λ (n : ℕ). HasFront first log numbers n old new) (sym since) stands.front;
   stored = λ was. stored new (stands.stored was);
   goes_on = λ goes. same_goes_on new w v (stored new) last since (stands.goes_on goes);
+  on_last = λ goes on. same_on_last new w v stored last (stands.on_last goes on);
 }
 
 same_stored : (files : Files) (w v : State) → v.published ≡ w.published → v.written ≡ w.written → IsStored files w
@@ -132,6 +145,7 @@ stands_longer first log more numbers same w old new is stands =
       front = front_longer first log more numbers w.since w.since old new (omega arith) stands.front;
       stored = stands.stored;
       goes_on = stands.goes_on;
+      on_last = stands.on_last;
     })
 
 some_longer : (first : State) (log more : List Line) (old new : Files) → HasSomeFront first log old new
@@ -267,14 +281,12 @@ crash_commit first w log count start mid now laws begun on le numbers crash disk
 settled_commit : (first w v : State) (log : List Line) (count : ℕ) (start mid now : Option Disk)
     → Settles w mid now → IsDiskAfter first log count w start mid
     → (was is : Files) → told_files start ≡ Some was → told_files now ≡ Some is → GoesOn was first
-    → ((d : Files) → MayHold start d → GoesOn d first) → AreKept was (MayHold start) → AreKept is (MayHold now)
-settled_commit first w v log count start mid now settles disk was is told_was told_is goes images kept =
+    → StandsOnLast was first → AreKept was (MayHold start) → AreKept is (MayHold now)
+settled_commit first w v log count start mid now settles disk was is told_was told_is goes on kept =
     let numbers = first_numbers first log count in
     let m = the_files (told_files mid) (Stands first log numbers w was)
     (changed (Stands first log numbers w) (told_files start) (told_files mid) was told_was disk.files) in
-    settles m.0 is m.1 told_is (m.2.goes_on goes)
-    (λ d image. let b = disk.images d image in b.2.stored (images b.0 b.1).stored)
-    (disk.settled was m.0 told_was m.1 goes images kept)
+    settles m.0 is m.1 told_is (m.2.goes_on goes) (m.2.on_last goes on) (disk.settled was m.0 told_was m.1 goes on kept)
 
 -- no commit that stood lost its files or bytes, before the commit was made and meanwhile
 pub standing_commit : (first w : State) (log : List Line) (count : ℕ) (start mid now : Option Disk)

@@ -198,7 +198,7 @@ pub over_settled : (g : Given) (r : Run) (lines : List Line) (outcomes : List Ou
     → told_files r.start ≡ Some g.files → IsOnGiven g r.first → IsOver r lines outcomes w now → IsKept g r.start
     → (f : Files) → told_files now ≡ Some f → AreKept f (MayHold now)
 over_settled g r lines outcomes w now told on o are f told_now =
-    o.disk.settled g.files f told told_now on.goes_on (begins_image g r.first r.start on are) are
+    o.disk.settled g.files f told told_now on.goes_on on.on_last are
 
 -- the commits that are there have their files as before, or new ones
 pub over_spelled : (g : Given) (r : Run) (lines : List Line) (outcomes : List Outcome) (w : State) (now : Option Disk)

@@ -9,6 +9,7 @@ use Rattle.commit_point.specs.declared.heads.HeadSegment.{HeadSegment}
 use Rattle.commit_point.specs.declared.open.Opened.{Opened}
 use Rattle.commit_point.specs.Holds.{HasSegment, HasSegments, HaveSegments, IsAmong, KeepsCommits, head_of, names_of}
 use Rattle.commit_point.proofs.KeptLaws.{there_by}
+use Rattle.commit_point.proofs.RowsKept.{rows_kept}
 use Rattle.index_writer.specs.declared.state.State.{State}
 use Rattle.index_writer.specs.Laws.{OpenedGoOn}
 use Rattle.index_writer.specs.Ready.{IsStored, opened_on}
@@ -35,7 +36,7 @@ segment_there files d t e g same has = record {
   count = has.count;
   whole = has.whole;
   applied = has.applied;
-  rows = same (Rows e.id) (inl refl) ∙ has.rows;
+  rows = rows_kept files d e.id g.segment.rows (same (Rows e.id) (inl refl)) has.rows;
   posts = same (Posts e.id) (inr (inl refl)) ∙ has.posts;
   live = same (Live e.id e.written) (inr (inr (inl refl))) ∙ has.live;
   values = same (Values e.id e.written) (inr (inr (inr (inl refl)))) ∙ has.values;

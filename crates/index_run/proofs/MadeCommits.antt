@@ -389,6 +389,7 @@ stands_commit first log numbers w v old mid new next is stands made = record {
       (sym (ap (λ (s : State). s.since) is)) (front_commit first log numbers w old mid new next stands made.made);
   stored = λ stored. made.stands (stands.stored stored);
   goes_on = λ goes. next.laws.go_on (due_pairs first log w) w v mid new next.on.ready is made (stands.goes_on goes);
+  on_last = λ goes on. next.laws.stand (due_pairs first log w) w v mid new is made (stands.goes_on goes).stored;
 }
 
 -- a crash while the writer commits: its commit is there whole, or the files have those that were made before

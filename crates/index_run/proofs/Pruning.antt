@@ -17,6 +17,7 @@ use Rattle.commit_point.proofs.KeptLaws.{lists_there, there_by}
 use Rattle.commit_point.specs.Holds.{AreKept, HasHead, HasSegments, HaveSegments, HoldsInverted, IsAmong, IsLawful, Lists, head_of, names_of}
 use Rattle.commit_point.specs.declared.heads.Head.{Head}
 use Rattle.commit_point.specs.declared.heads.HeadSegment.{HeadSegment}
+use Rattle.commit_point.proofs.RowsKept.{rows_kept}
 use Rattle.commit_pruning.specs.declared.fault.PruningFault.{PruningFault}
 use Rattle.commit_pruning.specs.declared.fault.PruningFault.TheVariants as pruning
 use Rattle.commit_pruning.specs.Pruning.{AreWhole, IsOutside, IsPruned, IsWholeAs, MayBePruned, OnlyDeletes, Stays}
@@ -112,7 +113,7 @@ segments_whole files d t (e ∷ es) (g ∷ gs) same have = (
     count = have.0.count;
     whole = have.0.whole;
     applied = have.0.applied;
-    rows = same e first (Rows e.id) (inl refl) ∙ have.0.rows;
+    rows = rows_kept files d e.id g.segment.rows (same e first (Rows e.id) (inl refl)) have.0.rows;
     posts = same e first (Posts e.id) (inr (inl refl)) ∙ have.0.posts;
     live = same e first (Live e.id e.written) (inr (inr (inl refl))) ∙ have.0.live;
     values = same e first (Values e.id e.written) (inr (inr (inr (inl refl)))) ∙ have.0.values;

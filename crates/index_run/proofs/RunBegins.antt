@@ -15,6 +15,7 @@ use Rattle.commit_point.proofs.Laws.{one_head}
 use Rattle.index_writer.specs.declared.state.State.{State}
 use Rattle.index_writer.specs.Laws.{IsLastOf, OpenedGoOn}
 use Rattle.index_writer.specs.Ready.{HasRows, opened_on}
+use Rattle.index_writer.specs.Standing.{OpenedStand}
 use Rattle.run_log.specs.Headline.{CanRun, Given}
 use Rattle.index_run.specs.Doing.{IsOnGiven}
 use Rattle.index_run.proofs.LogNumbers.{nat_or}
@@ -64,7 +65,7 @@ last_of_given g last can lawful is = subst (IsLastOf g.files) (sym is) (record {
 })
 
 -- the writer is on the lawful commit
-pub begins_lawful : OpenedGoOn → (g : Given) (last : Opened) (size merge : ℕ) (w : State) → CanRun g
+pub begins_lawful : OpenedGoOn → OpenedStand → (g : Given) (last : Opened) (size merge : ℕ) (w : State) → CanRun g
     → (lawful : IsLawful g.files g.base g.next g.rows)
     → last ≡ record {
       number = g.base;
@@ -72,7 +73,7 @@ pub begins_lawful : OpenedGoOn → (g : Given) (last : Opened) (size merge : ℕ
       entries = lawful.holds.holds.entries;
       segments = lawful.holds.holds.segments;
     } → w ≡ opened_on last size merge → IsOnGiven g w
-begins_lawful law g last size merge w can lawful is on = subst (IsOnGiven g) (sym on) here
+begins_lawful law stand g last size merge w can lawful is on = subst (IsOnGiven g) (sym on) here
   where
     last_is : IsLastOf g.files last
     last_is = last_of_given g last can lawful is
@@ -89,5 +90,6 @@ begins_lawful law g last size merge w can lawful is on = subst (IsOnGiven g) (sy
       goes_on = (law g.files last).goes_on size merge last_is;
       of_last =
           opened_of_last law g last size merge (ap (λ (x : Opened). x.number) is) last_is.spelled;
+      on_last = stand g.files last size merge last_is.spelled;
       room = lawful.room;
     }

@@ -165,7 +165,7 @@ ends_again g first w log start now on can told are room disk =
         (changed These (told_files start) (told_files now) g.files told disk.files)
 
     kept : AreKept found.0 (MayHold now)
-    kept = disk.settled g.files found.0 told found.1 on.goes_on (begins_image g first start on are) are
+    kept = disk.settled g.files found.0 told found.1 on.goes_on on.on_last are
 
     next : CanRunOn found.0
     next =

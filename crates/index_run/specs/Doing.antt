@@ -5,6 +5,7 @@ use Rattle.ix_base.specs.declared.document.Row.{Row}
 use Rattle.op_script.specs.declared.script.Line.{Line}
 use Rattle.index_writer.specs.declared.state.State.{State}
 use Rattle.index_writer.specs.Ready.{HasRows, IsReady}
+use Rattle.index_writer.specs.Standing.{StandsOnLast}
 use Rattle.index_writer.specs.Storing.{GoesOn}
 use Rattle.index_run.specs.Leaving.{IsOfLast}
 use Rattle.run_log.specs.Headline.{Given, operations}
@@ -26,6 +27,7 @@ pub record IsOnGiven (g : Given) (w : State) : Type 0 where
   pub rows : HasRows w g.rows
   pub goes_on : GoesOn g.files w
   pub of_last : IsOfLast g w
+  pub on_last : StandsOnLast g.files w
   pub room : g.next ≤ 2 ^ 61
 
 -- The writer after the rounds of this log, where the run began with `first`.

@@ -17,6 +17,7 @@ use Rattle.op_script.specs.declared.script.Line.{Line}
 use Rattle.index_writer.specs.declared.state.State.{State}
 use Rattle.index_writer.specs.Laws.{CommitsGoOn, CommitsHold}
 use Rattle.index_writer.specs.Ready.{HasRows, IsStored}
+use Rattle.index_writer.specs.Standing.{CommitsStand, StandsOnLast}
 use Rattle.index_writer.specs.Storing.{GoesOn}
 use Rattle.run_log.specs.Headline.{Given, IsIn, KeepsSegments, commit_numbers, pairs_at, rows_at}
 
@@ -47,6 +48,7 @@ SameBefore first old new = (name : FileName) → IsBefore first.last first.since
 pub record CommitLaws : Type 0 where
   pub go_on : CommitsGoOn
   pub hold : CommitsHold
+  pub stand : CommitsStand
 
 -- ---- the commits of a log
 
@@ -79,11 +81,13 @@ pub record HasFront (first : State) (log : List Line) (numbers : List ℕ) (limi
   pub made : IsStored old first → AreMade first log numbers limit old new
   pub before : SameBefore first old new
 
--- The same, and what is on the store of the writer's segments stands now; the writer can go on.
+-- The same, and what is on the store of the writer's segments stands now, in files of its last commit where it did so
+-- before; the writer can go on.
 pub record Stands (first : State) (log : List Line) (numbers : List ℕ) (w : State) (old new : Files) : Type 0 where
   pub front : HasFront first log numbers w.since old new
   pub stored : IsStored old first → IsStored new w
   pub goes_on : GoesOn old first → GoesOn new w
+  pub on_last : GoesOn old first → StandsOnLast old first → StandsOnLast new w
 
 -- the pairs of the log's line with the writer's number
 abbrev pub due_pairs : State → List Line → State → Pairs
@@ -119,4 +123,4 @@ pub record IsDiskAfter (first : State) (log : List Line) (count : ℕ) (w : Stat
   pub only : Told OnlyCommits start now
   pub standing : (was : Files) → told_files start ≡ Some was → GoesOn was first → Told KeepsMade start now
   pub settled : (was is : Files) → told_files start ≡ Some was → told_files now ≡ Some is → GoesOn was first
-      → ((d : Files) → MayHold start d → GoesOn d first) → AreKept was (MayHold start) → AreKept is (MayHold now)
+      → StandsOnLast was first → AreKept was (MayHold start) → AreKept is (MayHold now)

@@ -13,7 +13,7 @@ ghost use Rattle.index_run.specs.Beginning.{IsOpened, OpensOn, StopsWith, last_o
 
 use crate::stop::Stop;
 use commit_point::{Opened, list_commits, read_commit};
-use index_writer::{IndexWriter, opened_go_on};
+use index_writer::{IndexWriter, opened_go_on, segments_stand};
 use ix_outside::{Store, StoreFault};
 use report_text::Fault;
 use std::alloc::Global;
@@ -132,6 +132,7 @@ pub fn begin<S: Store>(
         IsOneOf (stop_status unbegun.stop) (4 ∷ 7 ∷ 8 ∷ 10 ∷ [])) }
 {
     opened_go_on();
+    segments_stand();
     let mut store = store;
     let last = match last_opened(alloc, &mut store) {
         Ok(last) => last,

@@ -17,6 +17,7 @@ ghost use Rattle.index_run.specs.Rounds.{AllCame, gave_of, given, pieces_of, sha
 use delete_queue::DeleteQueue;
 use index_writer::{
     CommitInfo, IndexWriter, Round, RoundEnd, RoundParts, WriterFault, commits_go_on, commits_hold,
+    segments_stand,
 };
 use ix_base::{Fields, NoMemory};
 use ix_outside::{Gate, Store};
@@ -236,6 +237,7 @@ pub fn write_pending<S: Store>(writer: IndexWriter<S>, pairs: &Fields) -> Ran<S,
 {
     commits_go_on();
     commits_hold();
+    segments_stand();
     let mut writer = writer;
     if writer.pending_commit().is_none() {
         return Ran {

@@ -25,7 +25,11 @@ returns-in-Ok-clause-pending g c =
     let well = c.in-Ok.ensures in
     let low : w.state.published.next_id ≤ 2 ^ 62 =
     (let small = c.if-next_id-gt-MOST.false in let id = c.next_id.ensures in omega (arith, small, id)) in
-    let laws : CommitLaws = record { go_on = c.commits_go_on.ensures; hold = c.commits_hold.ensures.made } in
+    let laws : CommitLaws = record {
+      go_on = c.commits_go_on.ensures;
+      hold = c.commits_hold.ensures.made;
+      stand = c.segments_stand.ensures.commit;
+    } in
     let closed : x.state.closed ≡ false = ap (λ (s : State). s.closed) well.on ∙ c.requires.open in
     record {
       come = λ r lines shares commits come.
@@ -45,7 +49,11 @@ returns-in-Err-clause-pending g c =
     let x = c.commit.new.self in
     let low : w.state.published.next_id ≤ 2 ^ 62 =
     (let small = c.if-next_id-gt-MOST.false in let id = c.next_id.ensures in omega (arith, small, id)) in
-    let laws : CommitLaws = record { go_on = c.commits_go_on.ensures; hold = c.commits_hold.ensures.made } in
+    let laws : CommitLaws = record {
+      go_on = c.commits_go_on.ensures;
+      hold = c.commits_hold.ensures.made;
+      stand = c.segments_stand.ensures.commit;
+    } in
     let some =
     pending_there w.state.pending _ _ c.pending_commit.ensures c.is_none.ensures c.if-is_none.false in
     subst (WritesPending g.S.Store.disk c.args.pairs.now w) (sym c.stopped-in-Err.ensures) (record {
