@@ -1,7 +1,8 @@
 //! Texts compared by their first fifteen bytes and their lengths.
-ghost use Rattle.std.specs.Prelude.{◌≡◌, ◌+◌, ◌*◌, ◌<◌, ◌^◌, [], ◌∷◌, ℕ, List, drop, slice_index, IfSome};
+ghost use Rattle.std.specs.Prelude.{◌≡◌, ◌≢◌, ◌+◌, ◌*◌, ◌<◌, ◌^◌, [], ◌∷◌, ℕ, List, drop, slice_index, IfSome};
 ghost use Rattle.std.specs.Cmp.Lexicographic.{slice_cmp};
 ghost use Rattle.std.specs.Ordering.{nat_cmp};
+ghost use Rattle.std.specs.declared.cmp.Ordering.TheVariants.{Less, Equal, Greater};
 ghost use Rattle.merge_postings.specs.Keys.{HasKey, key};
 
 use std::cmp::Ordering;
@@ -12,18 +13,6 @@ use std::cmp::Ordering;
 pub(crate) struct Key {
     high: u64,
     low: u64,
-}
-
-/// A number with one byte more behind it: 0 where there is none at this place.
-fn with_byte(number: u64, bytes: &[u8], at: usize) -> u64
-    requires { number < 2 ^ 56 }
-    ensures { result ≡ number * 256 + slice_index bytes.now at }
-{
-    let byte = match bytes.get(at) {
-        Some(byte) => *byte,
-        None => 0,
-    };
-    number * 256 + u64::from(byte)
 }
 
 /// Seven bytes as a number, the first one the highest.
@@ -56,7 +45,10 @@ fn first_seven(bytes: &[u8]) -> u64
 fn first_eight(bytes: &[u8]) -> u64
     ensures { result ≡ key 8 bytes.now }
 {
-    with_byte(first_seven(bytes), bytes, 7)
+    match bytes {
+        [a, b, c, d, e, f, g, h, ..] => seven_of(*a, *b, *c, *d, *e, *f, *g) * 256 + u64::from(*h),
+        _ => first_seven(bytes) * 256,
+    }
 }
 
 /// The seven bytes behind the eighth as a number, the first one the highest; 0 stands for each that isn't
@@ -92,6 +84,21 @@ pub(crate) fn key_of(text: &str) -> Key
     }
 }
 
+/// How two words are ordered that aren't one.
+#[inline]
+fn order_by_word(left: u64, right: u64) -> Ordering
+    requires { left ≢ right }
+    ensures less { result ≡ Less → left < right }
+    ensures greater { result ≡ Greater → right < left }
+    ensures other { result ≢ Equal }
+{
+    if left < right {
+        Ordering::Less
+    } else {
+        Ordering::Greater
+    }
+}
+
 /// How all texts with these keys are ordered; `None` where the keys are one, and the texts have more than
 /// fifteen bytes.
 #[inline]
@@ -99,17 +106,11 @@ pub(crate) fn order_by_keys(left: Key, right: Key) -> Option<Ordering>
     ensures { (a b : List ℕ) → HasKey left a → HasKey right b
         → IfSome result (λ order. order ≡ slice_cmp nat_cmp a b) }
 {
-    if left.high < right.high {
-        return Some(Ordering::Less);
+    if left.high != right.high {
+        return Some(order_by_word(left.high, right.high));
     }
-    if right.high < left.high {
-        return Some(Ordering::Greater);
-    }
-    if left.low < right.low {
-        return Some(Ordering::Less);
-    }
-    if right.low < left.low {
-        return Some(Ordering::Greater);
+    if left.low != right.low {
+        return Some(order_by_word(left.low, right.low));
     }
     if right.low % 256 < 16 {
         return Some(Ordering::Equal);
