@@ -3,16 +3,18 @@ use Rattle.std.proofs.Common.{◌≡◌, ◌∙◌, ℕ, ◌<◌, ◌≤◌, Boo
 use Rattle.std.specs.List.{AllByRecursion}
 use Rattle.std.proofs.lemmas.Bool.{lt-ltb}
 use Rattle.std.proofs.lemmas.List.Sorted.{IsPermutation-refl}
+use Rattle.ix_base.specs.Births.{last_birth, row_born}
 use Rattle.ix_base.specs.declared.document.Document.{Document}
 use Rattle.ix_base.specs.declared.document.Operation.{Operation}
 use Rattle.ix_base.specs.declared.document.Operation.TheVariants as o
 use Rattle.ix_base.specs.declared.document.Row.{Row}
 use Rattle.node_words.specs.declared.entry.Entry.{Entry}
-use Rattle.row_fates.specs.Fate.{Numbered, NumbersRise, BirthsRise, BornBy, added, fate, rows_added}
+use Rattle.row_fates.specs.Fate.{Numbered, NumbersRise, BirthsRise, BornBy, added, adding, fate, rows_added}
 use Rattle.frozen_packet.specs.Updates.{NumberedUpTo, Stands, Takes, TakingStands, as_operations}
 use Rattle.frozen_packet.specs.declared.updates.Updates.{Updates}
 use Rattle.segment_core.specs.LiveRows.{above}
 use Rattle.packet_apply.specs.Stages.{up_to, within}
+use Rattle.thread_writer.specs.Laws.{PiecesAreFew, has_row, with_row}
 use Rattle.thread_writer.specs.Writing.{piece_rows}
 use Rattle.thread_writer.specs.declared.piece.Piece.{Piece}
 use Rattle.flush_control.specs.Published.{HasInversion}
@@ -34,14 +36,14 @@ added_more : (n : ℕ) (op : Operation) (ops : List Numbered) → rows_added (op
 added_more n op [] = append-nil (added n op)
 added_more n op (o ∷ ops) = ap (λ (rows : List Row). added o.0 o.1 ++ rows) (added_more n op ops) ∙ sym (append_assoc (added o.0 o.1) (rows_added ops) (added n op))
 
-births_more : (base last : ℕ) (rows : List Row) (row : Row) → BirthsRise base rows → BornBy last rows → base ≤ last → last < row.birth
+births_more : (base last : ℕ) (rows : List Row) (row : Row) → BirthsRise base rows → BornBy last rows → base ≤ last_birth last → last_birth last < row.birth
     → BirthsRise base (rows ++ row ∷ [])
 births_more base last [] row rise born low lt = (omega (arith, low, lt), tt)
 births_more base last (r ∷ rows) row rise born low lt = (rise.0, births_more r.birth last rows row rise.1 born.1 born.0 lt)
 
-born_more : (last : ℕ) (rows : List Row) (row : Row) → BornBy last rows → last < row.birth → BornBy row.birth (rows ++ row ∷ [])
-born_more last [] row born lt = (omega arith, tt)
-born_more last (r ∷ rows) row born lt = (omega (arith, born.0, lt), born_more last rows row born.1 lt)
+born_more : (last n : ℕ) (rows : List Row) (row : Row) → BornBy last rows → last < n → row.birth ≤ last_birth n → BornBy n (rows ++ row ∷ [])
+born_more last n [] row born lt le = (le, tt)
+born_more last n (r ∷ rows) row born lt le = (omega (arith, born.0, lt), born_more last n rows row born.1 lt le)
 
 born_later : (last n : ℕ) (rows : List Row) → BornBy last rows → last < n → BornBy n rows
 born_later last n [] born lt = tt
@@ -53,9 +55,9 @@ bounds_later last n (o ∷ ops) up lt = (omega (arith, up.0, lt), bounds_later l
 
 -- a row is added
 pub row_told : TakingStands → (base last n : ℕ) (rows : List Row) (doc : Document) (updates : Updates) → AreTold base last rows updates → last < n
-    → AreTold base n (rows ++ (record { birth = n; doc = doc }) ∷ []) updates
+    → AreTold base n (rows ++ row_born n doc ∷ []) updates
 row_told law base last n rows doc updates told lt =
-    let row : Row = record { birth = n; doc = doc } in
+    let row : Row = row_born n doc in
     record {
       ops = told.ops ++ (n, o.Add doc) ∷ [];
       rise = rise_more base last n told.ops (o.Add doc) told.rise told.up told.order lt;
@@ -64,8 +66,8 @@ row_told law base last n rows doc updates told lt =
       bounds = bounds_later last n (as_operations updates) told.bounds lt;
       stands = law updates updates told.ops n (o.Add doc) (λ r. ap (λ (ops : List Numbered). fate ops r) (sym (append-nil (as_operations updates)))) told.stands;
       rows_are = ap (λ (rs : List Row). rs ++ row ∷ []) told.rows_are ∙ sym (added_more n (o.Add doc) told.ops);
-      births = births_more base last rows row told.births told.born told.order lt;
-      born = born_more last rows row told.born lt;
+      births = births_more (last_birth base) last rows row told.births told.born (omega (arith, told.order)) (omega (arith, lt));
+      born = born_more last n rows row told.born lt (omega arith);
     }
 
 -- something else is done
@@ -107,14 +109,14 @@ stands_in base last rows updates p told can is cut none = record {
       (record {
         same = λ row. ap (λ (os : List Numbered). fate os row) (none ∙ sym (ap (above base) (none_up_to base base told.ops (omega arith) told.rise)));
       });
-  births = subst (BirthsRise base) (sym is) told.births;
+  births = subst (BirthsRise (last_birth base)) (sym is) told.births;
   born = subst (BornBy last) (sym is) told.born;
   within = omega (arith, cut, told.order);
 }
 
-pub round_of : (base last : ℕ) (rows : List Row) (updates : Updates) (pieces : List Piece) → (told : AreTold base last rows updates) → IsPieceOf rows base pieces
+pub round_of : PiecesAreFew → (base last : ℕ) (rows : List Row) (updates : Updates) (pieces : List Piece) → (told : AreTold base last rows updates) → IsPieceOf rows base pieces
     → IsRound base told.ops pieces (record { after = base; upto = last; updates = updates })
-round_of base last rows updates pieces told of = record {
+round_of law base last rows updates pieces told of = record {
   rise = told.rise;
   up = told.up;
   order = told.order;
@@ -127,4 +129,7 @@ round_of base last rows updates pieces told of = record {
       subst (IsPermutation (piece_rows pieces))
       (ap piece_rows of.is ∙ (append-nil of.piece.frozen.rows.items ∙ (of.rows_are ∙ told.rows_are)))
       (IsPermutation-refl (piece_rows pieces));
+  few =
+      subst (λ (ps : List Piece). with_row ps ≤ adding told.ops) (sym of.is)
+      (omega (arith, ap {B = ℕ} (λ (rs : List Row). cond (has_row rs) 1 0) of.rows_are, law told.ops [] rows told.rows_are));
 }

@@ -1,5 +1,6 @@
 -- A round of a test, told operation by operation.
 use Rattle.std.specs.Prelude.{◌≡◌, ℕ, ◌≤◌, List, [], ◌∷◌}
+use Rattle.ix_base.specs.Births.{last_birth}
 use Rattle.ix_base.specs.declared.document.Operation.{Operation}
 use Rattle.ix_base.specs.declared.document.Row.{Row}
 use Rattle.node_words.specs.declared.entry.Entry.{Entry}
@@ -20,7 +21,7 @@ pub record AreTold (base last : ℕ) (rows : List Row) (updates : Updates) : Typ
   pub bounds : NumberedUpTo last (as_operations updates)
   pub stands : Stands updates ops
   pub rows_are : rows ≡ rows_added ops
-  pub births : BirthsRise base rows
+  pub births : BirthsRise (last_birth base) rows
   pub born : BornBy last rows
 
 abbrev pub IsTold : Told → Type 0

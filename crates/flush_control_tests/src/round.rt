@@ -10,14 +10,14 @@ use crate::told::Told;
 use analysis::invert;
 use flush_control::{Published, Released, rounds_meet, rounds_stand};
 use frozen_packet::{Packet, Updates, taking_stands};
-use ix_base::{List, Row};
+use ix_base::{Birth, List, Row};
 use node_words::Entry;
 use ram_postings::Frozen;
 use std::alloc::Global;
 use std::test::*;
 use std::thread::Threads;
 use test_values::{document_of, key_term, name_of};
-use thread_writer::Piece;
+use thread_writer::{Piece, pieces_are_few};
 
 /// An operation: it adds a row with its key, deletes the rows with it, or sets the number `n` in them.
 #[derive(Clone, Copy)]
@@ -77,7 +77,8 @@ fn tell_row(alloc: Global, told: &mut Told, number: u64, key: &str) -> Result<()
 {
     taking_stands();
     let doc = document_of(alloc, key)?;
-    told.rows.push(Row { birth: number, doc })?;
+    let birth = Birth::first(number);
+    told.rows.push(Row { birth, doc })?;
     told.last = number;
     Ok(())
 }
@@ -166,6 +167,7 @@ pub(crate) fn do_round<R: Threads + Sync>(
     requires told { IsTold told }
     ensures { OnOk result (IsPublished index.new) }
 {
+    pieces_are_few();
     let Told {
         rows,
         updates,

@@ -23,7 +23,7 @@ use thread_writer::Piece;
 /// Entries by number, and what each does to the rows with a key.
 type Entries<'a> = &'a [(u64, Act, &'a str)];
 
-/// A piece: its rows by birth, with a key each, its entries, and its cut.
+/// A piece: its rows by the number of the operation that adds it, with a key each, its entries, and its cut.
 #[derive(Clone, Copy)]
 struct Given<'a> {
     rows: &'a [(u64, &'a str)],
@@ -56,8 +56,8 @@ fn frozen_of(alloc: Global, given: &[(u64, &str)]) -> Result<Frozen, Fail>
     ensures { IfOk result (λ frozen. CanBuild frozen.rows.items frozen.postings) }
 {
     let mut rows = Vec::new(alloc);
-    for (birth, key) in given {
-        rows.push(row_of(alloc, *birth, key)?)?;
+    for (number, key) in given {
+        rows.push(row_of(alloc, *number, key)?)?;
     }
     if rows.len() > 8 {
         Err("many rows")?;
@@ -242,9 +242,9 @@ fn many_of(alloc: Global) -> Result<Vec<Piece>, Fail>
     ensures { IfOk result (λ pieces. AllByRecursion HasInversion pieces.items) }
 {
     let mut pieces = Vec::new(alloc);
-    for birth in 1..2001 {
+    for number in 1..2001 {
         let given = Given {
-            rows: &[(birth, "a")],
+            rows: &[(number, "a")],
             entries: &[(1001, Act::Delete, "a")],
             cut: 2000,
         };
