@@ -8,7 +8,7 @@ ghost use Rattle.round_work.specs.declared.worked.Stop.TheVariants as stop;
 ghost use Rattle.round_work_tests.specs.Shares.{CanGoOn};
 
 use delete_queue::{DeleteQueue, Reserve, Seat};
-use ix_base::{Document, Fields, NoMemory, Operation, Refusal, Text};
+use ix_base::{Birth, Document, Fields, NoMemory, Operation, Refusal, Text};
 use ix_memory::{GroupsGate, MeetingGate, RecordingGate};
 use ix_outside::Gate;
 use round_work::{Stop, Worked, run_round};
@@ -324,7 +324,10 @@ fn are_pieces_of(pieces: &[Piece], replies: &[Reply], number: u64) -> bool {
         let Some(row) = piece.frozen.rows.first() else {
             return false;
         };
-        if piece.worker != number || row.birth != *told || piece.frozen.rows.len() != 1 {
+        if piece.worker != number
+            || row.birth != Birth::first(*told)
+            || piece.frozen.rows.len() != 1
+        {
             return false;
         }
     }
