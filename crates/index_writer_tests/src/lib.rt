@@ -6,6 +6,8 @@ mod script_lines;
 #[cfg(test)]
 mod tests;
 #[cfg(test)]
+mod tests_blocks;
+#[cfg(test)]
 mod tests_deletes;
 #[cfg(test)]
 mod tests_merging;

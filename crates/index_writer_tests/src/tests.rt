@@ -7,7 +7,7 @@ use crate::script_lines::{Act, Line, Script, operation_of};
 use crate::working::{Answer, do_line, into_parts};
 use commit_point::open_commit;
 use index_writer::{EndRefused, IndexWriter, MergeTurn, RoundEnd, RoundParts, WriterFault};
-use ix_base::{Fields, Refusal};
+use ix_base::{Birth, Fields, Refusal};
 use ix_memory::MemoryStore;
 use ix_outside::Store;
 use std::alloc::Global;
@@ -306,11 +306,21 @@ fn show_answer(out: &mut String, answer: Answer) -> Result<(), Fail> {
     }
 }
 
+/// A birth: its number, and behind a point its place where that isn't 0.
+fn show_birth(out: &mut String, birth: Birth) -> Result<(), Fail> {
+    write!(out, "{}", birth.number())?;
+    if birth.place() > 0 {
+        write!(out, ".{}", birth.place())?;
+    }
+    Ok(())
+}
+
 /// A piece that a writer gave off: its rows with their births.
 fn show_piece(out: &mut String, piece: &Piece) -> Result<(), Fail> {
     write!(out, " [{}:", piece.worker)?;
     for row in piece.frozen.rows.as_slice() {
-        write!(out, " {}{}", row.doc.key.as_str(), row.birth)?;
+        write!(out, " {}", row.doc.key.as_str())?;
+        show_birth(out, row.birth)?;
     }
     out.push_str("]")?;
     Ok(())
@@ -326,7 +336,11 @@ fn show_pieces(out: &mut String, pieces: &[Piece]) -> Result<(), Fail> {
 }
 
 /// What the lines of a script are told, and what each writer gave off.
-fn shown_work(alloc: Global, parts: &mut RoundParts, script: Script) -> Result<String, Fail>
+pub(crate) fn shown_work(
+    alloc: Global,
+    parts: &mut RoundParts,
+    script: Script,
+) -> Result<String, Fail>
     requires { (base : ℕ) × IsUnderWay base parts.old }
 {
     let mut out = String::new(alloc);
@@ -340,7 +354,7 @@ fn shown_work(alloc: Global, parts: &mut RoundParts, script: Script) -> Result<S
 }
 
 /// A round of a writer without a commit, whose thread writers have buffers of this size.
-fn first_round(alloc: Global, writers: u32, buffer: u32) -> Result<RoundParts, Fail>
+pub(crate) fn first_round(alloc: Global, writers: u32, buffer: u32) -> Result<RoundParts, Fail>
     requires writers { (1 ≤ writers) × (writers ≤ 16) }
     requires buffer { (1 ≤ buffer) × (buffer ≤ 65536) }
     ensures { IfOk result (λ parts. (base : ℕ) × IsUnderWay base parts) }
