@@ -1,7 +1,7 @@
 //! Layouts: for each row, rising by birth, the source that has it and whether it gets a number.
 use crate::parts::{Part, inverted, merged};
 use crate::rising::Rising;
-use ix_base::{Document, Numbers, Row};
+use ix_base::{Birth, Document, Numbers, Row};
 use std::alloc::Global;
 use std::fmt::Write;
 use std::test::Fail;
@@ -52,7 +52,7 @@ fn document_of(alloc: Global, row: usize) -> Result<Document, Fail> {
 fn add_row(alloc: Global, rows: &mut Vec<Row>, place: usize) -> Result<(), Fail> {
     let doc = document_of(alloc, place)?;
     rows.push(Row {
-        birth: place as u64,
+        birth: Birth::first(place as u64),
         doc,
     })?;
     Ok(())

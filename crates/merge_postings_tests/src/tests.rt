@@ -2,7 +2,7 @@
 use crate::layouts::{Place, is_inversion};
 use crate::parts::{Part, merged};
 use crate::rising::Rising;
-use ix_base::{Document, Fields, Numbers, Row};
+use ix_base::{Birth, Document, Fields, Numbers, Row};
 use std::alloc::Global;
 use std::test::*;
 use test_texts::shown_postings;
@@ -61,7 +61,8 @@ fn row_of(alloc: Global, key: &str, body: &str) -> Result<Row, Fail> {
     let key = text_of(alloc, key)?;
     let doc = Document::new(key, text, Fields::none(alloc), Numbers::none(alloc));
     let doc = doc.ok_or("names aren't apart")?;
-    Ok(Row { birth: 1, doc })
+    let birth = Birth::first(1);
+    Ok(Row { birth, doc })
 }
 
 /// Rows with the keys `a`, `b` and so on and these bodies.
