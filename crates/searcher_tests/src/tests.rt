@@ -4,7 +4,7 @@ ghost use Rattle.std.specs.Prelude.{◌≡◌, length, IfOk};
 
 use analysis::invert;
 use commit_point::OpenFault;
-use ix_base::{Document, Fields, FileName, List, PhraseText, Queries, Query, Row};
+use ix_base::{Birth, Document, Fields, FileName, List, PhraseText, Queries, Query, Row};
 use ix_memory::MemoryStore;
 use ix_outside::Store;
 use live_docs::LiveDocs;
@@ -16,7 +16,7 @@ use std::test::*;
 use test_values::{field_of, name_of, number_of, term_of, text_of};
 
 /// A row with a key, a text `body` and a number `pages`.
-fn row_of(alloc: Global, birth: u64, key: &str, pages: i64, body: &str) -> Result<Row, Fail> {
+fn row_of(alloc: Global, birth: Birth, key: &str, pages: i64, body: &str) -> Result<Row, Fail> {
     let text = field_of(alloc, "body", body)?;
     let num = number_of(alloc, "pages", pages)?;
     let doc = Document::new(text_of(alloc, key)?, text, Fields::none(alloc), num);
@@ -24,18 +24,23 @@ fn row_of(alloc: Global, birth: u64, key: &str, pages: i64, body: &str) -> Resul
     Ok(Row { birth, doc })
 }
 
-/// A row as `4 d -40 red blue`.
+/// A birth: the number of an operation, and behind a point the place among its documents where it isn't 0.
+fn birth_of(text: &str) -> Result<Birth, Fail> {
+    let (number, place) = text.split_once('.').unwrap_or((text, "0"));
+    let (number, place) = (number.parse::<u64>()?, place.parse::<u32>()?);
+    if place < 64 {
+        Ok(Birth::new(number, place))
+    } else {
+        Err("no place")?
+    }
+}
+
+/// A row as `4 d -40 red blue`, or `4.1 e 50 red blue` of the second document of a block.
 fn row_in(alloc: Global, words: &str) -> Result<Row, Fail> {
     let (birth, words) = words.split_once(' ').ok_or("no key")?;
     let (key, words) = words.split_once(' ').ok_or("no number")?;
     let (pages, body) = words.split_once(' ').ok_or("no text")?;
-    row_of(
-        alloc,
-        birth.parse::<u64>()?,
-        key,
-        pages.parse::<i64>()?,
-        body,
-    )
+    row_of(alloc, birth_of(birth)?, key, pages.parse::<i64>()?, body)
 }
 
 fn rows_in(alloc: Global, text: &str) -> Result<Vec<Row>, Fail> {
@@ -233,6 +238,23 @@ fn is_told(alloc: Global, text: &str) -> Result<bool, Fail> {
 #[test]
 fn hits_of_queries(rt: HostRuntime) -> Result<(), Fail> {
     assert!(rt; is_told(rt.alloc(), SEARCHES)?);
+    Ok(())
+}
+
+/// The documents of the blocks 1 and 2 in two segments, whose births interleave: a block's hits come by place,
+/// as a number, and behind those of the operations before.
+const BLOCKS: &str = "\
+segment 1.63 b 2 word, 2.1 d 4 word, 2.10 f 6 word
+segment 1 a 1 word, 2 c 3 word, 2.9 e 5 word, 3 g 7 word
+term body word
+= a pages 1; b pages 2; c pages 3; d pages 4; e pages 5; f pages 6; g pages 7;
+range pages 4 6
+= d pages 4; e pages 5; f pages 6;
+";
+
+#[test]
+fn hits_of_blocks(rt: HostRuntime) -> Result<(), Fail> {
+    assert!(rt; is_told(rt.alloc(), BLOCKS)?);
     Ok(())
 }
 
