@@ -4,9 +4,10 @@ use Rattle.std.specs.List.{AllByRecursion, flat_map}
 use Rattle.std.proofs.lemmas.Grind.{flat_map-append}
 use Rattle.std.proofs.lemmas.List.Sorted.{IsPermutation-append_right, IsPermutation-sym, IsPermutation-trans}
 use Rattle.ix_base.specs.declared.document.Row.{Row}
-use Rattle.segment_core.specs.LiveRows.{Lived, all_live, live, stored_rows}
+use Rattle.segment_core.specs.LiveRows.{Lived, all_live, live}
 use Rattle.segment_core.specs.Segments.{IsInverted}
-use Rattle.segment_core.specs.Births.{EachRises, births_append, births_at}
+use Rattle.segment_core.specs.Births.{EachRises}
+use Rattle.segment_core.proofs.Numbers.{births_differ, lists_joined}
 use Rattle.commit_point.specs.Writing.{CanWrite, SegmentIdsRise}
 use Rattle.merge_core.specs.Merging.{AreAt, CanMerge, IsMerged, IsOrdered, Sources}
 use Rattle.merge_core.specs.Merging.{Merged as MergedInto}
@@ -17,7 +18,7 @@ use Rattle.flush_control.specs.Merging.{EndsMerge, MergesStand, Steps, replaced,
 use Rattle.flush_control.specs.declared.merging.MergeTurn.TheVariants.{Idle, Merged, Stepped}
 use Rattle.flush_control.specs.Published.{IdsDiffer, IsPublished}
 use Rattle.flush_control.specs.declared.published.Published.{Published}
-use Rattle.flush_control.proofs.Births.{births_permuted}
+use Rattle.flush_control.proofs.Numbers.{lists_merged, lists_parted}
 use Rattle.flush_control.proofs.Parting.{each_source, parted}
 use Rattle.flush_control.proofs.Segments.{all_joined, ids_joined, some_live}
 
@@ -40,18 +41,13 @@ pub rows_parted : (p : Published) (ids : List ℕ) (ss : List Lived) (f : Lived 
     → Sources p.segments ids ss → IsPermutation (flat_map f p.segments) (flat_map f (without ids p.segments) ++ flat_map f ss)
 rows_parted p ids ss f published apart found = parted f 1 p.next_id p.segments ids ss published.ids apart found
 
-births_parted : (p : Published) (ids : List ℕ) (ss : List Lived) (b : ℕ) → IsPublished p → IdsDiffer ids → Sources p.segments ids ss
-    → births_at b (stored_rows p.segments) ≡ births_at b (stored_rows (without ids p.segments)) + births_at b (stored_rows ss)
-births_parted p ids ss b published apart found =
-    births_permuted b (stored_rows p.segments) (stored_rows (without ids p.segments) ++ stored_rows ss)
-    (rows_parted p ids ss (λ (s : Lived). s.segment.rows) published apart found)
-    ∙ births_append b (stored_rows (without ids p.segments)) (stored_rows ss)
-
 pub can_merge : (p : Published) (ids : List ℕ) (ss : List Lived) → IsPublished p → IdsDiffer ids → Sources p.segments ids ss → length (all_live ss) < 2 ^ 31 → CanMerge ss
 can_merge p ids ss published apart found few = record {
   limit = p.upto;
   rise = rises p.upto ss (each_source (CanWrite p.upto) p.segments ids ss published.can found);
-  differ = λ b. omega (arith, births_parted p ids ss b published apart found, published.differ b);
+  differ =
+      births_differ p.upto ss (rises p.upto ss (each_source (CanWrite p.upto) p.segments ids ss published.can found))
+      (λ n. omega (arith, lists_parted p ids ss n published apart found, published.apart n));
   ordered = are_ordered p.upto ss (each_source (CanWrite p.upto) p.segments ids ss published.can found);
   few = few;
 }
@@ -94,9 +90,6 @@ can_one p ids ss s published found merged = record {
   applied = merged.applied_is;
 }
 
-stored_more : (gs : List Lived) (s : Lived) → stored_rows (gs ++ s ∷ []) ≡ stored_rows gs ++ s.segment.rows
-stored_more gs s = flat_map-append (λ (g : Lived). g.segment.rows) gs (s ∷ []) ∙ ap (λ (rows : List Row). stored_rows gs ++ rows) (append-nil s.segment.rows)
-
 live_more : (gs : List Lived) (s : Lived) → all_live (gs ++ s ∷ []) ≡ all_live gs ++ live s
 live_more gs s = flat_map-append live gs (s ∷ []) ∙ ap (λ (rows : List Row). all_live gs ++ rows) (append-nil (live s))
 
@@ -108,7 +101,7 @@ none_left p ids ss published apart found none = record {
     can = all_stay (CanWrite p.upto) ids p.segments published.can;
     ids = ids_stay 1 p.next_id ids p.segments published.ids;
     some_id = published.some_id;
-    differ = λ b. omega (arith, births_parted p ids ss b published apart found, published.differ b);
+    apart = λ n. omega (arith, lists_parted p ids ss n published apart found, published.apart n);
     running = tt;
   };
   upto = refl;
@@ -137,14 +130,13 @@ some_left p ids ss s published apart found merged =
         can = all_joined (CanWrite p.upto) stay (s ∷ []) (all_stay (CanWrite p.upto) ids p.segments published.can) (can_one p ids ss s published found merged, tt);
         ids = ids_joined 1 p.next_id (p.next_id + 1) stay (s ∷ []) published.some_id (omega arith) (ids_stay 1 p.next_id ids p.segments published.ids) (omega (arith, merged.id_is), omega (arith, merged.id_is), tt);
         some_id = omega arith;
-        differ = λ b.
+        apart = λ n.
             omega (
               arith,
-              ap (births_at b) (stored_more stay s),
-              births_append b (stored_rows stay) s.segment.rows,
-              merged.stored b,
-              births_parted p ids ss b published apart found,
-              published.differ b,
+              lists_joined (λ (g : Lived). g.segment.rows) n stay (s ∷ []),
+              lists_merged n ss s.segment.rows merged.stored,
+              lists_parted p ids ss n published apart found,
+              published.apart n,
             );
         running = tt;
       };
@@ -181,7 +173,7 @@ runs_on p ids ss run count published apart found same read = record {
   can = published.can;
   ids = published.ids;
   some_id = published.some_id;
-  differ = published.differ;
+  apart = published.apart;
   running = record {
     apart = subst IdsDiffer (sym same) apart;
     sources = ss;

@@ -5,7 +5,6 @@ use Rattle.std.specs.List.{AllByRecursion, flat_map, list_any, sum_by}
 use Rattle.std.proofs.lemmas.Bool.{eqb-true, eq-eqb}
 use Rattle.std.proofs.lemmas.List.Recursion.{is_sum_by}
 use Rattle.std.proofs.lemmas.List.Sorted.{IsPermutation-append_comm, IsPermutation-append_left, IsPermutation-append_right, IsPermutation-map, IsPermutation-refl, IsPermutation-trans, sum_by-IsPermutation}
-use Rattle.ix_base.specs.declared.document.Row.{Row}
 use Rattle.segment_core.specs.LiveRows.{Lived}
 use Rattle.commit_point.specs.Writing.{SegmentIdsRise}
 use Rattle.merge_core.specs.Merging.{IdsRise, Sources}
@@ -152,13 +151,13 @@ untouched id ids low limit (g ∷ gs) rise lt =
     ap (λ (b : Bool). cond (not (b || is_among ids g)) (g ∷ without (id ∷ ids) gs) (without (id ∷ ids) gs)) e
     ∙ ap (λ (xs : List Lived). cond (not (is_among ids g)) (g ∷ xs) xs) (untouched id ids (g.segment.id + 1) limit gs rise.2 (omega (arith, rise.0, lt))))
 
-swap_front : (xs ys zs : List Row) → IsPermutation (xs ++ (ys ++ zs)) (ys ++ (xs ++ zs))
-swap_front xs ys zs =
-    subst (λ (l : List Row). IsPermutation l (ys ++ (xs ++ zs))) (append_assoc xs ys zs)
+swap_front : {X : Type 0} (xs ys zs : List X) → IsPermutation (xs ++ (ys ++ zs)) (ys ++ (xs ++ zs))
+swap_front {X} xs ys zs =
+    subst (λ (l : List X). IsPermutation l (ys ++ (xs ++ zs))) (append_assoc xs ys zs)
     (subst (IsPermutation ((xs ++ ys) ++ zs)) (append_assoc ys xs zs)
     (IsPermutation-append_left zs (xs ++ ys) (ys ++ xs) (IsPermutation-append_comm xs ys)))
 
-keep : (f : Lived → List Row) (b : Bool) (g s : Lived) (xs ys : List Lived) → IsPermutation (flat_map f xs) (f s ++ flat_map f ys)
+keep : {X : Type 0} (f : Lived → List X) (b : Bool) (g s : Lived) (xs ys : List Lived) → IsPermutation (flat_map f xs) (f s ++ flat_map f ys)
     → IsPermutation (flat_map f (cond (not b) (g ∷ xs) xs)) (f s ++ flat_map f (cond (not b) (g ∷ ys) ys))
 keep f true g s xs ys moved = moved
 keep f false g s xs ys moved =
@@ -167,7 +166,7 @@ keep f false g s xs ys moved =
     (swap_front (f g) (f s) (flat_map f ys))
 
 -- the segment with one id, which is none of the others
-one_out : (f : Lived → List Row) (id : ℕ) (ids : List ℕ) (s : Lived) (low limit : ℕ) (gs : List Lived) → SegmentIdsRise low limit gs → IsIn s gs
+one_out : {X : Type 0} (f : Lived → List X) (id : ℕ) (ids : List ℕ) (s : Lived) (low limit : ℕ) (gs : List Lived) → SegmentIdsRise low limit gs → IsIn s gs
     → s.segment.id ≡ id → list_any (λ x. eqb x id) ids ≡ false → IsPermutation (flat_map f (without ids gs)) (f s ++ flat_map f (without (id ∷ ids) gs))
 one_out f id ids s low limit [] rise has same apart = absurd has
 one_out f id ids s low limit (g ∷ gs) rise (inl is) same apart =
@@ -191,17 +190,17 @@ one_out f id ids s low limit (g ∷ gs) rise (inr has) same apart =
     (keep f (is_among ids g) g s (without ids gs) (without (id ∷ ids) gs) (one_out f id ids s (g.segment.id + 1) limit gs rise.2 has same apart)))
 
 -- what the segments have is what those that stay and the sources have
-pub parted : (f : Lived → List Row) (low limit : ℕ) (gs : List Lived) (ids : List ℕ) (ss : List Lived) → SegmentIdsRise low limit gs → IdsDiffer ids
+pub parted : {X : Type 0} (f : Lived → List X) (low limit : ℕ) (gs : List Lived) (ids : List ℕ) (ss : List Lived) → SegmentIdsRise low limit gs → IdsDiffer ids
     → Sources gs ids ss → IsPermutation (flat_map f gs) (flat_map f (without ids gs) ++ flat_map f ss)
 parted f low limit gs [] [] rise apart found =
     subst (IsPermutation (flat_map f gs)) (sym (append-nil (flat_map f (without [] gs)) ∙ ap (flat_map f) (without_none gs))) (IsPermutation-refl (flat_map f gs))
 parted f low limit gs [] (s ∷ ss) rise apart found = absurd found
 parted f low limit gs (id ∷ ids) [] rise apart found = absurd found
-parted f low limit gs (id ∷ ids) (s ∷ ss) rise apart found =
+parted {X} f low limit gs (id ∷ ids) (s ∷ ss) rise apart found =
     let left = flat_map f (without (id ∷ ids) gs) in
     let rest = flat_map f ss in
     IsPermutation-trans (flat_map f gs) (flat_map f (without ids gs) ++ rest) (left ++ (f s ++ rest))
     (parted f low limit gs ids ss rise apart.1 found.1)
     (IsPermutation-trans (flat_map f (without ids gs) ++ rest) ((f s ++ left) ++ rest) (left ++ (f s ++ rest))
     (IsPermutation-append_left rest (flat_map f (without ids gs)) (f s ++ left) (one_out f id ids s low limit gs rise (is_in s gs found.0.0) found.0.1 apart.0))
-    (subst (λ (l : List Row). IsPermutation l (left ++ (f s ++ rest))) (sym (append_assoc (f s) left rest)) (swap_front (f s) left rest)))
+    (subst (λ (l : List X). IsPermutation l (left ++ (f s ++ rest))) (sym (append_assoc (f s) left rest)) (swap_front (f s) left rest)))

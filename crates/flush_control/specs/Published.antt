@@ -5,7 +5,7 @@ use Rattle.ix_base.specs.declared.document.Row.{Row}
 use Rattle.frozen_packet.specs.declared.packet.Packet.{Packet}
 use Rattle.packet_apply.specs.Packets.{Applied}
 use Rattle.segment_core.specs.LiveRows.{Lived, CanBuild, Built, IsBuilt}
-use Rattle.segment_core.specs.Births.{BirthsDiffer}
+use Rattle.segment_core.specs.Births.{SegmentsApart}
 use Rattle.commit_point.specs.Holds.{AreRowsOf, AreInverted}
 use Rattle.commit_point.specs.Writing.{CanWrite, SegmentIdsRise}
 use Rattle.merge_core.specs.Merging.{Sources}
@@ -27,13 +27,13 @@ pub record IsRunning (segments : List Lived) (m : Merge) : Type 0 where
   pub count : ℕ
   pub read : HasRead m sources count
 
--- Segments that a commit of their number can list: each can be in it, ids rise below the next one, and no two rows have
--- one birth. Where a merge runs, its sources are among them.
+-- Segments that a commit of their number can list: each can be in it, ids rise below the next one, and no operation has
+-- rows in two of them. Where a merge runs, its sources are among them.
 pub record IsPublished (p : Published) : Type 0 where
   pub can : AllByRecursion (CanWrite p.upto) p.segments
   pub ids : SegmentIdsRise 1 p.next_id p.segments
   pub some_id : 1 ≤ p.next_id
-  pub differ : BirthsDiffer p.segments
+  pub apart : SegmentsApart p.segments
   pub running : IfSome p.merge (IsRunning p.segments)
 
 -- The segments' live rows are these, by birth, and the postings of each segment are the inversion of its rows.

@@ -13,12 +13,13 @@ use Rattle.row_fates.specs.Fate.{Numbered, NumbersRise, BirthsRise, BornBy, adde
 use Rattle.frozen_packet.specs.Updates.{NumberedUpTo, Stands, Takes, TakingStands, as_operations}
 use Rattle.frozen_packet.specs.declared.updates.Updates.{Updates}
 use Rattle.segment_core.specs.LiveRows.{above}
+use Rattle.segment_core.proofs.Numbers.{one_at_most}
 use Rattle.packet_apply.specs.Stages.{up_to, within}
 use Rattle.thread_writer.specs.Laws.{PiecesAreFew, has_row, with_row}
 use Rattle.thread_writer.specs.Writing.{piece_rows}
 use Rattle.thread_writer.specs.declared.piece.Piece.{Piece}
 use Rattle.flush_control.specs.Published.{HasInversion}
-use Rattle.flush_control.specs.Rounds.{IsRound, StandsIn}
+use Rattle.flush_control.specs.Rounds.{IsRound, PiecesApart, StandsIn}
 use Rattle.flush_control_tests.specs.Told.{AddsNone, AreTold, IsPieceOf}
 
 -- ---- one more operation
@@ -129,6 +130,7 @@ round_of law base last rows updates pieces told of = record {
       subst (IsPermutation (piece_rows pieces))
       (ap piece_rows of.is ∙ (append-nil of.piece.frozen.rows.items ∙ (of.rows_are ∙ told.rows_are)))
       (IsPermutation-refl (piece_rows pieces));
+  apart = subst PiecesApart (sym of.is) (λ n. omega (arith, one_at_most n of.piece.frozen.rows.items));
   few =
       subst (λ (ps : List Piece). with_row ps ≤ adding told.ops) (sym of.is)
       (omega (arith, ap {B = ℕ} (λ (rs : List Row). cond (has_row rs) 1 0) of.rows_are, law told.ops [] rows told.rows_are));

@@ -147,7 +147,7 @@ inverted_whole files d s next rows whole h = record {
           record { head = head_of s next was.tail h.holds.entries h.holds.segments; has_head = was.head; listed = listed } in
           whole name (inr (e, lists, among)))
           was.each;
-      differ = was.differ;
+      apart = was.apart;
     };
     rows_are = h.holds.rows_are;
   };

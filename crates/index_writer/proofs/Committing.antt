@@ -107,7 +107,7 @@ pub can_commit : (s : State) → IsReady s → CanCommit s.published.upto s.publ
 can_commit s ready = record {
   can = ready.published.can;
   ids = ready.published.ids;
-  differ = ready.published.differ;
+  apart = ready.published.apart;
   count = ready.count;
   written = ready.written;
 }

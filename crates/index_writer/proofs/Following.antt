@@ -149,7 +149,7 @@ can_follow files last has =
       can = record {
         can = all_can files last.number last.entries last.segments has.each;
         ids = ids_rise files last.number 1 last.next_id last.entries last.segments has.each has.head.fits.ids;
-        differ = has.differ;
+        apart = has.apart;
         count = as_many last.entries last.segments count;
         written = were_written last.number last.entries last.segments has.head.fits.entries;
       };

@@ -18,7 +18,7 @@ pub opened : (last : Opened) (size merge : ℕ) (ws : List (Option Written)) →
     → ws ≡ written_of last.entries last.segments
     → IsReady (record (opened_on last size merge) { written = ws })
 opened last size merge ws can some most several within is = record {
-  published = record { can = can.can.can; ids = can.can.ids; some_id = can.some_id; differ = can.can.differ; running = tt };
+  published = record { can = can.can.can; ids = can.can.ids; some_id = can.some_id; apart = can.can.apart; running = tt };
   count = ap (λ (xs : List (Option Written)). length xs) is ∙ can.can.count;
   written = subst (AllByRecursion (WrittenUpTo last.number)) (sym is) can.can.written;
   new_ids = subst (NewIdsFrom last.next_id last.segments) (sym is) (no_new last.next_id last.entries last.segments);
