@@ -173,8 +173,9 @@ fn read_values<S: Store>(
 }
 
 /// Reads the live docs of a segment of the commit of this number: its live bits, and then its set
-/// numbers. All operations up to the commit's number are in them.
-fn read_live<S: Store>(
+/// numbers. All operations up to the commit's number are in them. `Damaged` names the first broken place
+/// of the two files. The store is as before, whatever is returned.
+pub fn read_live<S: Store>(
     alloc: Global,
     store: &mut S,
     number: u64,
@@ -201,8 +202,10 @@ fn read_live<S: Store>(
 }
 
 /// Reads a segment of the commit of this number: its rows, its postings, its live bits, and last its
-/// set numbers.
-fn read_segment<S: Store>(
+/// set numbers. The segments before it have rows of the operations of these numbers, of which it may have
+/// none. `Damaged` names the first broken place of the four files. The store is as before, whatever is
+/// returned.
+pub fn read_segment<S: Store>(
     alloc: Global,
     store: &mut S,
     number: u64,
