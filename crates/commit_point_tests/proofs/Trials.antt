@@ -1,5 +1,5 @@
 -- One segment, or two of which the second has later rows, can be those of a commit.
-use Rattle.std.proofs.Common.{◌≡◌, ℕ, zero, suc, ◌+◌, ◌<◌, ◌≤◌, eqb, List, [], ◌∷◌, ◌++◌, Bool, true, false, cond, Option, None, refl, sym, subst, arith}
+use Rattle.std.proofs.Common.{◌≡◌, ℕ, zero, suc, ◌+◌, ◌<◌, ◌≤◌, eqb, List, [], ◌∷◌, Bool, true, false, cond, Option, None, refl, sym, subst, arith}
 use Rattle.std.proofs.lemmas.Bool.{eqb-true}
 use Rattle.ix_base.specs.Births.{first_birth, last_birth, number_of}
 use Rattle.ix_base.specs.declared.document.Row.{Row}
@@ -23,7 +23,7 @@ within low limit b (r ∷ rs) rise some = by (eqb r.birth b) refl some (within (
 of_one : (m n : ℕ) (rows : List Row) → BirthsRise (first_birth m) (last_birth m) rows → 1 ≤ one_list n rows → n ≡ m
 of_one m n rows rise some = by_bool (has_number rows n) (λ e. by (birth_with n rows e)) (λ e. absurd (omega (arith, some, list_false n rows e)))
   where
-    by : (b : ℕ) × (number_of b ≡ n) × (1 ≤ births_at b rows) → n ≡ m
+    by : ((b : ℕ) × (number_of b ≡ n) × (1 ≤ births_at b rows)) → n ≡ m
     by has =
         let is : number_of has.0 ≡ n = has.1 in
         let bounds = within (first_birth m) (last_birth m) has.0 rows rise has.2 in
