@@ -108,7 +108,7 @@ key_less (suc n) xs ys p q lt = less_or n xs ys p q lt (key_less n xs ys p q) (c
 
 -- ---- texts
 
-itself : (xs : List ℕ) → slice_cmp nat_cmp xs xs ≡ Equal
+pub itself : (xs : List ℕ) → slice_cmp nat_cmp xs xs ≡ Equal
 itself [] = refl
 itself (x ∷ xs) = ap (λ (o : Ordering). ordering_then o (slice_cmp nat_cmp xs xs)) (nat_equal x x refl) ∙ itself xs
 

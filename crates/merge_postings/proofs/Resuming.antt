@@ -16,7 +16,8 @@ use Rattle.ix_base.specs.declared.postings.TermPostings.{TermPostings}
 use Rattle.ix_base.proofs.TermOrder.{term_total}
 use Rattle.merge_postings.specs.Renumbering.{CanMove, HasMoved, Moving, NumbersRise, any_moved, is_named, moved, moved_at}
 use Rattle.merge_postings.specs.Steps.{AreResumed, IsAllBeyond, IsBeyond, IsMergedUpto, IsReached, IsResumed, Walked, WalkedUpto}
-use Rattle.merge_postings.specs.Walk.{Adds, AreQueued, CanWait, IsBelow, IsPutBack, PutsTerm, StartAbove, Waiting, any_waiting, waiting}
+use Rattle.merge_postings.specs.Walk.{Adds, CanWait, IsBelow, IsPutBack, PutsTerm, StartAbove, Waiting, any_waiting, waiting}
+use Rattle.merge_postings.specs.Tree.{IsFirst, Queued}
 use Rattle.merge_postings.specs.declared.partly.PartlyMerged.{PartlyMerged}
 use Rattle.merge_postings.proofs.Queued.{above_not_below, less_not_itself, tail_ordered, tri}
 use Rattle.merge_postings.proofs.Taking.{back_all, back_any}
@@ -140,7 +141,6 @@ middle_reached u es m d ordered lt low k e upto in' l = go (cases_lt k m)
 
 -- the sources before the i-th one wait behind what was reached
 pub record Resuming (upto : Option Term) (sources : List Moving) (i : ℕ) (queue : List Waiting) : Type 0 where
-  pub queued : AreQueued queue
   pub can : AllByRecursion CanWait queue
   pub beyond : AllByRecursion (IsAllBeyond upto) queue
   pub exact : (t : Term) (r x : ℕ) → IsBeyond upto t → (any_waiting queue t.field t.bytes r x || any_moved (drop i sources) t.field t.bytes r x) ≡ any_moved sources t.field t.bytes r x
@@ -171,13 +171,12 @@ rest_ordered [] rest h = h
 rest_ordered (e ∷ es) rest h = rest_ordered es rest (tail_ordered e (es ++ rest) h)
 
 pub more_resumed : (upto : Option Term) (sources : List Moving) (i : ℕ) (s : Moving) (o : Option Waiting) (old new : List Waiting) → Resuming upto sources i old → i < length sources → s ≡ get_or sources i s
-    → CanMove s → IsResumed upto s o → IsPutBack o old new → AreQueued new → Resuming upto sources (i + 1) new
-more_resumed upto sources i s o old new was lt is able resumed put queued =
+    → CanMove s → IsResumed upto s o → IsPutBack o old new → Resuming upto sources (i + 1) new
+more_resumed upto sources i s o old new was lt is able resumed put =
     let back : IsPutBack (waiting resumed.rest s.numbers) old new = subst (λ (w : Option Waiting). IsPutBack w old new) resumed.is put in
     let more : i + 1 ≡ suc i = omega arith in
     let left : drop i sources ≡ s ∷ drop (suc i) sources = drop-cons sources i s lt ∙ ap (λ (t : Moving). t ∷ drop (suc i) sources) (sym is) in
     record {
-      queued = queued;
       can = back_all CanWait (waiting resumed.rest s.numbers) old new back was.can
           (some_can resumed.rest s.numbers (rest_ordered resumed.before resumed.rest (subst IsPostings resumed.all able.ordered)) able.rise);
       beyond = back_all (IsAllBeyond upto) (waiting resumed.rest s.numbers) old new back was.beyond (some_beyond upto resumed.rest s.numbers resumed.beyond);
@@ -191,7 +190,6 @@ more_resumed upto sources i s o old new was lt is able resumed put queued =
 
 pub all_resumed : (upto : Option Term) (sources : List Moving) (i : ℕ) (queue : List Waiting) → Resuming upto sources i queue → length sources ≤ i → AreResumed upto sources queue
 all_resumed upto sources i queue was le = record {
-  queued = was.queued;
   can = was.can;
   beyond = was.beyond;
   exact = λ t r x there.
@@ -217,7 +215,6 @@ made_below upto queue made beyond within =
 pub walked_from : (sources : List Moving) (m : PartlyMerged) (queue : List Waiting) → IsMergedUpto sources m → AreResumed m.upto sources queue → Walked sources queue m.terms
 walked_from sources m queue was resumed = record {
   exact = λ field bytes r x. go (record { field = field; bytes = bytes }) r x (reached_or_beyond m.upto (record { field = field; bytes = bytes }));
-  queued = resumed.queued;
   can = resumed.can;
   ordered = was.ordered;
   below = made_below m.upto queue m.terms resumed.beyond was.within;
@@ -256,10 +253,10 @@ walked_upto sources u queue m w is = record {
 }
 
 -- one more term
-pub walk_upto : (sources : List Moving) (front left : List Waiting) (h : Waiting) (made new : List TermPostings) → Walked sources (front ++ h ∷ []) made
-    → PutsTerm h.first.term (front ++ h ∷ []) left made new → WalkedUpto sources h.first.term left new
-walk_upto sources front left h made new w puts = record {
-  walked = walk sources front left h made new w puts;
+pub walk_upto : (sources : List Moving) (q : Queued) (left : List Waiting) (h : Waiting) (made new : List TermPostings) → IsFirst q h → Walked sources q.waiting made
+    → PutsTerm h.first.term q.waiting left made new → WalkedUpto sources h.first.term left new
+walk_upto sources q left h made new is w puts = record {
+  walked = walk sources q left h made new is w puts;
   within = go puts.adds;
   above = puts.taken.above;
 }
@@ -268,7 +265,7 @@ walk_upto sources front left h made new w puts = record {
     u = h.first.term
 
     old : AllByRecursion (λ (e : TermPostings). IsBelow u e.term → ⊥) made
-    old = all_map (λ (e : TermPostings). IsBelow e.term u) (λ (e : TermPostings). IsBelow u e.term → ⊥) (λ e l. above_not_below e.term u l) made (made_before front h made w.below)
+    old = all_map (λ (e : TermPostings). IsBelow e.term u) (λ (e : TermPostings). IsBelow u e.term → ⊥) (λ e l. above_not_below e.term u l) made (made_before q h made is w.below)
 
     push : (es : List TermPostings) (e : TermPostings) → AllByRecursion (λ (x : TermPostings). IsBelow u x.term → ⊥) es → (IsBelow u e.term → ⊥) → AllByRecursion (λ (x : TermPostings). IsBelow u x.term → ⊥) (es ++ e ∷ [])
     push [] e all p = (p, tt)

@@ -1,5 +1,9 @@
--- A text's first bytes and its length as a number.
-use Rattle.std.specs.Prelude.{◌≡◌, ℕ, zero, suc, ◌+◌, ◌*◌, ◌^◌, ◌<◌, ◌≤◌, List, length, slice_index}
+-- A text's first bytes and its length as a number, and terms by those of their texts.
+use Rattle.std.specs.Prelude.{◌≡◌, ℕ, zero, suc, ◌+◌, ◌-◌, ◌*◌, ◌^◌, ◌<◌, ◌≤◌, ◌⊎◌, List, length, slice_index, slice_index_or}
+use Rattle.std.specs.Cmp.Lexicographic.{slice_cmp}
+use Rattle.std.specs.Ordering.{nat_cmp}
+use Rattle.std.specs.declared.cmp.Ordering.TheVariants.{Less}
+use Rattle.ix_base.specs.declared.document.Term.{Term}
 use Rattle.ix_base.specs.Spelling.{AreBytes}
 use Rattle.merge_postings.specs.declared.key.Key.{Key}
 
@@ -17,3 +21,12 @@ pub record IsKey (number : ℕ) (bytes : List ℕ) : Type 0 where
 -- the same of the number's two words
 abbrev pub HasKey : Key → List ℕ → Type 0
 HasKey k bytes = IsKey (k.high * 2 ^ 64 + k.low) bytes
+
+-- the key of no text, above all others
+abbrev pub IsHighest : Key → Type 0
+IsHighest k = (k.high ≡ 2 ^ 64 - 1) × (k.low ≡ 2 ^ 64 - 1)
+
+-- the key of a term beside a field: that of its text where it has the field, and the highest where its own is behind
+-- the field
+abbrev pub KeysTerm : List ℕ → Key → Term → Type 0
+KeysTerm field k t = ((t.field ≡ field) × HasKey k t.bytes) ⊎ (IsHighest k × (slice_cmp nat_cmp field t.field ≡ Less))

@@ -5,7 +5,7 @@ use Rattle.ix_base.specs.Inversion.{IsPostings, posted}
 use Rattle.ix_base.specs.declared.document.Term.{Term}
 use Rattle.ix_base.specs.declared.postings.TermPostings.{TermPostings}
 use Rattle.merge_postings.specs.Renumbering.{Moving, any_moved}
-use Rattle.merge_postings.specs.Walk.{CanWait, IsBelow, StartAbove, Waiting, any_waiting, waiting, AreQueued}
+use Rattle.merge_postings.specs.Walk.{CanWait, IsBelow, StartAbove, Waiting, any_waiting, waiting}
 use Rattle.merge_postings.specs.declared.partly.PartlyMerged.{PartlyMerged}
 
 -- the term isn't above the one that was reached; none is where none was reached
@@ -43,7 +43,6 @@ IsAllBeyond upto w = AllByRecursion (λ (e : TermPostings). IsBeyond upto e.term
 
 -- The sources wait behind what was reached.
 pub record AreResumed (upto : Option Term) (sources : List Moving) (queue : List Waiting) : Type 0 where
-  pub queued : AreQueued queue
   pub can : AllByRecursion CanWait queue
   pub beyond : AllByRecursion (IsAllBeyond upto) queue
   pub exact : (t : Term) (r x : ℕ) → IsBeyond upto t
@@ -54,7 +53,6 @@ pub record Walked (sources : List Moving) (queue : List Waiting) (made : List Te
   pub exact : (field bytes : List ℕ) (r x : ℕ)
       → (posted made field bytes r x || any_waiting queue field bytes r x)
       ≡ any_moved sources field bytes r x
-  pub queued : AreQueued queue
   pub can : AllByRecursion CanWait queue
   pub ordered : IsPostings made
   pub below : AllByRecursion (λ (e : TermPostings). StartAbove e.term queue) made

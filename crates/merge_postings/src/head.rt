@@ -1,18 +1,18 @@
 //! Entries of sources that come next.
-ghost use Rattle.std.specs.Prelude.{◌≡◌, ◌↔◌, ◌||◌, ℕ, true, false, None, Some, OnOk, IsTrue};
-ghost use Rattle.std.specs.Cmp.Lexicographic.{slice_cmp};
-ghost use Rattle.std.specs.Ordering.{nat_cmp};
-ghost use Rattle.ix_base.specs.Inversion.{IsPostings, term_cmp};
-ghost use Rattle.merge_postings.specs.Gathering.{is_gathered};
-ghost use Rattle.merge_postings.specs.Keys.{HasKey};
-ghost use Rattle.merge_postings.specs.Renumbering.{moved_at, NumbersRise};
-ghost use Rattle.merge_postings.specs.Walk.{waiting, IsBelow};
+ghost use Rattle.std.specs.Prelude.{◌≡◌, ◌<◌, ◌∷◌, ℕ, List, true, false, None, Some};
+ghost use Rattle.ix_base.specs.Inversion.{IsPostings};
+ghost use Rattle.ix_base.specs.declared.document.Term.{Term as TermOf};
+ghost use Rattle.merge_postings.specs.Keys.{IsHighest, KeysTerm};
+ghost use Rattle.merge_postings.specs.Renumbering.{NumbersRise};
+ghost use Rattle.merge_postings.specs.Walk.{waiting, AreAlike, IsBelow, IsLater};
 
-use crate::gathered::Gathered;
-use crate::key::{Key, key_of, order_by_keys};
-use ix_base::{NoMemory, Term, TermPostings};
-use std::cmp::Ordering;
+use crate::key::{Key, highest_key, key_alike};
+use crate::part::Part;
+use ix_base::{Term, TermPostings};
 use std::marker::Model;
+
+/// How many entries further on a field is looked at, to see whether it is still the same.
+const AHEAD: usize = 32;
 
 /// A source that wasn't walked to its end: its next entry, and those behind it.
 #[derive(Drop)]
@@ -20,17 +20,12 @@ pub(crate) struct Head<'a> {
     first: &'a TermPostings,
     rest: &'a [TermPostings],
     numbers: &'a [Option<u32>],
-    /// The place of the source among all.
-    place: usize,
-    /// The key of the field of the next entry's term.
-    field: Key,
-    /// The key of the bytes of the next entry's term.
-    bytes: Key,
+    /// How many of those behind it are known to have its field.
+    alike: usize,
 }
 
 impl<'a> Model for Head<'a> {
-    ghost use Rattle.merge_postings.specs.Keys.{HasKey};
-    ghost use Rattle.merge_postings.specs.Walk.{CanWait, Waiting};
+    ghost use Rattle.merge_postings.specs.Walk.{AreAlike, CanWait, Waiting};
 
     ghost Value = { Waiting };
 
@@ -38,17 +33,53 @@ impl<'a> Model for Head<'a> {
 
     ghost invariant = { λ h.
         CanWait (record { first = h.first.now; rest = h.rest.now; numbers = h.numbers.now })
-        × HasKey h.field h.first.now.term.field
-        × HasKey h.bytes h.first.now.term.bytes };
+        × AreAlike h.alike h.first.now h.rest.now };
+}
+
+/// Whether the last of so many entries behind the first one is there and has its field.
+fn reaches(first: &TermPostings, rest: &[TermPostings], count: usize) -> bool
+    requires { IsPostings (first.now ∷ rest.now) }
+    ensures alike { result ≡ true → AreAlike count first.now rest.now }
+    ensures some { result ≡ true → 0 < count }
+    ensures none { result ≡ false → count ≡ 1 → IsLater first.now rest.now }
+{
+    if count == 0 || rest.len() < count {
+        return false;
+    }
+    let last = count - 1;
+    rest[last].term.field.as_str() == first.term.field.as_str()
+}
+
+/// How many of the entries behind the first one are seen to have its field: one at least, if the next one has it.
+fn alike(first: &TermPostings, rest: &[TermPostings]) -> usize
+    requires { IsPostings (first.now ∷ rest.now) }
+    ensures alike { AreAlike result first.now rest.now }
+    ensures none { result ≡ 0 → IsLater first.now rest.now }
+{
+    let far = rest.len().min(AHEAD);
+    if reaches(first, rest, far) {
+        return far;
+    }
+    if reaches(first, rest, 1) { 1 } else { 0 }
+}
+
+/// The key of a term, by that of the one before it, and by whether so many at least have that one's field.
+#[inline]
+fn key_behind(key: Key, alike: usize, next: &Term) -> Key
+    ensures alike { 0 < alike → (field : List ℕ) (other : TermOf) → KeysTerm field key other
+        → other.field ≡ next.now.field → KeysTerm field result next.now }
+    ensures later { alike ≡ 0 → IsHighest result }
+{
+    if alike > 0 {
+        key_alike(key, next)
+    } else {
+        highest_key()
+    }
 }
 
 impl<'a> Head<'a> {
     /// What waits of a source with these entries; `None` where there is none.
-    pub(crate) fn new(
-        terms: &'a [TermPostings],
-        numbers: &'a [Option<u32>],
-        place: usize,
-    ) -> Option<Head<'a>>
+    pub(crate) fn new(terms: &'a [TermPostings], numbers: &'a [Option<u32>]) -> Option<Head<'a>>
         requires ordered { IsPostings terms.now }
         requires rise { NumbersRise numbers.now }
         ensures { result ≡ waiting terms.now numbers.now }
@@ -58,9 +89,7 @@ impl<'a> Head<'a> {
             first,
             rest,
             numbers,
-            place,
-            field: key_of(first.term.field.as_str()),
-            bytes: key_of(first.term.bytes.as_str()),
+            alike: 0,
         })
     }
 
@@ -72,117 +101,56 @@ impl<'a> Head<'a> {
             first: self.first,
             rest: self.rest,
             numbers: self.numbers,
-            place: self.place,
-            field: self.field,
-            bytes: self.bytes,
+            alike: self.alike,
         }
     }
 
     /// The term of the next entry.
+    #[inline]
     pub(crate) fn term(&self) -> &'a Term
         ensures { result.now ≡ self.now.first.term }
     {
         &self.first.term
     }
 
-    /// Passes its next entry, unless that is the last: then the answer is `false`, and all is as before.
-    pub(crate) fn pass(&mut self) -> bool
+    /// How many of the entries behind the next one are known, or seen, to have its field.
+    #[inline]
+    fn known_alike(&self) -> usize
+        ensures alike { AreAlike result self.now.first self.now.rest }
+        ensures none { result ≡ 0 → IsLater self.now.first self.now.rest }
+    {
+        if self.alike > 0 {
+            self.alike
+        } else {
+            alike(self.first, self.rest)
+        }
+    }
+
+    /// Passes its next entry, unless that is the last: then the answer is `false`, and all is as before. The key is
+    /// that of its next term, beside any field beside which it was.
+    pub(crate) fn pass(&mut self, key: &mut Key) -> bool
         ensures next { result ≡ true → waiting self.old.rest self.old.numbers ≡ Some self.new }
         ensures last { result ≡ false → waiting self.old.rest self.old.numbers ≡ None }
         ensures rises { result ≡ true → IsBelow self.old.first.term self.new.first.term }
+        ensures key { result ≡ true → (field : List ℕ)
+            → KeysTerm field key.old self.old.first.term → KeysTerm field key.new self.new.first.term }
     {
         let Some((first, rest)) = self.rest.split_first() else {
             return false;
         };
-        self.field = key_of(first.term.field.as_str());
-        self.bytes = key_of(first.term.bytes.as_str());
+        let known = self.known_alike();
+        *key = key_behind(*key, known, &first.term);
+        self.alike = known.saturating_sub(1);
         self.first = first;
         self.rest = rest;
         true
     }
 
-    /// Adds the places of the next entry, at the rows of their numbers.
-    pub(crate) fn gather(&self, gathered: &mut Gathered) -> Result<(), NoMemory>
-        ensures { OnOk result ((r x : ℕ) → is_gathered gathered.new r x
-            ≡ (is_gathered gathered.old r x || moved_at self.now.numbers self.now.first.rows r x)) }
-    {
-        gathered.add(&self.first.rows, self.numbers)
-    }
-
-    /// How the field of its next entry is ordered to the other's, by their texts.
-    #[cold]
-    #[inline(never)]
-    fn compare_field_texts(&self, other: &Head<'_>) -> Ordering
-        ensures { result ≡ slice_cmp nat_cmp self.now.first.term.field other.now.first.term.field }
-    {
-        let field = self.first.term.field.as_str();
-        field.cmp(other.first.term.field.as_str())
-    }
-
-    /// How the bytes of its next entry's term are ordered to those of the other's, by their texts.
-    #[cold]
-    #[inline(never)]
-    fn compare_byte_texts(&self, other: &Head<'_>) -> Ordering
-        ensures { result ≡ slice_cmp nat_cmp self.now.first.term.bytes other.now.first.term.bytes }
-    {
-        let bytes = self.first.term.bytes.as_str();
-        bytes.cmp(other.first.term.bytes.as_str())
-    }
-
-    /// How the field of its next entry is ordered to the other's.
+    /// The places of the next entry.
     #[inline]
-    fn compare_fields(&self, other: &Head<'_>) -> Ordering
-        ensures { result ≡ slice_cmp nat_cmp self.now.first.term.field other.now.first.term.field }
+    pub(crate) fn part(&self) -> Part<'a>
+        ensures { result ≡ record { rows = self.now.first.rows; numbers = self.now.numbers } }
     {
-        match order_by_keys(self.field, other.field) {
-            Some(order) => order,
-            None => self.compare_field_texts(other),
-        }
-    }
-
-    /// How the bytes of its next entry's term are ordered to those of the other's.
-    #[inline]
-    fn compare_bytes(&self, other: &Head<'_>) -> Ordering
-        ensures { result ≡ slice_cmp nat_cmp self.now.first.term.bytes other.now.first.term.bytes }
-    {
-        match order_by_keys(self.bytes, other.bytes) {
-            Some(order) => order,
-            None => self.compare_byte_texts(other),
-        }
-    }
-
-    /// How the term of its next entry is ordered to the other's. Texts are looked at only where their keys
-    /// don't tell.
-    #[inline]
-    fn compare(&self, other: &Head<'_>) -> Ordering
-        ensures { result ≡ term_cmp self.now.first.term other.now.first.term }
-    {
-        match self.compare_fields(other) {
-            Ordering::Equal => self.compare_bytes(other),
-            by_field => by_field,
-        }
-    }
-
-    /// Whether its next term is the other's.
-    pub(crate) fn has_term_of(&self, other: &Head<'_>) -> bool
-        ensures { IsTrue result ↔ (self.now.first.term ≡ other.now.first.term) }
-    {
-        match self.compare(other) {
-            Ordering::Equal => true,
-            _ => false,
-        }
-    }
-
-    /// Whether it is taken after this one.
-    #[inline]
-    pub(crate) fn is_after(&self, other: &Head<'_>) -> bool
-        ensures after { result ≡ true → ¬ IsBelow self.now.first.term other.now.first.term }
-        ensures before { result ≡ false → ¬ IsBelow other.now.first.term self.now.first.term }
-    {
-        match self.compare(other) {
-            Ordering::Less => false,
-            Ordering::Equal => self.place > other.place,
-            Ordering::Greater => true,
-        }
+        Part::new(&self.first.rows, self.numbers)
     }
 }

@@ -1,10 +1,13 @@
-//! Texts compared by their first fifteen bytes and their lengths.
-ghost use Rattle.std.specs.Prelude.{◌≡◌, ◌≢◌, ◌+◌, ◌*◌, ◌<◌, ◌^◌, [], ◌∷◌, ℕ, List, drop, slice_index, IfSome};
+//! Terms compared by the first fifteen bytes of their texts and the lengths of these.
+ghost use Rattle.std.specs.Prelude.{◌≡◌, ◌≢◌, ◌↔◌, ◌+◌, ◌*◌, ◌<◌, ◌^◌, [], ◌∷◌, ℕ, List, drop, slice_index, IfSome, IsTrue};
 ghost use Rattle.std.specs.Cmp.Lexicographic.{slice_cmp};
 ghost use Rattle.std.specs.Ordering.{nat_cmp};
+ghost use Rattle.ix_base.specs.Inversion.{term_cmp};
+ghost use Rattle.ix_base.specs.declared.document.Term.{Term as TermOf};
 ghost use Rattle.std.specs.declared.cmp.Ordering.TheVariants.{Less, Equal, Greater};
-ghost use Rattle.merge_postings.specs.Keys.{HasKey, key};
+ghost use Rattle.merge_postings.specs.Keys.{HasKey, IsHighest, KeysTerm, key};
 
+use ix_base::Term;
 use std::cmp::Ordering;
 
 /// The first fifteen bytes of a text as a number, the first one the highest, and its length behind them: 16
@@ -84,6 +87,50 @@ pub(crate) fn key_of(text: &str) -> Key
     }
 }
 
+/// The key of no text, above all others.
+#[inline]
+pub(crate) fn highest_key() -> Key
+    ensures { IsHighest result }
+{
+    Key {
+        high: u64::MAX,
+        low: u64::MAX,
+    }
+}
+
+/// Whether it is the key of no text.
+#[inline]
+pub(crate) fn is_highest(key: Key) -> bool
+    ensures { IsTrue result ↔ IsHighest key }
+{
+    key.high == u64::MAX && key.low == u64::MAX
+}
+
+/// The key of a term, beside a field that isn't behind its own.
+pub(crate) fn key_beside(field: &str, term: &Term) -> Key
+    requires { slice_cmp nat_cmp term.now.field field.now ≢ Less }
+    ensures { KeysTerm field.now result term.now }
+{
+    if term.field.as_str() == field {
+        key_of(term.bytes.as_str())
+    } else {
+        highest_key()
+    }
+}
+
+/// The key of a term, by that of another one with its field.
+#[inline]
+pub(crate) fn key_alike(key: Key, term: &Term) -> Key
+    ensures { (field : List ℕ) (other : TermOf) → KeysTerm field key other → other.field ≡ term.now.field
+        → KeysTerm field result term.now }
+{
+    if is_highest(key) {
+        key
+    } else {
+        key_of(term.bytes.as_str())
+    }
+}
+
 /// How two words are ordered that aren't one.
 #[inline]
 fn order_by_word(left: u64, right: u64) -> Ordering
@@ -99,12 +146,12 @@ fn order_by_word(left: u64, right: u64) -> Ordering
     }
 }
 
-/// How all texts with these keys are ordered; `None` where the keys are one, and the texts have more than
-/// fifteen bytes.
+/// How all terms with these keys are ordered; `None` where the keys are one and don't tell: their texts have
+/// more than fifteen bytes, or their fields are behind the one beside which they have the keys.
 #[inline]
 pub(crate) fn order_by_keys(left: Key, right: Key) -> Option<Ordering>
-    ensures { (a b : List ℕ) → HasKey left a → HasKey right b
-        → IfSome result (λ order. order ≡ slice_cmp nat_cmp a b) }
+    ensures { (field : List ℕ) (a b : TermOf) → KeysTerm field left a → KeysTerm field right b
+        → IfSome result (λ order. order ≡ term_cmp a b) }
 {
     if left.high != right.high {
         return Some(order_by_word(left.high, right.high));

@@ -6,7 +6,7 @@ ghost use Rattle.merge_postings.specs.Renumbering.{CanMove, HasMoved, Moving};
 ghost use Rattle.merge_postings.specs.Steps.{IsMergedUpto};
 
 use crate::merged::{walk_all, walk_on};
-use crate::queue::queue_beyond;
+use crate::queue::Queue;
 use crate::source::Source;
 use ix_base::{List, NoMemory, Postings, Term, TermPostings};
 use std::alloc::Global;
@@ -52,10 +52,11 @@ impl PartlyMerged {
         ensures ok { OnOk result (IsMergedUpto sources.entry.items self.new) }
         ensures err { OnErr result (self.new ≡ self.old) }
     {
-        let mut queue = queue_beyond(alloc, sources.as_slice(), &self.upto)?;
-        let Some(head) = queue.pop() else {
+        let mut queue = Queue::beyond(alloc, sources.as_slice(), &self.upto)?;
+        let Some(first) = queue.first() else {
             return Ok(());
         };
+        let head = first.same();
         let mut terms = mem::replace(&mut self.terms, List::new(alloc)).into_vec();
         let before = terms.len();
         match walk_on(alloc, &mut terms, &mut queue, head, entries) {
@@ -83,7 +84,7 @@ impl PartlyMerged {
         ensures exact { IfOk result (HasMoved sources.entry.items) }
         ensures err { OnErr result (self.new ≡ self.old) }
     {
-        let mut queue = queue_beyond(alloc, sources.as_slice(), &self.upto)?;
+        let mut queue = Queue::beyond(alloc, sources.as_slice(), &self.upto)?;
         let mut terms = mem::replace(&mut self.terms, List::new(alloc)).into_vec();
         let before = terms.len();
         match walk_all(alloc, &mut terms, &mut queue) {

@@ -1,91 +1,215 @@
-//! Sources that wait, by their first terms, which don't rise: the last has the least.
-ghost use Rattle.std.specs.Prelude.{◌≡◌, ◌≢◌, ◌||◌, ◌≤◌, ◌++◌, ◌∷◌, [], ℕ, List, length, take, drop, IfNone, IfOk, IfSome, OnOk};
+//! Sources that wait, of which the one whose next term is the least is known: they play against one another in
+//! a tree.
+ghost use Rattle.std.specs.Prelude.{◌≡◌, ◌≢◌, ◌↔◌, ◌⊎◌, [], List, ℕ, true, false, IfNone, IfOk, IfSome, IsTrue};
 ghost use Rattle.std.specs.List.{AllByRecursion};
+ghost use Rattle.merge_postings.specs.Keys.{KeysTerm};
 ghost use Rattle.merge_postings.specs.Renumbering.{CanMove};
 ghost use Rattle.merge_postings.specs.Steps.{AreResumed};
-ghost use Rattle.merge_postings.specs.Walk.{StartFrom, AreQueued, StartUpto, IsPut, IsPutBack, Waiting};
+ghost use Rattle.merge_postings.specs.Tree.{IsFirst, Queued};
+ghost use Rattle.merge_postings.specs.Walk.{IsPassed, Waiting};
 
 use crate::head::Head;
+use crate::key::{Key, highest_key, is_highest, order_by_keys};
+use crate::keyed::{keys_beside, keys_of};
 use crate::source::Source;
-use crate::waiter::Waiter;
+use crate::tree::{first_places, keep_places, play_above, play_all, winner_at};
+use analysis::compare_terms;
 use ix_base::{NoMemory, Term};
 use std::alloc::Global;
+use std::cmp::Ordering;
+use std::marker::Model;
 
-/// The place at which this source comes among these, found by halving.
-fn place_of(queue: &[Waiter<'_>], head: &Head<'_>) -> usize
-    requires { AreQueued queue.now }
-    ensures within { result ≤ length queue.now }
-    ensures before { StartFrom head.now.first.term (take result queue.now) }
-    ensures behind { StartUpto head.now.first.term (drop result queue.now) }
-{
-    let mut low = 0;
-    let mut high = queue.len();
-    'halves: while low < high {
-        let middle = low + (high - low) / 2;
-        if queue[middle].head().is_after(head) {
-            low = middle + 1;
-        } else {
-            high = middle;
-        }
-    }
-    low
+/// Sources that wait. Each has a place, from 0. The nodes of a tree are numbered from 1: node x stands above
+/// the nodes 2x and 2x + 1, and the nodes from the number of the sources on are these themselves. At each
+/// node above others stands the place of the source that is taken first of those below it.
+#[derive(Drop)]
+pub(crate) struct Queue<'a> {
+    heads: Vec<Head<'a>>,
+    /// The key of each one's next term, beside the field.
+    keys: Vec<Key>,
+    wins: Vec<usize>,
+    /// A field that isn't behind that of any next term.
+    field: &'a str,
 }
 
-/// Puts a source among these.
-fn put_waiter<'a>(queue: &mut Vec<Waiter<'a>>, waiter: Waiter<'a>) -> Result<(), NoMemory>
-    requires { AreQueued queue.old.items }
-    ensures put { OnOk result (IsPut waiter.entry queue.old.items queue.new.items) }
-    ensures queued { OnOk result (AreQueued queue.new.items) }
-{
-    let place = place_of(queue.as_slice(), waiter.head());
-    queue.insert(place, waiter)?;
-    Ok(())
+impl<'a> Model for Queue<'a> {
+    ghost use Rattle.std.specs.Prelude.{length};
+    ghost use Rattle.merge_postings.specs.Tree.{IsKeyed, IsPlayed, Queued, winner_of};
+
+    ghost Value = { Queued };
+
+    ghost view = { λ q. record {
+      waiting = q.heads.items;
+      place = winner_of q.wins.items (length q.heads.items) 1;
+      field = q.field.now;
+    } };
+
+    ghost invariant = { λ q. IsPlayed q.heads.items q.wins.items
+        × IsKeyed q.field.now q.heads.items q.keys.items };
 }
 
-/// Puts a source among these, if there is one.
-pub(crate) fn put_back<'a>(
-    queue: &mut Vec<Waiter<'a>>,
-    waiter: Option<Waiter<'a>>,
-) -> Result<(), NoMemory>
-    requires { AreQueued queue.old.items }
-    ensures put { OnOk result (IsPutBack waiter.entry queue.old.items queue.new.items) }
-    ensures queued { OnOk result (AreQueued queue.new.items) }
-{
-    match waiter {
-        Some(waiter) => put_waiter(queue, waiter),
-        None => Ok(()),
-    }
-}
-
-/// The sources that have an entry beyond the term that was reached, by their first terms beyond it.
-pub(crate) fn queue_beyond<'a>(
+/// What waits of the sources behind the term that was reached.
+fn heads_beyond<'a>(
     alloc: Global,
     sources: &[Source<'a>],
     upto: &Option<Term>,
-) -> Result<Vec<Waiter<'a>>, NoMemory>
+) -> Result<Vec<Head<'a>>, NoMemory>
     requires { AllByRecursion CanMove sources.now }
-    ensures { IfOk result (λ queue. AreResumed upto.now sources.now queue.items) }
+    ensures { IfOk result (λ heads. AreResumed upto.now sources.now heads.items) }
 {
-    let mut queue = Vec::with_capacity(alloc, sources.len())?;
+    let mut heads = Vec::with_capacity(alloc, sources.len())?;
     for place in 0..sources.len() {
-        let waiter = sources[place].beyond(alloc, place, upto)?;
-        put_back(&mut queue, waiter)?;
+        if let Some(head) = sources[place].beyond(upto) {
+            heads.push(head)?;
+        }
     }
-    Ok(queue)
+    Ok(heads)
 }
 
-/// Takes the last source out, if its first term is this one's.
-pub(crate) fn take_last<'a>(queue: &mut Vec<Waiter<'a>>, head: &Head<'a>) -> Option<Waiter<'a>>
-    ensures some { IfSome result (λ last. queue.old.items ≡ queue.new.items ++ last ∷ []) }
-    ensures term { IfSome result (λ last. last.first.term ≡ head.now.first.term) }
-    ensures none { IfNone result (queue.new.items ≡ queue.old.items) }
-    ensures other { IfNone result ((front : List Waiting) (w : Waiting)
-        → queue.old.items ≡ front ++ w ∷ [] → w.first.term ≢ head.now.first.term) }
+/// Whether the terms are one, by their texts.
+#[cold]
+#[inline(never)]
+fn is_term(one: &Term, other: &Term) -> bool
+    ensures { IsTrue result ↔ (one.now ≡ other.now) }
 {
-    let last = queue.last()?;
-    if last.head().has_term_of(head) {
-        queue.pop()
-    } else {
-        None
+    match compare_terms(one, other) {
+        Ordering::Equal => true,
+        _ => false,
+    }
+}
+
+/// Whether the source's next term, whose key is the first one, is the term of the second one.
+#[inline]
+fn has_term(head: &Head<'_>, own: Key, term: &Term, key: Key) -> bool
+    requires { (field : List ℕ) × KeysTerm field own head.now.first.term × KeysTerm field key term.now }
+    ensures same { result ≡ true → head.now.first.term ≡ term.now }
+    ensures other { result ≡ false → head.now.first.term ≢ term.now }
+{
+    match order_by_keys(own, key) {
+        Some(Ordering::Less) => false,
+        Some(Ordering::Equal) => true,
+        Some(Ordering::Greater) => false,
+        None => is_term(head.term(), term),
+    }
+}
+
+impl<'a> Queue<'a> {
+    /// The sources that have an entry beyond the term that was reached.
+    pub(crate) fn beyond(
+        alloc: Global,
+        sources: &[Source<'a>],
+        upto: &Option<Term>,
+    ) -> Result<Queue<'a>, NoMemory>
+        requires { AllByRecursion CanMove sources.now }
+        ensures { IfOk result (λ queue. AreResumed upto.now sources.now queue.waiting) }
+    {
+        let heads = heads_beyond(alloc, sources, upto)?;
+        let mut keys = vec![in alloc; highest_key(); heads.len()]?;
+        let mut wins = first_places(alloc, heads.len())?;
+        let field = keys_of(heads.as_slice(), &mut keys);
+        play_all(heads.as_slice(), keys.as_slice(), &mut wins);
+        Ok(Queue {
+            heads,
+            keys,
+            wins,
+            field,
+        })
+    }
+
+    /// The place of the source whose next term is the least, where one waits.
+    #[inline]
+    fn place(&self) -> usize
+        ensures { result ≡ self.now.place }
+    {
+        winner_at(self.wins.as_slice(), self.heads.len(), 1)
+    }
+
+    /// The source whose next term is the least; `None` where none waits.
+    pub(crate) fn first(&self) -> Option<&Head<'a>>
+        ensures some { IfSome result (λ head. IsFirst self.now head.now) }
+        ensures none { IfNone result (self.now.waiting ≡ []) }
+    {
+        let place = self.place();
+        if place < self.heads.len() {
+            Some(&self.heads[place])
+        } else {
+            None
+        }
+    }
+
+    /// Takes the field of the least next term for that beside which all have their keys, if that one's key doesn't
+    /// tell its text.
+    pub(crate) fn settle(&mut self)
+        ensures { self.new ≡ record self.old { field = self.new.field } }
+    {
+        let place = self.place();
+        if place >= self.heads.len() {
+            return;
+        }
+        if is_highest(self.keys[place]) {
+            let field = self.heads[place].term().field.as_str();
+            keys_beside(field, self.heads.as_slice(), &mut self.keys);
+            self.field = field;
+        }
+    }
+
+    /// The key of the least next term, where a source waits.
+    #[inline]
+    pub(crate) fn first_key(&self) -> Key
+        ensures { (w : Waiting) → IsFirst self.now w
+            → KeysTerm self.now.field result w.first.term }
+    {
+        let place = self.place();
+        if place < self.heads.len() {
+            self.keys[place]
+        } else {
+            highest_key()
+        }
+    }
+
+    /// The source whose next term is the least, if that term is this one, whose key this is.
+    pub(crate) fn first_of_term(&self, term: &Term, key: Key) -> Option<&Head<'a>>
+        requires { KeysTerm self.now.field key term.now }
+        ensures some { IfSome result (λ head.
+            IsFirst self.now head.now × (head.now.first.term ≡ term.now)) }
+        ensures none { IfNone result ((self.now.waiting ≡ [])
+            ⊎ ((w : Waiting) × IsFirst self.now w × (w.first.term ≢ term.now))) }
+    {
+        let place = self.place();
+        if place >= self.heads.len() {
+            return None;
+        }
+        let head = &self.heads[place];
+        if has_term(head, self.keys[place], term, key) {
+            Some(head)
+        } else {
+            None
+        }
+    }
+
+    /// The source whose next term is the least passes its next entry. Where that is its last, it waits no
+    /// more.
+    pub(crate) fn pass(&mut self)
+        ensures passed { (w : Waiting) → IsFirst self.old w
+            → IsPassed w self.old.waiting self.new.waiting }
+        ensures field { self.new.field ≡ self.old.field }
+    {
+        let place = self.place();
+        if place >= self.heads.len() {
+            return;
+        }
+        let mut key = self.keys[place];
+        if self.heads[place].pass(&mut key) {
+            self.keys[place] = key;
+            let heads = self.heads.as_slice();
+            play_above(heads, self.keys.as_slice(), &mut self.wins, place);
+        } else {
+            self.heads.remove(place);
+            self.keys.remove(place);
+            let count = self.heads.len();
+            keep_places(&mut self.wins, count);
+            let heads = self.heads.as_slice();
+            play_all(heads, self.keys.as_slice(), &mut self.wins);
+        }
     }
 }

@@ -1,33 +1,50 @@
-use Rattle.std.proofs.Common.{◌∙◌, ap, ◌++◌, ◌∷◌, [], List, refl, sym, subst}
-use Rattle.merge_postings.specs.Gathering.{is_gathered}
-use Rattle.merge_postings.specs.Walk.{AreQueued, TakenAll, Waiting}
-use Rattle.merge_postings.proofs.Queued.{front_queued}
-use Rattle.merge_postings.proofs.Taking.{all_taken, first_taken, less_left, more_taken}
+use Rattle.std.proofs.Common.{◌≡◌, ◌∙◌, List, ℕ, ap, refl, subst, sym}
+use Rattle.merge_postings.specs.Keys.{KeysTerm}
+use Rattle.merge_postings.specs.Parts.{any_part}
+use Rattle.merge_postings.specs.Tree.{IsFirst, Queued}
+use Rattle.merge_postings.specs.Walk.{IsBelow, IsPassed, Waiting}
+use Rattle.merge_postings.proofs.Listing.{none_listed, part_listed}
+use Rattle.merge_postings.proofs.Taking.{first_taken, less_left, more_taken, none_left, other_left}
+use Rattle.merge_postings.proofs.Playing.{first_among, still_first}
 use Rattle.merge_postings.proofs.merged.gather.Goals as goal
-
-pub pass-requires : goal.pass-requires
-pass-requires c = front_queued c.args.queue.now.items c.args.first c.requires
 
 pub heads-init : goal.heads-init
 heads-init c =
-    first_taken c.args.first.first.term c.args.queue.now.items c.pass.new.queue.items c.args.first (is_gathered c.new-gathered.result) (is_gathered c.pass.new.gathered)
-    c.requires c.new-gathered.ensures refl c.in_ok-pass.ensures.places c.in_ok-pass.ensures.back
+    let w : Waiting = c.args.first.now in
+    let first : IsFirst c.settle.new.self w = still_first c.args.queue.now c.settle.new.self w c.settle.new.self.field c.settle.ensures c.requires in
+    let waits : c.settle.new.self.waiting ≡ c.args.queue.now.waiting = ap (λ (q : Queued). q.waiting) c.settle.ensures in
+    record {
+      taken = first_taken w.first.term c.args.queue.now.waiting c.pass.new.self.waiting w (any_part c.clear.new.self.items) (any_part c.push.new.self.items)
+          c.requires.from (none_listed c.clear.new.self.items c.clear.ensures.items) refl
+          (part_listed w c.part.result c.clear.new.self.items c.push.new.self.items c.part.ensures c.in_ok-push.ensures.items)
+          (subst (λ (ws : List Waiting). IsPassed w ws c.pass.new.self.waiting) waits (c.pass.ensures.passed w first));
+      key = subst (λ (f : List ℕ). KeysTerm f c.first_key-key.result w.first.term) (sym c.pass.ensures.field) (c.first_key-key.ensures w first);
+    }
 
 pub returns-in_default : goal.returns-in_default
 returns-in_default c =
-    let old : List Waiting = c.args.queue.now.items ++ c.args.first ∷ [] in
-    subst (λ (ws : List Waiting). TakenAll c.args.first.first.term old ws (is_gathered c.heads.gathered)) (sym c.in_default.ensures.none)
-    (all_taken c.args.first.first.term old c.heads.queue.items (is_gathered c.heads.gathered) c.heads.invariant
-    (λ front w is named. c.in_default.ensures.other front w is (named ∙ ap (λ (v : Waiting). v.first.term) (sym (c.same-head.ensures ∙ c.head.ensures)))))
-
-pub pass-requires-in-heads : goal.pass-requires-in-heads
-pass-requires-in-heads c = front_queued c.take_last.new.queue.items c.in-Some.other (subst AreQueued c.in-Some.ensures.some c.heads.invariant.queued)
+    let u = c.args.first.now.first.term in
+    let taken = c.heads.invariant.taken in
+    elim c.in_default.ensures.none [
+      | inl e ↦ none_left u c.args.queue.now.waiting c.heads.queue.waiting (any_part c.heads.parts.items) taken e
+      | inr p ↦
+          other_left u c.args.queue.now.waiting c.heads.queue.waiting p.0 (any_part c.heads.parts.items) taken p.1.from
+          (first_among (λ (w : Waiting). IsBelow w.first.term u → ⊥) c.heads.queue p.0 p.1 taken.from)
+          (λ e. p.2 (e ∙ sym c.term.ensures))
+    ]
 
 pub heads-smaller : goal.heads-smaller
-heads-smaller c = less_left c.in-Some.other c.heads.queue.items c.take_last.new.queue.items c.pass-in-heads.new.queue.items c.in-Some.ensures.some c.in_ok-pass-2.ensures.back
+heads-smaller c =
+    less_left c.in-Some.next.now c.heads.queue.waiting c.pass-in-heads.new.self.waiting (c.pass-in-heads.ensures.passed c.in-Some.next.now c.in-Some.ensures.some.0)
 
 pub heads-preserved : goal.heads-preserved
 heads-preserved c =
-    more_taken c.args.first.first.term (c.args.queue.now.items ++ c.args.first ∷ []) c.heads.queue.items c.take_last.new.queue.items c.pass-in-heads.new.queue.items c.in-Some.other
-    (is_gathered c.heads.gathered) (is_gathered c.pass-in-heads.new.gathered) c.heads.invariant c.in-Some.ensures.some (c.in-Some.ensures.term ∙ ap (λ (v : Waiting). v.first.term) (c.same-head.ensures ∙ c.head.ensures))
-    c.in_ok-pass-2.ensures.places c.in_ok-pass-2.ensures.back
+    let u = c.args.first.now.first.term in
+    let next = c.in-Some.next.now in
+    record {
+      taken = more_taken u c.args.queue.now.waiting c.heads.queue.waiting c.pass-in-heads.new.self.waiting next (any_part c.heads.parts.items) (any_part c.push-in-heads.new.self.items)
+          c.heads.invariant.taken (c.in-Some.ensures.some.1 ∙ c.term.ensures)
+          (part_listed next c.part-in-heads.result c.heads.parts.items c.push-in-heads.new.self.items c.part-in-heads.ensures c.in_ok-push-2.ensures.items)
+          (c.pass-in-heads.ensures.passed next c.in-Some.ensures.some.0);
+      key = subst (λ (f : List ℕ). KeysTerm f c.first_key-key.result u) (sym c.pass-in-heads.ensures.field) c.heads.invariant.key;
+    }

@@ -1,0 +1,6 @@
+use Rattle.std.proofs.Common.{◌≡◌, ◌<◌, ℕ, length, get_or}
+use Rattle.merge_postings.specs.Tree.{IsLeast}
+use Rattle.merge_postings.proofs.keyed.least_of.Given as goal
+
+abbrev pub invariant-loop-place : goal.invariant-loop-place
+invariant-loop-place l = IsLeast l.heads l.place l.least

@@ -1,5 +1,0 @@
-use Rattle.merge_postings.proofs.Resuming.{Resuming}
-use Rattle.merge_postings.proofs.queue.queue_beyond.Given as goal
-
-abbrev pub invariant-loop-place : goal.invariant-loop-place
-invariant-loop-place l = Resuming l.upto l.sources l.place l.queue.items

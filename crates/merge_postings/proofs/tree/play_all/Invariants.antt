@@ -1,0 +1,12 @@
+use Rattle.std.proofs.Common.{◌≤◌, length}
+use Rattle.merge_postings.proofs.Playing.{IsPlayedFrom}
+use Rattle.merge_postings.proofs.tree.play_all.Given as goal
+
+abbrev pub invariant-nodes : goal.invariant-nodes
+invariant-nodes l = record {
+  upto : l.node ≤ length l.heads;
+  played : IsPlayedFrom l.node l.heads l.wins.items;
+}
+
+abbrev pub decreases-nodes : goal.decreases-nodes
+decreases-nodes l = l.node

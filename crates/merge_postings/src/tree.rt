@@ -1,0 +1,131 @@
+//! A tree in which sources that wait play against one another.
+ghost use Rattle.std.specs.Prelude.{◌≡◌, ◌+◌, ◌*◌, ◌/◌, ◌^◌, ◌<◌, ◌≤◌, List, ℕ, length, IfOk};
+ghost use Rattle.merge_postings.specs.Tree.{IsFirstOf, IsKeyed, IsPlayed, IsWithin, Plays, WasPlayed, winner_of};
+
+use crate::head::Head;
+use crate::key::{Key, order_by_keys};
+use analysis::compare_terms;
+use ix_base::NoMemory;
+use std::alloc::Global;
+use std::cmp::Ordering;
+
+/// The place of the source that stands at a node, among so many.
+#[inline]
+pub(crate) fn winner_at(wins: &[usize], count: usize, node: usize) -> usize
+    requires wins { length wins.now ≡ count }
+    ensures { result ≡ winner_of wins.now count node }
+{
+    if node < count {
+        wins[node]
+    } else {
+        node - count
+    }
+}
+
+/// The one of two sources that is taken first, by the texts of their next terms.
+#[cold]
+#[inline(never)]
+fn first_by_texts(heads: &[Head<'_>], one: usize, other: usize) -> usize
+    requires one { one < length heads.now }
+    requires other { other < length heads.now }
+    ensures { IsFirstOf heads.now one other result }
+{
+    match compare_terms(heads[one].term(), heads[other].term()) {
+        Ordering::Less => one,
+        Ordering::Equal => one.min(other),
+        Ordering::Greater => other,
+    }
+}
+
+/// The one of two sources that is taken first: of two whose next terms are one, that of the lower place.
+#[inline]
+fn first_of(heads: &[Head<'_>], keys: &[Key], one: usize, other: usize) -> usize
+    requires one { one < length heads.now }
+    requires other { other < length heads.now }
+    requires keyed { (field : List ℕ) × IsKeyed field heads.now keys.now }
+    ensures { IsFirstOf heads.now one other result }
+{
+    match order_by_keys(keys[one], keys[other]) {
+        Some(Ordering::Less) => one,
+        Some(Ordering::Equal) => one.min(other),
+        Some(Ordering::Greater) => other,
+        None => first_by_texts(heads, one, other),
+    }
+}
+
+/// The two below a node play: the one that is taken first stands there.
+fn play(heads: &[Head<'_>], keys: &[Key], wins: &mut Vec<usize>, node: usize)
+    requires above { 1 ≤ node }
+    requires within { node < length heads.now }
+    requires wins { IsWithin (length heads.now) wins.old.items }
+    requires keyed { (field : List ℕ) × IsKeyed field heads.now keys.now }
+    ensures { Plays heads.now wins.old.items node wins.new.items }
+{
+    let count = heads.len();
+    let left = winner_at(wins.as_slice(), count, 2 * node);
+    let right = winner_at(wins.as_slice(), count, 2 * node + 1);
+    wins[node] = first_of(heads, keys, left, right);
+}
+
+/// The node that has the same one above it.
+#[inline]
+fn beside(node: usize) -> usize
+    requires some { 1 ≤ node }
+    requires fits { node + 1 < 2 ^ 64 }
+    ensures { result + node ≡ 4 * (node / 2) + 1 }
+{
+    if node % 2 == 0 { node + 1 } else { node - 1 }
+}
+
+/// All above the source at this place play once more, which isn't as it was.
+pub(crate) fn play_above(heads: &[Head<'_>], keys: &[Key], wins: &mut Vec<usize>, place: usize)
+    requires place { place < length heads.now }
+    requires played { WasPlayed heads.now wins.old.items place }
+    requires keyed { (field : List ℕ) × IsKeyed field heads.now keys.now }
+    ensures { IsPlayed heads.now wins.new.items }
+{
+    let count = heads.len();
+    let mut node = count + place;
+    let mut first = place;
+    'nodes: while node > 1 {
+        let other = winner_at(wins.as_slice(), count, beside(node));
+        first = first_of(heads, keys, first, other);
+        node = node / 2;
+        wins[node] = first;
+    }
+}
+
+/// All play.
+pub(crate) fn play_all(heads: &[Head<'_>], keys: &[Key], wins: &mut Vec<usize>)
+    requires wins { IsWithin (length heads.now) wins.old.items }
+    requires keyed { (field : List ℕ) × IsKeyed field heads.now keys.now }
+    ensures { IsPlayed heads.now wins.new.items }
+{
+    let mut node = heads.len();
+    'nodes: while node > 1 {
+        node = node - 1;
+        play(heads, keys, wins, node);
+    }
+}
+
+/// So many times the place 0.
+pub(crate) fn first_places(alloc: Global, count: usize) -> Result<Vec<usize>, NoMemory>
+    ensures { IfOk result (λ places. IsWithin count places.items) }
+{
+    let mut places = Vec::with_capacity(alloc, count)?;
+    for _ in 0..count {
+        places.push(0)?;
+    }
+    Ok(places)
+}
+
+/// Keeps so many of the places, each as 0.
+pub(crate) fn keep_places(places: &mut Vec<usize>, count: usize)
+    requires { count ≤ length places.old.items }
+    ensures { IsWithin count places.new.items }
+{
+    places.truncate(count);
+    for at in 0..count {
+        places[at] = 0;
+    }
+}
