@@ -1,80 +1,72 @@
--- Births that no earlier segment has.
-use Rattle.std.proofs.Common.{◌≡◌, ◌≢◌, ℕ, ◌≤◌, Bool, true, false, eqb, List, [], ◌∷◌, refl, subst, arith}
+-- Operations that have no rows in an earlier segment.
+use Rattle.std.proofs.Common.{◌≡◌, ℕ, ◌≤◌, Bool, true, false, eqb, List, [], ◌∷◌, map, refl, subst, arith}
 use Rattle.std.specs.Prelude.{◌||◌}
 use Rattle.std.specs.List.{AllByRecursion}
-use Rattle.std.proofs.lemmas.Bool.{eq-eqb}
-use Rattle.ix_base.specs.Births.{first_birth, last_birth}
+use Rattle.std.proofs.lemmas.Bool.{eqb-true, eq-eqb, or_left, or_parts, or_right}
+use Rattle.ix_base.specs.Births.{number_of}
 use Rattle.ix_base.specs.declared.document.Row.{Row}
-use Rattle.segment_core.specs.LiveRows.{Lived, stored_rows}
-use Rattle.segment_core.specs.Births.{births_at, births_append, BirthsDiffer, EachRises, at_most_one, by_bool, one_other, one_true, one_false}
+use Rattle.segment_core.specs.LiveRows.{Lived}
+use Rattle.segment_core.specs.Births.{by_bool, has_number, lists_at, SegmentsApart}
+use Rattle.segment_core.proofs.Numbers.{list_false, list_true}
 use Rattle.commit_point.specs.Loading.{Unknown}
-use Rattle.commit_point.specs.Reading.{has_birth}
 
-absent : (b : ℕ) (rows : List Row) → has_birth rows b ≡ false → births_at b rows ≡ 0
-absent b [] e = refl
-absent b (r ∷ rs) e =
-    by_bool (eqb r.birth b) (λ h. absurd (clash h e)) (λ h. omega (arith, one_false b r h, absent b rs (rest h e)))
+-- in how many of the segments the operation of this number has rows
+abbrev segments_at : ℕ → List Lived → ℕ
+segments_at n segments = lists_at n (map (λ (g : Lived). g.segment.rows) segments)
+
+-- ---- one segment
+
+-- an operation whose number is known has no row here
+known_none : (known : ℕ → Bool) (n : ℕ) (rows : List Row) → AllByRecursion (λ (r : Row). known (number_of r.birth) ≡ false) rows → known n ≡ true → has_number rows n ≡ false
+known_none known n [] all e = refl
+known_none known n (r ∷ rs) all e =
+    by_bool (eqb (number_of r.birth) n)
+    (λ h. absurd (clash (subst (λ (x : ℕ). known x ≡ false) (eqb-true (number_of r.birth) n h) all.0)))
+    (λ h. rw h (known_none known n rs all.1 e))
   where
-    clash : eqb r.birth b ≡ true → (eqb r.birth b || has_birth rs b) ≡ false → ⊥
-    clash h e = let t : true ≡ false = rw h at e in cc
+    clash : known n ≡ false → ⊥
+    clash f = cc
 
-    rest : eqb r.birth b ≡ false → (eqb r.birth b || has_birth rs b) ≡ false → has_birth rs b ≡ false
-    rest h e = rw h at e
-
-present : (b : ℕ) (rows : List Row) → has_birth rows b ≡ true → 1 ≤ births_at b rows
-present b [] e = absurd cc
-present b (r ∷ rs) e = by_bool (eqb r.birth b) (λ h. omega (arith, one_true b r h)) (λ h. omega (arith, present b rs (rest h e)))
+-- and where no known one has, no row is of a known one
+all_unknown : (known : ℕ → Bool) (rows : List Row) → ((n : ℕ) → known n ≡ true → has_number rows n ≡ false) → AllByRecursion (λ (r : Row). known (number_of r.birth) ≡ false) rows
+all_unknown known [] none = tt
+all_unknown known (r ∷ rs) none =
+    let n : ℕ = number_of r.birth in (
+      by_bool (known n) (λ e. absurd (clash (or_left (eqb n n) (has_number rs n) (eq-eqb n n refl)) (none n e))) (λ e. e),
+      all_unknown known rs (λ m e. (or_parts (eqb n m) (has_number rs m) (none m e)).1),
+    )
   where
-    rest : eqb r.birth b ≡ false → (eqb r.birth b || has_birth rs b) ≡ true → has_birth rs b ≡ true
-    rest h e = rw h at e
+    clash : has_number (r ∷ rs) (number_of r.birth) ≡ true → has_number (r ∷ rs) (number_of r.birth) ≡ false → ⊥
+    clash t f = cc
 
--- ---- segments: births rise in each, and none stands in two
+-- ---- segments
 
-unknown_none : (known : ℕ → Bool) (b : ℕ) (rows : List Row) → AllByRecursion (λ (r : Row). known r.birth ≡ false) rows → known b ≡ true → births_at b rows ≡ 0
-unknown_none known b [] all e = refl
-unknown_none known b (r ∷ rs) all e =
-    let other : r.birth ≢ b = λ is. let f : known b ≡ false = subst (λ (x : ℕ). known x ≡ false) is all.0 in cc in
-    omega (arith, one_other b r other, unknown_none known b rs all.1 e)
-
-or_left : (a b : Bool) → a ≡ true → (a || b) ≡ true
-or_left true b e = refl
-or_left false b e = absurd cc
-
-pub or_right : (a b : Bool) → b ≡ true → (a || b) ≡ true
-or_right true b e = refl
-or_right false b e = e
-
-pub once : (s : ℕ) (known : ℕ → Bool) (segments : List Lived) → EachRises s segments → Unknown known segments → (b : ℕ) → (births_at b (stored_rows segments) ≤ 1) × (known b ≡ true → births_at b (stored_rows segments) ≡ 0)
-once s known [] rise unknown b = (omega arith, λ e. refl)
-once s known (g ∷ gs) rise unknown b =
-    let more = once s (λ x. known x || has_birth g.segment.rows x) gs rise.1 unknown.1 b in
-    let sum = births_append b g.segment.rows (stored_rows gs) in
-    let here = at_most_one (first_birth 1) (last_birth s) b g.segment.rows rise.0 in (
-      by_bool (has_birth g.segment.rows b)
-          (λ e. omega (arith, sum, here, more.1 (or_right (known b) (has_birth g.segment.rows b) e)))
-          (λ e. omega (arith, sum, absent b g.segment.rows e, more.0)),
-      λ e. omega (arith, sum, unknown_none known b g.segment.rows unknown.0 e, more.1 (or_left (known b) (has_birth g.segment.rows b) e)),
+once : (known : ℕ → Bool) (segments : List Lived) → Unknown known segments → (n : ℕ) → (segments_at n segments ≤ 1) × (known n ≡ true → segments_at n segments ≡ 0)
+once known [] unknown n = (omega arith, λ e. refl)
+once known (g ∷ gs) unknown n =
+    let rows = g.segment.rows in
+    let more = once (λ m. known m || has_number g.segment.rows m) gs unknown.1 n in (
+      by_bool (has_number rows n)
+          (λ e. omega (arith, list_true n rows e, more.1 (or_right (known n) (has_number rows n) e)))
+          (λ e. omega (arith, list_false n rows e, more.0)),
+      λ e. omega (arith, list_false n rows (known_none known n rows unknown.0 e), more.1 (or_left (known n) (has_number rows n) e)),
     )
 
-all_unknown : (known : ℕ → Bool) (rows : List Row) → ((b : ℕ) → known b ≡ true → births_at b rows ≡ 0) → AllByRecursion (λ (r : Row). known r.birth ≡ false) rows
-all_unknown known [] h = tt
-all_unknown known (r ∷ rs) h =
-    (by_bool (known r.birth) (λ e. absurd (omega (arith, h r.birth e, one_true r.birth r (eq-eqb r.birth r.birth refl)))) (λ e. e), all_unknown known rs (λ b e. omega (arith, h b e)))
-
-pub unknown_from : (known : ℕ → Bool) (segments : List Lived) → ((b : ℕ) → births_at b (stored_rows segments) ≤ 1) → ((b : ℕ) → known b ≡ true → births_at b (stored_rows segments) ≡ 0) → Unknown known segments
+unknown_from : (known : ℕ → Bool) (segments : List Lived) → ((n : ℕ) → segments_at n segments ≤ 1) → ((n : ℕ) → known n ≡ true → segments_at n segments ≡ 0) → Unknown known segments
 unknown_from known [] one none = tt
-unknown_from known (g ∷ gs) one none = (
-  all_unknown known g.segment.rows (λ b e. omega (arith, births_append b g.segment.rows (stored_rows gs), none b e)),
-  unknown_from (λ b. known b || has_birth g.segment.rows b) gs (λ b. omega (arith, births_append b g.segment.rows (stored_rows gs), one b))
-      (λ b e. by_bool (known b)
-      (λ k. omega (arith, births_append b g.segment.rows (stored_rows gs), none b k))
-      (λ k. let has : has_birth g.segment.rows b ≡ true = rw k at e in omega (arith, births_append b g.segment.rows (stored_rows gs), one b, present b g.segment.rows has))),
-)
+unknown_from known (g ∷ gs) one none =
+    let rows = g.segment.rows in (
+      all_unknown known rows (λ n e. by_bool (has_number rows n) (λ h. absurd (omega (arith, list_true n rows h, none n e))) (λ h. h)),
+      unknown_from (λ n. known n || has_number g.segment.rows n) gs (λ n. omega (arith, one n))
+          (λ n e. by_bool (known n)
+          (λ k. omega (arith, none n k))
+          (λ k. let has : has_number g.segment.rows n ≡ true = rw k at e in omega (arith, one n, list_true n g.segment.rows has))),
+    )
 
--- births that no other segment has stand once in all
-pub differ_of : (s : ℕ) (segments : List Lived) → EachRises s segments → Unknown (λ b. false) segments → BirthsDiffer segments
-differ_of s segments rise unknown b = (once s (λ x. false) segments rise unknown b).0
+-- where each segment has rows of no earlier one's operations, no operation has rows in two
+pub apart_of : (segments : List Lived) → Unknown (λ n. false) segments → SegmentsApart segments
+apart_of segments unknown n = (once (λ m. false) segments unknown n).0
 
--- and births that stand once in all are in no other segment
-pub unknown_of : (segments : List Lived) → BirthsDiffer segments → Unknown (λ b. false) segments
-unknown_of segments differ = unknown_from (λ b. false) segments differ (λ b e. absurd cc)
+-- and the other way round
+pub unknown_of : (segments : List Lived) → SegmentsApart segments → Unknown (λ n. false) segments
+unknown_of segments apart = unknown_from (λ n. false) segments apart (λ n e. absurd cc)

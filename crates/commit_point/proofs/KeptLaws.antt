@@ -61,7 +61,7 @@ has_there files d s next entries segments kept h =
           record { head = head_of s next h.tail entries segments; has_head = h.head; listed = listed } in
           kept s there name (inr (e, lists, among)))
           h.each;
-      differ = h.differ;
+      apart = h.apart;
     }
 
 pub inverted_there : (files d : Files) (s next : ℕ) (rows : List Row) → KeepsCommits files d

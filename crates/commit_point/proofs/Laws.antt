@@ -66,7 +66,7 @@ has_kept t n s Old entries segments old new lt are same h = record {
     fits = h.head.fits;
   };
   each = segments_kept t s 1 n Old old new entries segments lt are same h.head.fits.ids h.head.fits.entries h.each;
-  differ = h.differ;
+  apart = h.apart;
 }
 
 pub holds_kept : (t n s : ℕ) (Old : ℕ → Type 0) (rows : List Row) (old new : Files) → t < s → OldBelow n Old

@@ -6,6 +6,7 @@ use Rattle.std.proofs.lemmas.List.{take_more, take_all, take-append-drop}
 use Rattle.ix_base.specs.declared.file_name.FileName.TheVariants.{Commit}
 use Rattle.ix_base.specs.declared.damaged.Damaged.{Damaged}
 use Rattle.ix_outside.specs.Files.{Files, Was}
+use Rattle.segment_core.specs.Births.{has_number}
 use Rattle.segment_core.specs.LiveRows.{Lived, stored_rows}
 use Rattle.live_files.specs.LiveSpelling.{live_bits, live_file, values_of, values_file}
 use Rattle.segment_files.specs.Spelling.{posts_file}
@@ -14,19 +15,19 @@ use Rattle.commit_point.specs.declared.heads.Head.{Head}
 use Rattle.commit_point.specs.Fits.{IdsRise, EntryFits, HeadFits}
 use Rattle.commit_point.specs.Holds.{HaveSegments}
 use Rattle.commit_point.specs.Loading.{Unknown, AreRead, BreakAt}
-use Rattle.commit_point.specs.Reading.{segment_from, segments_from, has_birth}
+use Rattle.commit_point.specs.Reading.{segment_from, segments_from}
 use Rattle.commit_point.proofs.SegmentLaws.{entry_short}
 use Rattle.commit_point.specs.SegmentReads.{SegmentBroken, SegmentRead}
 use Rattle.commit_point.proofs.Segments.{SeenSegment, sees_all, BrokenThere, breaks_there, have_push, have_kept, has_push, unknown_push, segments_break, all_congr}
 
--- the first i segments were read, and these are their births
+-- the first i segments were read, and these are the numbers of the operations that have rows in them
 pub record SoFar (told : Option Files) (head : Head) (before : Files) (i : ℕ) (earlier : ℕ → Bool) (segments : List Lived) : Type 0 where
   pub files : Files
   pub was : Was told files
   pub commit : files (Commit head.number) ≡ before (Commit head.number)
   pub each : HaveSegments files head.number (take i head.segments) segments
-  pub unknown : Unknown (λ b. false) segments
-  pub known : (b : ℕ) → earlier b ≡ has_birth (stored_rows segments) b
+  pub unknown : Unknown (λ n. false) segments
+  pub known : (n : ℕ) → earlier n ≡ has_number (stored_rows segments) n
 
 id_above : (low limit : ℕ) (es : List HeadSegment) (i : ℕ) (d : HeadSegment) → i < length es → IdsRise low limit es → low ≤ (get_or es i d).id
 id_above low limit [] i d lt ids = absurd (omega arith)
@@ -63,7 +64,7 @@ fits_there s (suc i) (e ∷ es) d lt all = fits_there s i es d (omega arith) all
 
 -- one segment more was read
 one_more : (told : Option Files) (head : Head) (before : Files) (i : ℕ) (earlier now : ℕ → Bool) (segments : List Lived) (e : HeadSegment) (g : Lived) → HeadFits head → i < length head.segments → e ≡ get_or head.segments i e
-    → SoFar told head before i earlier segments → SegmentRead told head.number earlier e g → ((b : ℕ) → now b ≡ (earlier b || has_birth g.segment.rows b)) → SoFar told head before (i + 1) now (segments ++ g ∷ [])
+    → SoFar told head before i earlier segments → SegmentRead told head.number earlier e g → ((n : ℕ) → now n ≡ (earlier n || has_number g.segment.rows n)) → SoFar told head before (i + 1) now (segments ++ g ∷ [])
 one_more told head before i earlier now segments e g fits lt is so read more =
     let see : SeenSegment told e so.files (Some read.rows.bytes) (Some (posts_file e.id e.rows g.segment.postings))
     (Some (live_file e.id e.written (live_bits g.live.marks))) (Some (values_file e.id e.written e.rows (values_of g.live.marks))) =
@@ -89,8 +90,8 @@ one_more told head before i earlier now segments e g fits lt is so read more =
             live_fit = read.bits.1;
             values_fit = read.values.1;
           }));
-      unknown = unknown_push (λ b. false) segments g so.unknown (all_congr earlier (λ b. has_birth (stored_rows segments) b) g.segment.rows so.known read.rows.segment.unknown);
-      known = λ b. more b ∙ ap (λ (t : Bool). t || has_birth g.segment.rows b) (so.known b) ∙ sym (has_push segments g b);
+      unknown = unknown_push (λ n. false) segments g so.unknown (all_congr earlier (λ n. has_number (stored_rows segments) n) g.segment.rows so.known read.rows.segment.unknown);
+      known = λ n. more n ∙ ap (λ (t : Bool). t || has_number g.segment.rows n) (so.known n) ∙ sym (has_push segments g n);
     }
 
 -- the next segment is broken
@@ -103,16 +104,16 @@ breaks told head before i earlier segments e d fits lt is so broken =
     let at : BrokenThere told head.number earlier e d so.files = breaks_there told head.number earlier e d so.files short fits.number so.was broken in
     let ids = ids_so_far head i e fits lt is in
     let kept = have_kept so.files at.files head.number 1 e (take i head.segments) segments at.others ids so.each in
-    let same : earlier ≡ (λ b. has_birth (stored_rows segments) b) = λ j b. so.known b j in
-    let at_e : segment_from at.files head.number (λ b. has_birth (stored_rows segments) b) e ≡ Err d = subst (λ (k : ℕ → Bool). segment_from at.files head.number k e ≡ Err d) same at.broken in
+    let same : earlier ≡ (λ n. has_number (stored_rows segments) n) = λ j n. so.known n j in
+    let at_e : segment_from at.files head.number (λ n. has_number (stored_rows segments) n) e ≡ Err d = subst (λ (k : ℕ → Bool). segment_from at.files head.number k e ≡ Err d) same at.broken in
     let whole : take i head.segments ++ e ∷ drop (i + 1) head.segments ≡ head.segments =
     sym (append_assoc (take i head.segments) (e ∷ []) (drop (i + 1) head.segments)) ∙ ap (λ (es : List HeadSegment). es ++ drop (i + 1) head.segments) (sym (taken head.segments i e lt is)) ∙ take-append-drop (i + 1) head.segments in
     record {
       files = at.files;
       was = at.was;
       commit = at.others (Commit head.number) (λ q. cc) (λ q. cc) (λ q. cc) (λ q. cc) ∙ so.commit;
-      broken = ap (segments_from at.files head.number (λ b. false)) (sym whole)
-          ∙ segments_break at.files head.number 1 e.id (λ b. false) (take i head.segments) segments e (drop (i + 1) head.segments) d fits.number (omega (arith, below, fits.next)) ids
+      broken = ap (segments_from at.files head.number (λ n. false)) (sym whole)
+          ∙ segments_break at.files head.number 1 e.id (λ n. false) (take i head.segments) segments e (drop (i + 1) head.segments) d fits.number (omega (arith, below, fits.next)) ids
           (fits_taken head.number i head.segments fits.entries) kept so.unknown at_e;
     }
 
@@ -136,7 +137,7 @@ item_is : (es seen : List HeadSegment) (i : ℕ) (d : HeadSegment) → seen ≡ 
 item_is es seen i d is lt = same_default seen i d (get_or seen i d) lt ∙ ap (λ (xs : List HeadSegment). get_or xs i (get_or seen i d)) is
 
 pub one_more_seen : (told now_told : Option Files) (head : Head) (before : Files) (i : ℕ) (earlier now : ℕ → Bool) (segments all : List Lived) (seen : List HeadSegment) (d : HeadSegment) (g : Lived) → HeadFits head → now_told ≡ told → seen ≡ head.segments
-    → i < length seen → SoFar told head before i earlier segments → SegmentRead now_told head.number earlier (get_or seen i d) g → ((b : ℕ) → now b ≡ (earlier b || has_birth g.segment.rows b))
+    → i < length seen → SoFar told head before i earlier segments → SegmentRead now_told head.number earlier (get_or seen i d) g → ((n : ℕ) → now n ≡ (earlier n || has_number g.segment.rows n))
     → all ≡ segments ++ g ∷ [] → SoFar told head before (i + 1) now all
 one_more_seen told now_told head before i earlier now segments all seen d g fits same is lt so read more more_all =
     let lt' : i < length head.segments = subst (λ (xs : List HeadSegment). i < length xs) is lt in

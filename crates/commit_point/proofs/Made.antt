@@ -1,5 +1,5 @@
 -- What the files spell after a commit was published.
-use Rattle.std.proofs.Common.{◌≡◌, ◌∙◌, ℕ, ◌+◌, ◌<◌, ◌≤◌, ◌^◌, List, [], ◌∷◌, ◌++◌, Bool, true, false, cond, Option, Some, None, length, refl, ap, subst, inl, inr, arith}
+use Rattle.std.proofs.Common.{◌≡◌, ◌∙◌, ℕ, ◌+◌, ◌<◌, ◌≤◌, ◌^◌, List, [], ◌∷◌, ◌++◌, Bool, true, false, cond, Option, Some, None, length, map, refl, ap, subst, inl, inr, arith}
 use Rattle.std.specs.Prelude.{◌⊎◌}
 use Rattle.std.specs.List.{AllByRecursion}
 use Rattle.ix_base.specs.declared.file_name.FileName.{FileName}
@@ -8,7 +8,7 @@ use Rattle.ix_outside.specs.Files.{Files}
 use Rattle.live_docs.specs.MarkLaws.{same_marks_is}
 use Rattle.live_docs.specs.Marks.{same_marks}
 use Rattle.live_docs.specs.declared.live_docs.Mark.{Mark}
-use Rattle.segment_core.specs.LiveRows.{Lived, IsWhole, stored_rows}
+use Rattle.segment_core.specs.LiveRows.{Lived, IsWhole}
 use Rattle.live_files.specs.LiveFits.{LiveFits, ValuesFit}
 use Rattle.live_files.specs.LiveSpelling.{live_bits, values_of, live_file, values_file}
 use Rattle.segment_files.specs.Fits.{PairsFit}
@@ -16,7 +16,7 @@ use Rattle.segment_files.specs.Spelling.{rows_file}
 use Rattle.commit_point.specs.declared.heads.CommitFormat.TheVariants.{Second}
 use Rattle.commit_point.specs.declared.heads.HeadSegment.{HeadSegment}
 use Rattle.commit_point.specs.declared.written.Written.{Written}
-use Rattle.segment_core.specs.Births.{births_append, BirthsDiffer, births_at}
+use Rattle.segment_core.specs.Births.{lists_at, SegmentsApart}
 use Rattle.commit_point.specs.Encoding.{own_files, AreWhole, IsEncoded, AreEncoded, HaveSpelling}
 use Rattle.commit_point.specs.Fits.{IdsRise, EntryFits}
 use Rattle.commit_point.specs.Holds.{Pairs, HasHead, HasSegment, HasSegments, HaveSegments}
@@ -98,23 +98,20 @@ head_made s next pairs gs ws now new commit = record {
   };
 }
 
--- ---- births
+-- ---- numbers
 
--- a birth doesn't stand more often in the segments that are listed
-births_fewer : (b : ℕ) (gs : List Lived) → births_at b (stored_rows (listed gs)) ≤ births_at b (stored_rows gs)
-births_fewer b [] = omega arith
-births_fewer b (g ∷ gs) =
-    let split = births_append b g.segment.rows (stored_rows gs) in
-    let here = by (is_alive g) (births_fewer b gs) in
-    omega (arith, split, here)
+-- an operation has rows in no more of the segments that are listed
+lists_fewer : (n : ℕ) (gs : List Lived) → lists_at n (map (λ (g : Lived). g.segment.rows) (listed gs)) ≤ lists_at n (map (λ (g : Lived). g.segment.rows) gs)
+lists_fewer n [] = omega arith
+lists_fewer n (g ∷ gs) = by (is_alive g) (lists_fewer n gs)
   where
-    by : (alive : Bool) → births_at b (stored_rows (listed gs)) ≤ births_at b (stored_rows gs)
-        → births_at b (stored_rows (cond alive (g ∷ listed gs) (listed gs))) ≤ births_at b g.segment.rows + births_at b (stored_rows gs)
-    by true rest = let split = births_append b g.segment.rows (stored_rows (listed gs)) in omega (arith, split, rest)
+    by : (alive : Bool) → lists_at n (map (λ (h : Lived). h.segment.rows) (listed gs)) ≤ lists_at n (map (λ (h : Lived). h.segment.rows) gs)
+        → lists_at n (map (λ (h : Lived). h.segment.rows) (cond alive (g ∷ listed gs) (listed gs))) ≤ lists_at n (map (λ (h : Lived). h.segment.rows) (g ∷ gs))
+    by true rest = omega (arith, rest)
     by false rest = omega (arith, rest)
 
-listed_differ : (gs : List Lived) → BirthsDiffer gs → BirthsDiffer (listed gs)
-listed_differ gs differ b = let fewer = births_fewer b gs in let one = differ b in omega (arith, fewer, one)
+listed_apart : (gs : List Lived) → SegmentsApart gs → SegmentsApart (listed gs)
+listed_apart gs apart n = omega (arith, lists_fewer n gs, apart n)
 
 -- ---- a segment
 
@@ -226,7 +223,7 @@ has_made s next pairs gs ws old now new commit there same was = record {
   head = head_made s next pairs gs ws now new commit;
   each = segments_made s 1 next gs ws old now new.can.ids new.can.count new.can.can new.spelling.whole new.spelling.encoded was there
       (λ name from none. same name none (λ e. absurd (let zero : own name ≡ 0 = ap own e in omega (arith, zero, from))) (λ e. absurd (let zero : own name ≡ 0 = ap own e in omega (arith, zero, from))));
-  differ = listed_differ gs new.can.differ;
+  apart = listed_apart gs new.can.apart;
 }
 
 -- ---- what was published

@@ -19,9 +19,9 @@ use Rattle.commit_point.specs.Fits.{EntryFits, HeadFits}
 use Rattle.commit_point.specs.Holds.{HasHead, HasSegments, HaveSegments, head_of}
 use Rattle.commit_point.specs.Loading.{IsBroken, IsOutside, AreRead, BreakAt}
 use Rattle.commit_point.specs.Reading.{head_in, head_from, segments_from, reading}
-use Rattle.commit_point.proofs.BirthLaws.{differ_of}
+use Rattle.commit_point.proofs.BirthLaws.{apart_of}
 use Rattle.commit_point.proofs.SegmentLaws.{head_reads, segments_read, has_reads, one_segments}
-use Rattle.commit_point.proofs.Segments.{Seen, sees, some_files, each_rises}
+use Rattle.commit_point.proofs.Segments.{Seen, sees, some_files}
 
 -- files that the head was read from
 abbrev HeadSeen : Option Files → ℕ → Head → Type 0
@@ -53,7 +53,7 @@ opens told next_told s head segments same reads number fits each docs =
         tail = (head.format, head.pairs);
         head = subst (HasHead read.files s) (head_is s head segments number (eqb-true _ _ docs)) (record { file = there; number = number; fits = fits });
         each = have;
-        differ = differ_of s segments (each_rises read.files s head.segments segments have) read.unknown;
+        apart = apart_of segments read.unknown;
       },
     )
 
@@ -72,7 +72,7 @@ segment_breaks told next_told s head d same reads number fits each =
     let seen = see_head told s head reads in
     let at : BreakAt next_told head seen.0 d = each seen.0 (subst (λ (o : Option Files). Was o seen.0) (sym same) seen.1) in
     let there : at.files (Commit s) ≡ Some (commit_file head) = subst (λ (n : ℕ). at.files (Commit n) ≡ seen.0 (Commit n)) number at.commit ∙ seen.2 in
-    let broken : segments_from at.files s (λ b. false) head.segments ≡ Err d = subst (λ (n : ℕ). segments_from at.files n (λ b. false) head.segments ≡ Err d) number at.broken in
+    let broken : segments_from at.files s (λ n. false) head.segments ≡ Err d = subst (λ (n : ℕ). segments_from at.files n (λ n. false) head.segments ≡ Err d) number at.broken in
     (at.files, subst (λ (o : Option Files). Was o at.files) same at.was, rw (head_reads at.files s head there number fits, broken) refl)
 
 -- what the test of the number of rows says
@@ -98,7 +98,7 @@ docs_break told next_told s head segments same reads number fits each wrong =
     let s_fits : s < 2 ^ 64 = subst (λ (n : ℕ). n < 2 ^ 64) number fits.number in (
       read.files,
       subst (λ (o : Option Files). Was o read.files) same read.was,
-      rw (head_reads read.files s head there number fits, segments_read read.files s 1 head.next_id (λ b. false) head.segments segments s_fits fits.next fits.ids (subst (λ (n : ℕ). AllByRecursion (EntryFits n) head.segments) number fits.entries) have read.unknown, wrong) refl,
+      rw (head_reads read.files s head there number fits, segments_read read.files s 1 head.next_id (λ n. false) head.segments segments s_fits fits.next fits.ids (subst (λ (n : ℕ). AllByRecursion (EntryFits n) head.segments) number fits.entries) have read.unknown, wrong) refl,
     )
 
 -- a commit that was opened

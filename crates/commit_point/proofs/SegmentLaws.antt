@@ -3,6 +3,7 @@ use Rattle.std.proofs.Common.{◌≡◌, ℕ, ◌+◌, ◌^◌, ◌<◌, ◌≤�
 use Rattle.std.specs.Prelude.{◌||◌}
 use Rattle.std.specs.List.{AllByRecursion}
 use Rattle.std.proofs.lemmas.Bool.{eq-eqb}
+use Rattle.ix_base.specs.Births.{number_of}
 use Rattle.ix_base.specs.Counts.{doc_count}
 use Rattle.ix_base.specs.FileReading.{placed, of_file}
 use Rattle.ix_base.specs.declared.damaged.Damaged.{Damaged}
@@ -11,6 +12,7 @@ use Rattle.ix_base.specs.declared.file_name.FileName.TheVariants.{Commit, Rows, 
 use Rattle.ix_base.specs.declared.postings.Postings.{Postings}
 use Rattle.ix_outside.specs.Files.{Files}
 use Rattle.live_docs.specs.declared.live_docs.Mark.{Mark}
+use Rattle.segment_core.specs.Births.{has_number}
 use Rattle.segment_core.specs.LiveRows.{Lived, all_live}
 use Rattle.live_files.proofs.LiveRead.{live_again}
 use Rattle.segment_files.proofs.PostsRead.{posts_again}
@@ -31,7 +33,7 @@ use Rattle.commit_point.specs.Fits.{IdsRise, EntryFits, HeadFits}
 use Rattle.commit_point.proofs.HeadReading.{head_again}
 use Rattle.commit_point.specs.Holds.{HasRows, HasSegment, HaveSegments, HasSegments, head_of}
 use Rattle.commit_point.specs.Loading.{Unknown}
-use Rattle.commit_point.specs.Reading.{head_in, head_from, segment_from, segments_from, reading, has_birth}
+use Rattle.commit_point.specs.Reading.{head_in, head_from, segment_from, segments_from, reading}
 use Rattle.commit_point.specs.Spelling.{commit_file}
 
 -- ---- segments
@@ -85,7 +87,7 @@ made_of id rows postings applied marks = record {
 -- one segment that is there is read
 pub segment_reads : (files : Files) (s : ℕ) (known : ℕ → Bool) (e : HeadSegment) (g : Lived) → EntryShort e
     → s < 2 ^ 64 → HasSegment files s e g
-    → AllByRecursion (λ (r : Row). known r.birth ≡ false) g.segment.rows → segment_from files s known e ≡ Ok g
+    → AllByRecursion (λ (r : Row). known (number_of r.birth) ≡ false) g.segment.rows → segment_from files s known e ≡ Ok g
 segment_reads files s known e g short s_fits has unknown =
     let rows = rows_read files s known e g.segment.rows short.id s_fits has.rows (record { fits = has.rows_fit; count = has.count; unknown = unknown }) in
     let posts = posts_read files e g.segment.postings short has.posts has.posts_fit in
@@ -110,7 +112,7 @@ segments_read files s low limit known (e ∷ es) [] s_fits room ids fit have unk
 segments_read files s low limit known (e ∷ es) (p ∷ ps) s_fits room ids fit have unknown =
     rw (
       segment_reads files s known e p (entry_short s limit e s_fits room ids.1 fit.0) s_fits have.0 unknown.0,
-      segments_read files s (e.id + 1) limit (λ b. known b || has_birth p.segment.rows b) es ps s_fits room ids.2 fit.1 have.1 unknown.1,
+      segments_read files s (e.id + 1) limit (λ n. known n || has_number p.segment.rows n) es ps s_fits room ids.2 fit.1 have.1 unknown.1,
     ) refl
 
 -- ---- whole commits
@@ -130,7 +132,7 @@ has_reads files s next entries segments h =
     let docs : eqb (doc_count (all_live segments)) (doc_count (all_live segments)) ≡ true = eq-eqb _ _ refl in
     rw (
       head_reads files s head h.head.file refl h.head.fits,
-      segments_read files s 1 next (λ b. false) entries segments h.head.fits.number h.head.fits.next h.head.fits.ids h.head.fits.entries h.each (unknown_of segments h.differ),
+      segments_read files s 1 next (λ n. false) entries segments h.head.fits.number h.head.fits.next h.head.fits.ids h.head.fits.entries h.each (unknown_of segments h.apart),
       docs,
     ) refl
 

@@ -5,6 +5,8 @@ use Rattle.std.specs.List.{AllByRecursion}
 use Rattle.std.proofs.lemmas.Bool.{and_from, and_parts, eqb-true, eq-eqb}
 use Rattle.std.proofs.Math.Bool.{or_assoc, or-false}
 use Rattle.std.proofs.lemmas.List.{append-nil}
+use Rattle.std.proofs.lemmas.List.Folds.{list_any-append}
+use Rattle.ix_base.specs.Births.{number_of}
 use Rattle.ix_base.specs.declared.file_name.FileName.{FileName}
 use Rattle.ix_base.specs.declared.file_name.FileName.TheVariants.{Commit, Pending, Rows, Posts, Live, Values}
 use Rattle.ix_base.specs.declared.document.Row.{Row}
@@ -19,9 +21,9 @@ use Rattle.segment_files.specs.Reading.{rows_in, posts_in}
 use Rattle.segment_files.specs.Spelling.{posts_file}
 use Rattle.commit_point.specs.Fits.{IdsRise, EntryFits}
 use Rattle.commit_point.specs.Holds.{HasSegment, HaveSegments}
-use Rattle.commit_point.specs.Reading.{segment_from, segments_from, has_birth}
+use Rattle.commit_point.specs.Reading.{segment_from, segments_from}
 use Rattle.commit_point.specs.Loading.{Unknown}
-use Rattle.segment_core.specs.Births.{EachRises}
+use Rattle.segment_core.specs.Births.{EachRises, has_number}
 use Rattle.commit_point.proofs.RowsKept.{rows_kept}
 use Rattle.commit_point.proofs.SegmentLaws.{EntryShort, entry_short, rows_read, posts_read, live_read, segment_reads}
 use Rattle.commit_point.specs.SegmentReads.{SegmentBroken}
@@ -143,46 +145,45 @@ pub stored_rows_push : (segments : List Lived) (g : Lived) → stored_rows (segm
 stored_rows_push [] g = append-nil g.segment.rows
 stored_rows_push (p ∷ ps) g = ap (λ (r : List Row). p.segment.rows ++ r) (stored_rows_push ps g) ∙ sym (append_assoc p.segment.rows (stored_rows ps) g.segment.rows)
 
-has_append : (xs ys : List Row) (b : ℕ) → has_birth (xs ++ ys) b ≡ (has_birth xs b || has_birth ys b)
-has_append [] ys b = refl
-has_append (x ∷ xs) ys b = ap (λ (t : Bool). eqb x.birth b || t) (has_append xs ys b) ∙ sym (or_assoc (eqb x.birth b) (has_birth xs b) (has_birth ys b))
+has_append : (xs ys : List Row) (n : ℕ) → has_number (xs ++ ys) n ≡ (has_number xs n || has_number ys n)
+has_append xs ys n = list_any-append (λ (r : Row). eqb (number_of r.birth) n) xs ys
 
--- the births so far with those of one segment more
-pub has_push : (segments : List Lived) (g : Lived) (b : ℕ) → has_birth (stored_rows (segments ++ g ∷ [])) b ≡ (has_birth (stored_rows segments) b || has_birth g.segment.rows b)
-has_push segments g b = ap (λ (rs : List Row). has_birth rs b) (stored_rows_push segments g) ∙ has_append (stored_rows segments) g.segment.rows b
+-- the numbers so far with those of one segment more
+pub has_push : (segments : List Lived) (g : Lived) (n : ℕ) → has_number (stored_rows (segments ++ g ∷ [])) n ≡ (has_number (stored_rows segments) n || has_number g.segment.rows n)
+has_push segments g n = ap (λ (rs : List Row). has_number rs n) (stored_rows_push segments g) ∙ has_append (stored_rows segments) g.segment.rows n
 
 -- what is known before a segment and with it, together with what stands in the segments after it
-known_more : (known : ℕ → Bool) (p : Lived) (ps : List Lived) (b : ℕ) → ((known b || has_birth p.segment.rows b) || has_birth (stored_rows ps) b) ≡ (known b || has_birth (stored_rows (p ∷ ps)) b)
-known_more known p ps b = or_assoc (known b) (has_birth p.segment.rows b) (has_birth (stored_rows ps) b) ∙ ap (λ (t : Bool). known b || t) (sym (has_append p.segment.rows (stored_rows ps) b))
+known_more : (known : ℕ → Bool) (p : Lived) (ps : List Lived) (n : ℕ) → ((known n || has_number p.segment.rows n) || has_number (stored_rows ps) n) ≡ (known n || has_number (stored_rows (p ∷ ps)) n)
+known_more known p ps n = or_assoc (known n) (has_number p.segment.rows n) (has_number (stored_rows ps) n) ∙ ap (λ (t : Bool). known n || t) (sym (has_append p.segment.rows (stored_rows ps) n))
 
-pub all_congr : (f g : ℕ → Bool) (rows : List Row) → ((b : ℕ) → f b ≡ g b) → AllByRecursion (λ (r : Row). f r.birth ≡ false) rows → AllByRecursion (λ (r : Row). g r.birth ≡ false) rows
+pub all_congr : (f g : ℕ → Bool) (rows : List Row) → ((n : ℕ) → f n ≡ g n) → AllByRecursion (λ (r : Row). f (number_of r.birth) ≡ false) rows → AllByRecursion (λ (r : Row). g (number_of r.birth) ≡ false) rows
 all_congr f g [] same all = tt
-all_congr f g (r ∷ rs) same all = (sym (same r.birth) ∙ all.0, all_congr f g rs same all.1)
+all_congr f g (r ∷ rs) same all = (sym (same (number_of r.birth)) ∙ all.0, all_congr f g rs same all.1)
 
-pub unknown_push : (known : ℕ → Bool) (segments : List Lived) (g : Lived) → Unknown known segments → AllByRecursion (λ (r : Row). (known r.birth || has_birth (stored_rows segments) r.birth) ≡ false) g.segment.rows → Unknown known (segments ++ g ∷ [])
-unknown_push known [] g unknown all = (all_congr (λ b. known b || false) known g.segment.rows (λ b. or-false (known b)) all, tt)
+pub unknown_push : (known : ℕ → Bool) (segments : List Lived) (g : Lived) → Unknown known segments → AllByRecursion (λ (r : Row). (known (number_of r.birth) || has_number (stored_rows segments) (number_of r.birth)) ≡ false) g.segment.rows → Unknown known (segments ++ g ∷ [])
+unknown_push known [] g unknown all = (all_congr (λ n. known n || false) known g.segment.rows (λ n. or-false (known n)) all, tt)
 unknown_push known (p ∷ ps) g unknown all = (
   unknown.0,
-  unknown_push (λ b. known b || has_birth p.segment.rows b) ps g unknown.1
-      (all_congr (λ b. known b || has_birth (stored_rows (p ∷ ps)) b) (λ b. (known b || has_birth p.segment.rows b) || has_birth (stored_rows ps) b) g.segment.rows (λ b. sym (known_more known p ps b)) all),
+  unknown_push (λ n. known n || has_number p.segment.rows n) ps g unknown.1
+      (all_congr (λ n. known n || has_number (stored_rows (p ∷ ps)) n) (λ n. (known n || has_number p.segment.rows n) || has_number (stored_rows ps) n) g.segment.rows (λ n. sym (known_more known p ps n)) all),
 )
 
 -- a segment that is broken, after segments that are there
 pub segments_break : (files : Files) (s low limit : ℕ) (known : ℕ → Bool) (es : List HeadSegment) (segments : List Lived) (e : HeadSegment) (rest : List HeadSegment) (d : Damaged) → s < 2 ^ 64 → limit ≤ 2 ^ 62 → IdsRise low limit es → AllByRecursion (EntryFits s) es
-    → HaveSegments files s es segments → Unknown known segments → segment_from files s (λ b. known b || has_birth (stored_rows segments) b) e ≡ Err d → segments_from files s known (es ++ e ∷ rest) ≡ Err d
+    → HaveSegments files s es segments → Unknown known segments → segment_from files s (λ n. known n || has_number (stored_rows segments) n) e ≡ Err d → segments_from files s known (es ++ e ∷ rest) ≡ Err d
 unfolding segments_from
 segments_break files s low limit known [] [] e rest d s_fits room ids fit have unknown broken =
-    let same : (λ b. known b || false) ≡ known = λ i b. or-false (known b) i in
+    let same : (λ n. known n || false) ≡ known = λ i n. or-false (known n) i in
     let h : segment_from files s known e ≡ Err d = ap (λ (k : ℕ → Bool). segment_from files s k e) (sym same) ∙ broken in
     rw h refl
 segments_break files s low limit known [] (p ∷ ps) e rest d s_fits room ids fit have unknown broken = absurd have
 segments_break files s low limit known (g ∷ gs) [] e rest d s_fits room ids fit have unknown broken = absurd have
 segments_break files s low limit known (g ∷ gs) (p ∷ ps) e rest d s_fits room ids fit have unknown broken =
-    let same : (λ b. (known b || has_birth p.segment.rows b) || has_birth (stored_rows ps) b) ≡ (λ b. known b || has_birth (stored_rows (p ∷ ps)) b) = λ i b. known_more known p ps b i in
-    let h : segment_from files s (λ b. (known b || has_birth p.segment.rows b) || has_birth (stored_rows ps) b) e ≡ Err d = ap (λ (k : ℕ → Bool). segment_from files s k e) same ∙ broken in
+    let same : (λ n. (known n || has_number p.segment.rows n) || has_number (stored_rows ps) n) ≡ (λ n. known n || has_number (stored_rows (p ∷ ps)) n) = λ i n. known_more known p ps n i in
+    let h : segment_from files s (λ n. (known n || has_number p.segment.rows n) || has_number (stored_rows ps) n) e ≡ Err d = ap (λ (k : ℕ → Bool). segment_from files s k e) same ∙ broken in
     rw (
       segment_reads files s known g p (entry_short s limit g s_fits room ids.1 fit.0) s_fits have.0 unknown.0,
-      segments_break files s (g.id + 1) limit (λ b. known b || has_birth p.segment.rows b) gs ps e rest d s_fits room ids.2 fit.1 have.1 unknown.1 h,
+      segments_break files s (g.id + 1) limit (λ n. known n || has_number p.segment.rows n) gs ps e rest d s_fits room ids.2 fit.1 have.1 unknown.1 h,
     ) refl
 
 -- ---- the files of one segment, as they are read

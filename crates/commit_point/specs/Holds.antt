@@ -7,7 +7,7 @@ use Rattle.ix_base.specs.declared.file_name.FileName.{FileName}
 use Rattle.ix_base.specs.declared.file_name.FileName.TheVariants.{Commit, Rows, Posts, Live, Values}
 use Rattle.ix_base.specs.declared.document.Row.{Row}
 use Rattle.ix_outside.specs.Files.{Files}
-use Rattle.segment_core.specs.Births.{BirthsDiffer}
+use Rattle.segment_core.specs.Births.{SegmentsApart}
 use Rattle.segment_core.specs.LiveRows.{Lived, IsWhole, all_live}
 use Rattle.segment_core.specs.Segments.{IsInverted}
 use Rattle.segment_files.specs.Fits.{RowsFit, PostingsFit, BirthsRise}
@@ -80,12 +80,12 @@ head_of s next tail entries segments = record {
 }
 
 -- The files of commit s spell these segments, by rising id, as these entries name them, and this
--- next id. What pairs they have is said apart (HasPairs).
+-- next id; no operation has rows in two segments. What pairs they have is said apart (HasPairs).
 pub record HasSegments (files : Files) (s next : ℕ) (entries : List HeadSegment) (segments : List Lived) : Type 0 where
   pub tail : Tail
   pub head : HasHead files s (head_of s next tail entries segments)
   pub each : HaveSegments files s entries segments
-  pub differ : BirthsDiffer segments
+  pub apart : SegmentsApart segments
 
 -- the live rows of the segments, by rising birth; they are born by the operation s or before
 pub record AreRowsOf (s : ℕ) (segments : List Lived) (rows : List Row) : Type 0 where

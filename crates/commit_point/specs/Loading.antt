@@ -1,6 +1,7 @@
 -- What the reads of a commit tell, of the files where a store tells them and else of files that the reads fit.
 use Rattle.std.specs.Prelude.{◌≡◌, ℕ, List, [], ◌∷◌, Bool, false, ◌==◌, ◌||◌, ◌⊎◌, ⊤, Option, Some, None, Result, Err, IsErrAnd}
 use Rattle.std.specs.List.{AllByRecursion}
+use Rattle.ix_base.specs.Births.{number_of}
 use Rattle.ix_base.specs.declared.file_name.FileName.{FileName}
 use Rattle.ix_base.specs.declared.file_name.FileName.TheVariants.{Commit}
 use Rattle.ix_base.specs.declared.document.Row.{Row}
@@ -9,10 +10,11 @@ use Rattle.ix_base.specs.declared.damaged.Damaged.{Damaged}
 use Rattle.commit_point.specs.declared.fault.OpenFault.{OpenFault}
 use Rattle.commit_point.specs.declared.fault.OpenFault.TheVariants as faults
 use Rattle.commit_point.specs.declared.heads.Head.{Head}
+use Rattle.segment_core.specs.Births.{has_number}
 use Rattle.segment_core.specs.LiveRows.{Lived}
 use Rattle.commit_point.specs.Holds.{HaveSegments}
 use Rattle.ix_base.specs.FileReading.{of_file}
-use Rattle.commit_point.specs.Reading.{segments_from, has_birth}
+use Rattle.commit_point.specs.Reading.{segments_from}
 
 -- the name is that of the commit s
 abbrev pub names_commit : ℕ → FileName → Bool
@@ -38,12 +40,12 @@ pub record IsBroken {A : Type 0} (told : Option Files) (name : FileName)
   pub seen : Reads told name found
   pub broken : of_file name read found ≡ Err damaged
 
--- no birth of a segment is known or stands in an earlier segment
+-- no row of a segment is of an operation whose number is known, or that has a row in an earlier segment
 abbrev pub Unknown : (ℕ → Bool) → List Lived → Type 0
 Unknown known [] = ⊤
 Unknown known (g ∷ gs) =
-    AllByRecursion (λ (r : Row). known r.birth ≡ false) g.segment.rows
-    × Unknown (λ b. known b || has_birth g.segment.rows b) gs
+    AllByRecursion (λ (r : Row). known (number_of r.birth) ≡ false) g.segment.rows
+    × Unknown (λ n. known n || has_number g.segment.rows n) gs
 
 -- the segments of a commit were read
 pub record AreRead (told : Option Files) (head : Head) (before : Files) (segments : List Lived) : Type 0 where
@@ -51,11 +53,11 @@ pub record AreRead (told : Option Files) (head : Head) (before : Files) (segment
   pub was : Was told files
   pub commit : files (Commit head.number) ≡ before (Commit head.number)
   pub each : HaveSegments files head.number head.segments segments
-  pub unknown : Unknown (λ b. false) segments
+  pub unknown : Unknown (λ n. false) segments
 
 -- a segment of a commit is broken, and each before it is not
 pub record BreakAt (told : Option Files) (head : Head) (before : Files) (damaged : Damaged) : Type 0 where
   pub files : Files
   pub was : Was told files
   pub commit : files (Commit head.number) ≡ before (Commit head.number)
-  pub broken : segments_from files head.number (λ b. false) head.segments ≡ Err damaged
+  pub broken : segments_from files head.number (λ n. false) head.segments ≡ Err damaged

@@ -1,14 +1,13 @@
 -- What is read of a commit, field by field: what its commit file says and its segments, or the first broken place.
 use Rattle.std.specs.Prelude.{ℕ, ◌+◌, ◌^◌, List, [], ◌∷◌, Bool, false, ◌&&◌, ◌||◌, Result, Ok, Err, nat_lt, nat_le, ◌==◌, if◌then◌else◌}
 use Rattle.std.specs.Int.{w32, w64}
-use Rattle.std.specs.List.{list_any}
 use Rattle.ix_base.specs.Codec.{◌>>=◌, number_at, items_at}
 use Rattle.ix_base.specs.FileReading.{number_where, mark_at, ended, ◌then◌, of_file}
 use Rattle.ix_base.specs.Counts.{doc_count}
 use Rattle.ix_base.specs.declared.damaged.Damaged.{Damaged}
-use Rattle.ix_base.specs.declared.document.Row.{Row}
 use Rattle.ix_base.specs.declared.file_name.FileName.TheVariants.{Commit, Rows, Posts, Live, Values}
 use Rattle.ix_outside.specs.Files.{Files}
+use Rattle.segment_core.specs.Births.{has_number}
 use Rattle.segment_core.specs.LiveRows.{Lived, all_live}
 use Rattle.live_files.specs.LiveMarks.{marks_of}
 use Rattle.live_files.specs.LiveReading.{live_in, values_in}
@@ -59,10 +58,6 @@ head_in s bytes = do
 unfoldable pub head_from : Files → ℕ → Result Head Damaged
 head_from files s = of_file (Commit s) (head_in s) (files (Commit s))
 
--- some row has this birth
-abbrev pub has_birth : List Row → ℕ → Bool
-has_birth rows b = list_any (λ r. r.birth == b) rows
-
 -- the segment that a commit file names: its rows, its postings, its live bits, and last its set numbers
 abbrev pub segment_from : Files → ℕ → (ℕ → Bool) → HeadSegment → Result Lived Damaged
 segment_from files s known e =
@@ -75,17 +70,17 @@ segment_from files s known e =
       live = record { applied = s; marks = marks_of bits values };
     })
 
--- each segment, in the order of the commit file
+-- each segment, in the order of the commit file; no operation of an earlier one may have rows in it
 unfoldable pub segments_from : Files → ℕ → (ℕ → Bool) → List HeadSegment → Result (List Lived) Damaged
 segments_from files s known [] = Ok []
 segments_from files s known (e ∷ es) =
     segment_from files s known e then λ g.
-    segments_from files s (λ b. known b || has_birth g.segment.rows b) es then λ more.
+    segments_from files s (λ n. known n || has_number g.segment.rows n) es then λ more.
     Ok (g ∷ more)
 
 -- What the commit file of s says, and its segments. How many live rows it tells is tested last.
 unfoldable pub reading : Files → ℕ → Result (Head × List Lived) Damaged
 reading files s =
     head_from files s then λ head.
-    segments_from files s (λ b. false) head.segments then λ segments.
+    segments_from files s (λ n. false) head.segments then λ segments.
     (if head.docs == doc_count (all_live segments) then Ok (head, segments) else Err (record { file = Commit s; at = 16 }))

@@ -15,7 +15,7 @@ use Rattle.segment_files.specs.Spelling.{rows_file, posts_file}
 use Rattle.commit_point.specs.declared.heads.HeadSegment.{HeadSegment}
 use Rattle.commit_point.specs.declared.heads.Head.{Head}
 use Rattle.commit_point.specs.declared.written.Written.{Written}
-use Rattle.segment_core.specs.Births.{BirthsDiffer}
+use Rattle.segment_core.specs.Births.{SegmentsApart}
 use Rattle.commit_point.specs.declared.heads.CommitFormat.TheVariants.{Second}
 use Rattle.commit_point.specs.Holds.{Pairs, HasPairs, HasSegment, HasSegments, Lists, head_of}
 use Rattle.commit_point.specs.Publishing.{File, AreThere, publishes}
@@ -106,12 +106,12 @@ SegmentIdsRise low limit (g ∷ gs) =
 abbrev pub WrittenUpTo : ℕ → Option Written → Type 0
 WrittenUpTo s w = IfSome w (λ was. (1 ≤ was.v) × (was.v ≤ s))
 
--- The segments can be those of the commit s: each can be in it, ids rise and are below the next one, and no two rows
--- have one birth. Of each is known what is on the store of it, if anything is.
+-- The segments can be those of the commit s: each can be in it, ids rise and are below the next one, and no operation
+-- has rows in two of them. Of each is known what is on the store of it, if anything is.
 pub record CanCommit (s next : ℕ) (gs : List Lived) (ws : List (Option Written)) : Type 0 where
   pub can : AllByRecursion (CanWrite s) gs
   pub ids : SegmentIdsRise 1 next gs
-  pub differ : BirthsDiffer gs
+  pub apart : SegmentsApart gs
   pub count : length ws ≡ length gs
   pub written : AllByRecursion (WrittenUpTo s) ws
 

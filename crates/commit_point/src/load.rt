@@ -8,16 +8,17 @@ ghost use Rattle.ix_outside.specs.Causes.{Rose};
 ghost use Rattle.ix_outside.specs.Disk.{told_files};
 ghost use Rattle.ix_outside.specs.Files.{Files, Was, Reads};
 ghost use Rattle.live_files.specs.LiveSpelling.{live_bits, values_of};
+ghost use Rattle.segment_core.specs.Births.{has_number};
 ghost use Rattle.commit_point.specs.Fits.{HeadFits};
 ghost use Rattle.commit_point.specs.Loading.{IsBroken, AreRead, BreakAt};
-ghost use Rattle.commit_point.specs.Reading.{head_in, has_birth};
+ghost use Rattle.commit_point.specs.Reading.{head_in};
 ghost use Rattle.commit_point.specs.SegmentReads.{RowsRead, RowsBroken, PostingsRead, PostingsBroken, BitsRead, BitsBroken, ValuesRead, ValuesBroken, LiveBroken, SegmentRead, SegmentBroken};
 ghost use Rattle.commit_point.specs.Spelling.{commit_file};
 
 use crate::decode::decode_commit;
 use crate::fault::OpenFault;
 use crate::heads::{Head, HeadSegment};
-use ix_base::{Birth, Damaged, FileFault, FileName, List, Name, NoMemory, Postings, Row};
+use ix_base::{Damaged, FileFault, FileName, List, Name, NoMemory, Postings, Row};
 use ix_outside::{Store, StoreFault};
 use live_docs::LiveDocs;
 use live_files::{decode_liv, decode_val, live_docs_of};
@@ -78,7 +79,7 @@ fn read_rows<S: Store>(
     store: &mut S,
     number: u64,
     entry: HeadSegment,
-    earlier: &BTreeSet<Birth>,
+    earlier: &BTreeSet<u64>,
 ) -> Result<List<Row>, OpenFault>
     ensures found { IfOk result (λ rows.
         RowsRead (told_files (S.disk store.old)) number (contains nat_cmp earlier.now) entry rows) }
@@ -172,8 +173,9 @@ fn read_values<S: Store>(
 }
 
 /// Reads the live docs of a segment of the commit of this number: its live bits, and then its set
-/// numbers. All operations up to the commit's number are in them.
-fn read_live<S: Store>(
+/// numbers. All operations up to the commit's number are in them. `Damaged` names the first broken place
+/// of the two files. The store is as before, whatever is returned.
+pub fn read_live<S: Store>(
     alloc: Global,
     store: &mut S,
     number: u64,
@@ -200,13 +202,15 @@ fn read_live<S: Store>(
 }
 
 /// Reads a segment of the commit of this number: its rows, its postings, its live bits, and last its
-/// set numbers.
-fn read_segment<S: Store>(
+/// set numbers. The segments before it have rows of the operations of these numbers, of which it may have
+/// none. `Damaged` names the first broken place of the four files. The store is as before, whatever is
+/// returned.
+pub fn read_segment<S: Store>(
     alloc: Global,
     store: &mut S,
     number: u64,
     entry: HeadSegment,
-    earlier: &BTreeSet<Birth>,
+    earlier: &BTreeSet<u64>,
 ) -> Result<LiveSegment, OpenFault>
     ensures found { IfOk result (λ segment.
         SegmentRead (told_files (S.disk store.old)) number
@@ -232,32 +236,32 @@ fn read_segment<S: Store>(
     Ok(LiveSegment::new(segment, live))
 }
 
-/// Adds the births of a segment's rows to those of earlier ones. After an error some of them may
-/// stand there.
-fn add_births(earlier: &mut BTreeSet<Birth>, rows: &[Row]) -> Result<(), NoMemory>
-    ensures { OnOk result ((b : ℕ)
-        → contains nat_cmp earlier.new b
-        ≡ (contains nat_cmp earlier.old b || has_birth rows.now b)) }
+/// Adds the numbers of the operations that a segment's rows are of to those of earlier segments. After
+/// an error some of them may stand there.
+fn add_numbers(earlier: &mut BTreeSet<u64>, rows: &[Row]) -> Result<(), NoMemory>
+    ensures { OnOk result ((n : ℕ)
+        → contains nat_cmp earlier.new n
+        ≡ (contains nat_cmp earlier.old n || has_number rows.now n)) }
 {
     for row in rows {
-        earlier.insert(row.birth)?;
+        earlier.insert(row.birth.number())?;
     }
     Ok(())
 }
 
-/// Appends a segment, and adds the births of its rows to those of earlier ones. After an error some
-/// of them may stand there.
+/// Appends a segment, and adds the numbers of the operations that its rows are of to those of earlier
+/// segments. After an error some of them may stand there.
 fn take_in(
-    earlier: &mut BTreeSet<Birth>,
+    earlier: &mut BTreeSet<u64>,
     segments: &mut Vec<LiveSegment>,
     segment: LiveSegment,
 ) -> Result<(), NoMemory>
-    ensures births { OnOk result ((b : ℕ)
-        → contains nat_cmp earlier.new b
-        ≡ (contains nat_cmp earlier.old b || has_birth segment.segment.rows b)) }
+    ensures numbers { OnOk result ((n : ℕ)
+        → contains nat_cmp earlier.new n
+        ≡ (contains nat_cmp earlier.old n || has_number segment.segment.rows n)) }
     ensures segments { OnOk result (segments.new.items ≡ segments.old.items ++ segment ∷ []) }
 {
-    add_births(earlier, segment.segment().rows.as_slice())?;
+    add_numbers(earlier, segment.segment().rows.as_slice())?;
     segments.push(segment)?;
     Ok(())
 }

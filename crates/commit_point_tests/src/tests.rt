@@ -1,7 +1,7 @@
 //! Commit files alone, and whole commits.
 use crate::tests_files::{
-    BLOCK, COMMIT, EARLIER, FULL, OLD_ROWS, PAIRS, SECOND, SMALL, TWO_LIVE, bytes_of, put_file,
-    store_of, told,
+    BLOCK, COMMIT, EARLIER, FULL, OLD_ROWS, PAIRS, SECOND, SMALL, TWO_LIVE, TWO_SEGMENTS, bytes_of,
+    put_file, store_of, told,
 };
 use commit_point::{
     CommitFormat, Head, HeadSegment, decode_commit, encode_commit, head, open_commit, read_commit,
@@ -109,6 +109,11 @@ fn commits_are_opened(rt: HostRuntime) -> Result<(), Fail> {
             [BLOCK, ""],
             2,
             "next 2, 1 of 2; 1 with 0 terms at 2: a11 a22 a32.1",
+        ),
+        (
+            [TWO_SEGMENTS, ""],
+            2,
+            "next 3, 1 of 2, 2 of 2; 1 with 0 terms at 2: a11; 2 with 0 terms at 2: a22.1",
         ),
     ] {
         assert!(rt; opened(rt.alloc(), files, number)?.as_str() == want);

@@ -1,5 +1,7 @@
 //! The files of one commit, cut at every length and changed byte by byte.
-use crate::tests_files::{BLOCK, COMMIT, FULL, PAIRS, SECOND, SMALL, bytes_of, store_of, told};
+use crate::tests_files::{
+    BLOCK, COMMIT, FULL, PAIRS, SECOND, SMALL, TWO_SEGMENTS, bytes_of, store_of, told,
+};
 use commit_point::{open_commit, read_commit};
 use ix_base::FileName;
 use ix_outside::Store;
@@ -175,6 +177,12 @@ seg_1.row 95 01 88 an earlier number
 seg_1.row 99 00 88 the place that the row before has
 seg_1.row 99 40 96 a place that there isn't";
 
+/// Changes of the second of two segments: the operation 1 has a row in the first one.
+const SECOND_SEGMENT_CHANGES: &str = "\
+seg_2.row 27 01 20 the number of the operation that has a row in the earlier segment, at another place
+seg_2.row 27 00 20 no operation
+seg_2.row 31 40 28 a place that there isn't";
+
 /// A change of the smallest commit.
 const SMALL_CHANGE: &str = "seg_1_2.val 35 01 36 one number is counted, and none is there";
 
@@ -235,6 +243,7 @@ fn changed_files(rt: HostRuntime) -> Result<(), Fail> {
         ([SECOND, FULL], SECOND_CHANGES),
         ([PAIRS, ""], PAIR_CHANGES),
         ([BLOCK, ""], BLOCK_CHANGES),
+        ([TWO_SEGMENTS, ""], SECOND_SEGMENT_CHANGES),
         ([COMMIT, SMALL], SMALL_CHANGE),
     ] {
         assert!(rt; told_otherwise(rt.alloc(), files, changes)? == None);

@@ -9,3 +9,4 @@ mod Halving
 mod BuiltRows
 mod SetLive
 pub mod LiveLaws
+pub mod Numbers

@@ -1,9 +1,9 @@
--- Births in lists of rows, and in those of segments: how often each stands there.
-use Rattle.std.proofs.Common.{◌≡◌, ◌≢◌, ℕ, ◌+◌, ◌<◌, ◌≤◌, Bool, true, false, cond, eqb, List, [], ◌∷◌, ◌++◌, refl, arith}
-use Rattle.std.specs.List.{AllByRecursion}
+-- Births in lists of rows, and in those of segments: how often each stands there, and in how many lists an operation has rows.
+use Rattle.std.proofs.Common.{◌≡◌, ◌≢◌, ℕ, ◌+◌, ◌<◌, ◌≤◌, Bool, true, false, cond, eqb, List, [], ◌∷◌, ◌++◌, map, refl, arith}
+use Rattle.std.specs.List.{AllByRecursion, list_any}
 use Rattle.std.specs.Prelude.{◌==◌, if◌then◌else◌}
 use Rattle.std.proofs.lemmas.Bool.{eqb-true}
-use Rattle.ix_base.specs.Births.{first_birth, last_birth}
+use Rattle.ix_base.specs.Births.{first_birth, last_birth, number_of}
 use Rattle.ix_base.specs.declared.document.Row.{Row}
 use Rattle.segment_files.specs.Fits.{BirthsRise}
 use Rattle.segment_core.specs.LiveRows.{Lived, stored_rows}
@@ -16,6 +16,23 @@ births_at b (r ∷ rs) = (if r.birth == b then 1 else 0) + births_at b rs
 -- no two rows of the segments have one birth, live or not
 abbrev pub BirthsDiffer : List Lived → Type 0
 BirthsDiffer segments = (b : ℕ) → births_at b (stored_rows segments) ≤ 1
+
+-- some row is of the operation of this number
+abbrev pub has_number : List Row → ℕ → Bool
+has_number rows n = list_any (λ r. number_of r.birth == n) rows
+
+-- how many of the lists have a row of the operation of this number
+abbrev pub lists_at : ℕ → List (List Row) → ℕ
+lists_at n [] = 0
+lists_at n (rows ∷ more) = (if has_number rows n then 1 else 0) + lists_at n more
+
+-- no operation has rows in two of the lists
+abbrev pub NumbersApart : List (List Row) → Type 0
+NumbersApart lists = (n : ℕ) → lists_at n lists ≤ 1
+
+-- no operation has rows in two of the segments, live or not
+abbrev pub SegmentsApart : List Lived → Type 0
+SegmentsApart segments = NumbersApart (map (λ (g : Lived). g.segment.rows) segments)
 
 -- in each segment births rise, from the first of number 1 up to the last of number s
 abbrev pub EachRises : ℕ → List Lived → Type 0

@@ -94,38 +94,36 @@ few_places Second place has = has
 record BirthGood (format : RowFormat) (s : ℕ) (known : ℕ → Bool) (low birth : ℕ) : Type 0 where
   low_is : low ≤ birth
   not_later : birth ≤ last_birth s
-  unknown : known birth ≡ false
+  unknown : known (number_of birth) ≡ false
   place : HasPlace format (place_of birth)
 
 abbrev birth_bytes : RowFormat → ℕ → List ℕ
 birth_bytes format birth = be64 (number_of birth) ++ place_bytes format (place_of birth)
 
-abbrev number_test : ℕ → ℕ → ℕ → Bool
-number_test s low number = leb (number_of low) number && leb number s
-
-abbrev birth_test : (ℕ → Bool) → ℕ → ℕ → Bool
-birth_test known low birth = leb low birth && not (known birth)
+abbrev number_test : ℕ → (ℕ → Bool) → ℕ → ℕ → Bool
+number_test s known low number = leb (number_of low) number && leb number s && not (known number)
 
 birth_takes : (format : RowFormat) (s : ℕ) (known : ℕ → Bool) (low : ℕ) (bytes : List ℕ) (x : ℕ × List ℕ) → AreBytes bytes → birth_at format s known low bytes ≡ Ok x
     → Takes bytes (birth_bytes format x.0) x.1 × BirthGood format s known low x.0
 unfolding birth_at
 birth_takes format s known low bytes x fits e =
-    let a = bind_ok (number_where w64 (number_test s low) bytes) (λ number. place_at format number.1 >>= λ place. cond (birth_test known low (birth_of number.0 place.0)) (Ok (birth_of number.0 place.0, place.1)) (Err (length bytes))) x e in
-    let b = bind_ok (place_at format a.0.1) (λ place. cond (birth_test known low (birth_of a.0.0 place.0)) (Ok (birth_of a.0.0 place.0, place.1)) (Err (length bytes))) x a.2 in
-    let t0 = u64_where_takes (number_test s low) bytes a.0 fits a.1 in
+    let a = bind_ok (number_where w64 (number_test s known low) bytes) (λ number. place_at format number.1 >>= λ place. cond (leb low (birth_of number.0 place.0)) (Ok (birth_of number.0 place.0, place.1)) (Err (length bytes))) x e in
+    let b = bind_ok (place_at format a.0.1) (λ place. cond (leb low (birth_of a.0.0 place.0)) (Ok (birth_of a.0.0 place.0, place.1)) (Err (length bytes))) x a.2 in
+    let t0 = u64_where_takes (number_test s known low) bytes a.0 fits a.1 in
     let t1 = place_takes format a.0.1 b.0 t0.0.rest_fits b.1 in
     let made : ℕ × List ℕ = (birth_of a.0.0 b.0.0, b.0.1) in
-    let g = passes (birth_test known low made.0) (length bytes) made x b.2 in
+    let g = passes (leb low made.0) (length bytes) made x b.2 in
     let both = Takes-then bytes (be64 a.0.0) a.0.1 (place_bytes format b.0.0) b.0.1 t0.0 t1.0 in
     let few : b.0.0 < 64 = few_places format b.0.0 t1.1 in
     let number : a.0.0 ≡ number_of made.0 = omega (arith, few) in
     let place : b.0.0 ≡ place_of made.0 = omega (arith, few) in
-    let h = and_parts (leb (number_of low) a.0.0) (leb a.0.0 s) t0.2 in
-    let k = and_parts (leb low made.0) (not (known made.0)) g.0 in
-    let below : a.0.0 ≤ s = leb-true _ _ h.1 in
+    let h = and_parts (leb (number_of low) a.0.0 && leb a.0.0 s) (not (known a.0.0)) t0.2 in
+    let k = and_parts (leb (number_of low) a.0.0) (leb a.0.0 s) h.0 in
+    let below : a.0.0 ≤ s = leb-true _ _ k.1 in
+    let unknown : known (number_of made.0) ≡ false = subst (λ (n : ℕ). known n ≡ false) number (not-true (known a.0.0) h.1) in
     subst (λ (y : ℕ × List ℕ). Takes bytes (birth_bytes format y.0) y.1 × BirthGood format s known low y.0) g.1 (
       subst (λ (n : ℕ). Takes bytes (be64 n ++ place_bytes format (place_of made.0)) b.0.1) number (subst (λ (p : ℕ). Takes bytes (be64 a.0.0 ++ place_bytes format p) b.0.1) place both),
-      record { low_is = leb-true _ _ k.0; not_later = omega (arith, few, below); unknown = not-true (known made.0) k.1; place = subst (HasPlace format) place t1.1 },
+      record { low_is = leb-true _ _ g.0; not_later = omega (arith, few, below); unknown = unknown; place = subst (HasPlace format) place t1.1 },
     )
 
 birth_again : (format : RowFormat) (s : ℕ) (known : ℕ → Bool) → s < 2 ^ 64 → (low birth : ℕ) (rest : List ℕ) → BirthGood format s known low birth → birth_at format s known low (birth_bytes format birth ++ rest) ≡ Ok (birth, rest)
@@ -137,11 +135,11 @@ birth_again format s known lt low birth rest good =
     let short : number_of birth < 2 ^ 64 = omega arith in
     let first : number_of low ≤ number_of birth = omega arith in
     let last : number_of birth ≤ s = omega arith in
-    let one : number_test s low (number_of birth) ≡ true = both_true (le-leb _ _ first) (le-leb _ _ last) in
+    let one : number_test s known low (number_of birth) ≡ true = both_true (both_true (le-leb _ _ first) (le-leb _ _ last)) (ap not good.unknown) in
     let joined : birth_of (number_of birth) (place_of birth) ≡ birth = omega arith in
-    let two : birth_test known low birth ≡ true = both_true (le-leb _ _ low_is) (ap not good.unknown) in
+    let two : leb low birth ≡ true = le-leb _ _ low_is in
     ap (birth_at format s known low) regrouped
-    ∙ rw (u64_where_again (number_test s low) (number_of birth) (place_bytes format (place_of birth) ++ rest) short one, place_again format (place_of birth) rest good.place, joined, two) refl
+    ∙ rw (u64_where_again (number_test s known low) (number_of birth) (place_bytes format (place_of birth) ++ rest) short one, place_again format (place_of birth) rest good.place, joined, two) refl
 
 -- ---- rows
 
@@ -184,7 +182,7 @@ births_of format s known low (r ∷ rs) good = (good.0.birth.low_is, good.0.birt
 abbrev HavePlaces : RowFormat → List Row → Type 0
 HavePlaces format rows = AllByRecursion (λ (r : Row). HasPlace format (place_of r.birth)) rows
 
-rows_good : (format : RowFormat) (s : ℕ) (known : ℕ → Bool) (low : ℕ) (rows : List Row) → BirthsRise low (last_birth s) rows → AllByRecursion (λ (r : Row). DocumentFits r.doc) rows → AllByRecursion (λ (r : Row). known r.birth ≡ false) rows
+rows_good : (format : RowFormat) (s : ℕ) (known : ℕ → Bool) (low : ℕ) (rows : List Row) → BirthsRise low (last_birth s) rows → AllByRecursion (λ (r : Row). DocumentFits r.doc) rows → AllByRecursion (λ (r : Row). known (number_of r.birth) ≡ false) rows
     → HavePlaces format rows → AllGood (RowGood format s known) after_birth low rows
 rows_good format s known low [] births fits unknown places = tt
 rows_good format s known low (r ∷ rs) births fits unknown places =
@@ -234,7 +232,7 @@ rows_take id n s known bytes rows fits e =
       record {
         fits = record { some = omega (arith, t3.1, n-is); count = omega (arith, t3.1, n-is, t2.1); births = births_of format s known (first_birth 1) d.0.0 t3.2; documents = good_each good (λ (r : Row). DocumentFits r.doc) after_birth (λ low r g. g.fits) (first_birth 1) d.0.0 t3.2 };
         count = t3.1;
-        unknown = good_each good (λ (r : Row). known r.birth ≡ false) after_birth (λ low r g. g.birth.unknown) (first_birth 1) d.0.0 t3.2;
+        unknown = good_each good (λ (r : Row). known (number_of r.birth) ≡ false) after_birth (λ low r g. g.birth.unknown) (first_birth 1) d.0.0 t3.2;
       },
       spells format id d.0.0 bytes places two,
     )

@@ -2,7 +2,7 @@
 use Rattle.std.specs.Prelude.{◌≡◌, ℕ, ℤ, ◌+◌, ◌<◌, ◌≤◌, ◌^◌, List, [], ◌∷◌, Bool, true, false, length, map, FitsSigned, ⊤}
 use Rattle.std.specs.Int.{w64}
 use Rattle.std.specs.List.{AllByRecursion}
-use Rattle.ix_base.specs.Births.{first_birth, last_birth}
+use Rattle.ix_base.specs.Births.{first_birth, last_birth, number_of}
 use Rattle.ix_base.specs.Limits.{names_rise}
 use Rattle.ix_base.specs.Spelling.{IsText, IsName}
 use Rattle.ix_base.specs.Documents.{is_apart}
@@ -55,11 +55,11 @@ pub record RowsFit (s : ℕ) (rows : List Row) : Type 0 where
   pub births : BirthsRise (first_birth 1) (last_birth s) rows
   pub documents : AllByRecursion (λ (r : Row). DocumentFits r.doc) rows
 
--- the rows of a segment of n rows, in the commit numbered s, of which none has a birth that is known
+-- the rows of a segment of n rows, in the commit numbered s, of which none is of an operation whose number is known
 pub record IsSegment (s n : ℕ) (known : ℕ → Bool) (rows : List Row) : Type 0 where
   pub fits : RowsFit s rows
   pub count : length rows ≡ n
-  pub unknown : AllByRecursion (λ (r : Row). known r.birth ≡ false) rows
+  pub unknown : AllByRecursion (λ (r : Row). known (number_of r.birth) ≡ false) rows
 
 -- ---- postings
 

@@ -30,13 +30,13 @@ unfoldable pub place_at : RowFormat → List ℕ → Result (ℕ × List ℕ) �
 place_at First bytes = Ok (0, bytes)
 place_at Second bytes = number_where w32 (λ x. nat_lt x 64) bytes
 
--- A birth is `low` or later, of an operation up to the commit's number, and no earlier segment has it. A number of which
--- no birth may come is broken, and so is a birth that may not come, at its number.
+-- A birth is `low` or later, of an operation up to the commit's number, of which no earlier segment has a row. A number
+-- of which no birth may come is broken, and so is a birth that is below `low`, at its number.
 unfoldable pub birth_at : RowFormat → ℕ → (ℕ → Bool) → ℕ → List ℕ → Result (ℕ × List ℕ) ℕ
 birth_at format s known low bytes = do
-  number ← number_where w64 (λ x. nat_le (number_of low) x && nat_le x s) bytes
+  number ← number_where w64 (λ x. nat_le (number_of low) x && nat_le x s && not (known x)) bytes
   place ← place_at format number.1
-  if nat_le low (birth_of number.0 place.0) && not (known (birth_of number.0 place.0)) then Ok (birth_of number.0 place.0, place.1) else Err (length bytes)
+  if nat_le low (birth_of number.0 place.0) then Ok (birth_of number.0 place.0, place.1) else Err (length bytes)
 
 -- a row, of a file of this form
 unfoldable pub row_at : RowFormat → ℕ → (ℕ → Bool) → ℕ → List ℕ → Result (Row × List ℕ) ℕ

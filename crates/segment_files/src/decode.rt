@@ -25,7 +25,7 @@ fn row_list<'a>(
     bytes: &'a [u8],
     format: RowFormat,
     number: u64,
-    earlier: &BTreeSet<Birth>,
+    earlier: &BTreeSet<u64>,
 ) -> Result<(Vec<Row>, &'a [u8]), Broken>
     ensures { Gives (λ x. (x.0.items, x.1.now)) result
         (items_at (row_at format number (contains nat_cmp earlier.now)) (λ row. row.birth + 1)
@@ -51,7 +51,7 @@ fn rows_of(
     id: u64,
     row_count: u32,
     number: u64,
-    earlier: &BTreeSet<Birth>,
+    earlier: &BTreeSet<u64>,
 ) -> Result<Vec<Row>, Broken>
     ensures { Gives (λ rows. rows.items) result
         (rows_in id row_count number (contains nat_cmp earlier.now) bytes.now) }
@@ -79,7 +79,7 @@ fn placed_rows(
     id: u64,
     row_count: u32,
     number: u64,
-    earlier: &BTreeSet<Birth>,
+    earlier: &BTreeSet<u64>,
 ) -> Result<List<Row>, FileFault>
     ensures { GivesFile (λ x. x) result (placed (Rows id) bytes.now
         (rows_in id row_count number (contains nat_cmp earlier.now) bytes.now)) }
@@ -91,7 +91,7 @@ fn placed_rows(
 }
 
 /// The rows that the file of a segment spells, in either form: the segment has this id and `row_count` rows, the
-/// commit has this number, and the earlier segments of the commit have these births.
+/// commit has this number, and these are the numbers of the operations of which its earlier segments have rows.
 ///
 /// It returns `Damaged` exactly where the bytes are not in the grammar of such a file, with the
 /// first broken place. Memory is taken for what was read, and never for a count before its elements.
@@ -101,7 +101,7 @@ pub fn decode_row(
     id: u64,
     row_count: u32,
     number: u64,
-    earlier: &BTreeSet<Birth>,
+    earlier: &BTreeSet<u64>,
 ) -> Result<List<Row>, FileFault>
     // What is read is spelled so, each byte of it.
     ensures found { IfOk result (λ rows. IsSegment number row_count

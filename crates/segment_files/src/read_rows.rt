@@ -31,38 +31,40 @@ fn place_of(bytes: &[u8], format: RowFormat) -> Result<(u32, &[u8]), BrokenField
     }
 }
 
-/// The birth of a row in the commit of this number: it is after the last one and in no earlier segment.
+/// The birth of a row in the commit of this number: it is after the last one, and the number of its operation is not
+/// one of earlier segments.
 #[tactic(auto, unfolding(crate::specs::Reading::birth_at))]
 fn birth_of<'a>(
     bytes: &'a [u8],
     format: RowFormat,
     number: u64,
-    earlier: &BTreeSet<Birth>,
+    earlier: &BTreeSet<u64>,
     last: Birth,
 ) -> Result<(Birth, &'a [u8]), BrokenField>
     ensures { GivesExactly (λ x. (x.0, x.1.now)) result
         (birth_at format number (contains nat_cmp earlier.now) (last + 1) bytes.now) }
 {
     let (own, rest) = u64_at(bytes)?;
-    if Birth::new(own, 63) <= last || number < own {
+    if Birth::new(own, 63) <= last || number < own || earlier.contains(&own) {
         return Err(BrokenField { left: bytes.len() });
     }
     let (place, rest) = place_of(rest, format)?;
     let birth = Birth::new(own, place);
-    if birth <= last || earlier.contains(&birth) {
+    if birth <= last {
         return Err(BrokenField { left: bytes.len() });
     }
     Ok((birth, rest))
 }
 
-/// A row of the commit of this number, whose birth is after the last one and in no earlier segment.
+/// A row of the commit of this number, whose birth is after the last one, and is of an operation of which no earlier
+/// segment has a row.
 #[tactic(auto, unfolding(crate::specs::Reading::row_at))]
 pub(crate) fn row_of<'a>(
     alloc: Global,
     bytes: &'a [u8],
     format: RowFormat,
     number: u64,
-    earlier: &BTreeSet<Birth>,
+    earlier: &BTreeSet<u64>,
     last: Birth,
 ) -> Result<(Row, &'a [u8]), Broken>
     ensures { Gives (λ x. (x.0, x.1.now)) result

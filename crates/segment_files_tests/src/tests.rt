@@ -19,6 +19,17 @@ const BLOCK: &str = "4958524f57303032 0000000000000001 00000002 \
     0000000000000001 00000000 000000026131 00000000 00000000 0000000000000000 \
     0000000000000001 00000001 000000026132 00000000 00000000 0000000000000000";
 
+/// A row of the operation 1 at the place 1, without the one before it; and one at a place that there isn't.
+const LATER_IN_A_BLOCK: &str = "4958524f57303032 0000000000000001 00000001 \
+    0000000000000001 00000001 000000026131 00000000 00000000 0000000000000000";
+const NO_SUCH_PLACE: &str = "4958524f57303032 0000000000000001 00000001 \
+    0000000000000001 00000040 000000026131 00000000 00000000 0000000000000000";
+
+/// A row of the operation 1, and one of the operation 2 at the place 5.
+const NEXT_NUMBER: &str = "4958524f57303032 0000000000000001 00000002 \
+    0000000000000001 00000000 000000026131 00000000 00000000 0000000000000000 \
+    0000000000000002 00000005 000000026132 00000000 00000000 0000000000000000";
+
 /// The postings of the segment 1 of one row, whose key is `a1`.
 pub(crate) const POSTS: &str =
     "4958505354303031 0000000000000001 00000001 0000000000000001 000000036b6579 000000026131 \
@@ -235,19 +246,23 @@ fn reads_rows_of_both_forms(rt: HostRuntime) -> Result<(), Fail> {
     Ok(())
 }
 
-/// Earlier segments have a row of this birth: where it is that of a row, that row is broken at its number.
+/// Earlier segments have rows of the operation of this number: each row of it is broken at its number, at whatever
+/// place it stands, and so is one of it whose place is none.
 #[test]
-fn a_birth_of_an_earlier_segment(rt: HostRuntime) -> Result<(), Fail> {
+fn an_operation_of_an_earlier_segment(rt: HostRuntime) -> Result<(), Fail> {
     let alloc = rt.alloc();
-    for (place, file, count, broken) in [
-        (0, ROWS, 1, Some(20)),
-        (0, OLD_ROWS, 1, Some(20)),
-        (1, OLD_ROWS, 1, None),
-        (1, BLOCK, 2, Some(54)),
+    for (number, file, count, broken) in [
+        (1, ROWS, 1, Some(20)),
+        (1, OLD_ROWS, 1, Some(20)),
+        (1, LATER_IN_A_BLOCK, 1, Some(20)),
+        (1, NO_SUCH_PLACE, 1, Some(20)),
+        (1, BLOCK, 2, Some(20)),
         (2, BLOCK, 2, None),
+        (2, NEXT_NUMBER, 2, Some(54)),
+        (3, NEXT_NUMBER, 2, None),
     ] {
         let mut earlier = BTreeSet::new(alloc);
-        earlier.insert(Birth::new(1, place))?;
+        earlier.insert(number)?;
         let bytes = bytes_of(alloc, file)?;
         let at = match decode_row(alloc, &bytes, 1, count, 2, &earlier) {
             Err(FileFault::Damaged(Damaged { at, .. })) => Some(at),

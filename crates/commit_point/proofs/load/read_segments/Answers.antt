@@ -28,5 +28,5 @@ loop-entry-preserved g c = record {
       one_more_seen (told_files (g.S.Store.disk c.args.store.now)) (told_files (g.S.Store.disk c.loop-entry.store)) c.args.head.now before c.loop-entry.entry-index (contains nat_cmp c.loop-entry.earlier) (contains nat_cmp c.take_in.new.earlier)
       c.loop-entry.segments.items c.take_in.new.segments.items c.as_slice-entries.result.now (record { id = 0; rows = 0; written = 0 }) c.in_ok-segment.segment c.requires c.loop-entry.invariant.same c.as_slice-entries.ensures c.loop-entry-test.true
       (c.loop-entry.invariant.found before was)
-      c.in_ok-segment.ensures.found c.in_ok-take_in.ensures.births c.in_ok-take_in.ensures.segments;
+      c.in_ok-segment.ensures.found c.in_ok-take_in.ensures.numbers c.in_ok-take_in.ensures.segments;
 }
