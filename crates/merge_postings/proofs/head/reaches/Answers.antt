@@ -1,4 +1,4 @@
-use Rattle.std.proofs.Common.{◌≡◌, ◌∙◌, ◌-◌, ◌<◌, ◌≤◌, List, ℕ, length, get_or, true, false, ap, sym, arith}
+use Rattle.std.proofs.Common.{◌≡◌, ◌∙◌, true, ap, sym, arith}
 use Rattle.std.proofs.lemmas.Slice.Eq.{bytes_eq-Decides}
 use Rattle.ix_base.specs.declared.postings.TermPostings.{TermPostings}
 use Rattle.merge_postings.proofs.Alike.{alike_upto, none_alike}

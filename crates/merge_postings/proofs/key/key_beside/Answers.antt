@@ -1,4 +1,4 @@
-use Rattle.std.proofs.Common.{◌≡◌, ◌∙◌, true, inr, sym}
+use Rattle.std.proofs.Common.{◌≡◌, ◌∙◌, true, inr}
 use Rattle.std.proofs.lemmas.Slice.Eq.{bytes_eq-Decides}
 use Rattle.merge_postings.proofs.TermKeys.{behind}
 use Rattle.merge_postings.proofs.key.key_beside.Goals as goal

@@ -1,4 +1,4 @@
-use Rattle.std.proofs.Common.{ℕ, List, sym, ap}
+use Rattle.std.proofs.Common.{sym, ap}
 use Rattle.std.proofs.lemmas.List.{drop_all}
 use Rattle.merge_postings.specs.Keys.{key}
 use Rattle.merge_postings.proofs.key.next_seven.Goals as goal

@@ -1,4 +1,4 @@
-use Rattle.std.proofs.Common.{◌∙◌, inl, inr, sym}
+use Rattle.std.proofs.Common.{inl, inr}
 use Rattle.merge_postings.proofs.Playing.{least_more, order_by_texts}
 use Rattle.merge_postings.proofs.keyed.least_of.Goals as goal
 use Rattle.merge_postings.proofs.keyed.least_of.Goals.{in-Less, in_default}

@@ -1,4 +1,3 @@
-use Rattle.std.proofs.Common.{◌≡◌, ◌<◌, ℕ, length, get_or}
 use Rattle.merge_postings.specs.Tree.{IsLeast}
 use Rattle.merge_postings.proofs.keyed.least_of.Given as goal
 

@@ -1,4 +1,4 @@
-use Rattle.std.proofs.Common.{◌≡◌, ◌∙◌, List, ℕ, ap, refl, subst, sym}
+use Rattle.std.proofs.Common.{◌≡◌, ◌∙◌, List, ℕ, inl, inr, ap, refl, subst, sym}
 use Rattle.merge_postings.specs.Keys.{KeysTerm}
 use Rattle.merge_postings.specs.Parts.{any_part}
 use Rattle.merge_postings.specs.Tree.{IsFirst, Queued}

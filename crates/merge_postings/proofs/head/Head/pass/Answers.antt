@@ -1,7 +1,6 @@
-use Rattle.std.proofs.Common.{◌≡◌, ◌∷◌, ◌-◌, ◌<◌, ℕ, List, ap, rules, subst, sym}
+use Rattle.std.proofs.Common.{◌≡◌, ◌∷◌, ℕ, List, rules, subst, sym}
 use Rattle.std.specs.Option.{IfSome}
 use Rattle.ix_base.specs.Inversion.{IsPostings}
-use Rattle.ix_base.specs.declared.document.Term.{Term}
 use Rattle.ix_base.specs.declared.postings.TermPostings.{TermPostings}
 use Rattle.merge_postings.specs.Keys.{KeysTerm}
 use Rattle.merge_postings.specs.Walk.{AreAlike, IsBelow, IsLater, Waiting, waiting}
@@ -20,7 +19,7 @@ invariant_of-self c =
         rise = c.self.invariant.0.rise;
       },
       subst (λ (count : ℕ). AreAlike count c.in-Some.first.now c.in-Some.rest.now) (sym c.saturating_sub-self-inside.ensures)
-      (alike_next c.known_alike-known.result c.self.inside.first.now c.in-Some.first.now c.in-Some.rest.now known),
+          (alike_next c.known_alike-known.result c.self.inside.first.now c.in-Some.first.now c.in-Some.rest.now known),
     )
 
 pub returns-clause-rises : goal.returns-clause-rises

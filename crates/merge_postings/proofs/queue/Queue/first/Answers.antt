@@ -1,4 +1,4 @@
-use Rattle.std.proofs.Common.{◌≡◌, ◌∙◌, ℕ, List, length, get_or, ap, subst, sym, arith, rules}
+use Rattle.std.proofs.Common.{◌≡◌, ◌∙◌, ℕ, length, get_or, ap, subst, sym, arith, rules}
 use Rattle.merge_postings.specs.Tree.{IsFirst, Queued, winner_of}
 use Rattle.merge_postings.proofs.Playing.{is_first, none_waits_here}
 use Rattle.merge_postings.proofs.queue.Queue.first.Goals as goal

@@ -1,5 +1,5 @@
-use Rattle.std.proofs.Common.{◌≡◌, ◌∙◌, ℕ, List, ap, subst, sym}
-use Rattle.merge_postings.specs.Tree.{IsFirst, IsKeyed, Queued}
+use Rattle.std.proofs.Common.{ap, subst, sym}
+use Rattle.merge_postings.specs.Tree.{IsKeyed, Queued}
 use Rattle.merge_postings.proofs.Playing.{key_of_first}
 use Rattle.merge_postings.proofs.queue.Queue.first_key.Goals as goal
 

@@ -1,4 +1,4 @@
-use Rattle.std.proofs.Common.{◌≡◌, ◌∙◌, ℕ, List, length, get_or, inr, ap, subst, sym, arith, rules}
+use Rattle.std.proofs.Common.{◌≡◌, ◌∙◌, ℕ, length, get_or, inr, ap, subst, sym, arith, rules}
 use Rattle.merge_postings.specs.Keys.{KeysTerm}
 use Rattle.merge_postings.specs.Tree.{IsFirst, Queued, winner_of}
 use Rattle.merge_postings.proofs.Playing.{is_first, keyed_at}
@@ -22,7 +22,7 @@ returns-then-has_term-clause-some c =
     let long : c.len.result ≡ length heads = search rules in
     let place : c.place-place.result ≡ winner_of wins (length heads) 1 = c.place-place.ensures ∙ ap (λ (q : Queued). q.place) (sym c.self.view_is) in (
       subst (λ (q : Queued). IsFirst q w) c.self.view_is
-      (is_first heads wins w c.self.invariant.0 (omega (arith, c.if-place-len.false, long)) (ap (λ (k : ℕ). get_or heads k w) (sym place) ∙ sym c.index-head.ensures) c.self.inside.field.now),
+          (is_first heads wins w c.self.invariant.0 (omega (arith, c.if-place-len.false, long)) (ap (λ (k : ℕ). get_or heads k w) (sym place) ∙ sym c.index-head.ensures) c.self.inside.field.now),
       c.has_term.ensures.same c.if-has_term.true,
     )
 
@@ -33,8 +33,9 @@ returns-else-has_term-clause-none c =
     let w = c.index-head.result.now in
     let long : c.len.result ≡ length heads = search rules in
     let place : c.place-place.result ≡ winner_of wins (length heads) 1 = c.place-place.ensures ∙ ap (λ (q : Queued). q.place) (sym c.self.view_is) in
-    inr
-    (w,
-    subst (λ (q : Queued). IsFirst q w) c.self.view_is
-    (is_first heads wins w c.self.invariant.0 (omega (arith, c.if-place-len.false, long)) (ap (λ (k : ℕ). get_or heads k w) (sym place) ∙ sym c.index-head.ensures) c.self.inside.field.now),
-    c.has_term.ensures.other c.if-has_term.false)
+    inr (
+      w,
+      subst (λ (q : Queued). IsFirst q w) c.self.view_is
+          (is_first heads wins w c.self.invariant.0 (omega (arith, c.if-place-len.false, long)) (ap (λ (k : ℕ). get_or heads k w) (sym place) ∙ sym c.index-head.ensures) c.self.inside.field.now),
+      c.has_term.ensures.other c.if-has_term.false,
+    )

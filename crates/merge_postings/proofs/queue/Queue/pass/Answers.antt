@@ -1,4 +1,4 @@
-use Rattle.std.proofs.Common.{◌≡◌, ◌∙◌, ◌<◌, ℕ, List, length, get_or, slice_set, ap, subst, sym, arith, rules}
+use Rattle.std.proofs.Common.{◌≡◌, ◌∙◌, ℕ, List, length, get_or, slice_set, ap, subst, sym, arith, rules}
 use Rattle.std.specs.List.{remove}
 use Rattle.merge_postings.specs.Tree.{IsFirst, IsKeyed, IsPlayed, Queued, winner_of}
 use Rattle.merge_postings.specs.Walk.{IsBelow, IsPassed, Waiting, waiting}
@@ -17,7 +17,7 @@ play_above-requires-clause-keyed c =
     (omega (arith, c.if-place-len.false, long)) c.index_mut.ensures.value c.index.ensures (c.pass.ensures.key c.if-pass.true field) in (
       field,
       subst (λ (hs : List Waiting). IsKeyed field hs c.as_slice.result.now) (sym c.as_slice-heads.ensures.value)
-      (subst (λ (ks : List Key). IsKeyed field (slice_set heads c.place-place.result c.pass.new.self) ks) (sym c.as_slice.ensures.value) keyed),
+          (subst (λ (ks : List Key). IsKeyed field (slice_set heads c.place-place.result c.pass.new.self) ks) (sym c.as_slice.ensures.value) keyed),
     )
 
 pub invariant_of-self : goal.invariant_of-self
@@ -28,7 +28,7 @@ invariant_of-self c =
     let long : c.len.result ≡ length heads = search rules in (
       subst (λ (hs : List Waiting). IsPlayed hs c.play_above.new.wins.items) c.as_slice-heads.ensures.value c.play_above.ensures,
       keyed_passed field heads keys c.place-place.result c.index_mut.result.now c.pass.new.self c.index.result.now c.pass.new.key c.self.invariant.1
-      (omega (arith, c.if-place-len.false, long)) c.index_mut.ensures.value c.index.ensures (c.pass.ensures.key c.if-pass.true field),
+          (omega (arith, c.if-place-len.false, long)) c.index_mut.ensures.value c.index.ensures (c.pass.ensures.key c.if-pass.true field),
     )
 
 pub play_all-requires-clause-keyed : goal.play_all-requires-clause-keyed
@@ -41,7 +41,7 @@ play_all-requires-clause-keyed c =
     keyed_removed field heads keys c.place-place.result c.pass.new.self c.self.invariant.1 (omega (arith, c.if-place-len.false, long)) in (
       field,
       subst (λ (hs : List Waiting). IsKeyed field hs c.as_slice-else-pass.result.now) (sym (c.as_slice-heads-else-pass.ensures.value ∙ c.remove.ensures.items))
-      (subst (λ (ks : List Key). IsKeyed field (remove (slice_set heads c.place-place.result c.pass.new.self) c.place-place.result) ks) (sym (c.as_slice-else-pass.ensures.value ∙ c.remove-else-pass.ensures.items)) keyed),
+          (subst (λ (ks : List Key). IsKeyed field (remove (slice_set heads c.place-place.result c.pass.new.self) c.place-place.result) ks) (sym (c.as_slice-else-pass.ensures.value ∙ c.remove-else-pass.ensures.items)) keyed),
     )
 
 pub invariant_of-self-else-pass : goal.invariant_of-self-else-pass
@@ -54,7 +54,7 @@ invariant_of-self-else-pass c =
     keyed_removed field heads keys c.place-place.result c.pass.new.self c.self.invariant.1 (omega (arith, c.if-place-len.false, long)) in (
       subst (λ (hs : List Waiting). IsPlayed hs c.play_all.new.wins.items) c.as_slice-heads-else-pass.ensures.value c.play_all.ensures,
       subst (λ (hs : List Waiting). IsKeyed field hs c.remove-else-pass.new.self.items) (sym c.remove.ensures.items)
-      (subst (λ (ks : List Key). IsKeyed field (remove (slice_set heads c.place-place.result c.pass.new.self) c.place-place.result) ks) (sym c.remove-else-pass.ensures.items) keyed),
+          (subst (λ (ks : List Key). IsKeyed field (remove (slice_set heads c.place-place.result c.pass.new.self) c.place-place.result) ks) (sym c.remove-else-pass.ensures.items) keyed),
     )
 
 pub returns-then-pass-clause-passed : goal.returns-then-pass-clause-passed
