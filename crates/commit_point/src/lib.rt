@@ -20,6 +20,7 @@ pub use encode::encode_commit;
 pub use fault::{CommitRefused, OpenFault};
 pub use heads::{CommitFormat, Head, HeadSegment};
 pub use listing::{list_commits, rising_numbers};
+pub use load::{read_live, read_segment};
 pub use open::{Opened, head, listed_head, open_commit, read_commit};
 pub use prepare::{is_alive, version};
 pub use write::write_commit;

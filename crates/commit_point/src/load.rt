@@ -174,7 +174,7 @@ fn read_values<S: Store>(
 
 /// Reads the live docs of a segment of the commit of this number: its live bits, and then its set
 /// numbers. All operations up to the commit's number are in them.
-fn read_live<S: Store>(
+pub fn read_live<S: Store>(
     alloc: Global,
     store: &mut S,
     number: u64,
@@ -202,7 +202,7 @@ fn read_live<S: Store>(
 
 /// Reads a segment of the commit of this number: its rows, its postings, its live bits, and last its
 /// set numbers.
-fn read_segment<S: Store>(
+pub fn read_segment<S: Store>(
     alloc: Global,
     store: &mut S,
     number: u64,
