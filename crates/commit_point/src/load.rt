@@ -173,7 +173,8 @@ fn read_values<S: Store>(
 }
 
 /// Reads the live docs of a segment of the commit of this number: its live bits, and then its set
-/// numbers. All operations up to the commit's number are in them.
+/// numbers. All operations up to the commit's number are in them. `Damaged` names the first broken place
+/// of the two files. The store is as before, whatever is returned.
 pub fn read_live<S: Store>(
     alloc: Global,
     store: &mut S,
@@ -201,7 +202,9 @@ pub fn read_live<S: Store>(
 }
 
 /// Reads a segment of the commit of this number: its rows, its postings, its live bits, and last its
-/// set numbers.
+/// set numbers. The segments before it have rows of the operations of these numbers, of which it may have
+/// none. `Damaged` names the first broken place of the four files. The store is as before, whatever is
+/// returned.
 pub fn read_segment<S: Store>(
     alloc: Global,
     store: &mut S,
