@@ -16,7 +16,9 @@ use Rattle.segment_core.specs.LiveRows.{Lived, all_live, live, live_rows, stored
 use Rattle.segment_files.specs.Fits.{BirthsRise}
 use Rattle.commit_point.specs.declared.heads.HeadSegment.{HeadSegment}
 use Rattle.segment_core.specs.Births.{births_append, births_at}
+use Rattle.segment_core.proofs.Numbers.{births_differ}
 use Rattle.commit_point.specs.Holds.{AreRowsOf, HasSegments, HaveSegments}
+use Rattle.commit_point.proofs.Segments.{each_rises}
 
 -- ---- one row more, at its place by birth
 
@@ -131,6 +133,6 @@ some_rows files s next entries segments has = (
   in_order (all_live segments),
   record {
     merged = ordered_moved (all_live segments);
-    births = ordered_rises s (all_live segments) (all_between files s entries segments has.each) (λ b. omega (arith, births_all b segments, has.differ b));
+    births = ordered_rises s (all_live segments) (all_between files s entries segments has.each) (λ b. omega (arith, births_all b segments, births_differ s segments (each_rises files s entries segments has.each) has.apart b));
   },
 )
