@@ -1,28 +1,23 @@
 -- What the check of one commit comes to.
-use Rattle.std.proofs.Common.{◌≡◌, ◌⊎◌, inl, inr, ◌∙◌, ℕ, ◌+◌, ◌≤◌, Bool, true, false, eqb, [], ◌∷◌, ◌++◌, Option, Some, None, refl, sym, ap, subst, arith}
-use Rattle.std.specs.Prelude.{◌||◌, Contains, IfOk, MatchOption, Result, Ok, Err}
-use Rattle.std.specs.BTreeSet.{contains}
-use Rattle.std.specs.List.{AllByRecursion, list_any}
-use Rattle.std.specs.Ordering.{nat_cmp}
+use Rattle.std.proofs.Common.{◌≡◌, ◌⊎◌, inl, inr, ◌∙◌, ℕ, ◌+◌, ◌≤◌, Option, Some, None, refl, sym, ap, subst, arith}
+use Rattle.std.specs.Prelude.{Contains, IfOk, MatchOption, Result, Ok, Err}
 use Rattle.std.proofs.lemmas.Bool.{cases_lt}
-use Rattle.std.proofs.lemmas.List.{append-nil}
 use Rattle.ix_base.specs.declared.damaged.Damaged.{Damaged}
 use Rattle.ix_outside.specs.Files.{Files, Was}
-use Rattle.segment_core.specs.LiveRows.{Lived}
-use Rattle.segment_core.specs.Segments.{IsInverted}
-use Rattle.commit_point.specs.Holds.{AreInverted, HasHead, HasSegments, HaveSegments, IsAboveIds, Lists, head_of}
+use Rattle.commit_point.specs.Holds.{HasHead, HasSegments, IsAboveIds, Lists, head_of}
 use Rattle.commit_point.proofs.Laws.{one_head}
 use Rattle.commit_point.specs.Reading.{head_from, reading}
 use Rattle.commit_point.specs.declared.heads.Head.{Head}
 use Rattle.commit_point.specs.declared.heads.HeadSegment.{HeadSegment}
 use Rattle.commit_point.specs.declared.open.Opened.{Opened}
-use Rattle.index_check.specs.Difference.{DiffersAt, HaveOther, HasOther, IsTaken, LacksRoom, next_id_is}
-use Rattle.index_check.specs.Earlier.{IsBefore, IsBehindListed, IsBelow, IsComparedOr, IsLeastAbove, IsLeastId, IsOther, IsSame}
+use Rattle.index_check.specs.Difference.{DiffersAt, HasOther, IsTaken, LacksRoom, next_id_is}
+use Rattle.index_check.specs.Earlier.{IsBehindListed, IsBelow, IsLeastAbove, IsLeastId}
+use Rattle.index_check.specs.Known.{IsBefore, IsKnown, IsOther, IsSame, count_of}
 use Rattle.index_check.specs.Sound.{IsLawfulCommit}
 use Rattle.index_check.specs.declared.earlier.Earlier.{Earlier}
 use Rattle.index_check.specs.declared.fault.CheckFault.{CheckFault}
 use Rattle.index_check.specs.declared.fault.Difference.{Difference}
-use Rattle.index_check.proofs.Shared.{inverted_front, listed_sound}
+use Rattle.index_check.specs.declared.known.Known.{Known}
 use Rattle.index_check.proofs.SomeRows.{some_rows}
 
 pub same_files : (told : Option Files) (files seen : Files) → told ≡ Some files → Was told seen → seen ≡ files
@@ -66,7 +61,7 @@ own_entry files s opened e has listed =
 later_listed : (files : Files) (s t id : ℕ) → s ≤ t → IsBehindListed files s id → IsBehindListed files t id
 later_listed files s t id le p = record { number = p.number; entry = p.entry; earlier = omega (arith, le, p.earlier); listed = p.listed; id_is = p.id_is }
 
-next_least : (files : Files) (s old new : ℕ) (opened : Opened) → HasRead files s opened → IsLeastId files s old → IsLeastAbove old opened.entries new → IsLeastId files (s + 1) new
+pub next_least : (files : Files) (s old new : ℕ) (opened : Opened) → HasRead files s opened → IsLeastId files s old → IsLeastAbove old opened.entries new → IsLeastId files (s + 1) new
 next_least files s old new opened has known least = record { above = above; reached = reached known.reached least.reached }
   where
     above : IsAboveIds files (s + 1) new
@@ -82,45 +77,32 @@ next_least files s old new opened has known least = record { above = above; reac
 
 -- ---- a commit that is sound
 
-all_inverted : (files : Files) (s : ℕ) (opened : Opened) (earlier : Earlier) → HasRead files s opened → IsBefore files s earlier → AllByRecursion (IsComparedOr (contains nat_cmp earlier.compared)) opened.segments
-    → AreInverted opened.segments
-all_inverted files s opened earlier has known each =
-    let have : HaveSegments files s opened.entries (opened.segments ++ []) = subst (HaveSegments files s opened.entries) (sym (append-nil opened.segments)) has.each in
-    let fits = has.head.fits in
-    inverted_front files s 1 opened.next_id (contains nat_cmp earlier.compared) opened.entries opened.segments [] fits.number fits.next fits.ids known.compared have each
-
-above_all : (files : Files) (s least next : ℕ) → IsLeastId files s least → least ≤ next → IsAboveIds files s next
+pub above_all : (files : Files) (s least next : ℕ) → IsLeastId files s least → least ≤ next → IsAboveIds files s next
 above_all files s least next known le t e lt listed = omega (arith, known.above t e lt listed, le)
 
-pub lawful_commit : (files : Files) (s : ℕ) (opened : Opened) (earlier : Earlier) → HasRead files s opened → IsBefore files s earlier → IsSame opened earlier → IsLawfulCommit files s
-lawful_commit files s opened earlier has known same =
+pub lawful_commit : (files : Files) (s : ℕ) (opened : Opened) (least : ℕ) → HasRead files s opened → IsLeastId files s least → IsSame opened least → IsLawfulCommit files s
+lawful_commit files s opened least has known same =
     let rows = some_rows files s opened.next_id opened.entries opened.segments has in (
       opened.next_id,
       rows.0,
       record {
         holds = record {
           holds = record { entries = opened.entries; segments = opened.segments; spelled = has; rows_are = rows.1 };
-          inverted = all_inverted files s opened earlier has known same.each;
+          inverted = same.each;
         };
         room = same.room;
-        above = above_all files s earlier.least_id opened.next_id known.ids same.above;
+        above = above_all files s least opened.next_id known same.above;
       },
     )
 
-or_cases : {A : Type 0} (a b : Bool) → (a || b) ≡ true → (a ≡ true → A) → (b ≡ true → A) → A
-or_cases true b h left right = left refl
-or_cases false b h left right = right h
+pub none_known : (files : Files) (s : ℕ) (known : Known) → ((id : ℕ) → count_of known id ≡ None) → IsKnown files s known
+none_known files s known none id n is = absurd (let f : count_of known id ≡ None = none id in cc)
 
-pub next_before : (files : Files) (s : ℕ) (opened : Opened) (old new : Earlier) → HasRead files s opened → IsBefore files s old → IsSame opened old
-    → IsLeastAbove old.least_id opened.entries new.least_id
-    → ((id : ℕ) → contains nat_cmp new.compared id ≡ (contains nat_cmp old.compared id || list_any (λ (g : Lived). eqb g.segment.id id) opened.segments))
-    → IsBefore files (s + 1) new
-next_before files s opened old new has known same least added = record {
-  ids = next_least files s old.least_id new.least_id opened has known.ids least;
-  compared = λ id is.
-      or_cases (contains nat_cmp old.compared id) (list_any (λ (g : Lived). eqb g.segment.id id) opened.segments) (sym (added id) ∙ is)
-      (λ h. known.compared id h)
-      (λ h. listed_sound files s id opened.entries opened.segments has.head.fits.number (all_inverted files s opened old has known same.each) has.each h);
+pub next_before : (files : Files) (s : ℕ) (opened : Opened) (old : ℕ) (new : Earlier) → HasRead files s opened → IsLeastId files s old
+    → IsLeastAbove old opened.entries new.least_id → ((id : ℕ) → count_of new.known id ≡ None) → IsBefore files (s + 1) new
+next_before files s opened old new has known least none = record {
+  ids = next_least files s old new.least_id opened has known least;
+  segments = none_known files (s + 1) new.known none;
 }
 
 -- ---- a commit that isn't
@@ -145,23 +127,9 @@ taken files s least next d known below = go known.reached
       told = below.told ∙ ap (next_id_is s next) some.id_is;
     }
 
-other_here : (files : Files) (s : ℕ) (opened : Opened) (earlier : Earlier) (d : Difference) → HasRead files s opened → IsBefore files s earlier
-    → HaveOther (IsComparedOr (contains nat_cmp earlier.compared)) opened.segments d → HaveOther (λ (g : Lived). IsInverted g.segment) opened.segments d
-other_here files s opened earlier d has known other =
-    let have : HaveSegments files s opened.entries (other.before ++ other.other ∷ other.behind) = subst (HaveSegments files s opened.entries) other.there has.each in
-    let fits = has.head.fits in
-    record {
-      before = other.before;
-      other = other.other;
-      behind = other.behind;
-      there = other.there;
-      same = inverted_front files s 1 opened.next_id (contains nat_cmp earlier.compared) opened.entries other.before (other.other ∷ other.behind) fits.number fits.next fits.ids known.compared have other.same;
-      differs = other.differs;
-    }
-
-pub differs_at : (files : Files) (s : ℕ) (opened : Opened) (earlier : Earlier) (d : Difference) → opened.number ≡ s → HasRead files s opened → IsBefore files s earlier → IsOther opened earlier d
+pub differs_at : (files : Files) (s : ℕ) (opened : Opened) (least : ℕ) (d : Difference) → opened.number ≡ s → HasRead files s opened → IsLeastId files s least → IsOther opened least d
     → DiffersAt files s d
-differs_at files s opened earlier d number has known other = record {
+differs_at files s opened least d number has known other = record {
   next = opened.next_id;
   entries = opened.entries;
   segments = opened.segments;
@@ -169,20 +137,20 @@ differs_at files s opened earlier d number has known other = record {
   which = which other;
 }
   where
-    which : IsOther opened earlier d → LacksRoom s opened.next_id d ⊎ (IsTaken files s opened.next_id d ⊎ HasOther files s opened.next_id opened.segments d)
+    which : IsOther opened least d → LacksRoom s opened.next_id d ⊎ (IsTaken files s opened.next_id d ⊎ HasOther files s opened.next_id opened.segments d)
     which (inl lacks) = inl (subst (λ (n : ℕ). LacksRoom n opened.next_id d) number lacks)
-    which (inr (inl below)) = inr (inl (taken files s earlier.least_id opened.next_id d known.ids (subst (λ (n : ℕ). IsBelow n opened.next_id earlier.least_id d) number below)))
+    which (inr (inl below)) = inr (inl (taken files s least opened.next_id d known (subst (λ (n : ℕ). IsBelow n opened.next_id least d) number below)))
     which (inr (inr differ)) = inr (inr (record {
       room = differ.room;
-      above = above_all files s earlier.least_id opened.next_id known.ids differ.above;
-      other = other_here files s opened earlier d has known differ.other;
+      above = above_all files s least opened.next_id known differ.above;
+      other = differ.other;
     }))
 
 -- ---- what the comparison found
 
-pub is_other : (opened : Opened) (earlier : Earlier) (found : Option Difference) (d : Difference) → found ≡ Some d → MatchOption found (IsSame opened earlier) (IsOther opened earlier) → IsOther opened earlier d
-is_other opened earlier found d is says = subst (λ (o : Option Difference). MatchOption o (IsSame opened earlier) (IsOther opened earlier)) is says
+pub is_other : (opened : Opened) (least : ℕ) (found : Option Difference) (d : Difference) → found ≡ Some d → MatchOption found (IsSame opened least) (IsOther opened least) → IsOther opened least d
+is_other opened least found d is says = subst (λ (o : Option Difference). MatchOption o (IsSame opened least) (IsOther opened least)) is says
 
-pub is_same : (opened : Opened) (earlier : Earlier) (found : Option Difference) → ((d : Difference) → found ≡ Some d → ⊥) → MatchOption found (IsSame opened earlier) (IsOther opened earlier) → IsSame opened earlier
-is_same opened earlier None never says = says
-is_same opened earlier (Some d) never says = absurd (never d refl)
+pub is_same : (opened : Opened) (least : ℕ) (found : Option Difference) → ((d : Difference) → found ≡ Some d → ⊥) → MatchOption found (IsSame opened least) (IsOther opened least) → IsSame opened least
+is_same opened least None never says = says
+is_same opened least (Some d) never says = absurd (never d refl)

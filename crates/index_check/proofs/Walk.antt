@@ -1,9 +1,7 @@
 -- The commits of a store, checked one after another.
-use Rattle.std.proofs.Common.{◌≡◌, ◌⊎◌, inl, inr, ◌∙◌, ℕ, false, ◌+◌, ◌<◌, ◌≤◌, List, [], ◌∷◌, ◌++◌, length, get_or, map, take, Option, Some, Err, sym, ap, subst, arith}
+use Rattle.std.proofs.Common.{◌≡◌, ◌⊎◌, inl, inr, ◌∙◌, ℕ, ◌+◌, ◌<◌, ◌≤◌, List, [], ◌∷◌, ◌++◌, length, get_or, map, take, Option, Some, None, Err, sym, ap, subst, arith}
 use Rattle.std.specs.Prelude.{◌↔◌, AllPairs, Contains, IfSome, IsSome, is_some}
-use Rattle.std.specs.BTreeSet.{contains}
 use Rattle.std.specs.List.{AllByRecursion}
-use Rattle.std.specs.Ordering.{nat_cmp}
 use Rattle.std.proofs.lemmas.Bool.{cases_lt}
 use Rattle.std.proofs.lemmas.List.{get_or_default, map_push, take_all, take_more}
 use Rattle.ix_base.specs.declared.damaged.Damaged.{Damaged}
@@ -12,9 +10,13 @@ use Rattle.ix_outside.specs.Files.{Files, Was}
 use Rattle.commit_point.specs.Holds.{HasHead, IsAboveIds}
 use Rattle.commit_point.specs.Reading.{reading}
 use Rattle.commit_point.specs.declared.heads.Head.{Head}
-use Rattle.index_check.specs.Earlier.{IsBefore, IsBehindListed}
+use Rattle.index_check.specs.Earlier.{IsBehindListed}
+use Rattle.index_check.specs.Known.{IsBefore, count_of, owner_of}
 use Rattle.index_check.specs.Sound.{AreHeads, AreLawful, AreLawfulBelow, IsDamagedAt, IsLawfulCommit}
 use Rattle.index_check.specs.declared.earlier.Earlier.{Earlier}
+use Rattle.index_check.proofs.Found.{none_known}
+use Rattle.index_check.proofs.Owners.{all_push}
+use Rattle.index_check.proofs.Passed.{known_later}
 
 -- the numbers of all commits
 abbrev pub AreAll : Files → List ℕ → Type 0
@@ -41,10 +43,10 @@ pub record SoFar (files : Files) (numbers : List ℕ) (i : ℕ) (heads : List He
 abbrev head_number : Head → ℕ
 head_number head = head.number
 
-pub first_before : (files : Files) (earlier : Earlier) → earlier.least_id ≡ 0 → ((id : ℕ) → contains nat_cmp earlier.compared id ≡ false) → IsBefore files 0 earlier
+pub first_before : (files : Files) (earlier : Earlier) → earlier.least_id ≡ 0 → ((id : ℕ) → count_of earlier.known id ≡ None) → IsBefore files 0 earlier
 first_before files earlier least none = record {
   ids = record { above = λ t e lt listed. absurd (omega (arith, lt)); reached = inl least };
-  compared = λ id is. absurd (let f : contains nat_cmp earlier.compared id ≡ false = none id in cc);
+  segments = none_known files 0 earlier.known none;
 }
 
 pub none_yet : (files : Files) (numbers : List ℕ) (heads : List Head) (earlier : Earlier) → heads ≡ [] → IsBefore files 0 earlier → SoFar files numbers 0 heads earlier
@@ -82,7 +84,7 @@ pub before_next : (files : Files) (numbers : List ℕ) (i : ℕ) (heads : List H
     → SoFar files numbers i heads earlier → IsBefore files (get_or numbers i 0) earlier
 before_next files numbers i heads earlier all rise within so_far = record {
   ids = record { above = above; reached = reached so_far.known.ids.reached };
-  compared = so_far.known.compared;
+  segments = known_later files so_far.bound (get_or numbers i 0) (count_of earlier.known) (owner_of earlier.known) le so_far.known.segments;
 }
   where
     le : so_far.bound ≤ get_or numbers i 0
@@ -100,10 +102,6 @@ pub lawful_next : (files : Files) (numbers : List ℕ) (i : ℕ) (heads : List H
     → SoFar files numbers i heads earlier → AreLawfulBelow files (get_or numbers i 0)
 lawful_next files numbers i heads earlier all rise within so_far t lt there =
     so_far.lawful t (none_between files numbers i so_far.bound all rise within so_far.splits t lt there) there
-
-all_push : {A : Type 0} (P : A → Type 0) (xs : List A) (x : A) → AllByRecursion P xs → P x → AllByRecursion P (xs ++ x ∷ [])
-all_push P [] x all p = (p, tt)
-all_push P (y ∷ ys) x all p = (all.0, all_push P ys x all.1 p)
 
 -- one commit more
 pub one_more : (files : Files) (numbers : List ℕ) (i : ℕ) (heads more : List Head) (head : Head) (old new : Earlier) → AreAll files numbers → AllPairs ◌<◌ numbers → i < length numbers

@@ -1,18 +1,16 @@
 -- What a check has found of the commits before the one that it comes to.
-use Rattle.std.specs.Prelude.{◌≡◌, ◌⊎◌, ℕ, ◌+◌, ◌<◌, ◌≤◌, ◌^◌, List, length, Bool, true, Contains}
-use Rattle.std.specs.BTreeSet.{contains}
+use Rattle.std.specs.Prelude.{◌≡◌, ◌⊎◌, ℕ, ◌+◌, ◌<◌, ◌≤◌, ◌^◌, List, length, Option, Some, Contains}
 use Rattle.std.specs.List.{AllByRecursion}
-use Rattle.std.specs.Ordering.{nat_cmp}
+use Rattle.ix_base.specs.Births.{number_of}
+use Rattle.ix_base.specs.declared.document.Row.{Row}
 use Rattle.ix_outside.specs.Files.{Files}
 use Rattle.segment_core.specs.LiveRows.{Lived}
 use Rattle.segment_core.specs.Segments.{IsInverted}
 use Rattle.segment_files.specs.Fits.{PostingsFit}
 use Rattle.commit_point.specs.declared.heads.HeadSegment.{HeadSegment}
-use Rattle.commit_point.specs.declared.open.Opened.{Opened}
 use Rattle.commit_point.specs.Holds.{HasSegment, IsAboveIds, Lists}
-use Rattle.index_check.specs.declared.earlier.Earlier.{Earlier}
 use Rattle.index_check.specs.declared.fault.Difference.{Difference}
-use Rattle.index_check.specs.Difference.{HaveOther, LacksRoom, next_id_is}
+use Rattle.index_check.specs.Difference.{next_id_is}
 
 -- ---- ids
 
@@ -48,38 +46,25 @@ pub record CanSpell (g : Lived) : Type 0 where
   pub few : length g.segment.rows < 2 ^ 32
   pub fits : PostingsFit (length g.segment.rows) g.segment.postings
 
--- the postings of each segment that files of this id spell are the inversion of its rows
-abbrev pub IsSoundId : Files → ℕ → Type 0
-IsSoundId files id =
-    (s : ℕ) (e : HeadSegment) (g : Lived) → s < 2 ^ 64 → id < 2 ^ 64 → e.id ≡ id
-    → HasSegment files s e g
-    → IsInverted g.segment
+-- ---- segments that were read
 
--- the segment's id is one of those, or its postings are the inversion of its rows
-abbrev pub IsComparedOr : (ℕ → Bool) → Lived → Type 0
-IsComparedOr compared g = (compared g.segment.id ≡ true) ⊎ IsInverted g.segment
+-- the operation of each of these rows belongs to the segment of this id
+abbrev pub AreOwned : (ℕ → Option ℕ) → ℕ → List Row → Type 0
+AreOwned owner id rows = AllByRecursion (λ (r : Row). owner (number_of r.birth) ≡ Some id) rows
 
--- ---- a commit
+-- The segment of this id was read for a commit before s, with so many rows: its postings are the inversion of its rows,
+-- and their operations belong to it.
+pub record WasRead (files : Files) (s : ℕ) (owner : ℕ → Option ℕ) (id n : ℕ) : Type 0 where
+  pub number : ℕ
+  pub entry : HeadSegment
+  pub segment : Lived
+  pub earlier : number < s
+  pub id_is : entry.id ≡ id
+  pub rows_are : entry.rows ≡ n
+  pub has : HasSegment files number entry segment
+  pub inverted : IsInverted segment.segment
+  pub owned : AreOwned owner id segment.segment.rows
 
--- what is known of the commits before s
-pub record IsBefore (files : Files) (s : ℕ) (earlier : Earlier) : Type 0 where
-  pub ids : IsLeastId files s earlier.least_id
-  pub compared : (id : ℕ) → contains nat_cmp earlier.compared id ≡ true → IsSoundId files id
-
--- Nothing of the commit differs: its next id is lawful, and so are the postings of each segment
--- that no earlier commit has.
-pub record IsSame (opened : Opened) (earlier : Earlier) : Type 0 where
-  pub room : opened.next_id ≤ 2 ^ 61
-  pub above : earlier.least_id ≤ opened.next_id
-  pub each : AllByRecursion (IsComparedOr (contains nat_cmp earlier.compared)) opened.segments
-
--- the next id is lawful, and the postings of a segment first differ here
-pub record HasOtherBut (opened : Opened) (earlier : Earlier) (d : Difference) : Type 0 where
-  pub room : opened.next_id ≤ 2 ^ 61
-  pub above : earlier.least_id ≤ opened.next_id
-  pub other : HaveOther (IsComparedOr (contains nat_cmp earlier.compared)) opened.segments d
-
--- where the commit first differs
-abbrev pub IsOther : Opened → Earlier → Difference → Type 0
-IsOther opened earlier d = LacksRoom opened.number opened.next_id d
-    ⊎ (IsBelow opened.number opened.next_id earlier.least_id d ⊎ HasOtherBut opened earlier d)
+-- each segment that has a count was read for a commit before s, with so many rows
+abbrev pub AreKnown : Files → ℕ → (ℕ → Option ℕ) → (ℕ → Option ℕ) → Type 0
+AreKnown files s count owner = (id n : ℕ) → count id ≡ Some n → WasRead files s owner id n

@@ -1,3 +1,4 @@
 pub mod Sound
 pub mod Difference
 pub mod Earlier
+pub mod Known

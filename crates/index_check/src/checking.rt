@@ -17,9 +17,13 @@ use ix_outside::{Store, StoreFault};
 use std::alloc::Global;
 
 /// Checks all commits of a store, by rising number, and gives what their commit files say. Of each
-/// commit all files are read, then its next id is tested, and then the postings of each segment are
-/// compared with the inversion of its rows. The first place that is wrong is told. The store is as
-/// before, whatever is returned. One commit is held at a time, and the bytes of one segment's postings.
+/// commit all files are tested, then its next id, and then the postings of each segment are compared
+/// with the inversion of its rows. The first place that is wrong is told. The store is as before,
+/// whatever is returned.
+///
+/// Rows and postings that a commit shares with the one before it are read for the first of them alone. As
+/// long as commits are sound, one segment is held at a time, and two numbers for each operation of
+/// which a segment has a row. A commit that isn't sound is read whole, to tell its first wrong place.
 ///
 /// - `Damaged` names the first broken place of the first commit that isn't lawful, where that one
 ///   isn't in the grammar.

@@ -1,12 +1,11 @@
 //! The postings of segments, compared with the inversions of their rows.
 ghost use Rattle.std.specs.Prelude.{◌≡◌, ◌<◌, ◌^◌, length, IfOk, MatchOption};
-ghost use Rattle.std.specs.BTreeSet.{contains};
 ghost use Rattle.std.specs.List.{AllByRecursion};
-ghost use Rattle.std.specs.Ordering.{nat_cmp};
 ghost use Rattle.segment_core.specs.Segments.{IsInverted};
 ghost use Rattle.segment_files.specs.Fits.{PostingsFit};
+ghost use Rattle.commit_point.specs.Holds.{AreInverted};
 ghost use Rattle.index_check.specs.Difference.{DifferAt, HaveOther, IsOtherAt, byte_at};
-ghost use Rattle.index_check.specs.Earlier.{CanSpell, IsComparedOr};
+ghost use Rattle.index_check.specs.Earlier.{CanSpell};
 
 use crate::fault::Difference;
 use analysis::invert;
@@ -14,25 +13,21 @@ use ix_base::{FileName, NoMemory};
 use segment_core::{LiveSegment, Segment};
 use segment_files::encode_pst;
 use std::alloc::Global;
-use std::collections::BTreeSet;
 
 /// What stands at the end of a file, in place of a byte.
 const END: u64 = 256;
 
-/// Where the postings of one of these segments first differ from the inversion of its rows. Those
-/// whose ids are among `compared` are passed over.
+/// Where the postings of one of these segments first differ from the inversion of its rows.
 pub fn other_postings(
     alloc: Global,
     segments: &[LiveSegment],
-    compared: &BTreeSet<u64>,
 ) -> Result<Option<Difference>, NoMemory>
     requires { AllByRecursion CanSpell segments.now }
     ensures { IfOk result (λ found. MatchOption found
-        (AllByRecursion (IsComparedOr (contains nat_cmp compared.now)) segments.now)
-        (HaveOther (IsComparedOr (contains nat_cmp compared.now)) segments.now)) }
+        (AreInverted segments.now) (HaveOther (λ g. IsInverted g.segment) segments.now)) }
 {
     for segment in segments {
-        let other = other_unless_compared(alloc, segment, compared)?;
+        let other = other_in(alloc, segment.segment())?;
         if other.is_some() {
             return Ok(other);
         }
@@ -40,27 +35,9 @@ pub fn other_postings(
     Ok(None)
 }
 
-/// The same of one segment.
-fn other_unless_compared(
-    alloc: Global,
-    segment: &LiveSegment,
-    compared: &BTreeSet<u64>,
-) -> Result<Option<Difference>, NoMemory>
-    requires { CanSpell segment.now }
-    ensures { IfOk result (λ found. MatchOption found
-        (IsComparedOr (contains nat_cmp compared.now) segment.now)
-        (IsOtherAt segment.now.segment)) }
-{
-    let segment = segment.segment();
-    if compared.contains(&segment.id) {
-        return Ok(None);
-    }
-    other_in(alloc, segment)
-}
-
 /// Where the postings of a segment, as its file spells them, first differ from the inversion of its
 /// rows.
-fn other_in(alloc: Global, segment: &Segment) -> Result<Option<Difference>, NoMemory>
+pub fn other_in(alloc: Global, segment: &Segment) -> Result<Option<Difference>, NoMemory>
     requires few { length segment.now.rows < 2 ^ 32 }
     requires fits { PostingsFit (length segment.now.rows) segment.now.postings }
     ensures { IfOk result (λ found. MatchOption found

@@ -6,8 +6,10 @@ mod checking;
 mod comparing;
 mod earlier;
 mod fault;
+mod known;
 mod next_id;
 mod one_commit;
+mod sound;
 
 pub use checking::check;
 pub use fault::{CheckFault, Difference};

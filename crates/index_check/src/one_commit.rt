@@ -8,7 +8,8 @@ ghost use Rattle.ix_outside.specs.Files.{Files, Was};
 ghost use Rattle.commit_point.specs.Holds.{HasHead, HasSegments};
 ghost use Rattle.commit_point.specs.Reading.{head_from, reading};
 ghost use Rattle.index_check.specs.Difference.{DiffersAt};
-ghost use Rattle.index_check.specs.Earlier.{CanSpell, IsBefore, IsOther, IsSame};
+ghost use Rattle.index_check.specs.Earlier.{CanSpell, IsLeastId};
+ghost use Rattle.index_check.specs.Known.{IsBefore, IsOther, IsSame};
 ghost use Rattle.index_check.specs.Sound.{IsLawfulCommit};
 ghost use Rattle.index_check.specs.declared.fault.Difference.{Difference};
 
@@ -16,6 +17,7 @@ use crate::comparing::other_postings;
 use crate::earlier::Earlier;
 use crate::fault::{CheckFault, Difference};
 use crate::next_id::next_id_difference;
+use crate::sound::sound_commit;
 use commit_point::{Head, OpenFault, Opened, listed_head, read_commit};
 use ix_base::NoMemory;
 use ix_outside::Store;
@@ -23,6 +25,9 @@ use std::alloc::Global;
 
 /// Checks the commit of this number, which a list has shown, and gives what its commit file says.
 /// `earlier` tells of the commits before it, which are sound, and then of this one too.
+///
+/// As long as the commit is sound, rows and postings that an earlier commit has are not read again, and
+/// one segment is held at a time. Where it isn't, it is read whole, and its first wrong place is told.
 pub fn check_commit<S: Store>(
     alloc: Global,
     store: &mut S,
@@ -47,11 +52,43 @@ pub fn check_commit<S: Store>(
     ensures failed { result ≡ Err CheckFault.Store
         → Rose (S.fault_count store.old) (S.fault_count store.new) }
 {
+    if let Some(head) = sound_commit(alloc, store, number, earlier)? {
+        return Ok(head);
+    }
+    check_whole(alloc, store, number, earlier)
+}
+
+/// The same, of a commit that is read whole. Nothing is known of segments then.
+fn check_whole<S: Store>(
+    alloc: Global,
+    store: &mut S,
+    number: u64,
+    earlier: &mut Earlier,
+) -> Result<Head, CheckFault>
+    requires { (files : Files) → told_files (S.disk store.old) ≡ Some files
+        → IsLeastId files number earlier.old.least_id }
+    ensures head { (files : Files) → told_files (S.disk store.old) ≡ Some files
+        → IfOk result (HasHead files number) }
+    ensures sound { (files : Files) → told_files (S.disk store.old) ≡ Some files
+        → IfOk result (λ _. IsLawfulCommit files number) }
+    ensures earlier { (files : Files) → told_files (S.disk store.old) ≡ Some files
+        → IfOk result (λ _. IsBefore files (number + 1) earlier.new) }
+    ensures damaged { (damaged : Damaged) → result ≡ Err (CheckFault.Damaged damaged)
+        → (files : Files) × Was (told_files (S.disk store.old)) files
+        × (reading files number ≡ Err damaged) }
+    ensures differs { (files : Files) (d : Difference) → told_files (S.disk store.old) ≡ Some files
+        → result ≡ Err (CheckFault.Differs d) → DiffersAt files number d }
+    ensures reads { S.disk store.new ≡ S.disk store.old }
+    ensures later { S.fault_count store.old ≤ S.fault_count store.new }
+    ensures failed { result ≡ Err CheckFault.Store
+        → Rose (S.fault_count store.old) (S.fault_count store.new) }
+{
     let opened = read(alloc, store, number)?;
-    if let Some(difference) = difference_in(alloc, &opened, earlier)? {
+    if let Some(difference) = difference_in(alloc, &opened, earlier.least_id)? {
         return Err(CheckFault::Differs(difference));
     }
-    earlier.add(&opened)?;
+    earlier.forget(alloc);
+    earlier.add_ids(opened.entries.as_slice());
     head_of(alloc, store, number)
 }
 
@@ -82,17 +119,17 @@ fn read<S: Store>(alloc: Global, store: &mut S, number: u64) -> Result<Opened, C
 fn difference_in(
     alloc: Global,
     opened: &Opened,
-    earlier: &Earlier,
+    least_id: u64,
 ) -> Result<Option<Difference>, NoMemory>
     requires { AllByRecursion CanSpell opened.now.segments }
     ensures { IfOk result (λ found. MatchOption found
-        (IsSame opened.now earlier.now) (IsOther opened.now earlier.now)) }
+        (IsSame opened.now least_id) (IsOther opened.now least_id)) }
 {
-    let next = next_id_difference(opened.number, opened.next_id, earlier.least_id);
+    let next = next_id_difference(opened.number, opened.next_id, least_id);
     if next.is_some() {
         return Ok(next);
     }
-    other_postings(alloc, opened.segments.as_slice(), &earlier.compared)
+    other_postings(alloc, opened.segments.as_slice())
 }
 
 /// What the commit file of this number says.

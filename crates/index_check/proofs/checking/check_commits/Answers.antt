@@ -15,7 +15,7 @@ pub loop-number-init : goal.loop-number-init
 loop-number-init g c = record {
   found = λ files told.
       none_yet files c.args.numbers.now c.new-heads.result.items c.new-earlier.result c.new-heads.ensures.items
-      (first_before files c.new-earlier.result c.new-earlier.ensures.least c.new-earlier.ensures.compared);
+      (first_before files c.new-earlier.result c.new-earlier.ensures.least c.new-earlier.ensures.known);
   reads = refl;
   later = omega arith;
 }
