@@ -47,7 +47,8 @@ pub record Takes (id : ℕ) (rows : List Row) (old new : Known) : Type 0 where
 -- ---- a segment of a commit
 
 -- The files of a segment of the commit s are sound, its rows' operations belong to it, and so many rows are live.
-pub record IsSoundSegment (files : Files) (s : ℕ) (owner : ℕ → Option ℕ) (e : HeadSegment) (live : ℕ) : Type 0 where
+pub record IsSoundSegment (files : Files) (s : ℕ) (owner : ℕ → Option ℕ)
+    (e : HeadSegment) (live : ℕ) : Type 0 where
   pub segment : Lived
   pub has : HasSegment files s e segment
   pub inverted : IsInverted segment.segment
