@@ -3,11 +3,13 @@
 
 usage: fts5.py DATABASE run < SCRIPT
        fts5.py DATABASE ask < QUESTIONS
+       fts5.py DATABASE check
 
 It knows the documents and queries of the benchmark: one text, `body`, the exact texts `kind` and `tag`, the number
 `n`. Documents are rows of a table with an index on each column that is looked for; their words are in FTS5, under
 the same row numbers. An index on `n` is made for the first query of a range. A commit is SQLite's. Searches and
-questions print {"hits":[KEY, ..]}, and a script at its end {"docs":D}, the rows that are there, if it has a line.
+questions print {"hits":[KEY, ..]}, and a script at its end {"docs":D}, the rows that are there, if it has a line. A
+check is FTS5's `integrity-check`, of its words and the documents, and SQLite's `integrity_check`; it prints the same.
 """
 import json
 import sqlite3
@@ -106,8 +108,23 @@ def do_line(store, line):
         add(store, line["doc"])
 
 
+def check(store):
+    """Checks FTS5's words, and the whole database. Where they are wrong it ends with an error."""
+    store.execute("insert into words (words) values ('integrity-check')")
+    told = store.execute("pragma integrity_check").fetchall()
+    if told != [("ok",)]:
+        sys.exit(f"integrity_check: {told}")
+
+
+def print_docs(store):
+    print(json.dumps({"docs": store.execute("select count(*) from docs").fetchone()[0]}))
+
+
 def main():
     store = sqlite3.connect(sys.argv[1])
+    if sys.argv[2] == "check":
+        check(store)
+        return print_docs(store)
     if not store.execute("select * from sqlite_master").fetchone():
         store.executescript(TABLES)
     line = None
@@ -117,7 +134,7 @@ def main():
         else:
             print(json.dumps({"hits": hits(store, line)}))
     if line and sys.argv[2] == "run":
-        print(json.dumps({"docs": store.execute("select count(*) from docs").fetchone()[0]}))
+        print_docs(store)
 
 
 if __name__ == "__main__":

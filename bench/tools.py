@@ -72,13 +72,14 @@ def write_script(path, script):
 
 
 def found(report):
-    """The documents of the last commit in a report, and the hits of all its searches."""
+    """The documents of the last commit in a report or a list, and the hits of all its searches."""
     docs, last, hits = 0, -1, 0
     with open(report) as lines:
         for line in map(json.loads, lines):
             hits += len(line.get("hits", ()))
-            if line.get("seq", 0) > last and "docs" in line:
-                docs, last = line["docs"], line.get("seq", 0)
+            number = line.get("seq", last + 1)
+            if number > last and "docs" in line:
+                docs, last = line["docs"], number
     return [docs, hits]
 
 
