@@ -44,6 +44,7 @@ use Rattle.index_run.specs.Outcomes.{AreOutcomes}
 use Rattle.index_run.specs.Rounds.{AllCame, gave_of, pieces_of, share_of, writers_of}
 use Rattle.index_run.proofs.DiskBy.{by_commit, by_count, by_same, by_start, pending_above, stopped_done}
 use Rattle.index_run.specs.KeptDisk.{KeepLaws}
+use Rattle.index_writer.specs.declared.fault.WriterFault.{WriterFault}
 use Rattle.index_run.specs.declared.rounds.RanFault.TheVariants as halt
 use Rattle.index_run.proofs.LogNumbers.{numbers_whole}
 use Rattle.index_run.proofs.Workers.{all_go_on, parts_back}

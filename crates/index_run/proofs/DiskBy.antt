@@ -10,7 +10,7 @@ use Rattle.ix_outside.specs.Disk.{Disk, Told, told_files}
 use Rattle.ix_outside.specs.Files.{Files, Changes}
 use Rattle.ix_outside.specs.Images.{Follows, Reaches}
 use Rattle.commit_point.proofs.StepLaws.{goes_then}
-use Rattle.commit_point.specs.Holds.{HasHead}
+use Rattle.commit_point.specs.Holds.{HasHead, Pairs}
 use Rattle.commit_point.specs.declared.heads.Head.{Head}
 use Rattle.commit_point.specs.Steps.{KeepsMade, MakesCommits, OnlyCommits}
 use Rattle.commit_pruning.specs.Pruning.{MayBePruned}
@@ -19,7 +19,8 @@ use Rattle.row_fates.specs.Fate.{Numbered}
 use Rattle.index_writer.specs.declared.round.RoundEnd.{RoundEnd}
 use Rattle.index_writer.specs.declared.state.State.{State}
 use Rattle.index_writer.specs.Ready.{CanBePending, IsReady, IsStored}
-use Rattle.index_writer.specs.Storing.{Commits, GoesOn, MayCommit, Settles, on_commit}
+use Rattle.index_writer.specs.Standing.{Settles}
+use Rattle.index_writer.specs.Storing.{Commits, GoesOn, MayCommit, on_commit}
 use Rattle.run_log.specs.Headline.{Given, commit_numbers}
 use Rattle.index_run.specs.Doing.{CanBegin, IsWriterOn}
 use Rattle.index_run.specs.Driving.{IsStoppedBy}
@@ -212,7 +213,7 @@ stopped_written (Some k) first w log rest count start mid now laws begun on belo
     let d = disk.left old begins in
     record {
       files = some_onto (told_files now) _ _ (λ f left. left_some_longer k first log rest old f left)
-          (left_stopped k first w log count old start mid now laws begun begins on below le numbers may disk.low disk.high d);
+          (left_stopped k first w log count old start mid now disk.some laws begun begins on below le numbers may disk.low disk.high d);
       crash = λ are.
           left_crash_longer k first log rest old start now
           (left_crash_commit k first w log count old start mid now disk.laws disk.some laws begun begins on below le numbers crashed disk.low

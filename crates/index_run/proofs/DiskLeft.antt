@@ -11,7 +11,10 @@ use Rattle.ix_outside.specs.Files.{Files, Changes}
 use Rattle.ix_outside.specs.Images.{Reaches}
 use Rattle.segment_core.specs.LiveRows.{Lived}
 use Rattle.commit_point.specs.declared.written.Written.{Written}
-use Rattle.commit_point.specs.Holds.{AreKept, Lists, Pairs}
+use Rattle.ix_base.specs.declared.file_name.FileName.{FileName}
+use Rattle.ix_base.specs.declared.file_name.FileName.TheVariants.{Commit, Rows}
+use Rattle.commit_point.proofs.KeptLaws.{lists_there, there_by}
+use Rattle.commit_point.specs.Holds.{AreKept, IsAmong, IsFileOf, Lists, Pairs, names_of}
 use Rattle.commit_point.specs.declared.heads.HeadSegment.{HeadSegment}
 use Rattle.commit_point.specs.Writing as commit
 use Rattle.commit_point.specs.Writing.{AreWritten, ComesAfter, IsOldId, IsWritten, entry_of, is_alive}
@@ -19,13 +22,13 @@ use Rattle.commit_pruning.specs.Pruning.{MayBePruned}
 use Rattle.op_script.specs.declared.script.Line.{Line}
 use Rattle.index_writer.specs.declared.state.State.{State}
 use Rattle.index_writer.specs.Ready.{IsReady, IsStored, NewIdsFrom}
-use Rattle.index_writer.specs.Standing.{StandsOnLast}
-use Rattle.index_writer.specs.Storing.{Commits, GoesOn, MayCommit, Settles, on_commit, renewed}
+use Rattle.index_writer.specs.Standing.{Settles, StandsOnLast}
+use Rattle.index_writer.specs.Storing.{Commits, GoesOn, MayCommit, on_commit, renewed}
 use Rattle.index_run.specs.Doing.{CanBegin, IsWriterOn}
 use Rattle.index_run.specs.KeptDisk.{BeginsOnLast, IsDiskBy, IsDiskKeeping, IsDiskLeft, KeepLaws, LeftSome, StandsLeft}
 use Rattle.index_run.specs.Leaving.{CommitLaws, HasSomeFront, IsNextCommit, Stands, due_pairs, first_numbers}
 use Rattle.index_run.proofs.DiskAfter.{changed, comes_next, same_goes_on, some_crash, some_longer, some_onto, stands_longer, stands_none, stands_other, the_files, all_numbers}
-use Rattle.index_run.proofs.LeftCommits.{AliveSame, CanFollowLeft, alive_over, left_commits, left_crash, left_none, left_then, over, segment_same}
+use Rattle.index_run.proofs.LeftCommits.{AliveSame, CanFollowLeft, RowsStay, alive_over, latest_stays, left_commits, left_crash, left_none, left_then, over, segment_same}
 use Rattle.index_run.proofs.LogNumbers.{numbers_front}
 use Rattle.index_run.proofs.MadeCommits.{ComesNext, front_higher, front_none, old_ids, stands_commit}
 
@@ -153,10 +156,38 @@ left_prune keep first log count w v old start mid now m n told_mid told_now prun
 
 -- ---- a commit
 
-can_follow : (keep : ℕ) (w : State) (was now : Files) → IsReady w → w.last < w.published.upto → GoesOn was w → IsStored now w
-    → MayBePruned keep was now
+-- what is on the store of the segments is of the last commit, so their rows have the same bytes in what is left
+last_same : (keep : ℕ) (w : State) (was now : Files) → 1 ≤ keep → GoesOn was w → (on : StandsOnLast now w) → MayBePruned keep was now
+    → (name : FileName) → IsSome (on.own name) → (e : HeadSegment) → Lists now w.last e → IsAmong (names_of e) name → now name ≡ was name
+last_same keep w was now some goes on left name there e lists among =
+    let here = there_by now w.last _ lists.has_head.file in
+    let whole = left.stays w.last (latest_stays keep w.last was some (left.only w.last here) goes.none_above) in
+    whole name (inr (e, lists_there now was w.last e (sym (whole (Commit w.last) (inl refl))) lists, among))
+
+rows_same : (keep : ℕ) (w : State) (was now : Files) → 1 ≤ keep → GoesOn was w → (on : StandsOnLast now w) → MayBePruned keep was now
+    → (id : ℕ) → IsSome (on.own (Rows id)) → now (Rows id) ≡ was (Rows id)
+rows_same keep w was now some goes on left id there = by (on.of_last (Rows id) there).0
+  where
+    by : IsFileOf now w.last (Rows id) → now (Rows id) ≡ was (Rows id)
+    by (inl e) = absurd cc
+    by (inr h) = last_same keep w was now some goes on left (Rows id) there h.0 h.1 h.2
+
+rows_stay : (s : ℕ) (own was now : Files) → ((id : ℕ) → IsSome (own (Rows id)) → now (Rows id) ≡ was (Rows id)) → (gs : List Lived)
+    (ws : List (Option Written)) → AreWritten own s gs ws → RowsStay was now gs ws
+rows_stay s own was now same [] ws stands = tt
+rows_stay s own was now same (g ∷ gs) [] stands = tt
+rows_stay s own was now same (g ∷ gs) (None ∷ ws) stands = ((λ alive. tt), rows_stay s own was now same gs ws stands.1)
+rows_stay s own was now same (g ∷ gs) (Some u ∷ ws) stands = (
+  (λ alive.
+      let has = (stands.0 alive).1.rows in
+      same g.segment.id (subst (λ (o : Option (List ℕ)). IsSome o) (sym has.file) refl)),
+  rows_stay s own was now same gs ws stands.1,
+)
+
+can_follow : (keep : ℕ) (w : State) (was now : Files) → 1 ≤ keep → IsReady w → w.last < w.published.upto → GoesOn was w → IsStored now w
+    → StandsOnLast now w → MayBePruned keep was now
     → CanFollowLeft keep w.published.upto w.published.next_id w.published.segments w.written was now
-can_follow keep w was now ready below goes stored left = record {
+can_follow keep w was now some ready below goes stored on left = record {
   rise = ready.published.ids;
   after = record {
     none_from = λ t le. goes.none_above t (omega (arith, below, le));
@@ -164,6 +195,7 @@ can_follow keep w was now ready below goes stored left = record {
   };
   stood = goes.stored;
   stands = stored;
+  rows = rows_stay w.published.upto on.own was now (rows_same keep w was now some goes on left) w.published.segments w.written on.stored;
   left = left;
 }
 
@@ -211,13 +243,14 @@ left_commit keeps keep first w v log count old start mid now some laws begun beg
   files = some_onto (told_files now) (Commits pairs w v m) (StandsLeft keep first log (first_numbers first log (length log)) v old)
       (λ n c. after n c)
       (changed (Commits pairs w v) (told_files mid) (told_files now) m told made);
-  kept = λ are n told_n. settles m n told told_n here.goes_on (λ d image. (image_goes are d image).stored) (disk.kept are m told);
+  kept = λ are n told_n. settles m n told told_n here.goes_on (λ d image. (image_goes are d image).0.stored) (disk.kept are m told);
   crash = λ are.
       leaves_then start mid now (LeftSome keep first log old) (Reaches (MayCommit pairs w) (MayHold mid)) (LeftSome keep first log old)
       (disk.crash are) crash (λ c left. left)
       (λ c left.
       let d = left.0 in
-      let can = can_follow keep w here.was d on.ready below goes (image_goes are d left.1).stored
+      let on_d = image_goes are d left.1 in
+      let can = can_follow keep w here.was d some on.ready below goes on_d.0.stored on_d.1
       (left_then keep here.was m d here.left (image_left are d left.1)) in
       let both =
       left_crash keep w.published.upto w.published.next_id pairs w.published.segments w.written here.was d c can left.2 in (
@@ -251,12 +284,12 @@ left_commit keeps keep first w v log count old start mid now some laws begun beg
     image_left : AreKept old (MayHold start) → (d : Files) → MayHold mid d → MayBePruned keep m d
     image_left are d image = kept_left keep m mid (disk.kept are m told) d image
 
-    image_goes : AreKept old (MayHold start) → (d : Files) → MayHold mid d → GoesOn d w
-    image_goes are d image = (keeps.go_on keep w m d some (image_left are d image) here.goes_on here.on_last).0
+    image_goes : AreKept old (MayHold start) → (d : Files) → MayHold mid d → GoesOn d w × StandsOnLast d w
+    image_goes are d image = keeps.go_on keep w m d some (image_left are d image) here.goes_on here.on_last
 
     after : (n : Files) → Commits pairs w v m n → StandsLeft keep first log (first_numbers first log (length log)) v old n
     after n c =
-        let both = commits_all keep pairs w v here.was m n is (can_follow keep w here.was m on.ready below goes here.goes_on.stored here.left) c in
+        let both = commits_all keep pairs w v here.was m n is (can_follow keep w here.was m some on.ready below goes here.goes_on.stored here.on_last here.left) c in
         record {
           was = over_by w here.was n;
           stands = subst (λ (ns : List ℕ). Stands first log ns v old (over_by w here.was n)) (all_numbers first log count w.published.upto numbers)
@@ -268,18 +301,18 @@ left_commit keeps keep first w v log count old start mid now some laws begun beg
 
 -- ---- a commit that failed half-way
 
-pub left_stopped : (keep : ℕ) (first w : State) (log : List Line) (count : ℕ) (old : Files) (start mid now : Option Disk) → CommitLaws
+pub left_stopped : (keep : ℕ) (first w : State) (log : List Line) (count : ℕ) (old : Files) (start mid now : Option Disk) → 1 ≤ keep → CommitLaws
     → CanBegin first → BeginsOnLast first old start → IsWriterOn first log w → w.last < w.published.upto
     → count ≤ length log → IsNextCommit first log count w.published.upto
     → Changes (MayCommit (due_pairs first log w) w) (told_files mid) (told_files now)
     → first.published.next_id ≤ w.since → w.since ≤ first.published.next_id + 2 * length log
     → IsDiskLeft keep first log count w old start mid → IsSomeAnd (told_files now) (LeftSome keep first log old)
-left_stopped keep first w log count old start mid now laws begun begins on below le numbers made low high disk =
+left_stopped keep first w log count old start mid now some laws begun begins on below le numbers made low high disk =
     some_onto (told_files now) (MayCommit pairs w m) (LeftSome keep first log old)
     (λ n may.
     let both =
     left_crash keep w.published.upto w.published.next_id pairs w.published.segments w.written here.was m n
-    (can_follow keep w here.was m on.ready below (here.stands.goes_on begins.goes_on) here.goes_on.stored here.left) may in (
+    (can_follow keep w here.was m some on.ready below (here.stands.goes_on begins.goes_on) here.goes_on.stored here.on_last here.left) may in (
       over_by w here.was n,
       some_crash first w log count old here.was (over_by w here.was n) le high numbers
           (comes_next first w log count laws begun on low numbers) here.stands both.0,
@@ -322,8 +355,8 @@ left_crash_commit keep first w log count old start mid now keeps some laws begun
     (λ c left.
     let d = left.0 in
     let d_left : MayBePruned keep m d = kept_left keep m mid (disk.kept are m told) d left.1 in
-    let stored = (keeps.go_on keep w m d some d_left here.goes_on here.on_last).0.stored in
-    let can = can_follow keep w here.was d on.ready below (here.stands.goes_on begins.goes_on) stored
+    let on_d = keeps.go_on keep w m d some d_left here.goes_on here.on_last in
+    let can = can_follow keep w here.was d some on.ready below (here.stands.goes_on begins.goes_on) on_d.0.stored on_d.1
     (left_then keep here.was m d here.left d_left) in
     let both =
     left_crash keep w.published.upto w.published.next_id pairs w.published.segments w.written here.was d c can left.2 in (

@@ -43,7 +43,7 @@ use Rattle.index_run.specs.KeptDisk.{BeginsOnLast, IsDiskLeft, LeftSome, StandsL
 use Rattle.index_run.specs.Leaving.{HasSomeFront, first_numbers}
 use Rattle.index_run.specs.Outcomes.{AreOutcomes, AsksBy, IsAskedBy, rows_of}
 use Rattle.index_run.proofs.DiskAfter.{some_onto, the_files}
-use Rattle.index_run.proofs.Finish.{listed_outside, numbering_of, outcomes_given, over_asked}
+use Rattle.index_run.proofs.Finish.{listed_outside, numbering_of, outcomes_given}
 use Rattle.index_run.proofs.LeftCommits.{left_none}
 use Rattle.index_run.proofs.OutcomeLaws.{asked_by, texts_with_none}
 use Rattle.index_run.proofs.Pruning.{can_run_left}
@@ -203,7 +203,7 @@ pub plain_whole : (r : Run) (lines : List Line) (outcomes : List Outcome) (w : S
 plain_whole r lines outcomes w now told damaged none over found =
     let asks =
     All-contains (IsAskedBy (base_of r) over.log lines) outcomes found.0
-    (All-from_recursion (IsAskedBy (base_of r) over.log lines) outcomes (over_asked r lines outcomes w now over)) found.1
+    (All-from_recursion (IsAskedBy (base_of r) over.log lines) outcomes (asked_by (IsDocs r.first over.log) (base_of r) over.log lines outcomes over.outcomes)) found.1
     found.2.number found.2.query found.2.searches in
     none_asks (base_of r) over.log lines found.2.number found.2.query none asks
 

@@ -49,7 +49,7 @@ module _ (keep : ℕ) (was left : Files) (top : ℕ) (may : MayBePruned keep was
   GoneAbove s = (t : ℕ) → s < t → IsGivenUp keep was t → ¬ IsGivenUp keep left t → ⊥
 
   one_left : (s t : ℕ) → GoneAbove s → ¬ IsGivenUp keep left s → s < t → IsSome (was (Commit t)) → IsSome (left (Commit t))
-  one_left s t gone_above no lt there = by (left (Commit t)) refl
+  one_left s t gone_above stay lt there = by (left (Commit t)) refl
     where
       by : (o : Option (List ℕ)) → left (Commit t) ≡ o → IsSome o
       by (Some bytes) is = refl
@@ -57,35 +57,35 @@ module _ (keep : ℕ) (was left : Files) (top : ℕ) (may : MayBePruned keep was
           absurd
           (let stays : (IsGivenUp keep was t → ⊥) → ⊥ = λ not_given.
           let same : left (Commit t) ≡ was (Commit t) = may.stays t (record { there = there; not_given_up = not_given }) (Commit t) (inl refl) in cc in
-          stays (λ given. gone_above t lt given (λ later. no (given_before keep left s t lt later))))
+          stays (λ given. gone_above t lt given (λ later. stay (given_before keep left s t lt later))))
 
   each_left : (s : ℕ) → GoneAbove s → ¬ IsGivenUp keep left s → (ts : List ℕ) → AllByRecursion (λ (t : ℕ). s < t) ts
       → AllByRecursion (λ (t : ℕ). IsSome (was (Commit t))) ts → AllByRecursion (λ (t : ℕ). IsSome (left (Commit t))) ts
-  each_left s gone_above no [] above there = tt
-  each_left s gone_above no (t ∷ ts) above there =
-      (one_left s t gone_above no above.0 there.0, each_left s gone_above no ts above.1 there.1)
+  each_left s gone_above stay [] above there = tt
+  each_left s gone_above stay (t ∷ ts) above there =
+      (one_left s t gone_above stay above.0 there.0, each_left s gone_above stay ts above.1 there.1)
 
   gone_if : (s : ℕ) → GoneAbove s → IsGivenUp keep was s → ¬ IsGivenUp keep left s → ⊥
-  gone_if s gone_above given no =
-      no (record {
+  gone_if s gone_above given stay =
+      stay (record {
         later = given.later;
         count = given.count;
         rise = given.rise;
-        there = each_left s gone_above no given.later (later_above s given.later given.rise) given.there;
+        there = each_left s gone_above stay given.later (later_above s given.later given.rise) given.there;
       })
 
   gone : (n s : ℕ) → top < s + n → IsGivenUp keep was s → ¬ IsGivenUp keep left s → ⊥
-  gone zero s above given no =
+  gone zero s above given stay =
       gone_at given.later (later_above s given.later given.rise) given.there given.count
     where
       gone_at : (later : List ℕ) → AllByRecursion (λ (t : ℕ). s < t) later
           → AllByRecursion (λ (t : ℕ). IsSome (was (Commit t))) later → length later ≡ keep → ⊥
       gone_at [] below there count =
-          no (record { later = []; count = count; rise = λ i j d lt within. absurd (omega arith); there = tt })
+          stay (record { later = []; count = count; rise = λ i j d lt within. absurd (omega arith); there = tt })
       gone_at (t ∷ later) below there count =
           let nothing : was (Commit t) ≡ None = none t (let lt = below.0 in omega (arith, above, lt)) in
           let some : IsSome (was (Commit t)) = there.0 in cc
-  gone (suc n) s above given no = gone_if s (λ t lt. gone n t (omega (arith, above, lt))) given no
+  gone (suc n) s above given stay = gone_if s (λ t lt. gone n t (omega (arith, above, lt))) given stay
 
   -- what stays among those that are left stays among all
   pub stays_all : (s : ℕ) → Stays keep left s → Stays keep was s

@@ -1,6 +1,6 @@
 -- A commit that is made on what is left of some files is made on all of them.
 use Rattle.std.proofs.Common.{◌≡◌, ◌≢◌, ◌⊎◌, inl, inr, ◌∙◌, ℕ, ◌+◌, ◌==◌, ◌<◌, ◌≤◌, List, [], ◌∷◌, ◌++◌, Bool, true, false, cond, Some, None, length, refl, sym, ap, subst, arith}
-use Rattle.std.specs.Prelude.{Contains, Option, IsSome}
+use Rattle.std.specs.Prelude.{AllPairs, Contains, Option, IsSome}
 use Rattle.std.specs.List.{AllByRecursion, filter}
 use Rattle.std.proofs.lemmas.Bool.{cases_lt, eqb-true, eq-eqb}
 use Rattle.std.proofs.lemmas.List.Elements.{All-contains, All-from_recursion}
@@ -15,6 +15,7 @@ use Rattle.segment_core.specs.LiveRows.{Lived}
 use Rattle.commit_point.specs.declared.heads.HeadSegment.{HeadSegment}
 use Rattle.commit_point.specs.declared.written.Written.{Written}
 use Rattle.commit_point.proofs.Laws.{one_head}
+use Rattle.commit_point.proofs.RowsKept.{rows_kept}
 use Rattle.commit_point.specs.declared.heads.Head.{Head}
 use Rattle.commit_point.specs.Fits.{EntryFits}
 use Rattle.commit_point.specs.Holds.{HasHead, HasSegment, HasSegments, HaveSegments, IsAmong, IsFileOf, Lists, Pairs, head_of, names_of}
@@ -217,12 +218,22 @@ same_or a b = by (a == b) refl
     by true is = inl (eqb-true a b is)
     by false is = inr (λ e. let found : (a == b) ≡ true = eq-eqb a b e in absurd cc)
 
+-- the rows of a segment of which something is written have the bytes that they had
+abbrev pub OneStays : Files → Files → Option Written → Lived → Type 0
+OneStays was new None g = Unit {0}
+OneStays was new (Some u) g = new (Rows g.segment.id) ≡ was (Rows g.segment.id)
+
+-- the same of each segment with a live row
+abbrev pub RowsStay : Files → Files → List Lived → List (Option Written) → Type 0
+RowsStay was new [] ws = Unit {0}
+RowsStay was new (g ∷ gs) [] = Unit {0}
+RowsStay was new (g ∷ gs) (w ∷ ws) = (is_alive g ≡ true → OneStays was new w g) × RowsStay was new gs ws
+
 rows_same : (s : ℕ) (all : List Lived) (written : List (Option Written)) (was new : Files) (w : Option Written) (g : Lived)
-    → IdApart all written w g → IsWritten was s w g → HasSegment new s (entry_of s w g) g
+    → IdApart all written w g → OneStays was new w g
     → over s all written was new (Rows g.segment.id) ≡ new (Rows g.segment.id)
-rows_same s all written was new None g apart stood has = over_new s all written was new (Rows g.segment.id) apart
-rows_same s all written was new (Some u) g apart stood has =
-    over_was s all written was new (Rows g.segment.id) apart ∙ stood.1.rows ∙ sym has.rows
+rows_same s all written was new None g apart stays = over_new s all written was new (Rows g.segment.id) apart
+rows_same s all written was new (Some u) g apart stays = over_was s all written was new (Rows g.segment.id) apart ∙ sym stays
 
 posts_same : (s : ℕ) (all : List Lived) (written : List (Option Written)) (was new : Files) (w : Option Written) (g : Lived)
     → IdApart all written w g → IsWritten was s w g → HasSegment new s (entry_of s w g) g
@@ -273,17 +284,17 @@ values_same s all written was new (Some u) g stood has = by (same_marks u.live.m
     ]
 
 names_same : (s : ℕ) (all : List Lived) (written : List (Option Written)) (was new : Files) (w : Option Written) (g : Lived)
-    → IdApart all written w g → IsWritten was s w g → HasSegment new s (entry_of s w g) g
+    → IdApart all written w g → OneStays was new w g → IsWritten was s w g → HasSegment new s (entry_of s w g) g
     → (name : FileName) → IsAmong (names_of (entry_of s w g)) name → over s all written was new name ≡ new name
-names_same s all written was new w g apart stood has name (inl e) =
-    subst (λ (n : FileName). over s all written was new n ≡ new n) (sym e) (rows_same s all written was new w g apart stood has)
-names_same s all written was new w g apart stood has name (inr (inl e)) =
+names_same s all written was new w g apart stays stood has name (inl e) =
+    subst (λ (n : FileName). over s all written was new n ≡ new n) (sym e) (rows_same s all written was new w g apart stays)
+names_same s all written was new w g apart stays stood has name (inr (inl e)) =
     subst (λ (n : FileName). over s all written was new n ≡ new n) (sym e) (posts_same s all written was new w g apart stood has)
-names_same s all written was new w g apart stood has name (inr (inr (inl e))) =
+names_same s all written was new w g apart stays stood has name (inr (inr (inl e))) =
     subst (λ (n : FileName). over s all written was new n ≡ new n) (sym e) (live_same s all written was new w g stood has)
-names_same s all written was new w g apart stood has name (inr (inr (inr (inl e)))) =
+names_same s all written was new w g apart stays stood has name (inr (inr (inr (inl e)))) =
     subst (λ (n : FileName). over s all written was new n ≡ new n) (sym e) (values_same s all written was new w g stood has)
-names_same s all written was new w g apart stood has name (inr (inr (inr (inr never)))) = absurd never
+names_same s all written was new w g apart stays stood has name (inr (inr (inr (inr never)))) = absurd never
 
 -- a segment whose files have the same bytes
 pub segment_same : (files now : Files) (n : ℕ) (e : HeadSegment) (g : Lived)
@@ -293,7 +304,7 @@ segment_same files now n e g same has = record {
   count = has.count;
   whole = has.whole;
   applied = has.applied;
-  rows = same (Rows e.id) (inl refl) ∙ has.rows;
+  rows = rows_kept files now e.id g.segment.rows (same (Rows e.id) (inl refl)) has.rows;
   posts = same (Posts e.id) (inr (inl refl)) ∙ has.posts;
   live = same (Live e.id e.written) (inr (inr (inl refl))) ∙ has.live;
   values = same (Values e.id e.written) (inr (inr (inr (inl refl)))) ∙ has.values;
@@ -304,12 +315,12 @@ segment_same files now n e g same has = record {
 }
 
 segments_over : (s : ℕ) (all : List Lived) (written : List (Option Written)) (was new : Files) (gs : List Lived) (ws : List (Option Written))
-    → IdsApart all written gs ws → AreWritten was s gs ws → HaveSegments new s (entries_of s gs ws) (listed gs)
+    → IdsApart all written gs ws → RowsStay was new gs ws → AreWritten was s gs ws → HaveSegments new s (entries_of s gs ws) (listed gs)
     → HaveSegments (over s all written was new) s (entries_of s gs ws) (listed gs)
-segments_over s all written was new [] ws apart stood have = have
-segments_over s all written was new (g ∷ gs) [] apart stood have = have
-segments_over s all written was new (g ∷ gs) (w ∷ ws) apart stood have =
-    by (is_alive g) refl have (segments_over s all written was new gs ws apart.1 stood.1)
+segments_over s all written was new [] ws apart rows stood have = have
+segments_over s all written was new (g ∷ gs) [] apart rows stood have = have
+segments_over s all written was new (g ∷ gs) (w ∷ ws) apart rows stood have =
+    by (is_alive g) refl have (segments_over s all written was new gs ws apart.1 rows.1 stood.1)
   where
     es : List HeadSegment
     es = entries_of s gs ws
@@ -319,7 +330,7 @@ segments_over s all written was new (g ∷ gs) (w ∷ ws) apart stood have =
         → HaveSegments (over s all written was new) s (cond b (entry_of s w g ∷ []) [] ++ es) (cond b (g ∷ listed gs) (listed gs))
     by true is h rest = (
       segment_same new (over s all written was new) s (entry_of s w g) g
-          (names_same s all written was new w g apart.0 (stood.0 is) h.0) h.0,
+          (names_same s all written was new w g apart.0 (rows.0 is) (stood.0 is) h.0) h.0,
       rest h.1,
     )
     by false is h rest = rest h
@@ -327,24 +338,24 @@ segments_over s all written was new (g ∷ gs) (w ∷ ws) apart stood have =
 -- ---- the commit is made on all of them
 
 has_segments_over : (s next : ℕ) (gs : List Lived) (ws : List (Option Written)) (was new : Files) → SegmentIdsRise 1 next gs
-    → AreWritten was s gs ws → HasSegments new s next (entries_of s gs ws) (listed gs)
+    → RowsStay was new gs ws → AreWritten was s gs ws → HasSegments new s next (entries_of s gs ws) (listed gs)
     → HasSegments (over s gs ws was new) s next (entries_of s gs ws) (listed gs)
-has_segments_over s next gs ws was new rise stood has = record {
+has_segments_over s next gs ws was new rise rows stood has = record {
   tail = has.tail;
   head = record {
     file = over_new s gs ws was new (Commit s) (λ ne. ne refl) ∙ has.head.file;
     number = has.head.number;
     fits = has.head.fits;
   };
-  each = segments_over s gs ws was new gs ws (ids_apart gs ws gs ws 1 next rise (λ id le old. old) (λ id le old. old)) stood has.each;
+  each = segments_over s gs ws was new gs ws (ids_apart gs ws gs ws 1 next rise (λ id le old. old) (λ id le old. old)) rows stood has.each;
   differ = has.differ;
 }
 
 pub commits_over : (s next : ℕ) (pairs : Pairs) (gs : List Lived) (ws : List (Option Written)) (was mid new : Files)
-    → SegmentIdsRise 1 next gs → AreWritten mid s gs ws → Commits s next pairs gs ws mid new
+    → SegmentIdsRise 1 next gs → RowsStay was new gs ws → AreWritten mid s gs ws → Commits s next pairs gs ws mid new
     → Commits s next pairs gs ws was (over s gs ws was new)
-commits_over s next pairs gs ws was mid new rise stood made = record {
-  spelled = λ before. has_segments_over s next gs ws was new rise before (made.spelled stood);
+commits_over s next pairs gs ws was mid new rise rows stood made = record {
+  spelled = λ before. has_segments_over s next gs ws was new rise rows before (made.spelled stood);
   has_pairs = (
     made.has_pairs.0,
     record {
@@ -484,12 +495,12 @@ abbrev AreSame : Files → Files → HeadSegment → Type 0
 AreSame now files e = (name : FileName) → IsAmong (names_of e) name → now name ≡ files name
 
 entries_same : (s : ℕ) (all : List Lived) (written : List (Option Written)) (was new : Files) (gs : List Lived) (ws : List (Option Written))
-    → IdsApart all written gs ws → AreWritten was s gs ws → HaveSegments new s (entries_of s gs ws) (listed gs)
+    → IdsApart all written gs ws → RowsStay was new gs ws → AreWritten was s gs ws → HaveSegments new s (entries_of s gs ws) (listed gs)
     → AllByRecursion (AreSame (over s all written was new) new) (entries_of s gs ws)
-entries_same s all written was new [] ws apart stood have = tt
-entries_same s all written was new (g ∷ gs) [] apart stood have = tt
-entries_same s all written was new (g ∷ gs) (w ∷ ws) apart stood have =
-    by (is_alive g) refl have (entries_same s all written was new gs ws apart.1 stood.1)
+entries_same s all written was new [] ws apart rows stood have = tt
+entries_same s all written was new (g ∷ gs) [] apart rows stood have = tt
+entries_same s all written was new (g ∷ gs) (w ∷ ws) apart rows stood have =
+    by (is_alive g) refl have (entries_same s all written was new gs ws apart.1 rows.1 stood.1)
   where
     es : List HeadSegment
     es = entries_of s gs ws
@@ -500,21 +511,21 @@ entries_same s all written was new (g ∷ gs) (w ∷ ws) apart stood have =
     by : (b : Bool) → is_alive g ≡ b → HaveSegments new s (cond b (entry_of s w g ∷ []) [] ++ es) (cond b (g ∷ listed gs) (listed gs))
         → (HaveSegments new s es (listed gs) → AllByRecursion Same es)
         → AllByRecursion Same (cond b (entry_of s w g ∷ []) [] ++ es)
-    by true is h rest = (names_same s all written was new w g apart.0 (stood.0 is) h.0, rest h.1)
+    by true is h rest = (names_same s all written was new w g apart.0 (rows.0 is) (stood.0 is) h.0, rest h.1)
     by false is h rest = rest h
 
 own_whole : (s next : ℕ) (pairs : Pairs) (gs : List Lived) (ws : List (Option Written)) (was mid new : Files) → SegmentIdsRise 1 next gs
-    → AreWritten was s gs ws → AreWritten mid s gs ws → Commits s next pairs gs ws mid new
+    → RowsStay was new gs ws → AreWritten was s gs ws → AreWritten mid s gs ws → Commits s next pairs gs ws mid new
     → IsWholeAs s (over s gs ws was new) new
-own_whole s next pairs gs ws was mid new rise stood left made name (inl e) =
+own_whole s next pairs gs ws was mid new rise rows stood left made name (inl e) =
     subst (λ (n : FileName). new n ≡ over s gs ws was new n) (sym e) (sym (over_new s gs ws was new (Commit s) (λ ne. ne refl)))
-own_whole s next pairs gs ws was mid new rise stood left made name (inr h) = sym (same name h.2)
+own_whole s next pairs gs ws was mid new rise rows stood left made name (inr h) = sym (same name h.2)
   where
     has : HasSegments new s next (entries_of s gs ws) (listed gs)
     has = made.spelled left
 
     all : HasSegments (over s gs ws was new) s next (entries_of s gs ws) (listed gs)
-    all = has_segments_over s next gs ws was new rise stood has
+    all = has_segments_over s next gs ws was new rise rows stood has
 
     head_is : h.1.head ≡ head_of s next all.tail (entries_of s gs ws) (listed gs)
     head_is = one_head (over s gs ws was new) s h.1.head (head_of s next all.tail (entries_of s gs ws) (listed gs)) h.1.has_head all.head
@@ -523,27 +534,47 @@ own_whole s next pairs gs ws was mid new rise stood left made name (inr h) = sym
     same =
         All-contains (AreSame (over s gs ws was new) new) (entries_of s gs ws) h.0
         (All-from_recursion (AreSame (over s gs ws was new) new) (entries_of s gs ws)
-        (entries_same s gs ws was new gs ws (ids_apart gs ws gs ws 1 next rise (λ id le old. old) (λ id le old. old)) stood has.each))
+        (entries_same s gs ws was new gs ws (ids_apart gs ws gs ws 1 next rise (λ id le old. old) (λ id le old. old)) rows stood has.each))
         (subst (λ (k : Head). Contains k.segments h.0) head_is h.1.listed)
 
 -- ---- what a commit, or a crash while it is made, leaves of files of which some commits were given up
 
+-- the rows that stayed before the commit stay through it
+rows_through : (s : ℕ) (all : List Lived) (written : List (Option Written)) (was mid new : Files) (gs : List Lived)
+    (ws : List (Option Written)) → SameElsewhere s (IsOldId all written) mid new → IdsApart all written gs ws → RowsStay was mid gs ws
+    → RowsStay was new gs ws
+rows_through s all written was mid new [] ws same apart rows = tt
+rows_through s all written was mid new (g ∷ gs) [] same apart rows = tt
+rows_through s all written was mid new (g ∷ gs) (None ∷ ws) same apart rows =
+    ((λ alive. tt), rows_through s all written was mid new gs ws same apart.1 rows.1)
+rows_through s all written was mid new (g ∷ gs) (Some u ∷ ws) same apart rows = (
+  (λ alive. same (Rows g.segment.id) apart.0 ∙ rows.0 alive),
+  rows_through s all written was mid new gs ws same apart.1 rows.1,
+)
+
 -- The writer's segments and what is known of them: their ids rise, the commit comes after all others, and what is on the
--- store of them stands in the files, and in what is left of these.
+-- store of them stands in the files, and in what is left of these, where their rows have the same bytes.
 pub record CanFollowLeft (keep s next : ℕ) (gs : List Lived) (ws : List (Option Written)) (was mid : Files) : Type 0 where
   pub rise : SegmentIdsRise 1 next gs
   pub after : ComesAfter was s gs ws
   pub stood : AreWritten was s gs ws
   pub stands : AreWritten mid s gs ws
+  pub rows : RowsStay was mid gs ws
   pub left : MayBePruned keep was mid
+
+rows_new : (keep s next : ℕ) (pairs : Pairs) (gs : List Lived) (ws : List (Option Written)) (was mid new : Files)
+    → CanFollowLeft keep s next gs ws was mid → Commits s next pairs gs ws mid new → RowsStay was new gs ws
+rows_new keep s next pairs gs ws was mid new can made =
+    rows_through s gs ws was mid new gs ws made.elsewhere (ids_apart gs ws gs ws 1 next can.rise (λ id le old. old) (λ id le old. old))
+    can.rows
 
 pub left_commits : (keep s next : ℕ) (pairs : Pairs) (gs : List Lived) (ws : List (Option Written)) (was mid new : Files)
     → CanFollowLeft keep s next gs ws was mid → Commits s next pairs gs ws mid new
     → Commits s next pairs gs ws was (over s gs ws was new) × MayBePruned keep (over s gs ws was new) new
 left_commits keep s next pairs gs ws was mid new can made = (
-  commits_over s next pairs gs ws was mid new can.rise can.stands made,
+  commits_over s next pairs gs ws was mid new can.rise (rows_new keep s next pairs gs ws was mid new can made) can.stands made,
   left_over keep s gs ws was mid new can.after made.elsewhere can.left
-      (inr (own_whole s next pairs gs ws was mid new can.rise can.stood can.stands made)),
+      (inr (own_whole s next pairs gs ws was mid new can.rise (rows_new keep s next pairs gs ws was mid new can made) can.stood can.stands made)),
 )
 
 -- no commit file of the number is in the files, nor in what is left of them
@@ -586,12 +617,12 @@ AliveSame s now files (g ∷ gs) (w ∷ ws) =
     × AliveSame s now files gs ws
 
 alive_same : (s : ℕ) (all : List Lived) (written : List (Option Written)) (was new : Files) (gs : List Lived) (ws : List (Option Written))
-    → IdsApart all written gs ws → AreWritten was s gs ws → HaveSegments new s (entries_of s gs ws) (listed gs)
+    → IdsApart all written gs ws → RowsStay was new gs ws → AreWritten was s gs ws → HaveSegments new s (entries_of s gs ws) (listed gs)
     → AliveSame s (over s all written was new) new gs ws
-alive_same s all written was new [] ws apart stood have = tt
-alive_same s all written was new (g ∷ gs) [] apart stood have = tt
-alive_same s all written was new (g ∷ gs) (w ∷ ws) apart stood have =
-    by (is_alive g) refl have (alive_same s all written was new gs ws apart.1 stood.1)
+alive_same s all written was new [] ws apart rows stood have = tt
+alive_same s all written was new (g ∷ gs) [] apart rows stood have = tt
+alive_same s all written was new (g ∷ gs) (w ∷ ws) apart rows stood have =
+    by (is_alive g) refl have (alive_same s all written was new gs ws apart.1 rows.1 stood.1)
   where
     es : List HeadSegment
     es = entries_of s gs ws
@@ -602,15 +633,35 @@ alive_same s all written was new (g ∷ gs) (w ∷ ws) apart stood have =
     by : (b : Bool) → is_alive g ≡ b → HaveSegments new s (cond b (entry_of s w g ∷ []) [] ++ es) (cond b (g ∷ listed gs) (listed gs))
         → (HaveSegments new s es (listed gs) → AliveSame s (over s all written was new) new gs ws)
         → Own × AliveSame s (over s all written was new) new gs ws
-    by true is h rest = ((λ alive. names_same s all written was new w g apart.0 (stood.0 is) h.0), rest h.1)
+    by true is h rest = ((λ alive. names_same s all written was new w g apart.0 (rows.0 is) (stood.0 is) h.0), rest h.1)
     by false is h rest = ((λ alive. let never : true ≡ false = sym alive ∙ is in absurd cc), rest h)
 
 pub alive_over : (keep s next : ℕ) (pairs : Pairs) (gs : List Lived) (ws : List (Option Written)) (was mid new : Files)
     → CanFollowLeft keep s next gs ws was mid → Commits s next pairs gs ws mid new
     → AliveSame s (over s gs ws was new) new gs ws
 alive_over keep s next pairs gs ws was mid new can made =
-    alive_same s gs ws was new gs ws (ids_apart gs ws gs ws 1 next can.rise (λ id le old. old) (λ id le old. old)) can.stood
+    alive_same s gs ws was new gs ws (ids_apart gs ws gs ws 1 next can.rise (λ id le old. old) (λ id le old. old))
+    (rows_new keep s next pairs gs ws was mid new can made) can.stood
     (made.spelled can.stands).each
+
+-- ---- the last commit stays
+
+none_later : (keep last : ℕ) (f : Files) (later : List ℕ) → 1 ≤ keep → ((t : ℕ) → last < t → f (Commit t) ≡ None) → length later ≡ keep
+    → AllPairs ◌<◌ (last ∷ later) → AllByRecursion (λ (t : ℕ). IsSome (f (Commit t))) later → ⊥
+none_later keep last f [] some none count rise there = absurd (omega (arith, some, count))
+none_later keep last f (t ∷ later) some none count rise there =
+    let above : last < t = rise 0 1 0 (omega arith) (omega arith) in
+    let gone : f (Commit t) ≡ None = none t above in
+    let here : IsSome (f (Commit t)) = there.0 in
+    cc
+
+-- a commit above which there is none stays
+pub latest_stays : (keep last : ℕ) (f : Files) → 1 ≤ keep → IsSome (f (Commit last)) → ((t : ℕ) → last < t → f (Commit t) ≡ None)
+    → Stays keep f last
+latest_stays keep last f some there none = record {
+  there = there;
+  not_given_up = λ given. none_later keep last f given.later some none given.count given.rise given.there;
+}
 
 -- ---- commits that were given up one time after another
 

@@ -35,7 +35,7 @@ use Rattle.index_run.specs.Causes.{IsOneOf, LeavesStore, LeavesStoreBy, stop_by_
 use Rattle.index_run.specs.declared.stop.Stop.{Stop}
 use Rattle.index_run.specs.declared.stop.Stop.TheVariants as stop
 use Rattle.index_run.proofs.LatestLeft.{latest_left, none_higher}
-use Rattle.index_run.proofs.LeftCommits.{left_then}
+use Rattle.index_run.proofs.LeftCommits.{latest_stays, left_then}
 use Rattle.index_run.specs.Keeping.{AreSpelled, HasLatest, HasSomeLog, IsLeft, Left, PreservesBy, PreservesKeeping, RunsBy, RunsKeeping, RunsLeaving, StopsBy, StopsKeeping, has_commit}
 use Rattle.index_run.specs.Promises.{CanKeep}
 
@@ -161,21 +161,9 @@ inverted_whole files d s next rows whole h = record {
     was : HasSegments files s next h.holds.entries h.holds.segments
     was = h.holds.spelled
 
--- a commit above which there is none isn't given up
-none_later : (keep base : ℕ) (f : Files) (later : List ℕ) → 1 ≤ keep → IsLast f base → length later ≡ keep
-    → AllPairs ◌<◌ (base ∷ later) → AllByRecursion (λ (t : ℕ). IsSome (f (Commit t))) later → ⊥
-none_later keep base f [] some last count rise there = absurd (omega (arith, some, count))
-none_later keep base f (t ∷ later) some last count rise there =
-    let above : base < t = rise 0 1 0 (omega arith) (omega arith) in
-    let gone : f (Commit t) ≡ None = last.none_above t above in
-    let here : IsSome (f (Commit t)) = there.0 in
-    cc
-
+-- the last commit stays
 last_stays : (keep base : ℕ) (f : Files) → 1 ≤ keep → IsLast f base → base ≢ 0 → Stays keep f base
-last_stays keep base f some last ne = record {
-  there = last.there ne;
-  not_given_up = λ given. none_later keep base f given.later some last given.count given.rise given.there;
-}
+last_stays keep base f some last ne = latest_stays keep base f some (last.there ne) last.none_above
 
 -- the next run can begin on what is left
 pub can_run_left : (keep : ℕ) (f left : Files) → 1 ≤ keep → MayBePruned keep f left → CanRunOn f → CanRunOn left

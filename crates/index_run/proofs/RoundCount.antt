@@ -8,6 +8,7 @@ use Rattle.worker_tasks.specs.declared.share.Share.{Share}
 use Rattle.line_shares.specs.Shares.{AreShares, AreSharesFrom, is_doing, open_count, own_lines, task_of}
 use Rattle.index_run.specs.declared.lines.Rounds.{Rounds}
 use Rattle.index_run.specs.Rounds.{doing_lines}
+use Rattle.index_run.specs.declared.rounds.RanFault.{RanFault}
 
 -- how many lines so many of n workers have, from this one on
 abbrev pub sum_own : ℕ → ℕ → List Line → ℕ → ℕ
