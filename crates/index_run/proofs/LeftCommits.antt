@@ -562,9 +562,9 @@ pub record CanFollowLeft (keep s next : ℕ) (gs : List Lived) (ws : List (Optio
   pub rows : RowsStay was mid gs ws
   pub left : MayBePruned keep was mid
 
-rows_new : (keep s next : ℕ) (pairs : Pairs) (gs : List Lived) (ws : List (Option Written)) (was mid new : Files)
+rows_kept_new : (keep s next : ℕ) (pairs : Pairs) (gs : List Lived) (ws : List (Option Written)) (was mid new : Files)
     → CanFollowLeft keep s next gs ws was mid → Commits s next pairs gs ws mid new → RowsStay was new gs ws
-rows_new keep s next pairs gs ws was mid new can made =
+rows_kept_new keep s next pairs gs ws was mid new can made =
     rows_through s gs ws was mid new gs ws made.elsewhere (ids_apart gs ws gs ws 1 next can.rise (λ id le old. old) (λ id le old. old))
     can.rows
 
@@ -572,9 +572,9 @@ pub left_commits : (keep s next : ℕ) (pairs : Pairs) (gs : List Lived) (ws : L
     → CanFollowLeft keep s next gs ws was mid → Commits s next pairs gs ws mid new
     → Commits s next pairs gs ws was (over s gs ws was new) × MayBePruned keep (over s gs ws was new) new
 left_commits keep s next pairs gs ws was mid new can made = (
-  commits_over s next pairs gs ws was mid new can.rise (rows_new keep s next pairs gs ws was mid new can made) can.stands made,
+  commits_over s next pairs gs ws was mid new can.rise (rows_kept_new keep s next pairs gs ws was mid new can made) can.stands made,
   left_over keep s gs ws was mid new can.after made.elsewhere can.left
-      (inr (own_whole s next pairs gs ws was mid new can.rise (rows_new keep s next pairs gs ws was mid new can made) can.stood can.stands made)),
+      (inr (own_whole s next pairs gs ws was mid new can.rise (rows_kept_new keep s next pairs gs ws was mid new can made) can.stood can.stands made)),
 )
 
 -- no commit file of the number is in the files, nor in what is left of them
@@ -641,7 +641,7 @@ pub alive_over : (keep s next : ℕ) (pairs : Pairs) (gs : List Lived) (ws : Lis
     → AliveSame s (over s gs ws was new) new gs ws
 alive_over keep s next pairs gs ws was mid new can made =
     alive_same s gs ws was new gs ws (ids_apart gs ws gs ws 1 next can.rise (λ id le old. old) (λ id le old. old))
-    (rows_new keep s next pairs gs ws was mid new can made) can.stood
+    (rows_kept_new keep s next pairs gs ws was mid new can made) can.stood
     (made.spelled can.stands).each
 
 -- ---- the last commit stays
