@@ -243,7 +243,7 @@ left_commit keeps keep first w v log count old start mid now some laws begun beg
   files = some_onto (told_files now) (Commits pairs w v m) (StandsLeft keep first log (first_numbers first log (length log)) v old)
       (λ n c. after n c)
       (changed (Commits pairs w v) (told_files mid) (told_files now) m told made);
-  kept = λ are n told_n. settles m n told told_n here.goes_on (λ d image. (image_goes are d image).0.stored) (disk.kept are m told);
+  kept = λ are n told_n. settles m n told told_n here.goes_on here.on_last (disk.kept are m told);
   crash = λ are.
       leaves_then start mid now (LeftSome keep first log old) (Reaches (MayCommit pairs w) (MayHold mid)) (LeftSome keep first log old)
       (disk.crash are) crash (λ c left. left)
