@@ -1,9 +1,10 @@
 #!/usr/bin/env python3
-"""Measures all phases in one table: those of grow.py, text.py, commits.py, keep.py, ranges.py, threads.py, rounds.py and
-merges.py.
+"""Measures all phases in one table: those of grow.py, text.py, commits.py, keep.py, ranges.py, threads.py, rounds.py,
+merges.py and check.py.
 
 usage: all.py PROGRAM [--quick] [--only WORD] [--times N] [--count]
 """
+import check
 import commits
 import grow
 import keep
@@ -17,7 +18,7 @@ from tools import main
 
 
 def phases(quick):
-    for module in (grow, text, commits, keep, ranges, threads, rounds, merges):
+    for module in (grow, text, commits, keep, ranges, threads, rounds, merges, check):
         yield from module.phases(quick)
 
 
