@@ -132,7 +132,7 @@ pub(crate) fn key_alike(key: Key, term: &Term) -> Key
 }
 
 /// How two words are ordered that aren't one.
-#[inline]
+#[inline(always)]
 fn order_by_word(left: u64, right: u64) -> Ordering
     requires { left ≢ right }
     ensures less { result ≡ Less → left < right }
@@ -148,7 +148,7 @@ fn order_by_word(left: u64, right: u64) -> Ordering
 
 /// How all terms with these keys are ordered; `None` where the keys are one and don't tell: their texts have
 /// more than fifteen bytes, or their fields are behind the one beside which they have the keys.
-#[inline]
+#[inline(always)]
 pub(crate) fn order_by_keys(left: Key, right: Key) -> Option<Ordering>
     ensures { (field : List ℕ) (a b : TermOf) → KeysTerm field left a → KeysTerm field right b
         → IfSome result (λ order. order ≡ term_cmp a b) }

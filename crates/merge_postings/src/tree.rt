@@ -10,7 +10,7 @@ use std::alloc::Global;
 use std::cmp::Ordering;
 
 /// The place of the source that stands at a node, among so many.
-#[inline]
+#[inline(always)]
 pub(crate) fn winner_at(wins: &[usize], count: usize, node: usize) -> usize
     requires wins { length wins.now ≡ count }
     ensures { result ≡ winner_of wins.now count node }
@@ -38,7 +38,7 @@ fn first_by_texts(heads: &[Head<'_>], one: usize, other: usize) -> usize
 }
 
 /// The one of two sources that is taken first: of two whose next terms are one, that of the lower place.
-#[inline]
+#[inline(always)]
 fn first_of(heads: &[Head<'_>], keys: &[Key], one: usize, other: usize) -> usize
     requires one { one < length heads.now }
     requires other { other < length heads.now }
@@ -68,7 +68,7 @@ fn play(heads: &[Head<'_>], keys: &[Key], wins: &mut Vec<usize>, node: usize)
 }
 
 /// The node that has the same one above it.
-#[inline]
+#[inline(always)]
 fn beside(node: usize) -> usize
     requires some { 1 ≤ node }
     requires fits { node + 1 < 2 ^ 64 }
