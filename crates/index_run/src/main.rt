@@ -33,6 +33,8 @@ mod tests_blocks;
 #[cfg(test)]
 mod tests_calls;
 #[cfg(test)]
+mod tests_checks;
+#[cfg(test)]
 mod tests_commands;
 #[cfg(test)]
 mod tests_damage;
