@@ -14,17 +14,17 @@ use std::test::*;
 use store_answers::ask;
 
 /// The commits of the store.
-const COMMITS: [u64; 4] = [3, 6, 9, 11];
+const COMMITS: [u64; 4] = [3, 6, 8, 11];
 
 /// What each commit is asked.
 const QUESTIONS: &str = r#""all"
 {"term":["key","a"]}
-{"term":["t","fox"]}
+{"term":["t","b"]}
 {"term":["k","x"]}
-{"phrase":["t","red fox"]}
+{"phrase":["t","a b"]}
 {"range":["n",-1,7]}
 {"range":["p",9,9]}
-{"bool":{"must":["all"],"not":[{"term":["t","dog"]}]}}
+{"bool":{"must":["all"],"not":[{"term":["t","a"]}]}}
 "#;
 
 /// What a change comes to.
