@@ -19,12 +19,12 @@ const FREE: [&str; 8] = [
 
 /// The bytes of a file, and of each whether it is free.
 #[derive(Drop)]
-pub(crate) struct Spelled {
+pub(crate) struct Spelling {
     pub(crate) bytes: Vec<u8>,
     free: Vec<bool>,
 }
 
-impl Spelled {
+impl Spelling {
     /// Whether the byte at this place is free.
     pub(crate) fn is_free(&self, at: usize) -> bool {
         self.free.get(at) == Some(&true)
@@ -56,8 +56,8 @@ fn byte_of(digits: &[u8]) -> Result<u8, Fail> {
 }
 
 /// The file that a text spells. It fails where another field than those is said to be free.
-pub(crate) fn spelled(alloc: Global, text: &str) -> Result<Spelled, Fail> {
-    let mut file = Spelled {
+pub(crate) fn spelled(alloc: Global, text: &str) -> Result<Spelling, Fail> {
+    let mut file = Spelling {
         bytes: Vec::new(alloc),
         free: Vec::new(alloc),
     };
