@@ -125,7 +125,7 @@ fn is_found(alloc: Global, store: &mut MemoryStore) -> Result<bool, Fail> {
     }
 }
 
-/// Adds what the commits of a store answer.
+/// Adds what the commits of a store answer. One that can't be read answers with a 0, which no text has.
 fn put_answers(
     alloc: Global,
     store: &mut MemoryStore,
@@ -133,8 +133,10 @@ fn put_answers(
     out: &mut Vec<u8>,
 ) -> Result<(), Fail> {
     for commit in COMMITS {
-        let answered = ask(alloc, store, Some(commit), questions)?;
-        out.extend_from_slice(answered.text.as_slice())?;
+        match ask(alloc, store, Some(commit), questions) {
+            Ok(answered) => out.extend_from_slice(answered.text.as_slice())?,
+            Err(_) => out.push(0)?,
+        }
     }
     Ok(())
 }
