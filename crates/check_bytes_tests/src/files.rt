@@ -1,5 +1,5 @@
-//! The files of a store of four commits, each as a text of its fields. They are what three runs of the program leave, of
-//! which the second one merges: a test of `index_run` makes these runs and compares the bytes.
+//! The files of a store of four commits, each as a text of its fields. They are what three runs of the program leave,
+//! of which the second one merges: a test of `index_run` makes these runs and compares the bytes.
 
 /// The names of the files, and what they hold.
 pub(crate) const FILES: [(&str, &str); 20] = [
