@@ -87,7 +87,8 @@ impl Whole {
     fn fill(&mut self, alloc: Global) -> Result<(), Fail> {
         for (name, text) in FILES {
             let name = FileName::parse(name).ok_or("no name of a file")?;
-            self.store.write(name, spelled(alloc, text)?.bytes.as_slice())?;
+            self.store
+                .write(name, spelled(alloc, text)?.bytes.as_slice())?;
         }
         let questions = self.questions.lines.as_slice();
         put_answers(alloc, &mut self.store, questions, &mut self.answers)

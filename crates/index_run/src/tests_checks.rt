@@ -3,7 +3,8 @@ use crate::tests_calls::hold;
 use std::test::*;
 
 /// Commits that list one segment, of which rows and postings are read once.
-const SHARED: &str = r#"# A list, three commit files, rows and postings, and live bits and set numbers for each commit.
+const SHARED: &str =
+    r#"# A list, three commit files, rows and postings, and live bits and set numbers for each commit.
 $ run --threads 1
 < {"c":0,"op":"add_block","docs":[{"key":"p1"},{"key":"p2"}]}
 < {"c":0,"op":"commit"}
@@ -109,7 +110,8 @@ stops 14
 "#;
 
 /// Files of the first forms, which are compared as those of the second are.
-const FIRST_FORMS: &str = r#"# A block of the second form, and a commit of the first: a term of the second document is another one.
+const FIRST_FORMS: &str =
+    r#"# A block of the second form, and a commit of the first: a term of the second document is another one.
 write segments_2 4958434f4d303031 0000000000000002 0000000000000002 0000000000000002 0000000000000001 0000000000000001 00000002 0000000000000002
 write seg_1.row 4958524f57303032 0000000000000001 00000002 0000000000000001 00000000 000000027031 00000000 00000000 0000000000000000 0000000000000001 00000001 000000027032 00000000 00000000 0000000000000000
 write seg_1.pst 4958505354303031 0000000000000001 00000002 0000000000000002 000000036b6579 000000027031 00000001 00000000 00000001 00000000 000000036b6579 000000027032 00000001 00000001 00000001 00000000
