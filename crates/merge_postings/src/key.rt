@@ -19,7 +19,6 @@ pub(crate) struct Key {
 }
 
 /// Seven bytes as a number, the first one the highest.
-#[inline(always)]
 fn seven_of(a: u8, b: u8, c: u8, d: u8, e: u8, f: u8, g: u8) -> u64
     ensures value { result ≡ key 7 (a ∷ b ∷ c ∷ d ∷ e ∷ f ∷ g ∷ []) }
     ensures below { result < 2 ^ 56 }
@@ -29,7 +28,6 @@ fn seven_of(a: u8, b: u8, c: u8, d: u8, e: u8, f: u8, g: u8) -> u64
 }
 
 /// The first seven bytes as a number, the first one the highest; 0 stands for each that isn't there.
-#[inline(always)]
 fn first_seven(bytes: &[u8]) -> u64
     ensures value { result ≡ key 7 bytes.now }
     ensures below { result < 2 ^ 56 }

@@ -71,10 +71,10 @@ fn play(heads: &[Head<'_>], keys: &[Key], wins: &mut Vec<usize>, node: usize)
 #[inline]
 fn beside(node: usize) -> usize
     requires some { 1 ≤ node }
-    requires fits { 2 * node + 1 < 2 ^ 64 }
+    requires fits { node + 1 < 2 ^ 64 }
     ensures { result + node ≡ 4 * (node / 2) + 1 }
 {
-    4 * (node / 2) + 1 - node
+    node ^ 1
 }
 
 /// All above the source at this place play once more, which isn't as it was.
