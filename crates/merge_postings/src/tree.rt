@@ -70,8 +70,6 @@ fn play(heads: &[Head<'_>], keys: &[Key], wins: &mut Vec<usize>, node: usize)
 /// The node that has the same one above it.
 #[inline]
 fn beside(node: usize) -> usize
-    requires some { 1 ≤ node }
-    requires fits { node + 1 < 2 ^ 64 }
     ensures { result + node ≡ 4 * (node / 2) + 1 }
 {
     node ^ 1

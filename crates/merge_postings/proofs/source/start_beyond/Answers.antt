@@ -1,4 +1,4 @@
-use Rattle.std.proofs.Common.{◌∙◌, ◌+◌, ◌-◌, ◌/◌, ◌<◌, ℕ, length, subst, arith}
+use Rattle.std.proofs.Common.{◌∙◌, ◌<◌, ℕ, length, subst, arith}
 use Rattle.ix_base.specs.declared.postings.TermPostings.{TermPostings}
 use Rattle.merge_postings.specs.Walk.{IsBelow}
 use Rattle.merge_postings.proofs.Resuming.{middle_above, middle_reached}
