@@ -20,6 +20,8 @@ pub(crate) struct Head<'a> {
     first: &'a TermPostings,
     rest: &'a [TermPostings],
     numbers: &'a [Option<u32>],
+    /// The place of the source among all.
+    place: usize,
     /// How many of those behind it are known to have its field.
     alike: usize,
 }
@@ -79,7 +81,11 @@ fn key_behind(key: Key, alike: usize, next: &Term) -> Key
 
 impl<'a> Head<'a> {
     /// What waits of a source with these entries; `None` where there is none.
-    pub(crate) fn new(terms: &'a [TermPostings], numbers: &'a [Option<u32>]) -> Option<Head<'a>>
+    pub(crate) fn new(
+        terms: &'a [TermPostings],
+        numbers: &'a [Option<u32>],
+        place: usize,
+    ) -> Option<Head<'a>>
         requires ordered { IsPostings terms.now }
         requires rise { NumbersRise numbers.now }
         ensures { result ≡ waiting terms.now numbers.now }
@@ -89,6 +95,7 @@ impl<'a> Head<'a> {
             first,
             rest,
             numbers,
+            place,
             alike: 0,
         })
     }
@@ -101,8 +108,19 @@ impl<'a> Head<'a> {
             first: self.first,
             rest: self.rest,
             numbers: self.numbers,
+            place: self.place,
             alike: self.alike,
         }
+    }
+
+    /// The place of the source among all.
+    pub(crate) fn place(&self) -> usize {
+        self.place
+    }
+
+    /// How many entries it has, the next one too.
+    pub(crate) fn len(&self) -> usize {
+        self.rest.len().saturating_add(1)
     }
 
     /// The term of the next entry.

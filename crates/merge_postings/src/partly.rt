@@ -19,6 +19,17 @@ pub struct PartlyMerged {
     terms: List<TermPostings>,
     /// The last term that the sources have passed, if they have passed one.
     upto: Option<Term>,
+    /// How many entries of each source were passed then, as a guess.
+    passed: Vec<usize>,
+}
+
+/// How many entries each source has.
+fn lengths(alloc: Global, sources: &[Source<'_>]) -> Result<Vec<usize>, NoMemory> {
+    let mut lengths = Vec::with_capacity(alloc, sources.len())?;
+    for source in sources {
+        lengths.push(source.len())?;
+    }
+    Ok(lengths)
 }
 
 impl PartlyMerged {
@@ -29,6 +40,7 @@ impl PartlyMerged {
         PartlyMerged {
             terms: List::new(alloc),
             upto: None,
+            passed: Vec::new(alloc),
         }
     }
 
@@ -52,17 +64,25 @@ impl PartlyMerged {
         ensures ok { OnOk result (IsMergedUpto sources.entry.items self.new) }
         ensures err { OnErr result (self.new ≡ self.old) }
     {
-        let mut queue = Queue::beyond(alloc, sources.as_slice(), &self.upto)?;
+        let mut queue = Queue::beyond(
+            alloc,
+            sources.as_slice(),
+            &self.upto,
+            self.passed.as_slice(),
+        )?;
         let Some(first) = queue.first() else {
             return Ok(());
         };
         let head = first.same();
+        let mut passed = lengths(alloc, sources.as_slice())?;
         let mut terms = mem::replace(&mut self.terms, List::new(alloc)).into_vec();
         let before = terms.len();
         match walk_on(alloc, &mut terms, &mut queue, head, entries) {
             Ok(upto) => {
                 self.terms = List::from_vec(terms);
                 self.upto = Some(upto);
+                queue.passed(&mut passed);
+                self.passed = passed;
                 Ok(())
             }
             Err(error) => {
@@ -84,7 +104,12 @@ impl PartlyMerged {
         ensures exact { IfOk result (HasMoved sources.entry.items) }
         ensures err { OnErr result (self.new ≡ self.old) }
     {
-        let mut queue = Queue::beyond(alloc, sources.as_slice(), &self.upto)?;
+        let mut queue = Queue::beyond(
+            alloc,
+            sources.as_slice(),
+            &self.upto,
+            self.passed.as_slice(),
+        )?;
         let mut terms = mem::replace(&mut self.terms, List::new(alloc)).into_vec();
         let before = terms.len();
         match walk_all(alloc, &mut terms, &mut queue) {

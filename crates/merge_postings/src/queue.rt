@@ -48,18 +48,28 @@ impl<'a> Model for Queue<'a> {
         × IsKeyed q.field.now q.heads.items q.keys.items };
 }
 
-/// What waits of the sources behind the term that was reached.
+/// The guess at a place; 0 where there is none.
+fn guess_at(guesses: &[usize], place: usize) -> usize {
+    match guesses.get(place) {
+        Some(guess) => *guess,
+        None => 0,
+    }
+}
+
+/// What waits of the sources behind the term that was reached, with a guess of how many entries of each that are.
 fn heads_beyond<'a>(
     alloc: Global,
     sources: &[Source<'a>],
     upto: &Option<Term>,
+    guesses: &[usize],
 ) -> Result<Vec<Head<'a>>, NoMemory>
     requires { AllByRecursion CanMove sources.now }
     ensures { IfOk result (λ heads. AreResumed upto.now sources.now heads.items) }
 {
     let mut heads = Vec::with_capacity(alloc, sources.len())?;
     for place in 0..sources.len() {
-        if let Some(head) = sources[place].beyond(upto) {
+        let guess = guess_at(guesses, place);
+        if let Some(head) = sources[place].beyond(place, upto, guess) {
             heads.push(head)?;
         }
     }
@@ -94,16 +104,18 @@ fn has_term(head: &Head<'_>, own: Key, term: &Term, key: Key) -> bool
 }
 
 impl<'a> Queue<'a> {
-    /// The sources that have an entry beyond the term that was reached.
+    /// The sources that have an entry beyond the term that was reached, with a guess of how many entries of each that
+    /// are not.
     pub(crate) fn beyond(
         alloc: Global,
         sources: &[Source<'a>],
         upto: &Option<Term>,
+        guesses: &[usize],
     ) -> Result<Queue<'a>, NoMemory>
         requires { AllByRecursion CanMove sources.now }
         ensures { IfOk result (λ queue. AreResumed upto.now sources.now queue.waiting) }
     {
-        let heads = heads_beyond(alloc, sources, upto)?;
+        let heads = heads_beyond(alloc, sources, upto, guesses)?;
         let mut keys = vec![in alloc; highest_key(); heads.len()]?;
         let mut wins = first_places(alloc, heads.len())?;
         let field = keys_of(heads.as_slice(), &mut keys);
@@ -114,6 +126,16 @@ impl<'a> Queue<'a> {
             wins,
             field,
         })
+    }
+
+    /// Of each source how many of its entries were passed, those of the sources that have none left too: at their places
+    /// stands how many they have.
+    pub(crate) fn passed(&self, counts: &mut Vec<usize>) {
+        for head in &self.heads {
+            if let Some(count) = counts.get_mut(head.place()) {
+                *count = count.saturating_sub(head.len());
+            }
+        }
     }
 
     /// The place of the source whose next term is the least, where one waits.

@@ -70,11 +70,9 @@ fn play(heads: &[Head<'_>], keys: &[Key], wins: &mut Vec<usize>, node: usize)
 /// The node that has the same one above it.
 #[inline]
 fn beside(node: usize) -> usize
-    requires some { 1 ≤ node }
-    requires fits { node + 1 < 2 ^ 64 }
     ensures { result + node ≡ 4 * (node / 2) + 1 }
 {
-    if node % 2 == 0 { node + 1 } else { node - 1 }
+    node ^ 1
 }
 
 /// All above the source at this place play once more, which isn't as it was.

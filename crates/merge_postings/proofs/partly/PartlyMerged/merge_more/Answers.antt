@@ -12,5 +12,5 @@ returns-in-Ok-clause-ok c =
     let from : Walked sources c.in_ok-queue.queue.waiting c.args.self.now.terms = walked_from sources c.args.self.now c.in_ok-queue.queue.waiting c.requires.upto resumed in
     let first = subst (Walked sources c.in_ok-queue.queue.waiting) taken from in
     let upto = c.in-Ok.ensures.ok sources first in
-    walked_upto sources c.in-Ok.upto c.walk_on.new.queue.waiting (record { terms = c.from_vec.result; upto = Some c.in-Ok.upto })
+    walked_upto sources c.in-Ok.upto c.walk_on.new.queue.waiting (record { terms = c.from_vec.result; upto = Some c.in-Ok.upto; passed = c.passed.new.counts })
     (subst (WalkedUpto sources c.in-Ok.upto c.walk_on.new.queue.waiting) (sym c.from_vec.ensures) upto) refl
