@@ -4,11 +4,15 @@
 #[cfg(test)]
 mod script_lines;
 #[cfg(test)]
+mod stories;
+#[cfg(test)]
 mod tests;
 #[cfg(test)]
 mod tests_blocks;
 #[cfg(test)]
 mod tests_deletes;
+#[cfg(test)]
+mod tests_faults;
 #[cfg(test)]
 mod tests_merging;
 #[cfg(test)]

@@ -2,7 +2,8 @@
 ghost use Rattle.std.specs.Prelude.{◌≤◌};
 
 use crate::script_lines::Act::{Add, AddBlock, Commit, Delete, UpdateBlock};
-use crate::tests::{Step, Story, first_round, is_right, shown_work};
+use crate::stories::{Step, Story, is_right};
+use crate::tests::{first_round, shown_work};
 use std::alloc::Global;
 use std::test::*;
 

@@ -1,7 +1,7 @@
 //! Rounds whose writers have no rows, or none that lives, against what was worked out by hand.
 
 use crate::script_lines::Act::{Add, Commit, Delete};
-use crate::tests::{Step, Story, is_right};
+use crate::stories::{Step, Story, is_right};
 use std::test::*;
 
 /// A round in which one writer adds and the other one only deletes; then two rounds whose writers only

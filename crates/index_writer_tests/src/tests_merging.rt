@@ -1,7 +1,7 @@
 //! Merges between the rounds of a writer and its commits, against what was worked out by hand.
 
 use crate::script_lines::Act::{Add, Commit, Delete};
-use crate::tests::{Step, Story, is_right};
+use crate::stories::{Step, Story, is_right};
 use std::test::*;
 
 /// Two documents, each a segment, are merged while their commit is still to be written. Then one of

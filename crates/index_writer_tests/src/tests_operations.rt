@@ -3,7 +3,7 @@ ghost use Rattle.std.specs.Prelude.{◌≤◌};
 
 use crate::script_lines::Act::{Add, Commit, Delete, DeleteOthers, Set, Update};
 use crate::script_lines::{Line, Script};
-use crate::tests::{Step, history, shown};
+use crate::stories::{Step, history, shown};
 use index_writer::IndexWriter;
 use ix_memory::MemoryStore;
 use std::alloc::Global;

@@ -3,7 +3,7 @@ ghost use Rattle.std.specs.Prelude.{IfOk};
 ghost use Rattle.index_writer.specs.Ready.{IsSound};
 
 use crate::script_lines::Act;
-use crate::tests::{Step, history, with_commits};
+use crate::stories::{Step, history, with_commits};
 use crate::tests_reopened::opened_on;
 use commit_point::OpenFault;
 use index_writer::{IndexWriter, PruneFault};

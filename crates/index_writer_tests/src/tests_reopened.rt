@@ -3,7 +3,7 @@ ghost use Rattle.std.specs.Prelude.{IfOk};
 ghost use Rattle.index_writer.specs.Ready.{IsSound};
 
 use crate::script_lines::Act::{Add, Commit, Delete};
-use crate::tests::{Step, history, with_commits};
+use crate::stories::{Step, history, with_commits};
 use commit_point::open_commit;
 use index_writer::{IndexWriter, opened_go_on};
 use ix_memory::MemoryStore;

@@ -1,7 +1,7 @@
 //! Merges that go on over the rounds of a writer and its commits, against what was worked out by hand.
 
 use crate::script_lines::Act::{Add, Commit, Delete, Set};
-use crate::tests::{Step, Story, is_right};
+use crate::stories::{Step, Story, is_right};
 use std::test::*;
 
 /// A merge of two segments stands half done at two commits, which list both. Between its steps the row a,

@@ -1,7 +1,7 @@
 use Rattle.std.proofs.Common.{◌≡◌, ℕ, Bool, true, sym, ap, subst}
 use Rattle.index_writer.specs.declared.writer.IndexWriter.{IndexWriter}
 use Rattle.index_writer_tests.specs.Trials.{IsUnderWay}
-use Rattle.index_writer_tests.proofs.tests.begun.Goals as goal
+use Rattle.index_writer_tests.proofs.stories.begun.Goals as goal
 
 same_upto : {S : Type 0} (old new : IndexWriter S) (out : Bool) → new ≡ record old { state = record old.state { out = out } }
     → old.state.published.upto ≡ new.state.published.upto

@@ -1,4 +1,4 @@
-use Rattle.index_writer_tests.proofs.tests.round.Goals as goal
+use Rattle.index_writer_tests.proofs.stories.round.Goals as goal
 
 pub work-requires : goal.work-requires
 work-requires g c = (_, c.in_ok-parts.ensures.parts)
