@@ -2,7 +2,7 @@
 ghost use Rattle.std.specs.Prelude.{◌≡◌};
 
 use crate::script_lines::Act::{Add, Commit, Delete};
-use crate::tests::{Step, history};
+use crate::stories::{Step, history};
 use index_writer::IndexWriter;
 use ix_base::Query;
 use ix_memory::MemoryStore;
