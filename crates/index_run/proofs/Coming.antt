@@ -1,6 +1,6 @@
 -- How far a run has come, with one round more.
 use Rattle.std.proofs.Common.{◌≡◌, ◌∙◌, ℕ, ◌+◌, ◌<◌, ◌≤◌, ◌^◌, List, [], ◌∷◌, ◌++◌, length, map, true, refl, sym, ap, subst, arith}
-use Rattle.std.specs.Prelude.{Option, Some, None}
+use Rattle.std.specs.Prelude.{IfSome, Option, Some, None}
 use Rattle.std.specs.List.{AllByRecursion, AllZip}
 use Rattle.std.proofs.lemmas.List.{append-nil, map-append}
 use Rattle.ix_base.specs.Counts.{doc_count}
@@ -42,9 +42,11 @@ use Rattle.index_run.specs.Replied.{CanTell, IsCounted}
 use Rattle.index_run.proofs.RepliedLaws.{outcomes_counted}
 use Rattle.index_run.specs.Outcomes.{AreOutcomes}
 use Rattle.index_run.specs.Rounds.{AllCame, gave_of, pieces_of, share_of, writers_of}
-use Rattle.index_run.proofs.DiskAfter.{crash_longer, disk_commit, disk_count, disk_same, disk_start}
+use Rattle.index_run.proofs.DiskBy.{by_commit, by_count, by_same, by_start, pending_above, stopped_done}
+use Rattle.index_run.specs.KeptDisk.{KeepLaws}
+use Rattle.index_writer.specs.declared.fault.WriterFault.{WriterFault}
+use Rattle.index_run.specs.declared.rounds.RanFault.TheVariants as halt
 use Rattle.index_run.proofs.LogNumbers.{numbers_whole}
-use Rattle.index_run.proofs.RunEnds.{stops_files}
 use Rattle.index_run.proofs.Workers.{all_go_on, parts_back}
 use Rattle.index_run.proofs.WriterOn.{writer_commit, writer_same, writer_start}
 
@@ -58,38 +60,36 @@ no_data base log pairs pending none = subst (λ (p : Option ℕ). AreDuePairs ba
 
 -- ---- the beginning
 
-pub at_start : (r : Run) → CanBegin r.first → IsAt r [] r.first r.start
-at_start r can = record {
+pub at_start : (r : Run) → KeepLaws → IfSome r.keep (λ k. 1 ≤ k) → CanBegin r.first → IsAt r [] r.first r.start
+at_start r laws some can = record {
   first = can;
   writer = writer_start r.first can;
   front = 0;
   within = omega arith;
   due = subst (IsDue r.first [] 0 r.first.published.upto) (sym can.pending) refl;
-  disk = disk_start r.first r.start can;
+  disk = by_start laws r.keep some r.first r.start can;
 }
 
 -- a stop before the lines were dealt out
-pub cut_start : (r : Run) (lines : List Line) → CanBegin r.first → IsCut r lines r.start
-cut_start r lines can =
-    let disk = disk_start r.first r.start can in
-    record {
-      log = numbered lines;
-      numbering = λ caller. refl;
-      crash = crash_longer r.first [] (numbered lines) r.start r.start disk.crash;
-      files = λ g told on.
-          stops_files g r.first r.first [] (numbered lines) 0 r.start r.start on (omega arith) told disk;
-      only = disk.only;
-      standing = disk.standing;
-    }
+pub cut_start : {fault : WriterFault} (r : Run) (lines : List Line) → KeepLaws → IfSome r.keep (λ k. 1 ≤ k) → CanBegin r.first
+    → IsCut r lines (halt.Writer fault) r.start
+cut_start {fault} r lines laws some can = record {
+  log = numbered lines;
+  numbering = λ caller. refl;
+  stopped =
+      stopped_done r.keep r.first r.first [] (numbered lines) 0 r.start r.start (omega arith)
+      (by_start laws r.keep some r.first r.start can);
+  found = tt;
+}
 
-pub come_start : (r : Run) (lines : List Line) (shares : List Share) → CanBegin r.first → LinesRise 1 lines
+pub come_start : (r : Run) (lines : List Line) (shares : List Share) → KeepLaws → IfSome r.keep (λ k. 1 ≤ k) → CanBegin r.first → LinesRise 1 lines
     → AreShares r.workers lines shares → AllByRecursion IsFresh shares → HasCome r lines shares [] [] r.first r.start
-come_start r lines shares can rise are fresh = record {
+come_start r lines shares laws some can rise are fresh = record {
   log = [];
   done = record {
     rise = rise;
     shares_are = are;
-    at = at_start r can;
+    at = at_start r laws some can;
     log_is = fresh_log r.workers lines shares are fresh;
     told = fresh_told r.workers (base_of r) lines shares [] are fresh;
   };
@@ -112,7 +112,7 @@ at_same r log w v now at ready published written last since closed pending = rec
   due =
       subst (λ (p : Published). IsDue r.first log at.front p.upto v.pending) (sym published)
       (subst (IsDue r.first log at.front w.published.upto) (sym pending) at.due);
-  disk = disk_same r.first log at.front w v r.start now published written last since at.disk;
+  disk = by_same r.keep r.first log at.front w v r.start now published written last since at.disk;
 }
 
 done_begun : (r : Run) (lines : List Line) (shares : List Share) (log : List Line) (w v : State) (now : Option Disk)
@@ -204,7 +204,8 @@ module _ (r : Run) (lines : List Line) (shares : List Share) (commits : List Pai
                 subst (IsDue r.first log (length log) v.published.upto) (sym none)
                 (sym (numbers_whole (base_of r) log));
             disk =
-                disk_commit r.first w v log at.front r.start old now laws at.first at.writer at.within next is room
+                by_commit r.keep r.first w v log at.front r.start old now laws at.first at.writer
+                (pending_above w c.number at.writer.ready pending) at.within next is room
                 (λ low. subst (λ (ps : Pairs). Changes (Commits ps w v) (told_files old) (told_files now)) own (made low))
                 (λ low. subst (λ (ps : Pairs). Follows (Commits ps w v) (MayHold old) (MayHold now)) own (acknowledged low))
                 settled
@@ -342,7 +343,7 @@ over_of r lines shares commits pairs became w now done none h are =
       log = h.log;
       writer = at.writer;
       disk =
-          disk_count r.first h.log at.front (length h.log) w r.start now
+          by_count r.keep r.first h.log at.front (length h.log) w r.start now
           (sym all ∙ sym (numbers_whole (base_of r) h.log)) at.disk;
       numbering = log_whole r.workers lines shares h.log h.done.shares_are done h.done.log_is;
       outcomes =

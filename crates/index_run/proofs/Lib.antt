@@ -27,3 +27,10 @@ pub mod Promised
 pub mod Ended
 pub mod OutcomeLaws
 pub mod RepliedLaws
+pub mod LeftCommits
+pub mod DiskLeft
+pub mod DiskBy
+pub mod DiskPruned
+pub mod GivingUp
+pub mod LatestLeft
+pub mod KeepingEnds

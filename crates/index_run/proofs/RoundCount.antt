@@ -6,9 +6,9 @@ use Rattle.std.proofs.lemmas.List.{length-map}
 use Rattle.op_script.specs.declared.script.Line.{Line}
 use Rattle.worker_tasks.specs.declared.share.Share.{Share}
 use Rattle.line_shares.specs.Shares.{AreShares, AreSharesFrom, is_doing, open_count, own_lines, task_of}
-use Rattle.index_writer.specs.declared.fault.WriterFault.{WriterFault}
 use Rattle.index_run.specs.declared.lines.Rounds.{Rounds}
 use Rattle.index_run.specs.Rounds.{doing_lines}
+use Rattle.index_run.specs.declared.rounds.RanFault.{RanFault}
 
 -- how many lines so many of n workers have, from this one on
 abbrev pub sum_own : ℕ → ℕ → List Line → ℕ → ℕ
@@ -77,7 +77,7 @@ few_open n lines shares are =
     let few = few_own n 0 lines (length shares) in omega (arith, open_ones, few)
 
 -- the last commit is none more
-pub few_last : (came : Result Rounds WriterFault) (rounds : Rounds) (most : ℕ)
+pub few_last : (came : Result Rounds RanFault) (rounds : Rounds) (most : ℕ)
     → IfOk came (λ x. (x.shares ≡ rounds.shares) × (x.count ≡ rounds.count)) → rounds.count ≤ most
     → IfOk came (λ x. x.count ≤ most)
 few_last (Ok x) rounds most same few = (let count = same.1 in omega (arith, count, few))

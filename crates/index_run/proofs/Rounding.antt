@@ -1,6 +1,6 @@
 -- The end of a round.
 use Rattle.std.proofs.Common.{◌≡◌, ◌∙◌, ℕ, ◌+◌, List, [], ◌∷◌, ◌++◌, length, sym, ap, subst, arith}
-use Rattle.std.specs.Prelude.{Bool, true, false, not, is_some, Option, Some, None, Result, Ok, Err, IfOk, OnErr}
+use Rattle.std.specs.Prelude.{Bool, true, false, not, is_some, Option, Some, None, Result, Ok, Err, IfErr, IfOk}
 use Rattle.std.specs.List.{AllByRecursion}
 use Rattle.std.proofs.lemmas.List.{append-nil, length-append}
 use Rattle.ix_base.specs.declared.document.Operation.{Operation}
@@ -40,14 +40,16 @@ use Rattle.run_log.proofs.PlaceLaws.{filter_rises}
 use Rattle.run_log.specs.Telling.{AreTells, IsOrder, Tell}
 use Rattle.run_log.proofs.TellingLaws.{order_of}
 use Rattle.index_run.specs.Doing.{IsWriterOn}
-use Rattle.index_run.specs.Driving.{EndsRound, HasDone, IsCut, AreDuePairs, IsDue, IsRound, Run, base_of, number_in}
-use Rattle.index_run.specs.Leaving.{CommitLaws, IsDiskAfter, IsNextCommit, due_pairs, first_numbers}
+use Rattle.index_run.specs.Driving.{EndsRound, HasDone, IsCut, KeepsBy, AreDuePairs, IsDue, IsRound, Run, base_of, number_in}
+use Rattle.index_run.specs.KeptDisk.{IsDiskBy}
+use Rattle.index_run.specs.Leaving.{CommitLaws, IsNextCommit, due_pairs, first_numbers}
 use Rattle.index_run.specs.Merged.{EndsMerged}
 use Rattle.index_run.specs.declared.rounds.Ran.{Ran}
+use Rattle.index_run.specs.declared.rounds.RanFault.{RanFault}
+use Rattle.index_run.specs.declared.rounds.RanFault.TheVariants as halt
 use Rattle.index_run.proofs.Coming.{next_commit, pairs_due}
-use Rattle.index_run.proofs.DiskAfter.{crash_commit, crash_longer, disk_round, standing_commit}
+use Rattle.index_run.proofs.DiskBy.{by_round, pending_above, stopped_done, stopped_written}
 use Rattle.index_run.proofs.LogNumbers.{numbers_front}
-use Rattle.index_run.proofs.RunEnds.{files_commit, stops_files}
 use Rattle.index_run.proofs.WriterOn.{writer_round}
 
 -- ---- stops
@@ -56,30 +58,40 @@ use Rattle.index_run.proofs.WriterOn.{writer_round}
 pub on_ok : {T E : Type 0} (P : T → Type 0) (r : Result T E) (x : T) → r ≡ Ok x → IfOk r P → P x
 on_ok {T} {E} P r x is h = subst (λ (q : Result T E). IfOk q P) is h
 
-pub on_fault : {T E : Type 0} {P : Type 0} (r : Result T E) (e : E) → r ≡ Err e → OnErr r P → P
-on_fault {T} {E} {P} r e is h = subst (λ (q : Result T E). OnErr q P) is h
+pub on_fault : {T E : Type 0} (P : E → Type 0) (r : Result T E) (e : E) → r ≡ Err e → IfErr r P → P e
+on_fault {T} {E} P r e is h = subst (λ (q : Result T E). IfErr q P) is h
 
--- a run that stopped, with its writer
+-- a run that stopped by a fault of its writer, with its writer
 pub stopped_cut : {S T : Type 0} (disk : S → Option Disk) (r : Run) (lines : List Line) (writer : IndexWriter S)
-    (fault : WriterFault) (ran : Ran S T) → ran ≡ record { writer = writer; came = Err fault }
-    → IsCut r lines (disk writer.store) → OnErr ran.came (IsCut r lines (disk ran.writer.store))
+    (fault : WriterFault) (ran : Ran S T) → ran ≡ record { writer = writer; came = Err (halt.Writer fault) }
+    → IsCut r lines (halt.Writer fault) (disk writer.store)
+    → IfErr ran.came (λ why. IsCut r lines why (disk ran.writer.store))
 stopped_cut {S} {T} disk r lines writer fault ran is cut =
-    subst (λ (x : Ran S T). OnErr x.came (IsCut r lines (disk x.writer.store))) (sym is) cut
+    subst (λ (x : Ran S T). IfErr x.came (λ why. IsCut r lines why (disk x.writer.store))) (sym is) cut
+
+-- one that stopped for whatever reason
+pub halted_cut : {S T : Type 0} (disk : S → Option Disk) (r : Run) (lines : List Line) (writer : IndexWriter S)
+    (fault : RanFault) (ran : Ran S T) → ran ≡ record { writer = writer; came = Err fault }
+    → IsCut r lines fault (disk writer.store) → IfErr ran.came (λ why. IsCut r lines why (disk ran.writer.store))
+halted_cut {S} {T} disk r lines writer fault ran is cut =
+    subst (λ (x : Ran S T). IfErr x.came (λ why. IsCut r lines why (disk x.writer.store))) (sym is) cut
+
+-- a run keeps as many commits as it keeps
+pub keeps_own : (keep : Option ℕ) (r : Run) → r.keep ≡ keep → KeepsBy keep r
+keeps_own None r is = tt
+keeps_own (Some k) r is = is
 
 -- a stop, where the lines that were told a number are on the log, or are of a round that is lost
-pub cut_done : (r : Run) (lines : List Line) (shares : List Share) (log : List Line) (w : State) (now : Option Disk)
-    → HasDone r lines shares log w now → IsCut r lines now
-cut_done r lines shares log w now h =
+pub cut_done : {fault : WriterFault} (r : Run) (lines : List Line) (shares : List Share) (log : List Line) (w : State)
+    (now : Option Disk) → HasDone r lines shares log w now → IsCut r lines (halt.Writer fault) now
+cut_done {fault} r lines shares log w now h =
     let rest = log_completes r.workers lines shares log h.shares_are h.log_is in
     let at = h.at in
-    let disk = at.disk in
     record {
       log = log ++ rest.0;
       numbering = rest.1;
-      crash = crash_longer r.first log rest.0 r.start now disk.crash;
-      files = λ g told on. stops_files g r.first w log rest.0 at.front r.start now on at.within told disk;
-      only = disk.only;
-      standing = disk.standing;
+      stopped = stopped_done r.keep r.first w log rest.0 at.front r.start now at.within at.disk;
+      found = tt;
     }
 
 -- a number that is there, as one was found
@@ -90,13 +102,13 @@ pending_there pending None true same there is = absurd cc
 pending_there pending None false same there is = absurd cc
 
 -- a stop while the pending commit was written
-pub cut_written : (r : Run) (lines : List Line) (shares : List Share) (log : List Line) (pairs : Pairs) (w : State) (s : ℕ)
+pub cut_written : {fault : WriterFault} (r : Run) (lines : List Line) (shares : List Share) (log : List Line) (pairs : Pairs) (w : State) (s : ℕ)
     (old now : Option Disk) → CommitLaws → HasDone r lines shares log w old → w.pending ≡ Some s
     → AreDuePairs (base_of r) log w.pending pairs
     → Changes (MayCommit pairs w) (told_files old) (told_files now)
     → LeavesOnly old now (Reaches (MayCommit pairs w) (MayHold old)) → Told OnlyCommits old now
-    → ((files : Files) → told_files old ≡ Some files → GoesOn files w → Told KeepsMade old now) → IsCut r lines now
-cut_written r lines shares log pairs w s old now laws h pending mine left crash only standing =
+    → ((files : Files) → told_files old ≡ Some files → GoesOn files w → Told KeepsMade old now) → IsCut r lines (halt.Writer fault) now
+cut_written {fault} r lines shares log pairs w s old now laws h pending mine left crash only standing =
     let rest = log_completes r.workers lines shares log h.shares_are h.log_is in
     let at = h.at in
     let due = next_commit r.first log at.front w.published.upto s w.pending pending at.due in
@@ -108,14 +120,10 @@ cut_written r lines shares log pairs w s old now laws h pending mine left crash 
     record {
       log = log ++ rest.0;
       numbering = rest.1;
-      crash =
-          crash_longer r.first log rest.0 r.start now
-          (crash_commit r.first w log at.front r.start old now laws at.first at.writer at.within next crashed at.disk);
-      files = λ g told on.
-          files_commit g r.first w log rest.0 at.front r.start old now laws at.first on at.writer told at.within next
-          may at.disk;
-      only = goes_then (λ step older. MakesCommits step) r.start old now at.disk.only only;
-      standing = standing_commit r.first w log at.front r.start old now standing at.disk;
+      stopped =
+          stopped_written r.keep r.first w log rest.0 at.front r.start old now laws at.first at.writer
+          (pending_above w s at.writer.ready pending) at.within next may crashed only standing at.disk;
+      found = tt;
     }
 
 -- ---- the pairs of a round's commit
@@ -169,9 +177,9 @@ module _ (r : Run) (lines : List Line) (olds news : List Share) (log : List Line
   abbrev front : ℕ
   front = h.before.at.front
 
-  disk_on : IsDiskAfter r.first (log ++ more) front v r.start mid
+  disk_on : IsDiskBy r.keep r.first (log ++ more) front v r.start mid
   disk_on =
-      disk_round r.first w v log more (pairs_since olds news) end front r.start mid e h.before.at.within
+      by_round r.keep r.first w v log more (pairs_since olds news) end front r.start mid e h.before.at.within
       h.before.at.disk
 
   doing : AllByRecursion IsDoing more

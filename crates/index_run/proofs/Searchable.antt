@@ -86,7 +86,7 @@ searched_new g log new s can has among =
 
 -- ---- what the outcomes search
 
-each_answer : (P : Answer → Type 0) (base : ℕ) (log lines : List Line) (outcomes : List Outcome)
+pub each_answer : (P : Answer → Type 0) (base : ℕ) (log lines : List Line) (outcomes : List Outcome)
     → ((s : ℕ) (query : Query) → AsksBy base log lines s query → P (Searched s query))
     → ((a : Answer) → ((s : ℕ) (query : Query) → a ≡ Searched s query → ⊥) → P a)
     → AllByRecursion (IsAskedBy base log lines) outcomes → AllByRecursion (λ (o : Outcome). P o.answer) outcomes
@@ -100,14 +100,14 @@ each_answer P base log lines (o ∷ outcomes) asks tells asked =
     one (Committed s docs) is = tells (Committed s docs) (λ t query e. cc)
     one (Refused refusal) is = tells (Refused refusal) (λ t query e. cc)
 
-holds_other : (files : Files) (rows_by : ℕ → List Row) (a : Answer)
+pub holds_other : (files : Files) (rows_by : ℕ → List Row) (a : Answer)
     → ((s : ℕ) (query : Query) → a ≡ Searched s query → ⊥) → AnswerHolds files rows_by a
 holds_other files rows_by (Searched s query) none = absurd (none s query refl)
 holds_other files rows_by (Numbered s) none = tt
 holds_other files rows_by (Committed s docs) none = tt
 holds_other files rows_by (Refused refusal) none = tt
 
-reads_other : (files : Files) (a : Answer) → ((s : ℕ) (query : Query) → a ≡ Searched s query → ⊥)
+pub reads_other : (files : Files) (a : Answer) → ((s : ℕ) (query : Query) → a ≡ Searched s query → ⊥)
     → AnswerReads files a
 reads_other files (Searched s query) none = absurd (none s query refl)
 reads_other files (Numbered s) none = tt

@@ -1,15 +1,16 @@
 -- A run under way: between two rounds, and at the end of one.
-use Rattle.std.specs.Prelude.{◌≡◌, ℕ, ◌+◌, ◌≤◌, List, [], ◌∷◌, ◌++◌, length, map, Option, Some, None, IsSomeAnd, true}
-use Rattle.std.specs.Prelude.{IfOk, IfSome, OnErr, OnOk}
+use Rattle.std.specs.Prelude.{◌≡◌, ℕ, ◌+◌, ◌≤◌, List, [], ◌∷◌, ◌++◌, length, map, Option, Some, None, IsSomeAnd, true, false}
+use Rattle.std.specs.Prelude.{IfErr, IfOk, IfSome, OnOk}
 use Rattle.std.specs.List.{AllByRecursion, AllZip}
 use Rattle.ix_base.specs.Counts.{doc_count}
+use Rattle.ix_base.specs.declared.damaged.Damaged.{Damaged}
 use Rattle.ix_base.specs.declared.document.Row.{Row}
 use Rattle.ix_outside.specs.Calls.{LeavesOnly}
 use Rattle.ix_outside.specs.Crash.{MayHold}
 use Rattle.ix_outside.specs.Disk.{Disk, Told, told_files}
 use Rattle.ix_outside.specs.Files.{Files}
 use Rattle.ix_outside.specs.Images.{Reaches}
-use Rattle.commit_point.specs.Holds.{Pairs}
+use Rattle.commit_point.specs.Holds.{AreKept, Pairs}
 use Rattle.commit_point.specs.Steps.{KeepsMade, OnlyCommits}
 use Rattle.op_script.specs.Shape.{LinesRise}
 use Rattle.op_script.specs.declared.script.Line.{Line}
@@ -26,14 +27,20 @@ use Rattle.index_writer.specs.Rounds.{ArePartsOf}
 use Rattle.index_writer.specs.Storing.{GoesOn as WriterGoesOn}
 use Rattle.run_log.specs.Headline.{Given, HasSome, Interleaves, commit_numbers, pairs_at, rows_at}
 use Rattle.index_run.specs.Doing.{CanBegin, IsOnGiven, IsWriterOn}
-use Rattle.index_run.specs.Leaving.{HasSomeFront, IsDiskAfter, IsNextCommit, first_numbers}
+use Rattle.index_run.specs.Keeping.{FindsStaying}
+use Rattle.index_run.specs.Promises.{CanKeep}
+use Rattle.index_run.specs.KeptDisk.{BeginsOnLast, IsDiskBy, LeftSome}
+use Rattle.index_run.specs.Leaving.{HasSomeFront, IsNextCommit, first_numbers}
 use Rattle.index_run.specs.Outcomes.{AreOutcomes}
 use Rattle.index_run.specs.Rounds.{given}
 use Rattle.index_run.specs.declared.rounds.Ran.{Ran}
+use Rattle.index_run.specs.declared.rounds.RanFault.{RanFault}
+use Rattle.index_run.specs.declared.rounds.RanFault.TheVariants as halt
 
--- What a run began with: so many workers, its writer, and its disk.
+-- What a run began with: so many workers, how many commits are kept, if not all, its writer, and its disk.
 pub record Run : Type 0 where
   pub workers : ℕ
+  pub keep : Option ℕ
   pub first : State
   pub start : Option Disk
 
@@ -65,7 +72,7 @@ pub record IsAt (r : Run) (log : List Line) (w : State) (now : Option Disk) : Ty
   pub front : ℕ
   pub within : front ≤ length log
   pub due : IsDue r.first log front w.published.upto w.pending
-  pub disk : IsDiskAfter r.first log front w r.start now
+  pub disk : IsDiskBy r.keep r.first log front w r.start now
 
 -- the commit s has so many rows, where the writer had some when the run began
 abbrev pub IsDocs : State → List Line → ℕ → ℕ → Type 0
@@ -124,36 +131,75 @@ pub record EndsRound (r : Run) (lines : List Line) (news : List Share) (log : Li
 pub record IsOver (r : Run) (lines : List Line) (became : List Outcome) (w : State) (now : Option Disk) : Type 0 where
   pub log : List Line
   pub writer : IsWriterOn r.first log w
-  pub disk : IsDiskAfter r.first log (length log) w r.start now
+  pub disk : IsDiskBy r.keep r.first log (length log) w r.start now
   pub numbering : Interleaves lines log
   pub outcomes : AreOutcomes (IsDocs r.first log) (base_of r) log [] lines became
 
--- A run that stopped: for one order of its numbered lines a crash left the first of their commits,
--- made over an image of the beginning, and the files have the first of them. Each step was one by
--- which commits are made, and no commit that stood at some moment lost its files.
-pub record IsCut (r : Run) (lines : List Line) (now : Option Disk) : Type 0 where
+-- Where a run stopped that keeps all commits, a crash left the first of the log's commits, made over an image of the
+-- beginning, and the files have the first of them. Each step was one by which commits are made, and no commit that stood
+-- at some moment lost its files.
+pub record IsStopped (first : State) (log : List Line) (start now : Option Disk) : Type 0 where
+  pub crash : LeavesOnly start now (Reaches (HasSomeFront first log) (MayHold start))
+  pub files : (g : Given) → told_files start ≡ Some g.files → IsOnGiven g first
+      → IsSomeAnd (told_files now) (HasSome g log)
+  pub only : Told OnlyCommits start now
+  pub standing : (was : Files) → told_files start ≡ Some was → WriterGoesOn was first → Told KeepsMade start now
+
+-- Where one stopped that keeps so many, the files are what is left of files that have the first of the log's commits,
+-- and so is what a crash left.
+pub record IsStoppedLeft (keep : ℕ) (first : State) (log : List Line) (old : Files) (start now : Option Disk) : Type 0 where
+  pub files : IsSomeAnd (told_files now) (LeftSome keep first log old)
+  pub crash : AreKept old (MayHold start) → LeavesOnly start now (LeftSome keep first log old)
+
+abbrev pub IsStoppedBy : Option ℕ → State → List Line → Option Disk → Option Disk → Type 0
+IsStoppedBy None first log start now = IsStopped first log start now
+IsStoppedBy (Some keep) first log start now =
+    (old : Files) → BeginsOnLast first old start → IsStoppedLeft keep first log old start now
+
+-- A run found the commit file of a commit that stays broken. So it was when the run began: not every commit file was in
+-- the grammar then.
+pub record FindsBroken (r : Run) (now : Option Disk) (damaged : Damaged) : Type 0 where
+  pub keep : ℕ
+  pub kept : r.keep ≡ Some keep
+  pub finds : FindsStaying keep (told_files now) damaged
+  pub before : (old : Files) → told_files r.start ≡ Some old → ¬ CanKeep (Some keep) old
+
+-- what is said of the files where a run stopped for this
+abbrev pub StopsFor : Run → Option Disk → RanFault → Type 0
+StopsFor r now (halt.Writer fault) = Unit {0}
+StopsFor r now (halt.Damaged damaged) = FindsBroken r now damaged
+
+-- A run that stopped for this, for one order of its numbered lines.
+pub record IsCut (r : Run) (lines : List Line) (fault : RanFault) (now : Option Disk) : Type 0 where
   pub log : List Line
   pub numbering : Interleaves lines log
-  pub crash : LeavesOnly r.start now (Reaches (HasSomeFront r.first log) (MayHold r.start))
-  pub files : (g : Given) → told_files r.start ≡ Some g.files → IsOnGiven g r.first
-      → IsSomeAnd (told_files now) (HasSome g log)
-  pub only : Told OnlyCommits r.start now
-  pub standing : (was : Files) → told_files r.start ≡ Some was → WriterGoesOn was r.first → Told KeepsMade r.start now
+  pub stopped : IsStoppedBy r.keep r.first log r.start now
+  pub found : StopsFor r now fault
+
+-- a run of which so many commits are kept, where old ones are given up
+abbrev pub KeepsBy : Option ℕ → Run → Type 0
+KeepsBy None r = Unit {0}
+KeepsBy (Some keep) r = r.keep ≡ Some keep
+
+-- a run by so many workers, of which so many commits are kept, where old ones are given up
+abbrev pub IsRunBy : ℕ → Option ℕ → Run → Type 0
+IsRunBy workers keep r = (r.workers ≡ workers) × KeepsBy keep r
 
 -- ---- a pending commit that is written
 
--- A writer's pending commit was written with these pairs, if there was one: whatever a run had come
--- to, it has come to the same, and notes the commit. Or the writer stopped, and so does the run.
-pub record WritesPending {S : Type 0} (disk : S → Option Disk) (pairs : Pairs) (old : IndexWriter S)
+-- A writer's pending commit was written with these pairs, if there was one, and then all but so many commits were given
+-- up, if only so many are kept: whatever a run had come to, it has come to the same, and notes the commit. Or it stopped.
+pub record WritesPending {S : Type 0} (disk : S → Option Disk) (keep : Option ℕ) (pairs : Pairs) (old : IndexWriter S)
     (ran : Ran S (Option CommitInfo))
     : Type 0 where
-  pub come : (r : Run) (lines : List Line) (shares : List Share) (commits : List (ℕ × ℕ))
+  pub come : (r : Run) (lines : List Line) (shares : List Share) (commits : List (ℕ × ℕ)) → KeepsBy keep r
       → HasCome r lines shares commits pairs old.state (disk old.store)
       → IfOk ran.came (λ commit. HasCome r lines shares (given commits commit) pairs ran.writer.state (disk ran.writer.store))
-  pub cut : (r : Run) (lines : List Line) (shares : List Share) (commits : List (ℕ × ℕ))
+  pub cut : (r : Run) (lines : List Line) (shares : List Share) (commits : List (ℕ × ℕ)) → KeepsBy keep r
       → HasCome r lines shares commits pairs old.state (disk old.store)
-      → OnErr ran.came (IsCut r lines (disk ran.writer.store))
+      → IfErr ran.came (λ fault. IsCut r lines fault (disk ran.writer.store))
   pub written : OnOk ran.came (ran.writer.state.pending ≡ None)
   pub upto : OnOk ran.came (ran.writer.state.published.upto ≡ old.state.published.upto)
+  pub is_open : OnOk ran.came (ran.writer.state.closed ≡ false)
   pub same : (ran.writer.state.out ≡ old.state.out) × (ran.writer.state.buffer ≡ old.state.buffer)
   pub sound : IsSound ran.writer.state

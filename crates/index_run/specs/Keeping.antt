@@ -2,15 +2,18 @@
 use Rattle.std.specs.Prelude.{◌≡◌, ◌⊎◌, ℕ, Bool, true, false, List, Option, Some, None, IsSome, IsSomeAnd}
 use Rattle.std.specs.List.{list_any}
 use Rattle.ix_base.specs.declared.damaged.Damaged.{Damaged}
+use Rattle.ix_base.specs.declared.file_name.FileName.{FileName}
 use Rattle.ix_base.specs.declared.file_name.FileName.TheVariants.{Commit}
 use Rattle.ix_outside.specs.Calls.{LeavesOnly}
 use Rattle.ix_outside.specs.Crash.{MayHold}
 use Rattle.ix_outside.specs.Disk.{Disk, Told, told_files}
 use Rattle.ix_outside.specs.Files.{Files}
-use Rattle.commit_point.specs.Holds.{HasHead}
+use Rattle.commit_point.specs.Holds.{HasHead, IsFileOf}
 use Rattle.commit_point.specs.Steps.{OnlyCommits}
 use Rattle.commit_point.specs.declared.heads.Head.{Head}
-use Rattle.commit_pruning.specs.Pruning.{BreaksStaying, IsBrokenCommit, IsPruned, MayBePruned}
+use Rattle.commit_pruning.specs.Pruning.{BreaksStaying, IsBrokenCommit, IsWholeAs, MayBePruned, Stays}
+use Rattle.op_script.specs.declared.script.Act.{Act}
+use Rattle.op_script.specs.declared.script.Act.TheVariants.{Do, Search}
 use Rattle.op_script.specs.declared.script.Line.{Line}
 use Rattle.run_log.specs.Headline.{CanRunOn, Given, GivesBack, HasAll, HasRoom, HasSome, Interleaves, IsKept, Preserves}
 use Rattle.run_log.specs.Headline.{Runs, Stops, is_commit}
@@ -21,14 +24,30 @@ use Rattle.run_log.specs.Headline.{Runs, Stops, is_commit}
 abbrev pub Left : ℕ → (Files → Type 0) → Files → Type 0
 Left keep P files = (was : Files) × P was × MayBePruned keep was files
 
+-- Of the commits of some files only so many of the latest are left, each as it was. Each file that is there is one of a
+-- commit that is there.
+pub record HasLatestOnly (keep : ℕ) (was files : Files) : Type 0 where
+  pub stays : (s : ℕ) → Stays keep was s → IsWholeAs s was files
+  pub only : (s : ℕ) → IsSome (files (Commit s)) → Stays keep was s
+  pub clean : (name : FileName) → IsSome (files name) → (s : ℕ) × IsSome (files (Commit s)) × IsFileOf files s name
+
 -- Behind a run of which a line commits only so many of the latest commits are left, and behind another one all.
 abbrev pub IsLeft : ℕ → Bool → Files → Files → Type 0
 IsLeft keep false was files = files ≡ was
-IsLeft keep true was files = (count : ℕ) × IsPruned keep count was files
+IsLeft keep true was files = HasLatestOnly keep was files
 
 -- whether one of the lines commits
 abbrev pub has_commit : List Line → Bool
 has_commit lines = list_any (λ (l : Line). is_commit l.act) lines
+
+-- whether the line searches
+abbrev pub is_search : Act → Bool
+is_search (Search query) = true
+is_search (Do op) = false
+
+-- whether one of the lines searches
+abbrev pub has_search : List Line → Bool
+has_search lines = list_any (λ (l : Line). is_search l.act) lines
 
 -- the files are what is left of files that have all of the log's commits
 abbrev pub HasLatest : ℕ → Given → List Line → Files → Type 0
@@ -49,6 +68,17 @@ pub record RunsKeeping (keep : ℕ) (g : Given) (text : List Line → List ℕ) 
   pub written : wrote (text log)
   pub files : IsSomeAnd (told_files new) (HasLatest keep g log)
   pub images : IsKept g old → (c : Files) → MayHold new c → Left keep (HasAll g log) c
+  pub crash : IsKept g old → LeavesOnly old new (Left keep (HasSome g log))
+  pub again : IsKept g old → HasRoom g → GivesBack new
+
+-- The same before old commits are given up behind the last one: the files are what may be left of all of the log's
+-- commits and of those that were there, and so is what a crash leaves.
+pub record RunsLeaving (keep : ℕ) (g : Given) (text : List Line → List ℕ) (wrote : List ℕ → Type 0) (old new : Option Disk)
+    : Type 0 where
+  pub log : List Line
+  pub numbering : Interleaves g.lines log
+  pub written : wrote (text log)
+  pub files : IsSomeAnd (told_files new) (Left keep (HasAll g log))
   pub crash : IsKept g old → LeavesOnly old new (Left keep (HasSome g log))
   pub again : IsKept g old → HasRoom g → GivesBack new
 

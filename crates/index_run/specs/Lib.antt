@@ -4,6 +4,7 @@ pub mod Causes
 pub mod Outcomes
 pub mod Replied
 pub mod Leaving
+pub mod KeptDisk
 pub mod Doing
 pub mod Merged
 pub mod Driving

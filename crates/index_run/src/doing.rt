@@ -18,6 +18,7 @@ ghost use Rattle.index_run.specs.Promises.{CanKeep};
 ghost use Rattle.run_log.specs.Headline.{CanEnd, CanRun, Given, IsKept, IsLast, Preserves, Runs, Stops, is_commit};
 
 use crate::begin::begin;
+use crate::keeping::tell_kept;
 use crate::lines::do_lines;
 use crate::rounds::Ran;
 use crate::stop::Stop;
@@ -56,7 +57,8 @@ pub struct Done<S> {
 
 /// Does the lines over the store's last commit, gives up old commits where only so many are to be kept and a
 /// line committed, and returns the text that tells of the lines, of which nothing is written yet. Commits are given
-/// up once the text is made, so the text tells of each commit of the run.
+/// up behind each commit that is written beside a round, where no line searches, and behind the last one once
+/// the text is made: so the text tells of each commit of the run.
 pub fn do_script<R: Threads + Wait + Sync, S: Store, G: Gate>(
     rt: &R,
     alloc: Global,
@@ -101,8 +103,15 @@ pub fn do_script<R: Threads + Wait + Sync, S: Store, G: Gate>(
         → Rose (S.fault_count store) (S.fault_count result.store) }
     ensures others { IfErr result.text (λ stop. IsOneOf (stop_status stop) (4 ∷ 7 ∷ 8 ∷ 10 ∷ [])) }
 {
+    let Some(keep) = options.keep else {
+        return tell_script(rt, alloc, store, gate, options, form, lines);
+    };
     let commits = has_commit(lines.as_slice());
-    let Done { text, store } = tell_script(rt, alloc, store, gate, options, form, lines);
+    if !commits {
+        return tell_script(rt, alloc, store, gate, options, form, lines);
+    }
+    let told = tell_kept(rt, alloc, store, gate, options, keep, form, lines);
+    let Done { text, store } = told;
     let text = match text {
         Ok(text) => text,
         Err(stop) => {
@@ -112,18 +121,6 @@ pub fn do_script<R: Threads + Wait + Sync, S: Store, G: Gate>(
             };
         }
     };
-    let Some(keep) = options.keep else {
-        return Done {
-            text: Ok(text),
-            store,
-        };
-    };
-    if !commits {
-        return Done {
-            text: Ok(text),
-            store,
-        };
-    }
     let mut store = store;
     match prune(alloc, &mut store, keep) {
         Ok(_) => Done {
@@ -152,7 +149,7 @@ fn has_commit(lines: &[Line]) -> bool
 }
 
 /// Does the lines over the store's last commit, and returns the text that tells of them. All commits are kept.
-fn tell_script<R: Threads + Wait + Sync, S: Store, G: Gate>(
+pub fn tell_script<R: Threads + Wait + Sync, S: Store, G: Gate>(
     rt: &R,
     alloc: Global,
     store: S,
@@ -214,7 +211,7 @@ fn tell_script<R: Threads + Wait + Sync, S: Store, G: Gate>(
         }
     };
     let base = writer.upto();
-    let Ran { writer, came } = do_lines(rt, alloc, gate, writer, options.threads, lines);
+    let Ran { writer, came } = do_lines(rt, alloc, gate, writer, options.threads, None, lines);
     let number = writer.upto();
     let (mut store, segments) = writer.into_parts();
     let searcher = Searcher { segments };

@@ -1,17 +1,17 @@
 //! The lines of a script, done in rounds by workers that run at the same time.
-ghost use Rattle.std.specs.Prelude.{◌≡◌, ◌≤◌, ℕ, List as ListOf, [], length, IfOk, OnOk, OnErr, Err, None, false};
+ghost use Rattle.std.specs.Prelude.{◌≡◌, ◌≤◌, ℕ, List as ListOf, [], length, IfErr, IfOk, IfSome, OnOk, Err, None, false};
 ghost use Rattle.commit_point.specs.Holds.{Pairs};
 ghost use Rattle.ix_outside.specs.Causes.{Rose};
 ghost use Rattle.op_script.specs.Shape.{AreScriptLines};
 ghost use Rattle.index_run.specs.Doing.{CanBegin};
 ghost use Rattle.op_script.specs.declared.script.Line.{Line};
 ghost use Rattle.line_shares.specs.Shares.{AreDone, AreShares};
-ghost use Rattle.index_run.specs.Driving.{HasCome, IsCut, IsOver, Run};
+ghost use Rattle.index_run.specs.Driving.{HasCome, IsCut, IsOver, IsRunBy, Run};
 ghost use Rattle.index_run.specs.Rounds.{doing_lines, given};
 
 use crate::outcomes::outcomes_of;
-use crate::rounds::{Ran, RoundLeft, do_round, write_pending};
-use index_writer::{CommitInfo, IndexWriter, WriterFault};
+use crate::rounds::{Ran, RanFault, RoundLeft, do_round, write_pending};
+use index_writer::{CommitInfo, IndexWriter, WriterFault, pruned_go_on, segments_stand};
 use ix_base::{Fields, List, NoMemory};
 use ix_outside::{Gate, Store};
 use line_shares::{Dealt, all_done, deal};
@@ -36,43 +36,48 @@ struct Rounds {
 /// Does the lines, and returns what became of each, beside the writer. The lines of caller c are done
 /// by worker c mod `threads`, in their order; the workers run at the same time. A commit ends the round
 /// of all, and so does a worker whose part of the queue is full: what is left is done in later rounds.
-/// A round's commit is written while the workers of the next one run, and that of the last round at once.
+/// A round's commit is written while the workers of the next one run, and that of the last round at once. Behind each
+/// commit that is written beside a round all but so many of the latest are given up, where only so many are kept.
 pub fn do_lines<R: Threads + Wait + Sync, S: Store, G: Gate>(
     rt: &R,
     alloc: Global,
     gate: &G,
     writer: IndexWriter<S>,
     threads: u32,
+    keep: Option<u32>,
     lines: List<Line>,
 ) -> Ran<S, Vec<Outcome>>
     requires ready { CanBegin writer.state }
     requires out { writer.state.out ≡ false }
     requires threads { (1 ≤ threads) × (threads ≤ 16) }
+    requires some { IfSome keep (λ keep. 1 ≤ keep) }
     requires script { AreScriptLines lines }
     ensures over { IfOk result.came (λ outcomes. IsOver
-        (record { workers = threads; first = writer.state; start = S.disk writer.store })
+        (record { workers = threads; keep = keep; first = writer.state; start = S.disk writer.store })
         lines outcomes.items result.writer.state (S.disk result.writer.store)) }
-    ensures cut { OnErr result.came (IsCut
-        (record { workers = threads; first = writer.state; start = S.disk writer.store })
-        lines (S.disk result.writer.store)) }
-    ensures closed { result.came ≡ Err WriterFault.Closed → ⊥ }
+    ensures cut { IfErr result.came (λ fault. IsCut
+        (record { workers = threads; keep = keep; first = writer.state; start = S.disk writer.store })
+        lines fault (S.disk result.writer.store)) }
+    ensures closed { result.came ≡ Err (RanFault.Writer WriterFault.Closed) → ⊥ }
     ensures later { S.fault_count writer.store ≤ S.fault_count result.writer.store }
-    ensures failed { result.came ≡ Err WriterFault.Store
+    ensures failed { result.came ≡ Err (RanFault.Writer WriterFault.Store)
         → Rose (S.fault_count writer.store) (S.fault_count result.writer.store) }
 {
+    segments_stand();
+    pruned_go_on();
     let base = writer.upto();
     let Dealt { places, shares } = match deal(alloc, threads, lines) {
         Ok(dealt) => dealt,
         Err(error) => return Ran::stopped(writer, WriterFault::from(error)),
     };
-    let Ran { writer, came } = do_rounds(rt, alloc, gate, writer, threads, shares);
+    let Ran { writer, came } = do_rounds(rt, alloc, gate, writer, threads, keep, shares);
     let Rounds {
         shares,
         commits,
         ..
     } = match came {
         Ok(rounds) => rounds,
-        Err(fault) => return Ran::stopped(writer, fault),
+        Err(fault) => return Ran::halted(writer, fault),
     };
     match outcomes_of(alloc, base, places, shares, commits.as_slice()) {
         Ok(outcomes) => Ran {
@@ -92,26 +97,28 @@ fn do_rounds<R: Threads + Wait + Sync, S: Store, G: Gate>(
     gate: &G,
     writer: IndexWriter<S>,
     threads: u32,
+    keep: Option<u32>,
     shares: Vec<Share>,
 ) -> Ran<S, Rounds>
     requires threads { (1 ≤ threads) × (threads ≤ 16) }
+    requires some { IfSome keep (λ keep. 1 ≤ keep) }
     requires out { writer.state.out ≡ false }
-    requires come { (r : Run) × (lines : ListOf Line) × (r.workers ≡ threads)
+    requires come { (r : Run) × (lines : ListOf Line) × IsRunBy threads keep r
         × HasCome r lines shares.items [] [] writer.state (S.disk writer.store) }
-    ensures come { (r : Run) (lines : ListOf Line) → r.workers ≡ threads
+    ensures come { (r : Run) (lines : ListOf Line) → IsRunBy threads keep r
         → HasCome r lines shares.items [] [] writer.state (S.disk writer.store)
         → IfOk result.came (λ x. (pairs : Pairs) × HasCome r lines x.shares.items x.commits.items pairs
         result.writer.state (S.disk result.writer.store)) }
-    ensures cut { (r : Run) (lines : ListOf Line) → r.workers ≡ threads
+    ensures cut { (r : Run) (lines : ListOf Line) → IsRunBy threads keep r
         → HasCome r lines shares.items [] [] writer.state (S.disk writer.store)
-        → OnErr result.came (IsCut r lines (S.disk result.writer.store)) }
+        → IfErr result.came (λ fault. IsCut r lines fault (S.disk result.writer.store)) }
     ensures written { OnOk result.came (result.writer.state.pending ≡ None) }
     ensures done { IfOk result.came (λ x. AreDone x.shares.items) }
     ensures few { (lines : ListOf Line) → AreShares threads lines shares.items
         → IfOk result.came (λ x. x.count ≤ length (doing_lines lines)) }
-    ensures closed { result.came ≡ Err WriterFault.Closed → ⊥ }
+    ensures closed { result.came ≡ Err (RanFault.Writer WriterFault.Closed) → ⊥ }
     ensures later { S.fault_count writer.store ≤ S.fault_count result.writer.store }
-    ensures failed { result.came ≡ Err WriterFault.Store
+    ensures failed { result.came ≡ Err (RanFault.Writer WriterFault.Store)
         → Rose (S.fault_count writer.store) (S.fault_count result.writer.store) }
 {
     let mut writer = writer;
@@ -120,11 +127,13 @@ fn do_rounds<R: Threads + Wait + Sync, S: Store, G: Gate>(
     let mut commits = Vec::new(alloc);
     let mut count = 0;
     while !all_done(shares.as_slice()) {
-        let round = do_round(rt, alloc, gate, writer, threads, shares, pairs, &mut count);
+        let round = do_round(
+            rt, alloc, gate, writer, threads, keep, shares, pairs, &mut count,
+        );
         writer = round.writer;
         let left = match round.came {
             Ok(left) => left,
-            Err(fault) => return Ran::stopped(writer, fault),
+            Err(fault) => return Ran::halted(writer, fault),
         };
         shares = left.shares;
         pairs = left.pairs;
@@ -155,20 +164,20 @@ fn write_last<S: Store>(writer: IndexWriter<S>, rounds: Rounds, pairs: &Fields) 
         x.commits.items pairs.now result.writer.state (S.disk result.writer.store)) }
     ensures cut { (r : Run) (lines : ListOf Line)
         → HasCome r lines rounds.shares.items rounds.commits.items pairs.now writer.state
-        (S.disk writer.store) → OnErr result.came (IsCut r lines (S.disk result.writer.store)) }
+        (S.disk writer.store) → IfErr result.came (λ fault. IsCut r lines fault (S.disk result.writer.store)) }
     ensures written { OnOk result.came (result.writer.state.pending ≡ None) }
     ensures same { IfOk result.came (λ x.
         (x.shares ≡ rounds.shares) × (x.count ≡ rounds.count)) }
-    ensures closed { result.came ≡ Err WriterFault.Closed → ⊥ }
+    ensures closed { result.came ≡ Err (RanFault.Writer WriterFault.Closed) → ⊥ }
     ensures later { S.fault_count writer.store ≤ S.fault_count result.writer.store }
-    ensures failed { result.came ≡ Err WriterFault.Store
+    ensures failed { result.came ≡ Err (RanFault.Writer WriterFault.Store)
         → Rose (S.fault_count writer.store) (S.fault_count result.writer.store) }
 {
     let mut rounds = rounds;
     let Ran { writer, came } = write_pending(writer, pairs);
     let commit = match came {
         Ok(commit) => commit,
-        Err(fault) => return Ran::stopped(writer, fault),
+        Err(fault) => return Ran::halted(writer, fault),
     };
     match note(&mut rounds.commits, commit) {
         Ok(()) => Ran {

@@ -15,6 +15,7 @@ mod checking;
 mod commands;
 mod doing;
 mod input;
+mod keeping;
 mod lines;
 mod outcomes;
 mod output;

@@ -1,5 +1,5 @@
 //! The rounds of a run: each is begun, done by its workers, ended and committed.
-ghost use Rattle.std.specs.Prelude.{◌≡◌, ◌+◌, ◌≤◌, ◌<◌, ℕ, List, length, map, IfOk, OnOk, OnErr, IsTrue, Err, None, true, false};
+ghost use Rattle.std.specs.Prelude.{◌≡◌, ◌+◌, ◌≤◌, ◌<◌, ℕ, List, length, map, IfErr, IfOk, IfSome, OnOk, IsTrue, Err, None, true, false};
 ghost use Rattle.std.specs.List.{AllByRecursion};
 ghost use Rattle.ix_outside.specs.Causes.{Rose};
 ghost use Rattle.op_script.specs.declared.script.Line.{Line};
@@ -10,16 +10,18 @@ ghost use Rattle.line_shares.specs.Shares.{AreDone, open_count};
 ghost use Rattle.index_writer.specs.Ready.{IsSound};
 ghost use Rattle.index_writer.specs.Rounds.{ArePartsOf, IsBegun};
 ghost use Rattle.index_writer.specs.Working.{IsStuck};
-ghost use Rattle.index_run.specs.Driving.{EndsRound, HasCome, IsCut, IsRound, Run, WritesPending};
+ghost use Rattle.index_run.specs.Driving.{EndsRound, HasCome, IsCut, IsRound, IsRunBy, Run, WritesPending};
+ghost use Rattle.index_run.specs.Causes.{ran_by_pruning};
+ghost use Rattle.index_run.specs.declared.rounds.RanFault.TheVariants as halt;
 ghost use Rattle.index_run.specs.Merged.{EndsMerged};
 ghost use Rattle.index_run.specs.Rounds.{AllCame, gave_of, given, pieces_of, share_of, writers_of};
 
 use delete_queue::DeleteQueue;
 use index_writer::{
-    CommitInfo, IndexWriter, Round, RoundEnd, RoundParts, WriterFault, commits_go_on, commits_hold,
-    segments_stand,
+    CommitInfo, IndexWriter, PruneFault, Round, RoundEnd, RoundParts, WriterFault, commits_go_on,
+    commits_hold, segments_stand,
 };
-use ix_base::{Fields, NoMemory};
+use ix_base::{Damaged, Fields, NoMemory};
 use ix_outside::{Gate, Store};
 use line_shares::{committed_pairs, told_counts};
 use round_work::{Stop, Worked, run_round};
@@ -33,16 +35,48 @@ use worker_tasks::Share;
 /// leads there.
 const MOST: u64 = 4_611_686_018_427_387_904;
 
+/// Why the rounds of a run stopped.
+#[derive(Clone, Copy, Debug, PartialEq, Eq)]
+pub enum RanFault {
+    /// A call of the writer did not succeed.
+    Writer(WriterFault),
+    /// Old commits were to be given up, and the commit file of one that stays is broken.
+    Damaged(Damaged),
+}
+
+impl From<PruneFault> for RanFault {
+    ghost from_gives = { λ fault reason. reason ≡ ran_by_pruning fault };
+
+    fn from(fault: PruneFault) -> RanFault {
+        match fault {
+            PruneFault::Store => RanFault::Writer(WriterFault::Store),
+            PruneFault::Closed => RanFault::Writer(WriterFault::Closed),
+            PruneFault::Damaged(damaged) => RanFault::Damaged(damaged),
+            PruneFault::NoMemory => RanFault::Writer(WriterFault::NoMemory),
+        }
+    }
+}
+
 /// What was done with a writer, or why it stopped, and the writer.
 #[derive(Drop)]
 pub struct Ran<S, T> {
     pub writer: IndexWriter<S>,
-    pub came: Result<T, WriterFault>,
+    pub came: Result<T, RanFault>,
 }
 
 impl<S, T> Ran<S, T> {
-    /// It stopped by this fault.
+    /// It stopped by this fault of its writer.
     pub fn stopped(writer: IndexWriter<S>, fault: WriterFault) -> Self
+        ensures { result ≡ record { writer = writer; came = Err (halt.Writer fault) } }
+    {
+        Ran {
+            writer,
+            came: Err(RanFault::Writer(fault)),
+        }
+    }
+
+    /// It stopped for this reason.
+    pub fn halted(writer: IndexWriter<S>, fault: RanFault) -> Self
         ensures { result ≡ record { writer = writer; came = Err fault } }
     {
         Ran {
@@ -229,10 +263,10 @@ fn finish_round<R: Threads + Sync, S: Store>(
 pub fn write_pending<S: Store>(writer: IndexWriter<S>, pairs: &Fields) -> Ran<S, Option<CommitInfo>>
     requires sound { IsSound writer.state }
     requires open { writer.state.closed ≡ false }
-    ensures pending { WritesPending S.disk pairs.now writer result }
-    ensures closed { result.came ≡ Err WriterFault.Closed → ⊥ }
+    ensures pending { WritesPending S.disk None pairs.now writer result }
+    ensures closed { result.came ≡ Err (RanFault.Writer WriterFault.Closed) → ⊥ }
     ensures later { S.fault_count writer.store ≤ S.fault_count result.writer.store }
-    ensures failed { result.came ≡ Err WriterFault.Store
+    ensures failed { result.came ≡ Err (RanFault.Writer WriterFault.Store)
         → Rose (S.fault_count writer.store) (S.fault_count result.writer.store) }
 {
     commits_go_on();
@@ -254,6 +288,45 @@ pub fn write_pending<S: Store>(writer: IndexWriter<S>, pairs: &Fields) -> Ran<S,
             came: Ok(Some(info)),
         },
         Err(fault) => Ran::stopped(writer, fault),
+    }
+}
+
+/// Writes the commit with which the last round ended, as `write_pending` does, and then gives up all commits
+/// but so many of the latest, where only so many are kept and one was written. A round may be out.
+fn write_and_prune<S: Store>(
+    writer: IndexWriter<S>,
+    keep: Option<u32>,
+    pairs: &Fields,
+) -> Ran<S, Option<CommitInfo>>
+    requires sound { IsSound writer.state }
+    requires open { writer.state.closed ≡ false }
+    requires some { IfSome keep (λ keep. 1 ≤ keep) }
+    ensures pending { WritesPending S.disk keep pairs.now writer result }
+    ensures closed { result.came ≡ Err (RanFault.Writer WriterFault.Closed) → ⊥ }
+    ensures later { S.fault_count writer.store ≤ S.fault_count result.writer.store }
+    ensures failed { result.came ≡ Err (RanFault.Writer WriterFault.Store)
+        → Rose (S.fault_count writer.store) (S.fault_count result.writer.store) }
+{
+    let Some(keep) = keep else {
+        return write_pending(writer, pairs);
+    };
+    let Ran { mut writer, came } = write_pending(writer, pairs);
+    let commit = match came {
+        Ok(commit) => commit,
+        Err(fault) => return Ran::halted(writer, fault),
+    };
+    if commit.is_none() {
+        return Ran {
+            writer,
+            came: Ok(commit),
+        };
+    }
+    match writer.prune(keep) {
+        Ok(_) => Ran {
+            writer,
+            came: Ok(commit),
+        },
+        Err(fault) => Ran::halted(writer, RanFault::from(fault)),
     }
 }
 
@@ -294,39 +367,41 @@ pub struct RoundLeft {
 
 /// Does a round: its workers go on with their shares at the same time, each by a writer of its own,
 /// until the lines are done or one of them closes the queue. Meanwhile the commit with which the round
-/// before ended is written with these pairs, if it ended with one. It asks that a worker has a line that
-/// was told nothing, and counts the round.
+/// before ended is written with these pairs, if it ended with one, and old commits are given up behind it where
+/// only so many are kept. It asks that a worker has a line that was told nothing, and counts the round.
 pub fn do_round<R: Threads + Wait + Sync, S: Store, G: Gate>(
     rt: &R,
     alloc: Global,
     gate: &G,
     writer: IndexWriter<S>,
     threads: u32,
+    keep: Option<u32>,
     shares: Vec<Share>,
     pairs: Fields,
     rounds: &mut u64,
 ) -> Ran<S, RoundLeft>
     requires threads { (1 ≤ threads) × (threads ≤ 16) }
+    requires some { IfSome keep (λ keep. 1 ≤ keep) }
     requires open { AreDone shares.items → ⊥ }
     requires out { writer.state.out ≡ false }
     requires come { (r : Run) × (lines : List Line) × (commits : List (ℕ × ℕ))
-        × (r.workers ≡ threads)
+        × IsRunBy threads keep r
         × HasCome r lines shares.items commits pairs writer.state (S.disk writer.store) }
-    ensures come { (r : Run) (lines : List Line) (commits : List (ℕ × ℕ)) → r.workers ≡ threads
+    ensures come { (r : Run) (lines : List Line) (commits : List (ℕ × ℕ)) → IsRunBy threads keep r
         → HasCome r lines shares.items commits pairs writer.state (S.disk writer.store)
         → IfOk result.came (λ x. HasCome r lines x.shares.items (given commits x.commit) x.pairs
         result.writer.state (S.disk result.writer.store)) }
-    ensures cut { (r : Run) (lines : List Line) (commits : List (ℕ × ℕ)) → r.workers ≡ threads
+    ensures cut { (r : Run) (lines : List Line) (commits : List (ℕ × ℕ)) → IsRunBy threads keep r
         → HasCome r lines shares.items commits pairs writer.state (S.disk writer.store)
-        → OnErr result.came (IsCut r lines (S.disk result.writer.store)) }
+        → IfErr result.came (λ fault. IsCut r lines fault (S.disk result.writer.store)) }
     ensures out { OnOk result.came (result.writer.state.out ≡ false) }
     // Where a task was left, one was told something.
     ensures goes_on { (AreDone shares.items → ⊥)
         → IfOk result.came (λ x. open_count x.shares.items < open_count shares.items) }
     ensures counted { OnOk result.came (rounds.new ≡ rounds.old + 1) }
-    ensures closed { result.came ≡ Err WriterFault.Closed → ⊥ }
+    ensures closed { result.came ≡ Err (RanFault.Writer WriterFault.Closed) → ⊥ }
     ensures later { S.fault_count writer.store ≤ S.fault_count result.writer.store }
-    ensures failed { result.came ≡ Err WriterFault.Store
+    ensures failed { result.came ≡ Err (RanFault.Writer WriterFault.Store)
         → Rose (S.fault_count writer.store) (S.fault_count result.writer.store) }
 {
     let mut writer = writer;
@@ -348,18 +423,19 @@ pub fn do_round<R: Threads + Wait + Sync, S: Store, G: Gate>(
         move || -> Ran<S, Option<CommitInfo>>
             requires sound { IsSound writer.state }
             requires open { writer.state.closed ≡ false }
-            ensures pending { WritesPending S.disk pairs writer result }
-            ensures closed { result.came ≡ Err WriterFault.Closed → ⊥ }
+            requires some { IfSome keep (λ keep. 1 ≤ keep) }
+            ensures pending { WritesPending S.disk keep pairs writer result }
+            ensures closed { result.came ≡ Err (RanFault.Writer WriterFault.Closed) → ⊥ }
             ensures later { S.fault_count writer.store ≤ S.fault_count result.writer.store }
-            ensures failed { result.came ≡ Err WriterFault.Store
+            ensures failed { result.came ≡ Err (RanFault.Writer WriterFault.Store)
                 → Rose (S.fault_count writer.store) (S.fault_count result.writer.store) }
-        { write_pending(writer, &pairs) },
+        { write_and_prune(writer, keep, &pairs) },
     );
     let commit = match came {
         Ok(commit) => commit,
         Err(fault) => {
             let_go(rt, alloc, &mut writer, queue, back);
-            return Ran::stopped(writer, fault);
+            return Ran::halted(writer, fault);
         }
     };
     let worked = match back {

@@ -37,7 +37,7 @@ returns-in-Err-came-clause-stops g c = λ given same told can.
     same_disks (Stops given) start began _
     (g.S.Store.disk c.into_parts-store.result.0) c.in-Ok.ensures.reads
     (ap (λ s. g.S.Store.disk s) c.into_parts-store.ensures.store)
-    (cut_stops given _ c.args.lines _ same can still on (on_fault _ _ c.in-Err-came.is c.do_lines-writer.ensures.cut))
+    (cut_stops given (record { workers = c.args.options.threads; keep = None; first = c.in-Ok.writer.state; start = g.S.Store.disk c.in-Ok.writer.store }) c.args.lines _ _ same can still on (on_fault _ _ _ c.in-Err-came.is c.do_lines-writer.ensures.cut))
 
 pub returns-in-Err-came-clause-kept : goal.returns-in-Err-came-clause-kept
 returns-in-Err-came-clause-kept g c = λ given told can.
@@ -48,11 +48,12 @@ returns-in-Err-came-clause-kept g c = λ given told can.
     same_disks (Preserves given) start began _
     (g.S.Store.disk c.into_parts-store.result.0) c.in-Ok.ensures.reads
     (ap (λ s. g.S.Store.disk s) c.into_parts-store.ensures.store)
-    (cut_keeps given _ c.args.lines _ still on (on_fault _ _ c.in-Err-came.is c.do_lines-writer.ensures.cut))
+    (cut_keeps given (record { workers = c.args.options.threads; keep = None; first = c.in-Ok.writer.state; start = g.S.Store.disk c.in-Ok.writer.store }) c.args.lines _ _ still on (on_fault _ _ _ c.in-Err-came.is c.do_lines-writer.ensures.cut))
 
 -- the lines were done, and the store is the writer's
 over : (g : given.Over) (c : goal.After-drop-outcomes g) → IsOver (record {
   workers = c.args.options.threads;
+  keep = None;
   first = c.in-Ok.writer.state;
   start = g.S.Store.disk c.in-Ok.writer.store;
 }) c.args.lines c.as_slice.result.now c.do_lines-writer.result.writer.state (g.S.Store.disk c.into_parts-store.result.0)
@@ -69,7 +70,7 @@ returns-in-Ok-came-clause-done g c = λ given same told can.
     same_disks (λ a b. IfOk c.text_of.result (λ text. Runs given (form_text c.args.form given) (λ told. text.items ≡ told) a b)) start began
     (g.S.Store.disk c.into_parts-store.result.0) (g.S.Store.disk c.text_of.new.store) c.in-Ok.ensures.reads
     c.text_of.ensures.reads
-    (told_by c.made_runs.ensures given _ c.args.form c.args.lines c.as_slice.result.now _ _ c.upto-base.result c.upto-number.result c.text_of.result same
+    (told_by c.made_runs.ensures given (record { workers = c.args.options.threads; keep = None; first = c.in-Ok.writer.state; start = g.S.Store.disk c.in-Ok.writer.store }) c.args.form c.args.lines c.as_slice.result.now _ _ c.upto-base.result c.upto-number.result c.text_of.result same
     c.requires.lines.rise c.requires.made can still on (over g c) c.upto-base.ensures c.upto-number.ensures
     (λ f by is told search found.
     c.text_of.ensures.report f by is told search
@@ -85,7 +86,7 @@ returns-in-Ok-came-clause-stops g c = λ given same told can.
     let on = c.in-Ok.ensures.given given told can in
     same_disks (Stops given) start began (g.S.Store.disk c.into_parts-store.result.0)
     (g.S.Store.disk c.text_of.new.store) c.in-Ok.ensures.reads c.text_of.ensures.reads
-    (over_stops given _ c.args.lines c.as_slice.result.now _ _ same can still on (over g c))
+    (over_stops given (record { workers = c.args.options.threads; keep = None; first = c.in-Ok.writer.state; start = g.S.Store.disk c.in-Ok.writer.store }) c.args.lines c.as_slice.result.now _ _ same can still on (over g c))
 
 pub returns-in-Ok-came-clause-kept : goal.returns-in-Ok-came-clause-kept
 returns-in-Ok-came-clause-kept g c = λ given told can.
@@ -95,13 +96,13 @@ returns-in-Ok-came-clause-kept g c = λ given told can.
     let on = c.in-Ok.ensures.given given told can in
     same_disks (Preserves given) start began (g.S.Store.disk c.into_parts-store.result.0)
     (g.S.Store.disk c.text_of.new.store) c.in-Ok.ensures.reads c.text_of.ensures.reads
-    (over_keeps given _ c.args.lines c.as_slice.result.now _ _ still on (over g c))
+    (over_keeps given (record { workers = c.args.options.threads; keep = None; first = c.in-Ok.writer.state; start = g.S.Store.disk c.in-Ok.writer.store }) c.args.lines c.as_slice.result.now _ _ still on (over g c))
 
 pub returns-in-Ok-came-clause-whole : goal.returns-in-Ok-came-clause-whole
 returns-in-Ok-came-clause-whole g c = λ given told last can.
     let began = g.S.Store.disk c.in-Ok.writer.store in
     let still = told_still (g.S.Store.disk c.args.store) began given.files c.in-Ok.ensures.reads told in
-    whole_in c.made_runs.ensures given _ c.args.form c.args.lines c.as_slice.result.now _ _ c.upto-number.result c.text_of.result c.requires.lines.rise
+    whole_in c.made_runs.ensures given (record { workers = c.args.options.threads; keep = None; first = c.in-Ok.writer.state; start = g.S.Store.disk c.in-Ok.writer.store }) c.args.form c.args.lines c.as_slice.result.now _ _ c.upto-number.result c.text_of.result c.requires.lines.rise
     c.requires.made can.0 still (c.in-Ok.ensures.on given told last can.0) c.upto-number.ensures (over g c) c.text_of.ensures.whole
 
 -- where the text met what is damaged the store tells nothing
@@ -110,7 +111,7 @@ none_told : (g : given.Over) (c : goal.After-drop-outcomes g) (damaged : Damaged
     → (g.S.Store.disk c.args.store ≡ None) × (g.S.Store.disk c.into_parts-store.result.0 ≡ None)
 none_told g c damaged is =
     let before = c.in-Ok.ensures.reads in
-    let none = untold c.made_runs.ensures _ c.args.form c.args.lines c.as_slice.result.now _ _ c.upto-number.result c.text_of.result damaged
+    let none = untold c.made_runs.ensures (record { workers = c.args.options.threads; keep = None; first = c.in-Ok.writer.state; start = g.S.Store.disk c.in-Ok.writer.store }) c.args.form c.args.lines c.as_slice.result.now _ _ c.upto-number.result c.text_of.result damaged
     c.requires.lines.rise c.requires.made (λ f told. c.in-Ok.ensures.begins f (sym (ap told_files before) ∙ told))
     (λ given told last on. c.in-Ok.ensures.on given (sym (ap told_files before) ∙ told) last on)
     c.upto-number.ensures (over g c) c.text_of.ensures.whole is in
@@ -121,7 +122,7 @@ returns-in-Ok-came-clause-damaged g c = λ damaged is.
     let none = none_told g c damaged is in
     subst (λ (told : Option Files). ReadsDamaged c.args.form c.args.lines (told_files (g.S.Store.disk c.args.store)) told damaged)
     (sym (ap told_files c.text_of.ensures.reads))
-    (damaged_in c.made_runs.ensures _ c.args.form c.args.lines c.as_slice.result.now _ _ _ c.upto-base.result c.upto-number.result damaged
+    (damaged_in c.made_runs.ensures (record { workers = c.args.options.threads; keep = None; first = c.in-Ok.writer.state; start = g.S.Store.disk c.in-Ok.writer.store }) c.args.form c.args.lines c.as_slice.result.now _ _ _ c.upto-base.result c.upto-number.result damaged
     c.requires.made c.in-Ok.ensures.last c.upto-number.ensures (over g c) (ap told_files none.0, ap told_files none.1)
     (c.text_of.ensures.damaged damaged is))
 
@@ -145,7 +146,7 @@ pub returns-in-Err-came-clause-steps : goal.returns-in-Err-came-clause-steps
 returns-in-Err-came-clause-steps g c =
     same_disks (Told OnlyCommits) (g.S.Store.disk c.args.store) (g.S.Store.disk c.in-Ok.writer.store)
     _ (g.S.Store.disk c.into_parts-store.result.0) c.in-Ok.ensures.reads
-    (ap (λ s. g.S.Store.disk s) c.into_parts-store.ensures.store) (on_fault _ _ c.in-Err-came.is c.do_lines-writer.ensures.cut).only
+    (ap (λ s. g.S.Store.disk s) c.into_parts-store.ensures.store) (on_fault _ _ _ c.in-Err-came.is c.do_lines-writer.ensures.cut).stopped.only
 
 pub returns-in-Ok-came-clause-steps : goal.returns-in-Ok-came-clause-steps
 returns-in-Ok-came-clause-steps g c =
@@ -167,12 +168,12 @@ returns-in-Ok-came-clause-settled g c = λ given now told can are told_now.
     ok_always c.text_of.result _
     (same_disks (Settles given) start began (g.S.Store.disk c.into_parts-store.result.0)
     (g.S.Store.disk c.text_of.new.store) c.in-Ok.ensures.reads c.text_of.ensures.reads
-    (over_settled given _ c.args.lines c.as_slice.result.now _ _ still on (over g c)) are now told_now)
+    (over_settled given (record { workers = c.args.options.threads; keep = None; first = c.in-Ok.writer.state; start = g.S.Store.disk c.in-Ok.writer.store }) c.args.lines c.as_slice.result.now _ _ still on (over g c)) are now told_now)
 
 pub returns-in-Ok-came-clause-spelled : goal.returns-in-Ok-came-clause-spelled
 returns-in-Ok-came-clause-spelled g c = λ given now told last can told_now.
     let began = g.S.Store.disk c.in-Ok.writer.store in
     let still = told_still (g.S.Store.disk c.args.store) began given.files c.in-Ok.ensures.reads told in
     ok_always c.text_of.result _
-    (over_spelled given _ c.args.lines c.as_slice.result.now _ _ now still last c.in-Ok.ensures.ready
+    (over_spelled given (record { workers = c.args.options.threads; keep = None; first = c.in-Ok.writer.state; start = g.S.Store.disk c.in-Ok.writer.store }) c.args.lines c.as_slice.result.now _ _ now still last c.in-Ok.ensures.ready
     (c.in-Ok.ensures.on given told last can.0) (over g c) (sym (ap told_files c.text_of.ensures.reads) ∙ told_now))

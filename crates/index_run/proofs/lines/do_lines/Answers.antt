@@ -3,49 +3,49 @@ use Rattle.index_run.specs.Driving.{Run, base_of}
 use Rattle.index_run.specs.Outcomes.{AreOutcomes}
 use Rattle.index_run.specs.Replied.{CanTell, IsCounted}
 use Rattle.index_run.proofs.Coming.{can_tell, come_start, cut_start, over_of}
-use Rattle.index_run.proofs.Rounding.{cut_done, on_fault, on_ok, stopped_cut}
+use Rattle.index_run.proofs.Rounding.{cut_done, halted_cut, keeps_own, on_fault, on_ok, stopped_cut}
 use Rattle.index_run.proofs.lines.do_lines.Goals as goal
 
 pub returns-in-Err-clause-cut : goal.returns-in-Err-clause-cut
 returns-in-Err-clause-cut g c =
     let w = c.args.writer in
-    let r : Run = record { workers = c.args.threads; first = w.state; start = g.S.Store.disk w.store } in
-    stopped_cut g.S.Store.disk r c.args.lines w _ _ c.stopped.ensures (cut_start r c.args.lines c.requires.ready)
+    let r : Run = record { workers = c.args.threads; keep = c.args.keep; first = w.state; start = g.S.Store.disk w.store } in
+    stopped_cut g.S.Store.disk r c.args.lines w _ _ c.stopped.ensures (cut_start r c.args.lines (record { stand = c.segments_stand.ensures.commit; stay = c.segments_stand.ensures.stay; go_on = c.pruned_go_on.ensures }) c.requires.some c.requires.ready)
 
 pub do_rounds-writer-requires-clause-come : goal.do_rounds-writer-requires-clause-come
 do_rounds-writer-requires-clause-come g c κs within =
     let w = c.args.writer in
-    let r : Run = record { workers = c.args.threads; first = w.state; start = g.S.Store.disk w.store } in
+    let r : Run = record { workers = c.args.threads; keep = c.args.keep; first = w.state; start = g.S.Store.disk w.store } in
     let dealt = c.in-Ok in (
       r,
       c.args.lines,
-      refl,
-      come_start r c.args.lines dealt.dealt.shares.items c.requires.ready c.requires.script.rise dealt.ensures.shares
+      (refl, keeps_own c.args.keep r refl),
+      come_start r c.args.lines dealt.dealt.shares.items (record { stand = c.segments_stand.ensures.commit; stay = c.segments_stand.ensures.stay; go_on = c.pruned_go_on.ensures }) c.requires.some c.requires.ready c.requires.script.rise dealt.ensures.shares
           dealt.ensures.fresh,
     )
 
 pub returns-in-Err-came-clause-cut : goal.returns-in-Err-came-clause-cut
 returns-in-Err-came-clause-cut g c =
     let w = c.args.writer in
-    let r : Run = record { workers = c.args.threads; first = w.state; start = g.S.Store.disk w.store } in
+    let r : Run = record { workers = c.args.threads; keep = c.args.keep; first = w.state; start = g.S.Store.disk w.store } in
     let dealt = c.in-Ok in
     let begun =
-    come_start r c.args.lines dealt.dealt.shares.items c.requires.ready c.requires.script.rise dealt.ensures.shares
+    come_start r c.args.lines dealt.dealt.shares.items (record { stand = c.segments_stand.ensures.commit; stay = c.segments_stand.ensures.stay; go_on = c.pruned_go_on.ensures }) c.requires.some c.requires.ready c.requires.script.rise dealt.ensures.shares
     dealt.ensures.fresh in
-    stopped_cut g.S.Store.disk r c.args.lines _ _ _ c.stopped-in-Err-came.ensures
-    (on_fault _ _ c.in-Err-came.is (c.do_rounds-writer.ensures.cut r c.args.lines refl begun))
+    halted_cut g.S.Store.disk r c.args.lines _ _ _ c.halted.ensures
+    (on_fault _ _ _ c.in-Err-came.is (c.do_rounds-writer.ensures.cut r c.args.lines (refl, keeps_own c.args.keep r refl) begun))
 
 pub outcomes_of-requires : goal.outcomes_of-requires
 outcomes_of-requires g c =
     let w = c.args.writer in
-    let r : Run = record { workers = c.args.threads; first = w.state; start = g.S.Store.disk w.store } in
+    let r : Run = record { workers = c.args.threads; keep = c.args.keep; first = w.state; start = g.S.Store.disk w.store } in
     let dealt = c.in-Ok in
     let begun =
-    come_start r c.args.lines dealt.dealt.shares.items c.requires.ready c.requires.script.rise dealt.ensures.shares
+    come_start r c.args.lines dealt.dealt.shares.items (record { stand = c.segments_stand.ensures.commit; stay = c.segments_stand.ensures.stay; go_on = c.pruned_go_on.ensures }) c.requires.some c.requires.ready c.requires.script.rise dealt.ensures.shares
     dealt.ensures.fresh in
     let places = dealt.dealt.places.items in
     let done = c.in-Ok-came.rounds in
-    let come = (on_ok _ _ _ c.in-Ok-came.is (c.do_rounds-writer.ensures.come r c.args.lines refl begun)).1 in
+    let come = (on_ok _ _ _ c.in-Ok-came.is (c.do_rounds-writer.ensures.come r c.args.lines (refl, keeps_own c.args.keep r refl) begun)).1 in
     let can =
     can_tell r c.args.lines places done.shares.items done.commits.items _ _ _ c.requires.script.callers
     dealt.ensures.places (on_ok _ _ _ c.in-Ok-came.is c.do_rounds-writer.ensures.done)
@@ -64,14 +64,14 @@ outcomes_of-requires g c =
 pub returns-in-Ok-outcomes_of-clause-over : goal.returns-in-Ok-outcomes_of-clause-over
 returns-in-Ok-outcomes_of-clause-over g c =
     let w = c.args.writer in
-    let r : Run = record { workers = c.args.threads; first = w.state; start = g.S.Store.disk w.store } in
+    let r : Run = record { workers = c.args.threads; keep = c.args.keep; first = w.state; start = g.S.Store.disk w.store } in
     let dealt = c.in-Ok in
     let begun =
-    come_start r c.args.lines dealt.dealt.shares.items c.requires.ready c.requires.script.rise dealt.ensures.shares
+    come_start r c.args.lines dealt.dealt.shares.items (record { stand = c.segments_stand.ensures.commit; stay = c.segments_stand.ensures.stay; go_on = c.pruned_go_on.ensures }) c.requires.some c.requires.ready c.requires.script.rise dealt.ensures.shares
     dealt.ensures.fresh in
     let places = dealt.dealt.places.items in
     let done = c.in-Ok-came.rounds in
-    let come = (on_ok _ _ _ c.in-Ok-came.is (c.do_rounds-writer.ensures.come r c.args.lines refl begun)).1 in
+    let come = (on_ok _ _ _ c.in-Ok-came.is (c.do_rounds-writer.ensures.come r c.args.lines (refl, keeps_own c.args.keep r refl) begun)).1 in
     let can =
     can_tell r c.args.lines places done.shares.items done.commits.items _ _ _ c.requires.script.callers
     dealt.ensures.places (on_ok _ _ _ c.in-Ok-came.is c.do_rounds-writer.ensures.done)
@@ -93,11 +93,11 @@ returns-in-Ok-outcomes_of-clause-over g c =
 pub returns-clause-cut : goal.returns-clause-cut
 returns-clause-cut g c =
     let w = c.args.writer in
-    let r : Run = record { workers = c.args.threads; first = w.state; start = g.S.Store.disk w.store } in
+    let r : Run = record { workers = c.args.threads; keep = c.args.keep; first = w.state; start = g.S.Store.disk w.store } in
     let dealt = c.in-Ok in
     let begun =
-    come_start r c.args.lines dealt.dealt.shares.items c.requires.ready c.requires.script.rise dealt.ensures.shares
+    come_start r c.args.lines dealt.dealt.shares.items (record { stand = c.segments_stand.ensures.commit; stay = c.segments_stand.ensures.stay; go_on = c.pruned_go_on.ensures }) c.requires.some c.requires.ready c.requires.script.rise dealt.ensures.shares
     dealt.ensures.fresh in
-    let come = (on_ok _ _ _ c.in-Ok-came.is (c.do_rounds-writer.ensures.come r c.args.lines refl begun)).1 in
+    let come = (on_ok _ _ _ c.in-Ok-came.is (c.do_rounds-writer.ensures.come r c.args.lines (refl, keeps_own c.args.keep r refl) begun)).1 in
     stopped_cut g.S.Store.disk r c.args.lines _ _ _ c.stopped-in-Err-outcomes_of.ensures
     (cut_done r c.args.lines c.in-Ok-came.rounds.shares.items come.log _ _ come.done)

@@ -2,14 +2,14 @@ use Rattle.std.proofs.lemmas.Result.{IfOk-weaker}
 use Rattle.std.proofs.Common.{length, arith}
 use Rattle.index_run.specs.Rounds.{doing_lines}
 use Rattle.index_run.proofs.RoundCount.{few_last, few_open}
-use Rattle.index_run.proofs.Rounding.{cut_done, on_fault, on_ok, stopped_cut}
+use Rattle.index_run.proofs.Rounding.{cut_done, halted_cut, on_fault, on_ok, stopped_cut}
 use Rattle.index_run.proofs.lines.do_rounds.Goals as goal
 
 pub returns-in-Err-clause-cut : goal.returns-in-Err-clause-cut
 returns-in-Err-clause-cut g c = λ r lines size come.
     let at = c.loop-alloc in
-    stopped_cut g.S.Store.disk r lines _ _ _ c.stopped.ensures
-    (on_fault _ _ c.in-Err.is
+    halted_cut g.S.Store.disk r lines _ _ _ c.halted.ensures
+    (on_fault _ _ _ c.in-Err.is
     (c.do_round-round.ensures.cut r lines at.commits.items size (at.invariant.come r lines size come)))
 
 pub returns-in-Err-note-clause-cut : goal.returns-in-Err-note-clause-cut
@@ -18,7 +18,7 @@ returns-in-Err-note-clause-cut g c = λ r lines size come.
     let next =
     on_ok _ _ _ c.in-Ok.is
     (c.do_round-round.ensures.come r lines at.commits.items size (at.invariant.come r lines size come)) in
-    stopped_cut g.S.Store.disk r lines _ _ _ c.stopped-in-Err-note.ensures (cut_done r lines _ next.log _ _ next.done)
+    stopped_cut g.S.Store.disk r lines _ _ _ c.stopped.ensures (cut_done r lines _ next.log _ _ next.done)
 
 pub returns-clause-come : goal.returns-clause-come
 returns-clause-come g c = λ r lines size come.

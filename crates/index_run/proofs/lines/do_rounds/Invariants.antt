@@ -1,13 +1,13 @@
 use Rattle.std.proofs.Common.{◌≡◌, ◌+◌, ◌≤◌, List, [], false}
 use Rattle.op_script.specs.declared.script.Line.{Line}
 use Rattle.line_shares.specs.Shares.{open_count}
-use Rattle.index_run.specs.Driving.{HasCome, Run}
+use Rattle.index_run.specs.Driving.{HasCome, IsRunBy, Run}
 use Rattle.index_run.proofs.lines.do_rounds.Given as goal
 
 abbrev pub invariant-loop-alloc : goal.invariant-loop-alloc
 invariant-loop-alloc g l =
     record {
-      come : (r : Run) (lines : List Line) → r.workers ≡ l.fn.threads
+      come : (r : Run) (lines : List Line) → IsRunBy l.fn.threads l.fn.keep r
           → HasCome r lines l.fn.shares.items [] [] l.fn.writer.state (g.S.Store.disk l.fn.writer.store)
           → HasCome r lines l.shares.items l.commits.items l.pairs l.writer.state (g.S.Store.disk l.writer.store);
       out : l.writer.state.out ≡ false;

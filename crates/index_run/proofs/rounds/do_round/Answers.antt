@@ -6,15 +6,16 @@ use Rattle.index_writer.specs.declared.state.State.{State}
 use Rattle.index_writer.specs.declared.writer.IndexWriter.{IndexWriter}
 use Rattle.index_run.specs.Driving.{EndsRound, HasCome, IsCut, IsRound}
 use Rattle.index_run.specs.Rounds.{given}
+use Rattle.index_run.specs.declared.rounds.RanFault.TheVariants as halt
 use Rattle.index_run.proofs.Coming.{come_begun, come_on, round_done}
-use Rattle.index_run.proofs.Rounding.{cut_done, on_fault, on_ok, stopped_cut}
+use Rattle.index_run.proofs.Rounding.{cut_done, halted_cut, on_fault, on_ok, stopped_cut}
 use Rattle.index_run.proofs.Workers.{at_work, fewer_open}
 use Rattle.index_run.proofs.rounds.do_round.Goals as goal
 
 pub returns-in-Err-clause-cut : goal.returns-in-Err-clause-cut
 returns-in-Err-clause-cut g c = λ r lines commits size come.
     stopped_cut g.S.Store.disk r lines _ _ _ c.stopped.ensures
-    (subst (IsCut r lines) (sym (ap (λ s. g.S.Store.disk s) c.begin_round.ensures.store))
+    (subst (IsCut r lines (halt.Writer c.in-Err.fault)) (sym (ap (λ s. g.S.Store.disk s) c.begin_round.ensures.store))
     (cut_done r lines c.args.shares.items come.log c.args.writer.state _ come.done))
 
 pub returns-in-Err-told_counts-clause-cut : goal.returns-in-Err-told_counts-clause-cut
@@ -33,7 +34,7 @@ run_round-writer-requires-clause-workers g c κs within =
     let q = c.requires.come in
     let shares = c.args.shares.items in
     at_work c.args.threads c.args.writer.state c.in-Ok.round q.1 shares c.in-Ok.ensures.begun
-    (subst (λ (n : ℕ). AreShares n q.1 shares) q.3 q.4.done.shares_are)
+    (subst (λ (n : ℕ). AreShares n q.1 shares) q.3.0 q.4.done.shares_are)
 
 pub returns-in-Err-came-clause-cut : goal.returns-in-Err-came-clause-cut
 returns-in-Err-came-clause-cut g c = λ r lines commits size come.
@@ -43,9 +44,9 @@ returns-in-Err-came-clause-cut g c = λ r lines commits size come.
     let begun =
     come_begun r lines shares commits c.args.pairs w.state v.state (g.S.Store.disk w.store) (g.S.Store.disk v.store)
     (ap (λ s. g.S.Store.disk s) c.begin_round.ensures.store) c.in-Ok.ensures.on c.begin_round.ensures.sound come in
-    stopped_cut g.S.Store.disk r lines _ _ _ c.stopped-in-Err-came.ensures
-    (subst (λ (x : IndexWriter g.row.S.Denot). IsCut r lines (g.S.Store.disk x.store)) (sym c.let_go.ensures)
-    (on_fault _ _ c.in-Err-came.is (c.run_round-writer.ensures.beside.0.cut r lines shares commits begun)))
+    halted_cut g.S.Store.disk r lines _ _ _ c.halted.ensures
+    (subst (λ (x : IndexWriter g.row.S.Denot). IsCut r lines c.in-Err-came.fault (g.S.Store.disk x.store)) (sym c.let_go.ensures)
+    (on_fault _ _ _ c.in-Err-came.is (c.run_round-writer.ensures.beside.0.cut r lines shares commits size.1 begun)))
 
 pub returns-in-Err-back-clause-cut : goal.returns-in-Err-back-clause-cut
 returns-in-Err-back-clause-cut g c = λ r lines commits size come.
@@ -55,7 +56,7 @@ returns-in-Err-back-clause-cut g c = λ r lines commits size come.
     let begun =
     come_begun r lines shares commits c.args.pairs w.state v.state (g.S.Store.disk w.store) (g.S.Store.disk v.store)
     (ap (λ s. g.S.Store.disk s) c.begin_round.ensures.store) c.in-Ok.ensures.on c.begin_round.ensures.sound come in
-    let next = on_ok _ _ _ c.in-Ok-came.is (c.run_round-writer.ensures.beside.0.come r lines shares commits begun) in
+    let next = on_ok _ _ _ c.in-Ok-came.is (c.run_round-writer.ensures.beside.0.come r lines shares commits size.1 begun) in
     stopped_cut g.S.Store.disk r lines _ _ _ c.stopped-in-Err-back.ensures (cut_done r lines shares next.log _ _ next.done)
 
 pub returns-in-Err-part-clause-cut : goal.returns-in-Err-part-clause-cut
@@ -66,7 +67,7 @@ returns-in-Err-part-clause-cut g c = λ r lines commits size come.
     let begun =
     come_begun r lines shares commits c.args.pairs w.state v.state (g.S.Store.disk w.store) (g.S.Store.disk v.store)
     (ap (λ s. g.S.Store.disk s) c.begin_round.ensures.store) c.in-Ok.ensures.on c.begin_round.ensures.sound come in
-    let next = on_ok _ _ _ c.in-Ok-came.is (c.run_round-writer.ensures.beside.0.come r lines shares commits begun) in
+    let next = on_ok _ _ _ c.in-Ok-came.is (c.run_round-writer.ensures.beside.0.come r lines shares commits size.1 begun) in
     stopped_cut g.S.Store.disk r lines _ _ _ c.stopped-in-Err-part.ensures (cut_done r lines shares next.log _ _ next.done)
 
 pub finish_round-requires-clause-round : goal.finish_round-requires-clause-round
@@ -84,14 +85,14 @@ finish_round-requires-clause-round g c κs within =
     come_begun r lines shares commits c.args.pairs w.state v.state (g.S.Store.disk w.store) (g.S.Store.disk v.store)
     (ap (λ s. g.S.Store.disk s) c.begin_round.ensures.store) c.in-Ok.ensures.on c.begin_round.ensures.sound come in
     let wrote = c.run_round-writer.ensures.beside.0 in
-    let next = on_ok _ _ _ c.in-Ok-came.is (wrote.come r lines shares commits begun) in
+    let next = on_ok _ _ _ c.in-Ok-came.is (wrote.come r lines shares commits size.1 begun) in
     let none = on_ok _ _ _ c.in-Ok-came.is wrote.written in
     let back = c.in-Ok-part.ensures in
     let on = c.in-Ok.ensures.on in
     let news = c.in-Ok-part.parted.1.items in
     let round =
     round_done r lines _ _ c.args.threads w.state _ c.in-Ok.round shares news c.in-Ok-back.worked.items c.in-Ok-part.parted.0 _
-    size next none (wrote.same.0 ∙ ap (λ (s : State). s.out) on)
+    size.0 next none (wrote.same.0 ∙ ap (λ (s : State). s.out) on)
     (on_ok _ _ _ c.in-Ok-came.is wrote.upto ∙ ap (λ (s : State). s.published.upto) on) (wrote.same.1 ∙ ap (λ (s : State). s.buffer) on)
     c.in-Ok.ensures.begun (on_ok _ _ _ c.in-Ok-back.is c.run_round-writer.ensures.works) back.came back.queue back.writers back.pieces back.shares in
     let mid = c.run_round-writer.result.0.writer in
@@ -116,14 +117,14 @@ returns-in-Ok-finish_round-clause-come g c = λ r lines commits size come.
     come_begun r lines shares commits c.args.pairs w.state v.state (g.S.Store.disk w.store) (g.S.Store.disk v.store)
     (ap (λ s. g.S.Store.disk s) c.begin_round.ensures.store) c.in-Ok.ensures.on c.begin_round.ensures.sound come in
     let wrote = c.run_round-writer.ensures.beside.0 in
-    let next = on_ok _ _ _ c.in-Ok-came.is (wrote.come r lines shares commits begun) in
+    let next = on_ok _ _ _ c.in-Ok-came.is (wrote.come r lines shares commits size.1 begun) in
     let none = on_ok _ _ _ c.in-Ok-came.is wrote.written in
     let back = c.in-Ok-part.ensures in
     let on = c.in-Ok.ensures.on in
     let news = c.in-Ok-part.parted.1.items in
     let round =
     round_done r lines _ _ c.args.threads w.state _ c.in-Ok.round shares news c.in-Ok-back.worked.items c.in-Ok-part.parted.0 _
-    size next none (wrote.same.0 ∙ ap (λ (s : State). s.out) on)
+    size.0 next none (wrote.same.0 ∙ ap (λ (s : State). s.out) on)
     (on_ok _ _ _ c.in-Ok-came.is wrote.upto ∙ ap (λ (s : State). s.published.upto) on) (wrote.same.1 ∙ ap (λ (s : State). s.buffer) on)
     c.in-Ok.ensures.begun (on_ok _ _ _ c.in-Ok-back.is c.run_round-writer.ensures.works) back.came back.queue back.writers back.pieces back.shares in
     let mid = c.run_round-writer.result.0.writer in
@@ -157,7 +158,7 @@ returns-clause-cut g c = λ r lines commits size come.
     let begun =
     come_begun r lines shares commits c.args.pairs w.state v.state (g.S.Store.disk w.store) (g.S.Store.disk v.store)
     (ap (λ s. g.S.Store.disk s) c.begin_round.ensures.store) c.in-Ok.ensures.on c.begin_round.ensures.sound come in
-    let next = on_ok _ _ _ c.in-Ok-came.is (c.run_round-writer.ensures.beside.0.come r lines shares commits begun) in
+    let next = on_ok _ _ _ c.in-Ok-came.is (c.run_round-writer.ensures.beside.0.come r lines shares commits size.1 begun) in
     stopped_cut g.S.Store.disk r lines _ _ _ c.stopped-in-Err-finish_round.ensures
-    (subst (IsCut r lines) (sym (ap (λ s. g.S.Store.disk s) c.finish_round.ensures.store))
+    (subst (IsCut r lines (halt.Writer c.in-Err-finish_round.fault)) (sym (ap (λ s. g.S.Store.disk s) c.finish_round.ensures.store))
     (cut_done r lines shares next.log _ _ next.done))

@@ -1,0 +1,260 @@
+-- A run that gives old commits up as it goes on: one that was done, and one that stopped.
+use Rattle.std.proofs.Common.{◌≡◌, ◌∙◌, ◌⊎◌, inl, inr, ℕ, ◌+◌, ◌*◌, ◌≤◌, ◌^◌, Bool, true, false, List, [], ◌∷◌, ◌++◌, length, Some, None, Ok, Err, Result, refl, sym, ap, subst, Vec, arith}
+use Rattle.std.specs.Prelude.{◌||◌, Option, Contains, IfErr, IfOk, IsSomeAnd}
+use Rattle.std.specs.List.{AllByRecursion}
+use Rattle.std.specs.declared.alloc.Global.{Global}
+use Rattle.std.proofs.lemmas.List.{append-nil}
+use Rattle.std.proofs.lemmas.List.Elements.{All-contains, All-from_recursion}
+use Rattle.ix_base.specs.declared.damaged.Damaged.{Damaged}
+use Rattle.ix_base.specs.declared.document.Row.{Row}
+use Rattle.ix_base.specs.declared.query.Query.{Query}
+use Rattle.ix_base.specs.Counts.{doc_count}
+use Rattle.ix_outside.specs.Calls.{LeavesOnly}
+use Rattle.ix_outside.proofs.CallLaws.{leaves_less}
+use Rattle.ix_outside.specs.Crash.{MayHold}
+use Rattle.ix_outside.specs.Disk.{Disk, told_files}
+use Rattle.ix_outside.specs.Files.{Files}
+use Rattle.commit_point.specs.Holds.{AreKept}
+use Rattle.commit_pruning.specs.Pruning.{MayBePruned}
+use Rattle.op_script.specs.Shape.{LinesRise}
+use Rattle.op_script.specs.declared.script.Act.TheVariants.{Search}
+use Rattle.op_script.specs.declared.script.Line.{Line}
+use Rattle.report_text.specs.declared.fault.Fault.TheVariants as fault
+use Rattle.run_report.specs.declared.outcome.Answer.{Answer}
+use Rattle.run_report.specs.declared.outcome.Answer.TheVariants.{Searched}
+use Rattle.run_report.specs.declared.outcome.Outcome.{Outcome}
+use Rattle.run_report.specs.Searching.{AnswerHolds, AnswerReads, CanRead, CanSearch, SearchesDamaged}
+use Rattle.run_report.specs.Texts.{texts}
+use Rattle.run_log.proofs.AgainLaws.{again, commits_run_on}
+use Rattle.run_log.proofs.CountLaws.{same_count}
+use Rattle.run_log.proofs.OnlyLaws.{only_itself}
+use Rattle.run_log.specs.Headline.{CanRun, CanRunOn, Given, GivesBack, HasAll, HasRoom, HasSome, Interleaves, IsKept, numbered, report, rows_at}
+use Rattle.index_writer.specs.declared.state.State.{State}
+use Rattle.index_run.specs.Causes.{IsOneOf, LeavesStoreBy, stop_status}
+use Rattle.index_run.specs.Commands.{form_text}
+use Rattle.index_run.specs.declared.rounds.RanFault.{RanFault}
+use Rattle.index_run.specs.declared.stop.Stop.{Stop}
+use Rattle.index_run.specs.declared.stop.Stop.TheVariants as stop
+use Rattle.index_run.specs.declared.telling.Form.TheVariants.{Report}
+use Rattle.index_run.specs.Doing.{IsOnGiven}
+use Rattle.index_run.specs.Driving.{IsCut, IsDocs, IsOver, Run, base_of}
+use Rattle.index_run.specs.Keeping.{AreSpelled, Left, RunsLeaving, StopsKeeping, has_search, is_search}
+use Rattle.index_run.specs.KeptDisk.{BeginsOnLast, IsDiskLeft, LeftSome, StandsLeft}
+use Rattle.index_run.specs.Leaving.{HasSomeFront, first_numbers}
+use Rattle.index_run.specs.Outcomes.{AreOutcomes, AsksBy, IsAskedBy, rows_of}
+use Rattle.index_run.proofs.DiskAfter.{some_onto, the_files}
+use Rattle.index_run.proofs.Finish.{listed_outside, numbering_of, outcomes_given}
+use Rattle.index_run.proofs.LeftCommits.{left_none}
+use Rattle.index_run.proofs.OutcomeLaws.{asked_by, texts_with_none}
+use Rattle.index_run.proofs.Pruning.{can_run_left}
+use Rattle.index_run.proofs.RunEnds.{has_all, has_first}
+use Rattle.index_run.proofs.Searchable.{SearchesAt, each_answer, holds_other, no_rows, reads_other, searches_last}
+
+-- the run, where it keeps so many commits
+abbrev pub some : ℕ → Run → Run
+some keep r = record r { keep = Some keep }
+
+begins_on : (g : Given) (first : State) (start : Option Disk) → told_files start ≡ Some g.files → IsOnGiven g first
+    → BeginsOnLast first g.files start
+begins_on g first start told on = record { told = told; goes_on = on.goes_on; on_last = on.on_last }
+
+-- ---- the log's commits, where some were given up
+
+some_given : (g : Given) (first : State) (log : List Line) (f : Files) → IsOnGiven g first → HasSomeFront first log g.files f
+    → HasSome g log f
+some_given g first log f on front =
+    subst (λ (ls : List Line). HasSome g ls f) (append-nil log) (
+      front.0,
+      has_first g first log [] front.0 (first.published.next_id + 2 * length log) g.files f on front.1 (omega arith)
+          (only_itself g.files) on.goes_on front.2,
+    )
+
+left_given : (keep : ℕ) (g : Given) (first : State) (log : List Line) (f : Files) → IsOnGiven g first
+    → LeftSome keep first log g.files f → Left keep (HasSome g log) f
+left_given keep g first log f on left = (left.0, some_given g first log left.0 on left.1, left.2)
+
+left_all : (keep : ℕ) (g : Given) (first w : State) (log : List Line) (f : Files) → IsOnGiven g first
+    → w.since ≤ first.published.next_id + 2 * length log
+    → StandsLeft keep first log (first_numbers first log (length log)) w g.files f → Left keep (HasAll g log) f
+left_all keep g first w log f on high stands = (
+  stands.was,
+  has_all g first w log g.files stands.was on high (only_itself g.files) on.goes_on stands.stands,
+  stands.left,
+)
+
+-- ---- a run that stopped
+
+stops_left : (keep : ℕ) (g : Given) (log : List Line) (old now : Option Disk) → 1 ≤ keep → CanRun g → Interleaves g.lines log
+    → IsSomeAnd (told_files now) (Left keep (HasSome g log)) → (IsKept g old → LeavesOnly old now (Left keep (HasSome g log)))
+    → StopsKeeping keep g old now
+stops_left keep g log old now many can numbering has crash = record {
+  log = log;
+  numbering = numbering;
+  files = has;
+  crash = crash;
+  again = λ room. some_onto (told_files now) (Left keep (HasSome g log)) CanRunOn (λ f left. on_left room f left) has;
+  restarts = λ are room. leaves_less old now (Left keep (HasSome g log)) CanRunOn (crash are) (λ c left. on_left room c left);
+}
+  where
+    on_left : HasRoom g → (f : Files) → Left keep (HasSome g log) f → CanRunOn f
+    on_left room f left = can_run_left keep left.0 f many left.2 (commits_run_on g log left.0 can numbering room left.1)
+
+pub cut_leaves : (keep : ℕ) (g : Given) (r : Run) (lines : List Line) (why : RanFault) (now : Option Disk) → 1 ≤ keep → g.lines ≡ lines
+    → CanRun g → told_files r.start ≡ Some g.files → IsOnGiven g r.first → IsCut (some keep r) lines why now
+    → StopsKeeping keep g r.start now
+cut_leaves keep g r lines why now many same can told on cut =
+    let left = cut.stopped g.files (begins_on g r.first r.start told on) in
+    stops_left keep g cut.log r.start now many can (numbering_of g.lines lines cut.log same cut.numbering)
+    (some_onto (told_files now) (LeftSome keep r.first cut.log g.files) (Left keep (HasSome g cut.log))
+    (λ f h. left_given keep g r.first cut.log f on h) left.files)
+    (λ are.
+    leaves_less r.start now (LeftSome keep r.first cut.log g.files) (Left keep (HasSome g cut.log)) (left.crash are)
+    (λ c h. left_given keep g r.first cut.log c on h))
+
+-- ---- a run that was done
+
+module _ (keep : ℕ) (g : Given) (r : Run) (lines : List Line) (outcomes : List Outcome) (w : State) (now : Option Disk)
+    (told : told_files r.start ≡ Some g.files) (on : IsOnGiven g r.first) (o : IsOver (some keep r) lines outcomes w now) where
+  left_of : IsDiskLeft keep r.first o.log (length o.log) w g.files r.start now
+  left_of = o.disk.left g.files (begins_on g r.first r.start told on)
+
+  files_of : IsSomeAnd (told_files now) (Left keep (HasAll g o.log))
+  files_of =
+      some_onto (told_files now) (StandsLeft keep r.first o.log (first_numbers r.first o.log (length o.log)) w g.files)
+      (Left keep (HasAll g o.log)) (λ f h. left_all keep g r.first w o.log f on o.disk.high h) left_of.files
+
+  crash_of : IsKept g r.start → LeavesOnly r.start now (Left keep (HasSome g o.log))
+  crash_of are =
+      leaves_less r.start now (LeftSome keep r.first o.log g.files) (Left keep (HasSome g o.log)) (left_of.crash are)
+      (λ c h. left_given keep g r.first o.log c on h)
+
+  pub over_leaves : g.lines ≡ lines → CanRun g → StopsKeeping keep g r.start now
+  over_leaves same can =
+      stops_left keep g o.log r.start now o.disk.some can (numbering_of g.lines lines o.log same o.numbering)
+      (some_onto (told_files now) (Left keep (HasAll g o.log)) (Left keep (HasSome g o.log))
+      (λ f all. (all.0, (length o.log, all.1), all.2)) files_of)
+      crash_of
+
+  -- each commit is kept then, where each was kept at the beginning
+  pub over_settles : IsKept g r.start → (f : Files) → told_files now ≡ Some f → AreKept f (MayHold now)
+  over_settles are f told_now = left_of.kept are f told_now
+
+  again_of : g.lines ≡ lines → CanRun g → IsKept g r.start → HasRoom g → GivesBack now
+  again_of same can are room =
+      let found = the_files (told_files now) (Left keep (HasAll g o.log)) files_of in
+      let count : length o.log ≡ length (numbered g.lines) =
+      same_count o.log (numbered lines) o.numbering ∙ sym (ap (λ (ls : List Line). length (numbered ls)) same) in
+      let left = found.2 in
+      let next =
+      can_run_left keep left.0 found.0 o.disk.some left.2
+      (again g o.log left.0 can (omega (arith, room, count)) (length o.log, left.1)) in (
+        next.0,
+        found.1 ∙ ap Some (sym next.1),
+        next.2,
+        subst (λ (f : Files). AreKept f (MayHold now)) (sym next.1) (over_settles are found.0 found.1),
+      )
+
+  pub over_runs_on : g.lines ≡ lines → CanRun g → (text : List Line → List ℕ) (wrote : List ℕ → Type 0) → wrote (text o.log)
+      → RunsLeaving keep g text wrote r.start now
+  over_runs_on same can text wrote written = record {
+    log = o.log;
+    numbering = numbering_of g.lines lines o.log same o.numbering;
+    written = written;
+    files = files_of;
+    crash = crash_of;
+    again = again_of same can;
+  }
+
+-- ---- lines of which none searches
+
+search_among : (before rest : List Line) (l : Line) → is_search l.act ≡ true → has_search (before ++ l ∷ rest) ≡ true
+search_among [] rest l is = ap (λ (b : Bool). b || has_search rest) is
+search_among (x ∷ before) rest l is = by (is_search x.act) (search_among before rest l is)
+  where
+    by : (b : Bool) → has_search (before ++ l ∷ rest) ≡ true → (b || has_search (before ++ l ∷ rest)) ≡ true
+    by true there = refl
+    by false there = there
+
+none_asks : (base : ℕ) (log lines : List Line) (s : ℕ) (query : Query) → has_search lines ≡ false → AsksBy base log lines s query → ⊥
+none_asks base log lines s query none asks =
+    let among = search_among asks.before asks.rest asks.line (ap is_search asks.search) in
+    let both : has_search lines ≡ true = ap has_search asks.at ∙ among in cc
+
+pub plain_search : (base : ℕ) (log lines : List Line) (f : Files) (by : ℕ → List Row) (outcomes : List Outcome) → has_search lines ≡ false
+    → by 0 ≡ [] → AllByRecursion (IsAskedBy base log lines) outcomes → CanSearch f by outcomes
+plain_search base log lines f by outcomes none nothing asked = record {
+  none = nothing;
+  each = All-from_recursion (λ (o : Outcome). AnswerHolds f by o.answer) outcomes
+      (each_answer (AnswerHolds f by) base log lines outcomes (λ s query asks. absurd (none_asks base log lines s query none asks))
+      (holds_other f by) asked);
+}
+
+plain_read : (base : ℕ) (log lines : List Line) (f : Files) (outcomes : List Outcome) → has_search lines ≡ false
+    → AllByRecursion (IsAskedBy base log lines) outcomes → CanRead f outcomes
+plain_read base log lines f outcomes none asked =
+    All-from_recursion (λ (o : Outcome). AnswerReads f o.answer) outcomes
+    (each_answer (AnswerReads f) base log lines outcomes (λ s query asks. absurd (none_asks base log lines s query none asks))
+    (reads_other f) asked)
+
+-- nothing is read for their report
+pub plain_whole : (r : Run) (lines : List Line) (outcomes : List Outcome) (w : State) (now told : Option Disk) (damaged : Damaged)
+    → has_search lines ≡ false → IsOver r lines outcomes w now
+    → ((o : Outcome) × Contains outcomes o × SearchesDamaged (told_files told) o.answer damaged) → ⊥
+plain_whole r lines outcomes w now told damaged none over found =
+    let asks =
+    All-contains (IsAskedBy (base_of r) over.log lines) outcomes found.0
+    (All-from_recursion (IsAskedBy (base_of r) over.log lines) outcomes (asked_by (IsDocs r.first over.log) (base_of r) over.log lines outcomes over.outcomes)) found.1
+    found.2.number found.2.query found.2.searches in
+    none_asks (base_of r) over.log lines found.2.number found.2.query none asks
+
+-- the report was made
+pub plain_runs : (keep : ℕ) (g : Given) (r : Run) (lines : List Line) (outcomes : List Outcome) (w : State) (now : Option Disk)
+    (result : Result (Vec ℕ Global) Stop) → has_search lines ≡ false → g.lines ≡ lines → LinesRise 1 lines → CanRun g
+    → told_files r.start ≡ Some g.files → IsOnGiven g r.first → IsOver (some keep r) lines outcomes w now
+    → ((f : Files) (by : ℕ → List Row) → told_files now ≡ Some f → CanSearch f by outcomes → SearchesAt w g.base outcomes by
+    → IfOk result (λ bytes. bytes.items ≡ texts by outcomes))
+    → IfOk result (λ bytes. RunsLeaving keep g (form_text Report g) (λ said. bytes.items ≡ said) r.start now)
+plain_runs keep g r lines outcomes w now (Err s) none same rise can told on o text = tt
+plain_runs keep g r lines outcomes w now (Ok bytes) none same rise can told on o text =
+    over_runs_on keep g r lines outcomes w now told on o same can (form_text Report g) (λ (said : List ℕ). bytes.items ≡ said)
+    (text found.0 (rows_of g.base g.rows o.log) found.1
+    (plain_search g.base o.log lines found.0 (rows_of g.base g.rows o.log) outcomes none refl asked)
+    (searches_last Docs g r.first o.log lines outcomes w can on o.writer rise o.numbering are)
+    ∙ texts_with_none g.base g.rows o.log lines outcomes (no_rows g can) are
+    ∙ ap (λ (ls : List Line). report g.base g.rows ls o.log) (sym same))
+  where
+    Docs : ℕ → ℕ → Type 0
+    Docs s docs = docs ≡ doc_count (rows_at g.base g.rows o.log s)
+
+    found : (f : Files) × (told_files now ≡ Some f) × Left keep (HasAll g o.log) f
+    found = the_files (told_files now) (Left keep (HasAll g o.log)) (files_of keep g r lines outcomes w now told on o)
+
+    are : AreOutcomes Docs g.base o.log [] lines outcomes
+    are = outcomes_given g r o.log lines outcomes on o.outcomes
+
+    asked : AllByRecursion (IsAskedBy g.base o.log lines) outcomes
+    asked = asked_by Docs g.base o.log lines outcomes are
+
+-- a text of which nothing is damaged stops with one of these
+pub text_outside : (result : Result (Vec ℕ Global) Stop)
+    → IfErr result (λ s. (s ≡ stop.Fault fault.Store) ⊎ ((s ≡ stop.NoMemory)
+    ⊎ ((damaged : Damaged) × (s ≡ stop.Fault (fault.Damaged damaged)))))
+    → ((damaged : Damaged) → result ≡ Err (stop.Fault (fault.Damaged damaged)) → ⊥)
+    → IfErr result (λ s. IsOneOf (stop_status s) (4 ∷ 7 ∷ []))
+text_outside (Ok bytes) others whole = tt
+text_outside (Err s) (inl e) whole = listed_outside s (inl e)
+text_outside (Err s) (inr (inl e)) whole = listed_outside s (inr e)
+text_outside (Err s) (inr (inr found)) whole = absurd (whole found.0 (ap Err found.1))
+
+-- and at none of the statuses that leave the store as it was
+pub text_stays : (keep : ℕ) (result : Result (Vec ℕ Global) Stop) (start now : Option Disk)
+    → IfErr result (λ s. (s ≡ stop.Fault fault.Store) ⊎ ((s ≡ stop.NoMemory)
+    ⊎ ((damaged : Damaged) × (s ≡ stop.Fault (fault.Damaged damaged)))))
+    → ((damaged : Damaged) → result ≡ Err (stop.Fault (fault.Damaged damaged)) → ⊥)
+    → IfErr result (λ s. LeavesStoreBy (Some keep) (stop_status s) → now ≡ start)
+text_stays keep (Ok bytes) start now others whole = tt
+text_stays keep (Err s) start now (inl e) whole = λ listed.
+    absurd (let store : LeavesStoreBy (Some keep) 7 = subst (λ (x : Stop). LeavesStoreBy (Some keep) (stop_status x)) e listed in cc)
+text_stays keep (Err s) start now (inr (inl e)) whole = λ listed.
+    absurd (let memory : LeavesStoreBy (Some keep) 4 = subst (λ (x : Stop). LeavesStoreBy (Some keep) (stop_status x)) e listed in cc)
+text_stays keep (Err s) start now (inr (inr found)) whole = absurd (whole found.0 (ap Err found.1))
