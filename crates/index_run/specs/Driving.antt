@@ -1,6 +1,7 @@
 -- A run under way: between two rounds, and at the end of one.
 use Rattle.std.specs.Prelude.{◌≡◌, ℕ, ◌+◌, ◌≤◌, List, [], ◌∷◌, ◌++◌, length, map, Option, Some, None, IsSomeAnd, true, false}
 use Rattle.std.specs.Prelude.{IfErr, IfOk, IfSome, OnOk}
+use Rattle.std.specs.Global.{Vec}
 use Rattle.std.specs.List.{AllByRecursion, AllZip}
 use Rattle.ix_base.specs.Counts.{doc_count}
 use Rattle.ix_base.specs.declared.damaged.Damaged.{Damaged}
@@ -10,12 +11,16 @@ use Rattle.ix_outside.specs.Crash.{MayHold}
 use Rattle.ix_outside.specs.Disk.{Disk, Told, told_files}
 use Rattle.ix_outside.specs.Files.{Files}
 use Rattle.ix_outside.specs.Images.{Reaches}
-use Rattle.commit_point.specs.Holds.{AreKept, Pairs}
+use Rattle.commit_point.specs.Holds.{AreKept}
 use Rattle.commit_point.specs.Steps.{KeepsMade, OnlyCommits}
 use Rattle.op_script.specs.Shape.{LinesRise}
 use Rattle.op_script.specs.declared.script.Line.{Line}
 use Rattle.worker_tasks.specs.declared.share.Share.{Share}
 use Rattle.line_shares.specs.Shares.{AreShares, GoesOn}
+use Rattle.line_shares.specs.Asks.{AreAsks}
+use Rattle.line_shares.specs.Committed.{no_commit}
+use Rattle.line_shares.specs.declared.asks.Ask.{Ask}
+use Rattle.line_shares.specs.declared.committed.Committed.{Committed}
 use Rattle.line_shares.specs.Tells.{AreTold, IsLogOf, pairs_since}
 use Rattle.run_report.specs.declared.outcome.Outcome.{Outcome}
 use Rattle.index_writer.specs.declared.round.CommitInfo.{CommitInfo}
@@ -25,7 +30,9 @@ use Rattle.index_writer.specs.declared.writer.IndexWriter.{IndexWriter}
 use Rattle.index_writer.specs.Ready.{HasRows, IsSound}
 use Rattle.index_writer.specs.Rounds.{ArePartsOf}
 use Rattle.index_writer.specs.Storing.{GoesOn as WriterGoesOn}
-use Rattle.run_log.specs.Headline.{Given, HasSome, Interleaves, commit_numbers, pairs_at, rows_at}
+use Rattle.run_log.specs.Headline.{Given, HasSome, Interleaves, commit_numbers, number_of, pairs_at, rows_at}
+use Rattle.run_log.specs.Numbering.{HasLine}
+use Rattle.index_run.specs.Answered.{AreAnswered, IsFound}
 use Rattle.index_run.specs.Doing.{CanBegin, IsOnGiven, IsWriterOn}
 use Rattle.index_run.specs.Keeping.{FindsStaying}
 use Rattle.index_run.specs.Promises.{CanKeep}
@@ -61,9 +68,10 @@ abbrev pub number_in : Option ℕ → List ℕ
 number_in None = []
 number_in (Some s) = s ∷ []
 
--- where a commit is pending, these are the pairs of its line
-abbrev pub AreDuePairs : ℕ → List Line → Option ℕ → Pairs → Type 0
-AreDuePairs base log pending pairs = IfSome pending (λ s. pairs ≡ pairs_at base log s)
+-- where a commit is pending, this is its line in the log, with its pairs
+abbrev pub IsDueCommit : ℕ → List Line → Option ℕ → Committed → Type 0
+IsDueCommit base log pending due = IfSome pending (λ s. HasLine log due.line × (number_of base log due.line ≡ s)
+    × (due.pairs ≡ pairs_at base log s))
 
 -- The writer is on the log. The disk has the log's commits, but for one that is pending.
 pub record IsAt (r : Run) (log : List Line) (w : State) (now : Option Disk) : Type 0 where
@@ -92,15 +100,34 @@ pub record HasDone (r : Run) (lines : List Line) (shares : List Share) (log : Li
   pub told : AreTold r.workers (base_of r) lines shares log
 
 -- The same, with the number of each commit that was written and how many rows it has. Behind these the log has the
--- commit that is pending, with these pairs, if one is.
-pub record HasCome (r : Run) (lines : List Line) (shares : List Share) (commits : List (ℕ × ℕ)) (pairs : Pairs)
-    (w : State) (now : Option Disk)
+-- commit that is pending, by this line, if one is.
+pub record HasCome (r : Run) (lines : List Line) (shares : List Share) (log : List Line) (commits : List (ℕ × ℕ))
+    (due : Committed) (w : State) (now : Option Disk)
     : Type 0 where
-  pub log : List Line
   pub done : HasDone r lines shares log w now
   pub numbers : map (λ (c : ℕ × ℕ). c.0) commits ++ number_in w.pending ≡ commit_numbers (base_of r) log
   pub docs : AllByRecursion (λ (c : ℕ × ℕ). IsDocs r.first log c.0 c.1) commits
-  pub due_pairs : AreDuePairs (base_of r) log w.pending pairs
+  pub is_due : IsDueCommit (base_of r) log w.pending due
+
+-- A run of these lines begins: nothing was told, and the asks of each caller are its search lines.
+abbrev pub Begins : Run → List Line → List Share → List (Vec Ask) → State → Option Disk → Type 0
+Begins r lines shares asks w now = AreAsks lines asks × HasCome r lines shares [] [] no_commit w now
+
+-- How far a run has come whose search lines were answered that stand behind the log's commits.
+pub record IsUnderWay (r : Run) (lines : List Line) (shares : List Share) (asks : List (Vec Ask)) (commits : List (ℕ × ℕ))
+    (due : Committed) (texts : List (Vec (List ℕ))) (w : State) (now : Option Disk)
+    : Type 0 where
+  pub log : List Line
+  pub come : HasCome r lines shares log commits due w now
+  pub answered : AreAnswered r.first log asks texts
+
+-- A round more was done: its lines stand behind the log. Their only commit is the one that is pending, if one is.
+pub record GoesOnBy (r : Run) (lines : List Line) (shares : List Share) (log : List Line) (commits : List (ℕ × ℕ))
+    (due : Committed) (w : State) (now : Option Disk)
+    : Type 0 where
+  pub more : List Line
+  pub come : HasCome r lines shares (log ++ more) commits due w now
+  pub commit_is : commit_numbers (base_of r + length log) more ≡ number_in w.pending
 
 -- ---- one round
 
@@ -116,14 +143,14 @@ pub record IsRound (r : Run) (lines : List Line) (olds news : List Share) (log :
   pub parts_are : ArePartsOf w.published.upto (pairs_since olds news) parts
 
 -- What the end of a round leaves: its lines stand behind the log. Their only commit is the one that is pending then,
--- with these pairs, if one is.
-pub record EndsRound (r : Run) (lines : List Line) (news : List Share) (log : List Line) (pairs : Pairs) (w : State)
+-- by this line, if one is.
+pub record EndsRound (r : Run) (lines : List Line) (news : List Share) (log : List Line) (due : Committed) (w : State)
     (now : Option Disk)
     : Type 0 where
   pub more : List Line
   pub done : HasDone r lines news (log ++ more) w now
   pub commit_is : commit_numbers (base_of r + length log) more ≡ number_in w.pending
-  pub due_pairs : AreDuePairs (base_of r) (log ++ more) w.pending pairs
+  pub is_due : IsDueCommit (base_of r) (log ++ more) w.pending due
 
 -- ---- ends
 
@@ -133,7 +160,7 @@ pub record IsOver (r : Run) (lines : List Line) (became : List Outcome) (w : Sta
   pub writer : IsWriterOn r.first log w
   pub disk : IsDiskBy r.keep r.first log (length log) w r.start now
   pub numbering : Interleaves lines log
-  pub outcomes : AreOutcomes (IsDocs r.first log) (base_of r) log [] lines became
+  pub outcomes : AreOutcomes (IsDocs r.first log) (IsFound r.first log) (base_of r) log [] lines became
 
 -- Where a run stopped that keeps all commits, a crash left the first of the log's commits, made over an image of the
 -- beginning, and the files have the first of them. Each step was one by which commits are made, and no commit that stood
@@ -187,16 +214,16 @@ IsRunBy workers keep r = (r.workers ≡ workers) × KeepsBy keep r
 
 -- ---- a pending commit that is written
 
--- A writer's pending commit was written with these pairs, if there was one, and then all but so many commits were given
+-- A writer's pending commit was written, by this line, if there was one, and then all but so many commits were given
 -- up, if only so many are kept: whatever a run had come to, it has come to the same, and notes the commit. Or it stopped.
-pub record WritesPending {S : Type 0} (disk : S → Option Disk) (keep : Option ℕ) (pairs : Pairs) (old : IndexWriter S)
+pub record WritesPending {S : Type 0} (disk : S → Option Disk) (keep : Option ℕ) (due : Committed) (old : IndexWriter S)
     (ran : Ran S (Option CommitInfo))
     : Type 0 where
-  pub come : (r : Run) (lines : List Line) (shares : List Share) (commits : List (ℕ × ℕ)) → KeepsBy keep r
-      → HasCome r lines shares commits pairs old.state (disk old.store)
-      → IfOk ran.came (λ commit. HasCome r lines shares (given commits commit) pairs ran.writer.state (disk ran.writer.store))
-  pub cut : (r : Run) (lines : List Line) (shares : List Share) (commits : List (ℕ × ℕ)) → KeepsBy keep r
-      → HasCome r lines shares commits pairs old.state (disk old.store)
+  pub come : (r : Run) (lines : List Line) (shares : List Share) (log : List Line) (commits : List (ℕ × ℕ)) → KeepsBy keep r
+      → HasCome r lines shares log commits due old.state (disk old.store)
+      → IfOk ran.came (λ commit. HasCome r lines shares log (given commits commit) due ran.writer.state (disk ran.writer.store))
+  pub cut : (r : Run) (lines : List Line) (shares : List Share) (log : List Line) (commits : List (ℕ × ℕ)) → KeepsBy keep r
+      → HasCome r lines shares log commits due old.state (disk old.store)
       → IfErr ran.came (λ fault. IsCut r lines fault (disk ran.writer.store))
   pub written : OnOk ran.came (ran.writer.state.pending ≡ None)
   pub upto : OnOk ran.came (ran.writer.state.published.upto ≡ old.state.published.upto)

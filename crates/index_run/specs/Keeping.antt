@@ -12,8 +12,6 @@ use Rattle.commit_point.specs.Holds.{HasHead, IsFileOf}
 use Rattle.commit_point.specs.Steps.{OnlyCommits}
 use Rattle.commit_point.specs.declared.heads.Head.{Head}
 use Rattle.commit_pruning.specs.Pruning.{BreaksStaying, IsBrokenCommit, IsWholeAs, MayBePruned, Stays}
-use Rattle.op_script.specs.declared.script.Act.{Act}
-use Rattle.op_script.specs.declared.script.Act.TheVariants.{Do, Search}
 use Rattle.op_script.specs.declared.script.Line.{Line}
 use Rattle.run_log.specs.Headline.{CanRunOn, Given, GivesBack, HasAll, HasRoom, HasSome, Interleaves, IsKept, Preserves}
 use Rattle.run_log.specs.Headline.{Runs, Stops, is_commit}
@@ -39,15 +37,6 @@ IsLeft keep true was files = HasLatestOnly keep was files
 -- whether one of the lines commits
 abbrev pub has_commit : List Line → Bool
 has_commit lines = list_any (λ (l : Line). is_commit l.act) lines
-
--- whether the line searches
-abbrev pub is_search : Act → Bool
-is_search (Search query) = true
-is_search (Do op) = false
-
--- whether one of the lines searches
-abbrev pub has_search : List Line → Bool
-has_search lines = list_any (λ (l : Line). is_search l.act) lines
 
 -- the files are what is left of files that have all of the log's commits
 abbrev pub HasLatest : ℕ → Given → List Line → Files → Type 0

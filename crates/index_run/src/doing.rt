@@ -21,6 +21,7 @@ use crate::begin::begin;
 use crate::keeping::tell_kept;
 use crate::lines::do_lines;
 use crate::rounds::Ran;
+use crate::standing::let_stand;
 use crate::stop::Stop;
 use crate::telling::{Form, text_of};
 use commit_pruning::prune;
@@ -29,8 +30,6 @@ use ix_outside::{Gate, Store};
 use made_runs::made_runs;
 use op_script::{Act, Line};
 use report_text::Fault;
-use run_report::SearchedCommit;
-use searcher::Searcher;
 use std::alloc::Global;
 use std::sync::Wait;
 use std::thread::Threads;
@@ -57,8 +56,7 @@ pub struct Done<S> {
 
 /// Does the lines over the store's last commit, gives up old commits where only so many are to be kept and a
 /// line committed, and returns the text that tells of the lines, of which nothing is written yet. Commits are given
-/// up behind each commit that is written beside a round, where no line searches, and behind the last one once
-/// the text is made: so the text tells of each commit of the run.
+/// up behind each commit that is written beside a round, and behind the last one once the text is made.
 pub fn do_script<R: Threads + Wait + Sync, S: Store, G: Gate>(
     rt: &R,
     alloc: Global,
@@ -74,6 +72,7 @@ pub fn do_script<R: Threads + Wait + Sync, S: Store, G: Gate>(
     requires buffer { (1 ≤ options.buffer) × (options.buffer ≤ 65536) }
     requires merge { (2 ≤ options.merge) × (options.merge ≤ 64) }
     requires keep { IfSome options.keep (λ keep. 1 ≤ keep) }
+    requires all { form ≡ Form.Summary → options.keep ≡ None }
     ensures done { (g : Given) → g.lines ≡ lines → told_files (S.disk store) ≡ Some g.files
         → CanRun g → IfOk result.text (λ text. RunsBy options.keep g (form_text form g)
         (λ told. text.items ≡ told) (S.disk store) (S.disk result.store)) }
@@ -110,8 +109,7 @@ pub fn do_script<R: Threads + Wait + Sync, S: Store, G: Gate>(
     if !commits {
         return tell_script(rt, alloc, store, gate, options, form, lines);
     }
-    let told = tell_kept(rt, alloc, store, gate, options, keep, form, lines);
-    let Done { text, store } = told;
+    let Done { text, store } = tell_kept(rt, alloc, store, gate, options, keep, lines);
     let text = match text {
         Ok(text) => text,
         Err(stop) => {
@@ -212,17 +210,12 @@ pub fn tell_script<R: Threads + Wait + Sync, S: Store, G: Gate>(
     };
     let base = writer.upto();
     let Ran { writer, came } = do_lines(rt, alloc, gate, writer, options.threads, None, lines);
-    let number = writer.upto();
+    let upto = writer.upto();
     let (mut store, segments) = writer.into_parts();
-    let searcher = Searcher { segments };
-    let loaded = SearchedCommit {
-        since: number,
-        number,
-        searcher,
-    };
+    let_stand(segments);
     match came {
         Ok(outcomes) => Done {
-            text: text_of(alloc, &mut store, form, base, loaded, outcomes.as_slice()),
+            text: text_of(alloc, &mut store, form, base, upto, outcomes.as_slice()),
             store,
         },
         Err(fault) => Done {

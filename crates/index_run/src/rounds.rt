@@ -10,7 +10,7 @@ ghost use Rattle.line_shares.specs.Shares.{AreDone, open_count};
 ghost use Rattle.index_writer.specs.Ready.{IsSound};
 ghost use Rattle.index_writer.specs.Rounds.{ArePartsOf, IsBegun};
 ghost use Rattle.index_writer.specs.Working.{IsStuck};
-ghost use Rattle.index_run.specs.Driving.{EndsRound, HasCome, IsCut, IsRound, IsRunBy, Run, WritesPending};
+ghost use Rattle.index_run.specs.Driving.{EndsRound, GoesOnBy, HasCome, IsCut, IsRound, IsRunBy, Run, WritesPending};
 ghost use Rattle.index_run.specs.Causes.{ran_by_pruning};
 ghost use Rattle.index_run.specs.declared.rounds.RanFault.TheVariants as halt;
 ghost use Rattle.index_run.specs.Merged.{EndsMerged};
@@ -21,9 +21,9 @@ use index_writer::{
     CommitInfo, IndexWriter, PruneFault, Round, RoundEnd, RoundParts, WriterFault, commits_go_on,
     commits_hold, segments_stand,
 };
-use ix_base::{Damaged, Fields, NoMemory};
+use ix_base::{Damaged, NoMemory};
 use ix_outside::{Gate, Store};
-use line_shares::{committed_pairs, told_counts};
+use line_shares::{Committed, committed, told_counts};
 use round_work::{Stop, Worked, run_round};
 use std::alloc::Global;
 use std::sync::Wait;
@@ -227,7 +227,7 @@ fn work_of(operations: u64, documents: u64) -> u64
 }
 
 /// Ends the round that is out: its lines stand behind those of the rounds before. A commit with which it
-/// ended is pending then, and its pairs are returned. `counts` are how many tasks of each share were told
+/// ended is pending then, and its line is returned, with its pairs. `counts` are how many tasks of each share were told
 /// something when the round began.
 fn finish_round<R: Threads + Sync, S: Store>(
     rt: &R,
@@ -236,15 +236,15 @@ fn finish_round<R: Threads + Sync, S: Store>(
     parts: RoundParts,
     counts: &[usize],
     shares: &[Share],
-) -> Result<Fields, WriterFault>
+) -> Result<Committed, WriterFault>
     requires round { (r : Run) × (lines : List Line) × (olds : List Share) × (log : List Line)
         × (counts.now ≡ map told_count olds)
         × IsRound r lines olds shares.now log writer.old.state parts (S.disk writer.old.store) }
     ensures ends { (r : Run) (lines : List Line) (olds : List Share) (log : List Line)
         → counts.now ≡ map told_count olds
         → IsRound r lines olds shares.now log writer.old.state parts (S.disk writer.old.store)
-        → IfOk result (λ pairs.
-        EndsRound r lines shares.now log pairs writer.new.state (S.disk writer.new.store)) }
+        → IfOk result (λ due.
+        EndsRound r lines shares.now log due writer.new.state (S.disk writer.new.store)) }
     ensures out { OnOk result (writer.new.state.out ≡ false) }
     ensures store { writer.new.store ≡ writer.old.store }
     ensures closed { result ≡ Err WriterFault.Closed → ⊥ }
@@ -253,17 +253,20 @@ fn finish_round<R: Threads + Sync, S: Store>(
 {
     end_round(rt, writer, parts)?;
     match writer.pending_commit() {
-        Some(number) => Ok(committed_pairs(alloc, counts, shares, number)?),
-        None => Ok(Fields::none(alloc)),
+        Some(number) => Ok(committed(alloc, counts, shares, number)?),
+        None => Ok(Committed::none(alloc)),
     }
 }
 
-/// Writes the commit with which the last round ended, if it ended with one, with its pairs, and returns
+/// Writes the commit with which the last round ended, if it ended with one, with the pairs of its line, and returns
 /// its number and how many rows it has, beside the writer. A round may be out.
-pub fn write_pending<S: Store>(writer: IndexWriter<S>, pairs: &Fields) -> Ran<S, Option<CommitInfo>>
+pub fn write_pending<S: Store>(
+    writer: IndexWriter<S>,
+    due: &Committed,
+) -> Ran<S, Option<CommitInfo>>
     requires sound { IsSound writer.state }
     requires open { writer.state.closed ≡ false }
-    ensures pending { WritesPending S.disk None pairs.now writer result }
+    ensures pending { WritesPending S.disk None due.now writer result }
     ensures closed { result.came ≡ Err (RanFault.Writer WriterFault.Closed) → ⊥ }
     ensures later { S.fault_count writer.store ≤ S.fault_count result.writer.store }
     ensures failed { result.came ≡ Err (RanFault.Writer WriterFault.Store)
@@ -282,7 +285,7 @@ pub fn write_pending<S: Store>(writer: IndexWriter<S>, pairs: &Fields) -> Ran<S,
     if writer.next_id() > MOST {
         return Ran::stopped(writer, WriterFault::NoMemory);
     }
-    match writer.commit(pairs) {
+    match writer.commit(&due.pairs) {
         Ok(info) => Ran {
             writer,
             came: Ok(Some(info)),
@@ -296,21 +299,21 @@ pub fn write_pending<S: Store>(writer: IndexWriter<S>, pairs: &Fields) -> Ran<S,
 fn write_and_prune<S: Store>(
     writer: IndexWriter<S>,
     keep: Option<u32>,
-    pairs: &Fields,
+    due: &Committed,
 ) -> Ran<S, Option<CommitInfo>>
     requires sound { IsSound writer.state }
     requires open { writer.state.closed ≡ false }
     requires some { IfSome keep (λ keep. 1 ≤ keep) }
-    ensures pending { WritesPending S.disk keep pairs.now writer result }
+    ensures pending { WritesPending S.disk keep due.now writer result }
     ensures closed { result.came ≡ Err (RanFault.Writer WriterFault.Closed) → ⊥ }
     ensures later { S.fault_count writer.store ≤ S.fault_count result.writer.store }
     ensures failed { result.came ≡ Err (RanFault.Writer WriterFault.Store)
         → Rose (S.fault_count writer.store) (S.fault_count result.writer.store) }
 {
     let Some(keep) = keep else {
-        return write_pending(writer, pairs);
+        return write_pending(writer, due);
     };
-    let Ran { mut writer, came } = write_pending(writer, pairs);
+    let Ran { mut writer, came } = write_pending(writer, due);
     let commit = match came {
         Ok(commit) => commit,
         Err(fault) => return Ran::halted(writer, fault),
@@ -361,13 +364,13 @@ pub struct RoundLeft {
     pub shares: Vec<Share>,
     /// The commit of the round before, which was written meanwhile, if there was one.
     pub commit: Option<CommitInfo>,
-    /// The pairs of the commit with which the round ended, or none.
-    pub pairs: Fields,
+    /// The line of the commit with which the round ended, with its pairs, or none.
+    pub due: Committed,
 }
 
 /// Does a round: its workers go on with their shares at the same time, each by a writer of its own,
 /// until the lines are done or one of them closes the queue. Meanwhile the commit with which the round
-/// before ended is written with these pairs, if it ended with one, and old commits are given up behind it where
+/// before ended is written, by its line, if it ended with one, and old commits are given up behind it where
 /// only so many are kept. It asks that a worker has a line that was told nothing, and counts the round.
 pub fn do_round<R: Threads + Wait + Sync, S: Store, G: Gate>(
     rt: &R,
@@ -377,22 +380,22 @@ pub fn do_round<R: Threads + Wait + Sync, S: Store, G: Gate>(
     threads: u32,
     keep: Option<u32>,
     shares: Vec<Share>,
-    pairs: Fields,
+    due: Committed,
     rounds: &mut u64,
 ) -> Ran<S, RoundLeft>
     requires threads { (1 ≤ threads) × (threads ≤ 16) }
     requires some { IfSome keep (λ keep. 1 ≤ keep) }
     requires open { AreDone shares.items → ⊥ }
     requires out { writer.state.out ≡ false }
-    requires come { (r : Run) × (lines : List Line) × (commits : List (ℕ × ℕ))
+    requires come { (r : Run) × (lines : List Line) × (log : List Line) × (commits : List (ℕ × ℕ))
         × IsRunBy threads keep r
-        × HasCome r lines shares.items commits pairs writer.state (S.disk writer.store) }
-    ensures come { (r : Run) (lines : List Line) (commits : List (ℕ × ℕ)) → IsRunBy threads keep r
-        → HasCome r lines shares.items commits pairs writer.state (S.disk writer.store)
-        → IfOk result.came (λ x. HasCome r lines x.shares.items (given commits x.commit) x.pairs
+        × HasCome r lines shares.items log commits due writer.state (S.disk writer.store) }
+    ensures come { (r : Run) (lines log : List Line) (commits : List (ℕ × ℕ)) → IsRunBy threads keep r
+        → HasCome r lines shares.items log commits due writer.state (S.disk writer.store)
+        → IfOk result.came (λ x. GoesOnBy r lines x.shares.items log (given commits x.commit) x.due
         result.writer.state (S.disk result.writer.store)) }
-    ensures cut { (r : Run) (lines : List Line) (commits : List (ℕ × ℕ)) → IsRunBy threads keep r
-        → HasCome r lines shares.items commits pairs writer.state (S.disk writer.store)
+    ensures cut { (r : Run) (lines log : List Line) (commits : List (ℕ × ℕ)) → IsRunBy threads keep r
+        → HasCome r lines shares.items log commits due writer.state (S.disk writer.store)
         → IfErr result.came (λ fault. IsCut r lines fault (S.disk result.writer.store)) }
     ensures out { OnOk result.came (result.writer.state.out ≡ false) }
     // Where a task was left, one was told something.
@@ -424,12 +427,12 @@ pub fn do_round<R: Threads + Wait + Sync, S: Store, G: Gate>(
             requires sound { IsSound writer.state }
             requires open { writer.state.closed ≡ false }
             requires some { IfSome keep (λ keep. 1 ≤ keep) }
-            ensures pending { WritesPending S.disk keep pairs writer result }
+            ensures pending { WritesPending S.disk keep due writer result }
             ensures closed { result.came ≡ Err (RanFault.Writer WriterFault.Closed) → ⊥ }
             ensures later { S.fault_count writer.store ≤ S.fault_count result.writer.store }
             ensures failed { result.came ≡ Err (RanFault.Writer WriterFault.Store)
                 → Rose (S.fault_count writer.store) (S.fault_count result.writer.store) }
-        { write_and_prune(writer, keep, &pairs) },
+        { write_and_prune(writer, keep, &due) },
     );
     let commit = match came {
         Ok(commit) => commit,
@@ -449,12 +452,12 @@ pub fn do_round<R: Threads + Wait + Sync, S: Store, G: Gate>(
     let told = counts.as_slice();
     let left = shares.as_slice();
     match finish_round(rt, alloc, &mut writer, parts, told, left) {
-        Ok(pairs) => Ran {
+        Ok(due) => Ran {
             writer,
             came: Ok(RoundLeft {
                 shares,
                 commit,
-                pairs,
+                due,
             }),
         },
         Err(fault) => Ran::stopped(writer, fault),
