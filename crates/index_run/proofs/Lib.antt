@@ -1,3 +1,4 @@
+pub mod Answering
 pub mod Pieces
 pub mod LogNumbers
 pub mod EndsMerged

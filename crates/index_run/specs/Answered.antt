@@ -40,13 +40,16 @@ IsTextOf first log a text = IsFound first log (number_behind first.published.upt
 
 -- ---- the answers behind one commit line
 
+-- the search line stands behind the commit line at this place, and the text answers it from the rows of the writer
+abbrev pub IsAnswerBehind : State → ℕ → Ask → List ℕ → Type 0
+IsAnswerBehind w place a text = (a.behind ≡ place) × IsTextBy w a text
+
 -- Of a caller's search lines more were answered by the writer's rows, as far as they stand behind the commit line at this
 -- place.
 pub record AnswersBehind (w : State) (place : ℕ) (asks : List Ask) (old new : List (List ℕ)) : Type 0 where
   pub more : List (List ℕ)
   pub new_is : new ≡ old ++ more
-  pub behind : AllZip (λ (a : Ask) (text : List ℕ). a.behind ≡ place) (take (length more) (drop (length old) asks)) more
-  pub texts : AllZip (IsTextBy w) (take (length more) (drop (length old) asks)) more
+  pub answers : AllZip (IsAnswerBehind w place) (take (length more) (drop (length old) asks)) more
   pub next : (a : Ask) (rest : List Ask) → drop (length new) asks ≡ a ∷ rest → a.behind ≢ place
 
 -- no search line of a caller is answered
@@ -67,9 +70,13 @@ abbrev pub IsSettled : List Line → ℕ → Type 0
 IsSettled log zero = Unit {0}
 IsSettled log (suc place) = HasLine log (suc place)
 
+-- the search line stands behind a commit line of the log, and the text answers it from that commit's rows
+abbrev pub IsAnswerOf : State → List Line → Ask → List ℕ → Type 0
+IsAnswerOf first log a text = IsSettled log a.behind × IsTextOf first log a text
+
 -- Of a caller's search lines those are answered that stand behind a commit line of the log.
 pub record IsAnswered (first : State) (log : List Line) (asks : List Ask) (texts : List (List ℕ)) : Type 0 where
-  pub texts_are : AllZip (IsTextOf first log) (take (length texts) asks) texts
+  pub answers : AllZip (IsAnswerOf first log) (take (length texts) asks) texts
   pub next : (a : Ask) (rest : List Ask) → drop (length texts) asks ≡ a ∷ rest → IsSettled log a.behind → ⊥
 
 -- the same of each caller

@@ -1,5 +1,5 @@
 -- What the workers' replies tell of a script's lines.
-use Rattle.std.specs.Prelude.{◌≡◌, ◌⊎◌, ℕ, ◌+◌, ◌<◌, ◌==◌, ◌&&◌, if◌then◌else◌, List, [], ◌∷◌, length, map, Some, None}
+use Rattle.std.specs.Prelude.{◌≡◌, ◌⊎◌, ℕ, ◌+◌, ◌<◌, ◌≤◌, List, [], ◌∷◌, ◌++◌, length, map, Some, None}
 use Rattle.std.specs.List.{AllByRecursion, AllZip}
 use Rattle.std.specs.Vec.Iter.{into_iter_items, into_iter_len}
 use Rattle.std.specs.Global.{Global, Vec}
@@ -12,12 +12,12 @@ use Rattle.op_script.specs.declared.script.Line.{Line}
 use Rattle.worker_tasks.specs.declared.share.Share.{Share}
 use Rattle.worker_tasks.specs.declared.task.Reply.{Reply}
 use Rattle.worker_tasks.specs.declared.task.Reply.TheVariants.{Numbered, Refused}
-use Rattle.line_shares.specs.Asks.{AreAsks, asks_from}
+use Rattle.line_shares.specs.Asks.{AreAsks, asks_from, last_behind}
 use Rattle.line_shares.specs.declared.asks.Ask.{Ask}
 use Rattle.line_shares.specs.Shares.{AreDone, AreShares, operation_of, own_lines, place_of}
 use Rattle.line_shares.specs.Tells.{AreTold}
 use Rattle.line_shares.specs.declared.place.Place.{Place}
-use Rattle.run_log.specs.Headline.{Interleaves, commit_numbers, is_commit, last_commit, number_of}
+use Rattle.run_log.specs.Headline.{Interleaves, commit_numbers, last_commit, number_of}
 use Rattle.run_log.specs.Numbering.{IsCommitted, Rises}
 use Rattle.run_report.specs.declared.outcome.Answer.{Answer}
 use Rattle.run_report.specs.declared.outcome.Answer.TheVariants as answer
@@ -94,23 +94,18 @@ pub record AreLeft (base : ℕ) (log lines : List Line) (told : List Replies) : 
 abbrev pub Texts : Type 0
 Texts = IntoIter (List ℕ) Global
 
--- the place of the last commit line of this caller among these lines, or else the one that was found before
-abbrev pub commit_place : ℕ → ℕ → List Line → ℕ
-commit_place caller found [] = found
-commit_place caller found (l ∷ ls) =
-    commit_place caller (if (l.caller == caller) && is_commit l.act then l.line else found) ls
-
 -- the texts left are those of the search lines left of this caller, behind the lines done, and of the callers after it
 abbrev pub AreTextsFrom : State → List Line → ℕ → List Line → List Line → List Texts → Type 0
 AreTextsFrom first log caller done rest [] = Unit {0}
 AreTextsFrom first log caller done rest (own ∷ others) =
-    AllZip (IsTextOf first log) (asks_from caller (commit_place caller 0 done) rest) (into_iter_items own)
+    AllZip (IsTextOf first log) (asks_from caller (last_behind caller 0 done) rest) (into_iter_items own)
     × (into_iter_len own ≡ length (into_iter_items own))
     × AreTextsFrom first log (caller + 1) done rest others
 
--- The texts left of all 256 callers.
+-- The texts left of all 256 callers. The lines stand at places from 1 on.
 pub record AreTextsLeft (first : State) (log done rest : List Line) (texts : List Texts) : Type 0 where
   pub size : length texts ≡ 256
+  pub placed : AllByRecursion (λ (l : Line). 1 ≤ l.line) (done ++ rest)
   pub each : AreTextsFrom first log 0 done rest texts
 
 -- the text answers this search line, in its caller's last commit before it
@@ -125,7 +120,7 @@ pub record IsSoFar (first : State) (log done rest : List Line) (told : List Repl
   pub left : AreLeft first.published.upto log rest told
   pub texts_left : AreTextsLeft first log done rest texts
   pub callers : AllByRecursion (λ (l : Line). l.caller < 256) rest
-  pub committed : AllByRecursion (IsCommitted base log) rest
+  pub committed : AllByRecursion (IsCommitted first.published.upto log) rest
 
 -- The commits are the log's, and their numbers rise.
 pub record AreCommits (base : ℕ) (log : List Line) (commits : List (ℕ × ℕ)) : Type 0 where

@@ -23,7 +23,7 @@ use index_writer::{
 };
 use ix_base::{Damaged, NoMemory};
 use ix_outside::{Gate, Store};
-use line_shares::{Committed, committed, told_counts};
+use line_shares::{Committed, find_committed, told_counts};
 use round_work::{Stop, Worked, run_round};
 use std::alloc::Global;
 use std::sync::Wait;
@@ -253,7 +253,7 @@ fn finish_round<R: Threads + Sync, S: Store>(
 {
     end_round(rt, writer, parts)?;
     match writer.pending_commit() {
-        Some(number) => Ok(committed(alloc, counts, shares, number)?),
+        Some(number) => Ok(find_committed(alloc, counts, shares, number)?),
         None => Ok(Committed::none(alloc)),
     }
 }
