@@ -189,7 +189,7 @@ plain_search base log lines f by outcomes none nothing asked = record {
       (holds_other f by) asked);
 }
 
-plain_read : (base : ℕ) (log lines : List Line) (f : Files) (outcomes : List Outcome) → has_search lines ≡ false
+pub plain_read : (base : ℕ) (log lines : List Line) (f : Files) (outcomes : List Outcome) → has_search lines ≡ false
     → AllByRecursion (IsAskedBy base log lines) outcomes → CanRead f outcomes
 plain_read base log lines f outcomes none asked =
     All-from_recursion (λ (o : Outcome). AnswerReads f o.answer) outcomes
@@ -234,27 +234,3 @@ plain_runs keep g r lines outcomes w now (Ok bytes) none same rise can told on o
 
     asked : AllByRecursion (IsAskedBy g.base o.log lines) outcomes
     asked = asked_by Docs g.base o.log lines outcomes are
-
--- a text of which nothing is damaged stops with one of these
-pub text_outside : (result : Result (Vec ℕ Global) Stop)
-    → IfErr result (λ s. (s ≡ stop.Fault fault.Store) ⊎ ((s ≡ stop.NoMemory)
-    ⊎ ((damaged : Damaged) × (s ≡ stop.Fault (fault.Damaged damaged)))))
-    → ((damaged : Damaged) → result ≡ Err (stop.Fault (fault.Damaged damaged)) → ⊥)
-    → IfErr result (λ s. IsOneOf (stop_status s) (4 ∷ 7 ∷ []))
-text_outside (Ok bytes) others whole = tt
-text_outside (Err s) (inl e) whole = listed_outside s (inl e)
-text_outside (Err s) (inr (inl e)) whole = listed_outside s (inr e)
-text_outside (Err s) (inr (inr found)) whole = absurd (whole found.0 (ap Err found.1))
-
--- and at none of the statuses that leave the store as it was
-pub text_stays : (keep : ℕ) (result : Result (Vec ℕ Global) Stop) (start now : Option Disk)
-    → IfErr result (λ s. (s ≡ stop.Fault fault.Store) ⊎ ((s ≡ stop.NoMemory)
-    ⊎ ((damaged : Damaged) × (s ≡ stop.Fault (fault.Damaged damaged)))))
-    → ((damaged : Damaged) → result ≡ Err (stop.Fault (fault.Damaged damaged)) → ⊥)
-    → IfErr result (λ s. LeavesStoreBy (Some keep) (stop_status s) → now ≡ start)
-text_stays keep (Ok bytes) start now others whole = tt
-text_stays keep (Err s) start now (inl e) whole = λ listed.
-    absurd (let store : LeavesStoreBy (Some keep) 7 = subst (λ (x : Stop). LeavesStoreBy (Some keep) (stop_status x)) e listed in cc)
-text_stays keep (Err s) start now (inr (inl e)) whole = λ listed.
-    absurd (let memory : LeavesStoreBy (Some keep) 4 = subst (λ (x : Stop). LeavesStoreBy (Some keep) (stop_status x)) e listed in cc)
-text_stays keep (Err s) start now (inr (inr found)) whole = absurd (whole found.0 (ap Err found.1))

@@ -367,14 +367,6 @@ pub all_leave : (keep : Option ℕ) (result : Result Bytes Stop) (old new : Opti
 all_leave keep (Ok bytes) old new same = tt
 all_leave keep (Err s) old new same = λ leaves. same (leaves_all keep (stop_status s) leaves)
 
--- what is said of the files that the store tells is said where it tells some
-pub all_spelled : (old new : Option Disk) (result : Result Bytes Stop) (f : Files) (P : Files → Type 0) → Told OnlyCommits old new
-    → told_files old ≡ Some f → ((now : Files) → told_files new ≡ Some now → OnOk result (P now))
-    → OnOk result (IsSomeAnd (told_files new) P)
-all_spelled old new (Ok bytes) f P only told spelled =
-    let now = told_on OnlyCommits old new f only told in some_told P (told_files new) now.0 now.1 (spelled now.0 now.1)
-all_spelled old new (Err s) f P only told spelled = tt
-
 -- ---- what pruning reads
 
 pub are_whole : (keep : ℕ) (g : Given) (f : Files) → CanKeep (Some keep) g.files → AreSpelled g.files f → AreWhole keep f
