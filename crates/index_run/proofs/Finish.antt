@@ -43,15 +43,14 @@ use Rattle.index_run.specs.declared.rounds.RanFault.{RanFault}
 use Rattle.index_run.specs.declared.rounds.RanFault.TheVariants as halt
 use Rattle.index_run.specs.Commands.{IsMade, form_text}
 use Rattle.index_run.specs.Damage.{ReadsDamaged}
-use Rattle.index_run.specs.Doing.{CanBegin, IsOnGiven}
-use Rattle.index_run.specs.Keeping.{AreSpelled}
+use Rattle.index_run.specs.Doing.{IsOnGiven}
 use Rattle.index_run.specs.Driving.{IsCut, IsDocs, IsOver, Run, base_of}
 use Rattle.index_run.proofs.OutcomeLaws.{asked_by, outcomes_weaker, texts_with_none}
 use Rattle.index_run.specs.Outcomes.{AreOutcomes, IsAskedBy, rows_of}
 use Rattle.index_run.specs.Telling.{CanTell, TellsDamaged, is_committed}
 use Rattle.index_run.proofs.DiskAfter.{some_onto, the_files}
 use Rattle.index_run.proofs.Listed.{at_err}
-use Rattle.index_run.proofs.RunEnds.{begins_image, crash_some, each_some, ends_again, ends_files, ends_images, ends_own, keeps_some, own_some, reads, spells}
+use Rattle.index_run.proofs.RunEnds.{crash_some, each_some, ends_again, ends_files, ends_images, ends_own, keeps_some, own_some, reads}
 use Rattle.index_run.proofs.Searchable.{SearchesAt, can_read, can_search, is_asked, no_rows, searches_last}
 use Rattle.index_run.proofs.Summarised.{commits_counted, last_above, last_in, summarised}
 

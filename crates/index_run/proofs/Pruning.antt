@@ -1,7 +1,7 @@
 -- A run over a store of which old commits are given up once it is done.
-use Rattle.std.proofs.Common.{◌≡◌, ◌≢◌, ◌⊎◌, inl, inr, ◌∙◌, ℕ, suc, ◌+◌, ◌<◌, ◌≤◌, Bool, true, false, List, [], ◌∷◌, length, take, Some, None, refl, sym, ap}
+use Rattle.std.proofs.Common.{◌≡◌, ◌≢◌, ◌⊎◌, inl, inr, ◌∙◌, ℕ, suc, ◌+◌, ◌≤◌, Bool, true, false, List, [], ◌∷◌, length, take, Some, None, refl, sym, ap}
 use Rattle.std.proofs.Common.{subst, arith, Vec}
-use Rattle.std.specs.Prelude.{Result, Ok, Err, Option, IfErr, IfOk, IsSome, IsSomeAnd, OnOk, AllPairs, Contains}
+use Rattle.std.specs.Prelude.{Result, Ok, Err, Option, IfErr, IfOk, IsSome, IsSomeAnd, Contains}
 use Rattle.std.specs.declared.alloc.Global.{Global}
 use Rattle.std.specs.List.{AllByRecursion}
 use Rattle.ix_base.specs.declared.damaged.Damaged.{Damaged}
@@ -19,7 +19,6 @@ use Rattle.commit_point.specs.Holds.{AreKept, HasHead, HasSegments, HaveSegments
 use Rattle.commit_point.specs.declared.heads.Head.{Head}
 use Rattle.commit_point.specs.declared.heads.HeadSegment.{HeadSegment}
 use Rattle.commit_point.proofs.RowsKept.{rows_kept}
-use Rattle.commit_point.specs.Steps.{OnlyCommits}
 use Rattle.commit_pruning.specs.declared.fault.PruningFault.{PruningFault}
 use Rattle.commit_pruning.specs.declared.fault.PruningFault.TheVariants as pruning
 use Rattle.commit_pruning.specs.Pruning.{AreWhole, IsOutside, IsPruned, IsWholeAs, MayBePruned, OnlyDeletes, Stays}

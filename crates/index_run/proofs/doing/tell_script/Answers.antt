@@ -1,5 +1,5 @@
-use Rattle.std.proofs.Common.{◌≡◌, ◌∙◌, ◌≤◌, Err, None, Option, ℕ, ap, inl, inr, refl, sym, subst}
-use Rattle.std.specs.Prelude.{IfOk, IfSome, IsSomeAnd}
+use Rattle.std.proofs.Common.{◌≡◌, ◌∙◌, Err, None, Option, ap, inl, inr, sym, subst}
+use Rattle.std.specs.Prelude.{IfOk, IsSomeAnd}
 use Rattle.ix_base.specs.declared.damaged.Damaged.{Damaged}
 use Rattle.ix_outside.specs.Disk.{Disk, told_files}
 use Rattle.ix_outside.specs.Files.{Files}
@@ -8,7 +8,7 @@ use Rattle.run_log.specs.Headline.{Given}
 use Rattle.index_run.specs.Commands.{form_text}
 use Rattle.index_run.specs.Damage.{ReadsDamaged}
 use Rattle.index_run.specs.Driving.{IsOver, Run}
-use Rattle.index_run.specs.Keeping.{AreSpelled, FindsStaying, IsBeside, PreservesBy, RunsLeavingBy, StepsBy, StopsBy}
+use Rattle.index_run.specs.Keeping.{AreSpelled, FindsStaying, PreservesBy, RunsLeavingBy, StepsBy, StopsBy}
 use Rattle.index_run.specs.declared.stop.Stop.TheVariants as stop
 use Rattle.index_run.proofs.Beside.{cut_damaged_by, cut_keeps_by, cut_leaves_by, cut_steps_by, cut_stops_by, cut_whole_by, many_beside}
 use Rattle.index_run.proofs.Beside.{over_keeps_by, over_settled_by, over_spelled_by, over_steps_by, over_stops_by, steps_none, texts_by, untold_by, whole_by}
