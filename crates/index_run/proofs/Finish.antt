@@ -43,15 +43,14 @@ use Rattle.index_run.specs.declared.rounds.RanFault.{RanFault}
 use Rattle.index_run.specs.declared.rounds.RanFault.TheVariants as halt
 use Rattle.index_run.specs.Commands.{IsMade, form_text}
 use Rattle.index_run.specs.Damage.{ReadsDamaged}
-use Rattle.index_run.specs.Doing.{CanBegin, IsOnGiven}
-use Rattle.index_run.specs.Keeping.{AreSpelled}
+use Rattle.index_run.specs.Doing.{IsOnGiven}
 use Rattle.index_run.specs.Driving.{IsCut, IsDocs, IsOver, Run, base_of}
 use Rattle.index_run.proofs.OutcomeLaws.{asked_by, outcomes_weaker, texts_with_none}
 use Rattle.index_run.specs.Outcomes.{AreOutcomes, IsAskedBy, rows_of}
 use Rattle.index_run.specs.Telling.{CanTell, TellsDamaged, is_committed}
 use Rattle.index_run.proofs.DiskAfter.{some_onto, the_files}
 use Rattle.index_run.proofs.Listed.{at_err}
-use Rattle.index_run.proofs.RunEnds.{begins_image, crash_some, each_some, ends_again, ends_files, ends_images, ends_own, keeps_some, own_some, reads, spells}
+use Rattle.index_run.proofs.RunEnds.{crash_some, each_some, ends_again, ends_files, ends_images, ends_own, keeps_some, own_some, reads}
 use Rattle.index_run.proofs.Searchable.{SearchesAt, can_read, can_search, is_asked, no_rows, searches_last}
 use Rattle.index_run.proofs.Summarised.{commits_counted, last_above, last_in, summarised}
 
@@ -205,20 +204,6 @@ pub over_settled : (g : Given) (r : Run) (lines : List Line) (outcomes : List Ou
 over_settled g r lines outcomes w now told on o are f told_now =
     o.disk.settled g.files f told told_now on.goes_on on.on_last are
 
--- the commits that are there have their files as before, or new ones
-pub over_spelled : (g : Given) (r : Run) (lines : List Line) (outcomes : List Outcome) (w : State) (now : Option Disk)
-    (f : Files) → told_files r.start ≡ Some g.files → IsLast g.files g.base → CanBegin r.first → BeginsOn g r.first
-    → IsOver (all r) lines outcomes w now → told_files now ≡ Some f → AreSpelled g.files f
-over_spelled g r lines outcomes w now f told last begun here o told_now =
-    subst (AreSpelled g.files) same found.2
-  where
-    found : (d : Files) × (told_files now ≡ Some d) × AreSpelled g.files d
-    found = the_files (told_files now) (AreSpelled g.files)
-        (spells g r.first w o.log r.start now told last begun here.number here.stored o.disk)
-
-    same : found.0 ≡ f
-    same = let both = sym found.1 ∙ told_now in cc
-
 -- what became of the lines, by what was given
 pub outcomes_given : (g : Given) (r : Run) (log lines : List Line) (outcomes : List Outcome) → IsOnGiven g r.first
     → AreOutcomes (IsDocs r.first log) (base_of r) log [] lines outcomes
@@ -353,7 +338,7 @@ told_by law g r Summary lines outcomes w now base upto result same rise made can
 
 -- each search has its line, by the number that a run began on
 pub over_asked : (r : Run) (lines : List Line) (outcomes : List Outcome) (w : State) (now : Option Disk)
-    → (o : IsOver (all r) lines outcomes w now) → AllByRecursion (IsAskedBy (base_of r) o.log lines) outcomes
+    → (o : IsOver r lines outcomes w now) → AllByRecursion (IsAskedBy (base_of r) o.log lines) outcomes
 over_asked r lines outcomes w now o = asked_by (IsDocs r.first o.log) (base_of r) o.log lines outcomes o.outcomes
 
 pub listed_outside : (s : Stop) → (s ≡ stop.Fault fault.Store) ⊎ (s ≡ stop.NoMemory)
@@ -386,7 +371,7 @@ whole_in law g r form lines outcomes w now upto (Err s) rise made on told here l
     can : (form : Form) → (form ≡ Summary → IsMade lines) → CanTell form upto found.0 outcomes
     can Report made =
         can_read g o.log lines found.0 outcomes o.numbering rise found.2
-        (subst (λ (n : ℕ). AllByRecursion (IsAskedBy n o.log lines) outcomes) here.number (over_asked r lines outcomes w now o))
+        (subst (λ (n : ℕ). AllByRecursion (IsAskedBy n o.log lines) outcomes) here.number (over_asked (all r) lines outcomes w now o))
     can Summary made =
         subst (ReadsCommit found.0) (sym last)
         (found.2 (g.base + length o.log) (inr (last_in law lines o.log g.base (made refl) o.numbering)))
@@ -437,22 +422,6 @@ same_told (Err s) start now (inr (inl e)) none = λ listed.
 same_told (Err s) start now (inr (inr found)) none = λ listed.
     let both = none found.0 (ap Err found.1) in both.1 ∙ sym both.0
 
--- a run that keeps all commits finds none broken that stays
-pub not_broken : (r : Run) (lines : List Line) (now : Option Disk) (damaged : Damaged)
-    → IsCut (all r) lines (halt.Damaged damaged) now → ⊥
-not_broken r lines now damaged cut = let none : None ≡ Some cut.found.keep = cut.found.kept in cc
-
--- at none of these statuses do the rounds stop of a run that keeps all commits
-pub none_stopped : (r : Run) (lines : List Line) (now : Option Disk) (why : RanFault) (s : Stop) → IsCut (all r) lines why now
-    → s ≡ stop_by_rounds why → LeavesStore (stop_status s) → ⊥
-none_stopped r lines now (halt.Writer writing.Store) s cut is listed =
-    let store : LeavesStore 7 = subst (λ (x : Stop). LeavesStore (stop_status x)) is listed in cc
-none_stopped r lines now (halt.Writer writing.Closed) s cut is listed =
-    let memory : LeavesStore 4 = subst (λ (x : Stop). LeavesStore (stop_status x)) is listed in cc
-none_stopped r lines now (halt.Writer writing.NoMemory) s cut is listed =
-    let memory : LeavesStore 4 = subst (λ (x : Stop). LeavesStore (stop_status x)) is listed in cc
-none_stopped r lines now (halt.Damaged damaged) s cut is listed = not_broken r lines now damaged cut
-
 -- why the rounds stopped where something is damaged
 pub broken_by : (why : RanFault) (s : Stop) (damaged : Damaged) → s ≡ stop_by_rounds why
     → s ≡ stop.Fault (fault.Damaged damaged) → why ≡ halt.Damaged damaged
@@ -473,7 +442,7 @@ rounds_outside (halt.Damaged damaged) s is whole = absurd (whole damaged refl)
 -- what is damaged after the lines were done was to be read
 pub damaged_in : MadeRuns → (r : Run) (form : Form) (lines : List Line) (outcomes : List Outcome) (w : State)
     (old now : Option Disk) (base upto : ℕ) (damaged : Damaged) → (form ≡ Summary → IsMade lines)
-    → IsBase (told_files old) (base_of r) → upto ≡ w.published.upto → IsOver (all r) lines outcomes w now
+    → IsBase (told_files old) (base_of r) → upto ≡ w.published.upto → IsOver r lines outcomes w now
     → (told_files old ≡ None) × (told_files now ≡ None) → TellsDamaged form upto outcomes (told_files now) damaged
     → ReadsDamaged form lines (told_files old) (told_files now) damaged
 damaged_in law r Report lines outcomes w old now base upto damaged made is_base last_is o none found = record {

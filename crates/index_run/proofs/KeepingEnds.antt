@@ -1,6 +1,6 @@
 -- A run that gives old commits up as it goes on: one that was done, and one that stopped.
-use Rattle.std.proofs.Common.{◌≡◌, ◌∙◌, ◌⊎◌, inl, inr, ℕ, ◌+◌, ◌*◌, ◌≤◌, ◌^◌, Bool, true, false, List, [], ◌∷◌, ◌++◌, length, Some, None, Ok, Err, Result, refl, sym, ap, subst, Vec, arith}
-use Rattle.std.specs.Prelude.{◌||◌, Option, Contains, IfErr, IfOk, IsSomeAnd}
+use Rattle.std.proofs.Common.{◌≡◌, ◌∙◌, ℕ, ◌+◌, ◌*◌, ◌≤◌, Bool, true, false, List, [], ◌∷◌, ◌++◌, length, Some, Ok, Err, Result, refl, sym, ap, subst, Vec, arith}
+use Rattle.std.specs.Prelude.{◌||◌, Option, Contains, IfOk, IsSomeAnd}
 use Rattle.std.specs.List.{AllByRecursion}
 use Rattle.std.specs.declared.alloc.Global.{Global}
 use Rattle.std.proofs.lemmas.List.{append-nil}
@@ -15,13 +15,8 @@ use Rattle.ix_outside.specs.Crash.{MayHold}
 use Rattle.ix_outside.specs.Disk.{Disk, told_files}
 use Rattle.ix_outside.specs.Files.{Files}
 use Rattle.commit_point.specs.Holds.{AreKept}
-use Rattle.commit_pruning.specs.Pruning.{MayBePruned}
 use Rattle.op_script.specs.Shape.{LinesRise}
-use Rattle.op_script.specs.declared.script.Act.TheVariants.{Search}
 use Rattle.op_script.specs.declared.script.Line.{Line}
-use Rattle.report_text.specs.declared.fault.Fault.TheVariants as fault
-use Rattle.run_report.specs.declared.outcome.Answer.{Answer}
-use Rattle.run_report.specs.declared.outcome.Answer.TheVariants.{Searched}
 use Rattle.run_report.specs.declared.outcome.Outcome.{Outcome}
 use Rattle.run_report.specs.Searching.{AnswerHolds, AnswerReads, CanRead, CanSearch, SearchesDamaged}
 use Rattle.run_report.specs.Texts.{texts}
@@ -30,21 +25,18 @@ use Rattle.run_log.proofs.CountLaws.{same_count}
 use Rattle.run_log.proofs.OnlyLaws.{only_itself}
 use Rattle.run_log.specs.Headline.{CanRun, CanRunOn, Given, GivesBack, HasAll, HasRoom, HasSome, Interleaves, IsKept, numbered, report, rows_at}
 use Rattle.index_writer.specs.declared.state.State.{State}
-use Rattle.index_run.specs.Causes.{IsOneOf, LeavesStoreBy, stop_status}
 use Rattle.index_run.specs.Commands.{form_text}
 use Rattle.index_run.specs.declared.rounds.RanFault.{RanFault}
 use Rattle.index_run.specs.declared.stop.Stop.{Stop}
-use Rattle.index_run.specs.declared.stop.Stop.TheVariants as stop
 use Rattle.index_run.specs.declared.telling.Form.TheVariants.{Report}
 use Rattle.index_run.specs.Doing.{IsOnGiven}
 use Rattle.index_run.specs.Driving.{IsCut, IsDocs, IsOver, Run, base_of}
-use Rattle.index_run.specs.Keeping.{AreSpelled, Left, RunsLeaving, StopsKeeping, has_search, is_search}
+use Rattle.index_run.specs.Keeping.{Left, RunsLeaving, StopsKeeping, has_search, is_search}
 use Rattle.index_run.specs.KeptDisk.{BeginsOnLast, IsDiskLeft, LeftSome, StandsLeft}
 use Rattle.index_run.specs.Leaving.{HasSomeFront, first_numbers}
 use Rattle.index_run.specs.Outcomes.{AreOutcomes, AsksBy, IsAskedBy, rows_of}
 use Rattle.index_run.proofs.DiskAfter.{some_onto, the_files}
-use Rattle.index_run.proofs.Finish.{listed_outside, numbering_of, outcomes_given}
-use Rattle.index_run.proofs.LeftCommits.{left_none}
+use Rattle.index_run.proofs.Finish.{numbering_of, outcomes_given}
 use Rattle.index_run.proofs.OutcomeLaws.{asked_by, texts_with_none}
 use Rattle.index_run.proofs.Pruning.{can_run_left}
 use Rattle.index_run.proofs.RunEnds.{has_all, has_first}
@@ -189,7 +181,7 @@ plain_search base log lines f by outcomes none nothing asked = record {
       (holds_other f by) asked);
 }
 
-plain_read : (base : ℕ) (log lines : List Line) (f : Files) (outcomes : List Outcome) → has_search lines ≡ false
+pub plain_read : (base : ℕ) (log lines : List Line) (f : Files) (outcomes : List Outcome) → has_search lines ≡ false
     → AllByRecursion (IsAskedBy base log lines) outcomes → CanRead f outcomes
 plain_read base log lines f outcomes none asked =
     All-from_recursion (λ (o : Outcome). AnswerReads f o.answer) outcomes
@@ -234,27 +226,3 @@ plain_runs keep g r lines outcomes w now (Ok bytes) none same rise can told on o
 
     asked : AllByRecursion (IsAskedBy g.base o.log lines) outcomes
     asked = asked_by Docs g.base o.log lines outcomes are
-
--- a text of which nothing is damaged stops with one of these
-pub text_outside : (result : Result (Vec ℕ Global) Stop)
-    → IfErr result (λ s. (s ≡ stop.Fault fault.Store) ⊎ ((s ≡ stop.NoMemory)
-    ⊎ ((damaged : Damaged) × (s ≡ stop.Fault (fault.Damaged damaged)))))
-    → ((damaged : Damaged) → result ≡ Err (stop.Fault (fault.Damaged damaged)) → ⊥)
-    → IfErr result (λ s. IsOneOf (stop_status s) (4 ∷ 7 ∷ []))
-text_outside (Ok bytes) others whole = tt
-text_outside (Err s) (inl e) whole = listed_outside s (inl e)
-text_outside (Err s) (inr (inl e)) whole = listed_outside s (inr e)
-text_outside (Err s) (inr (inr found)) whole = absurd (whole found.0 (ap Err found.1))
-
--- and at none of the statuses that leave the store as it was
-pub text_stays : (keep : ℕ) (result : Result (Vec ℕ Global) Stop) (start now : Option Disk)
-    → IfErr result (λ s. (s ≡ stop.Fault fault.Store) ⊎ ((s ≡ stop.NoMemory)
-    ⊎ ((damaged : Damaged) × (s ≡ stop.Fault (fault.Damaged damaged)))))
-    → ((damaged : Damaged) → result ≡ Err (stop.Fault (fault.Damaged damaged)) → ⊥)
-    → IfErr result (λ s. LeavesStoreBy (Some keep) (stop_status s) → now ≡ start)
-text_stays keep (Ok bytes) start now others whole = tt
-text_stays keep (Err s) start now (inl e) whole = λ listed.
-    absurd (let store : LeavesStoreBy (Some keep) 7 = subst (λ (x : Stop). LeavesStoreBy (Some keep) (stop_status x)) e listed in cc)
-text_stays keep (Err s) start now (inr (inl e)) whole = λ listed.
-    absurd (let memory : LeavesStoreBy (Some keep) 4 = subst (λ (x : Stop). LeavesStoreBy (Some keep) (stop_status x)) e listed in cc)
-text_stays keep (Err s) start now (inr (inr found)) whole = absurd (whole found.0 (ap Err found.1))

@@ -35,3 +35,4 @@ pub mod DiskPruned
 pub mod GivingUp
 pub mod LatestLeft
 pub mod KeepingEnds
+pub mod Beside

@@ -1,7 +1,7 @@
 -- A run over a store of which old commits are given up once it is done.
-use Rattle.std.proofs.Common.{◌≡◌, ◌≢◌, ◌⊎◌, inl, inr, ◌∙◌, ℕ, suc, ◌+◌, ◌<◌, ◌≤◌, Bool, true, false, List, [], ◌∷◌, length, take, Some, None, refl, sym, ap}
+use Rattle.std.proofs.Common.{◌≡◌, ◌≢◌, ◌⊎◌, inl, inr, ◌∙◌, ℕ, suc, ◌+◌, ◌≤◌, Bool, true, false, List, [], ◌∷◌, length, take, Some, None, refl, sym, ap}
 use Rattle.std.proofs.Common.{subst, arith, Vec}
-use Rattle.std.specs.Prelude.{Result, Ok, Err, Option, IfErr, IfOk, IsSome, IsSomeAnd, OnOk, AllPairs, Contains}
+use Rattle.std.specs.Prelude.{Result, Ok, Err, Option, IfErr, IfOk, IsSome, IsSomeAnd, Contains}
 use Rattle.std.specs.declared.alloc.Global.{Global}
 use Rattle.std.specs.List.{AllByRecursion}
 use Rattle.ix_base.specs.declared.damaged.Damaged.{Damaged}
@@ -19,7 +19,6 @@ use Rattle.commit_point.specs.Holds.{AreKept, HasHead, HasSegments, HaveSegments
 use Rattle.commit_point.specs.declared.heads.Head.{Head}
 use Rattle.commit_point.specs.declared.heads.HeadSegment.{HeadSegment}
 use Rattle.commit_point.proofs.RowsKept.{rows_kept}
-use Rattle.commit_point.specs.Steps.{OnlyCommits}
 use Rattle.commit_pruning.specs.declared.fault.PruningFault.{PruningFault}
 use Rattle.commit_pruning.specs.declared.fault.PruningFault.TheVariants as pruning
 use Rattle.commit_pruning.specs.Pruning.{AreWhole, IsOutside, IsPruned, IsWholeAs, MayBePruned, OnlyDeletes, Stays}
@@ -366,14 +365,6 @@ pub all_leave : (keep : Option ℕ) (result : Result Bytes Stop) (old new : Opti
     → IfErr result (λ s. LeavesStore (stop_status s) → new ≡ old) → IfErr result (λ s. LeavesStoreBy keep (stop_status s) → new ≡ old)
 all_leave keep (Ok bytes) old new same = tt
 all_leave keep (Err s) old new same = λ leaves. same (leaves_all keep (stop_status s) leaves)
-
--- what is said of the files that the store tells is said where it tells some
-pub all_spelled : (old new : Option Disk) (result : Result Bytes Stop) (f : Files) (P : Files → Type 0) → Told OnlyCommits old new
-    → told_files old ≡ Some f → ((now : Files) → told_files new ≡ Some now → OnOk result (P now))
-    → OnOk result (IsSomeAnd (told_files new) P)
-all_spelled old new (Ok bytes) f P only told spelled =
-    let now = told_on OnlyCommits old new f only told in some_told P (told_files new) now.0 now.1 (spelled now.0 now.1)
-all_spelled old new (Err s) f P only told spelled = tt
 
 -- ---- what pruning reads
 

@@ -1,5 +1,5 @@
 -- What a run promises that gives up old commits at its end, and one that does or doesn't.
-use Rattle.std.specs.Prelude.{◌≡◌, ◌⊎◌, ℕ, Bool, true, false, List, Option, Some, None, IsSome, IsSomeAnd}
+use Rattle.std.specs.Prelude.{◌≡◌, ◌⊎◌, ◌≤◌, ℕ, Bool, true, false, List, Option, Some, None, IfSome, IsSome, IsSomeAnd}
 use Rattle.std.specs.List.{list_any}
 use Rattle.ix_base.specs.declared.damaged.Damaged.{Damaged}
 use Rattle.ix_base.specs.declared.file_name.FileName.{FileName}
@@ -15,6 +15,8 @@ use Rattle.commit_pruning.specs.Pruning.{BreaksStaying, IsBrokenCommit, IsWholeA
 use Rattle.op_script.specs.declared.script.Line.{Line}
 use Rattle.run_log.specs.Headline.{CanRunOn, Given, GivesBack, HasAll, HasRoom, HasSome, Interleaves, IsKept, Preserves}
 use Rattle.run_log.specs.Headline.{Runs, Stops, is_commit}
+use Rattle.index_run.specs.declared.telling.Form.{Form}
+use Rattle.index_run.specs.declared.telling.Form.TheVariants.{Report}
 
 -- ---- what is left
 
@@ -97,6 +99,11 @@ abbrev pub RunsBy : Option ℕ → Given → (List Line → List ℕ) → (List 
 RunsBy None = Runs
 RunsBy (Some keep) = RunsKeeping keep
 
+-- the same before old commits are given up behind the last one
+abbrev pub RunsLeavingBy : Option ℕ → Given → (List Line → List ℕ) → (List ℕ → Type 0) → Option Disk → Option Disk → Type 0
+RunsLeavingBy None = Runs
+RunsLeavingBy (Some keep) = RunsLeaving keep
+
 abbrev pub StopsBy : Option ℕ → Given → Option Disk → Option Disk → Type 0
 StopsBy None = Stops
 StopsBy (Some keep) = StopsKeeping keep
@@ -108,6 +115,12 @@ PreservesBy (Some keep) = PreservesKeeping keep
 -- where all commits are kept, each step is one by which commits are made
 abbrev pub StepsBy : Option ℕ → Option Disk → Option Disk → Type 0
 StepsBy keep old new = keep ≡ None → Told OnlyCommits old new
+
+-- ---- beside the rounds
+
+-- Only so many commits may be kept beside the rounds where the text is a report, or all.
+abbrev pub IsBeside : Form → Option ℕ → Type 0
+IsBeside form beside = IfSome beside (λ keep. (1 ≤ keep) × (form ≡ Report))
 
 -- ---- what pruning asks of the files
 

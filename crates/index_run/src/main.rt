@@ -15,7 +15,6 @@ mod checking;
 mod commands;
 mod doing;
 mod input;
-mod keeping;
 mod lines;
 mod outcomes;
 mod output;
