@@ -392,7 +392,7 @@ next_says : (P : Ask → Type 0) (asks : List Ask) (n : ℕ) (a : Ask) (rest : L
 next_says P [] zero a rest each at = absurd (cc)
 next_says P [] (suc n) a rest each at = absurd (cc)
 next_says P (x ∷ xs) zero a rest each at =
-    let same : x ≡ a = ap (λ (as : List Ask). first_or as x) at in subst P same each.0
+    let same : x ≡ a = ap (λ (these : List Ask). first_or these x) at in subst P same each.0
   where
     first_or : List Ask → Ask → Ask
     first_or [] d = d
@@ -424,7 +424,7 @@ rise_behind : (low n : ℕ) (asks : List Ask) (a : Ask) (rest : List Ask) → Be
 rise_behind low zero [] a rest rise at = absurd (cc)
 rise_behind low (suc n) [] a rest rise at = absurd (cc)
 rise_behind low zero (x ∷ xs) a rest rise at =
-    let same : x.behind ≡ a.behind = ap (λ (as : List Ask). behind_or as 0) at in omega (arith, rise.0, same)
+    let same : x.behind ≡ a.behind = ap (λ (these : List Ask). behind_or these 0) at in omega (arith, rise.0, same)
   where
     behind_or : List Ask → ℕ → ℕ
     behind_or [] d = d
@@ -467,8 +467,8 @@ module _ (first w : State) (caller : ℕ) (lines log more rest : List Line) (pla
   unsettled [] are a left at other behind there = was.next a left at there
   unsettled (t ∷ ts) are a left at other behind there = by (drop n asks) refl are at
     where
-      by : (as : List Ask) → drop n asks ≡ as → AllZip (IsAnswerBehind w place) (take (length (t ∷ ts)) as) (t ∷ ts)
-          → drop (length (t ∷ ts)) as ≡ a ∷ left → ⊥
+      by : (these : List Ask) → drop n asks ≡ these → AllZip (IsAnswerBehind w place) (take (length (t ∷ ts)) these) (t ∷ ts)
+          → drop (length (t ∷ ts)) these ≡ a ∷ left → ⊥
       by [] is are at = are
       by (b ∷ bs) is are at =
           let open_before : IsSettled log place → ⊥ =
@@ -495,7 +495,7 @@ module _ (first w : State) (caller : ℕ) (lines log more rest : List Line) (pla
         subst (λ (ts : List (List ℕ)). AllZip (IsAnswerOf first (log ++ more)) (take (length ts) asks) ts) (sym now.new_is)
         (subst (λ (m : ℕ). AllZip (IsAnswerOf first (log ++ more)) (take m asks) (old ++ now.more))
         (sym (length-append old now.more))
-        (subst (λ (as : List Ask). AllZip (IsAnswerOf first (log ++ more)) as (old ++ now.more))
+        (subst (λ (these : List Ask). AllZip (IsAnswerOf first (log ++ more)) these (old ++ now.more))
         (sym (take-add n (length now.more) asks))
         (zip_both (IsAnswerOf first (log ++ more)) (take n asks) (take (length now.more) (drop n asks)) old now.more
         (zip_says (IsAnswerOf first log) (IsAnswerOf first (log ++ more)) (take n asks) old
@@ -522,9 +522,9 @@ pub answered_all : (first : State) (caller : ℕ) (lines log : List Line) (asks 
     → LinesRise 1 lines → Interleaves lines log → asks ≡ asks_of caller lines → IsAnswered first log asks texts
     → AllZip (IsTextOf first log) (asks_of caller lines) texts
 answered_all first caller lines log asks texts rise numbering asks_are is =
-    subst (λ (as : List Ask). AllZip (IsTextOf first log) as texts) asks_are
+    subst (λ (these : List Ask). AllZip (IsTextOf first log) these texts) asks_are
     (zip_says (IsAnswerOf first log) (IsTextOf first log) asks texts (λ a text h. h.1)
-    (subst (λ (as : List Ask). AllZip (IsAnswerOf first log) as texts) (whole (drop (length texts) asks) refl) is.answers))
+    (subst (λ (these : List Ask). AllZip (IsAnswerOf first log) these texts) (whole (drop (length texts) asks) refl) is.answers))
   where
     settled : (a : Ask) → IsBehindCommit caller lines a → IsSettled log a.behind
     settled a (inl none) = subst (IsSettled log) (sym none) tt
@@ -538,7 +538,7 @@ answered_all first caller lines log asks texts rise numbering asks_are is =
 
     whole : (left : List Ask) → drop (length texts) asks ≡ left → take (length texts) asks ≡ asks
     whole [] none =
-        sym (append-nil (take (length texts) asks)) ∙ ap (λ (as : List Ask). take (length texts) asks ++ as) (sym none)
+        sym (append-nil (take (length texts) asks)) ∙ ap (λ (these : List Ask). take (length texts) asks ++ these) (sym none)
         ∙ take-append-drop (length texts) asks
     whole (a ∷ left) at =
         absurd (is.next a left at (settled a (next_says (IsBehindCommit caller lines) asks (length texts) a left
@@ -612,3 +612,26 @@ all_more first w caller lines log more rest place (a ∷ asks) (o ∷ olds) (n �
   all_more first w (caller + 1) lines log more rest place asks olds news rise numbering asks_are.1 only on settled number
       now.1 was.1,
 )
+
+-- ---- a line of the log
+
+-- each line of the log stands at a place from 1 on
+placed_from : (lines log : List Line) (place : ℕ) → LinesRise 1 lines → Interleaves lines log → HasLine log place → 1 ≤ place
+placed_from lines log place rise numbering has =
+    has_says (λ (p : ℕ). 1 ≤ p) log place
+    (each_says (λ (l : Line). 1 ≤ l.line) (λ (l : Line). l.line ≡ place → 1 ≤ place) log
+    (λ l le e. omega (arith, le, e))
+    (each_logged (λ (l : Line). 1 ≤ l.line) lines log numbering
+    (each_filtered (λ (l : Line). is_numbered l.act) (λ (l : Line). 1 ≤ l.line) lines (none_below 1 lines rise))))
+    has
+
+pub settled_at : (log : List Line) (place : ℕ) → HasLine log place → IsSettled log place
+settled_at log zero has = tt
+settled_at log (suc place) has = has
+
+pub number_at : (lines log rest : List Line) (base place : ℕ) → LinesRise 1 lines → Interleaves lines (log ++ rest)
+    → HasLine log place → number_behind base log place ≡ number_of base log place
+number_at lines log rest base zero rise numbering has =
+    absurd (let some = placed_from lines (log ++ rest) zero rise numbering (has_line_in_front log rest zero has) in
+    omega (arith, some))
+number_at lines log rest base (suc place) rise numbering has = refl

@@ -13,11 +13,11 @@ pub mod RoundCount
 pub mod Workers
 pub mod Counting
 pub mod Left
+pub mod TextsLeft
 pub mod Replying
 pub mod Coming
 pub mod Beginnings
 pub mod Inputs
-pub mod Unchanged
 pub mod Searchable
 pub mod Summarised
 pub mod Listed

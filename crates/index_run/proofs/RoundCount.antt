@@ -78,7 +78,7 @@ few_open n lines shares are =
 
 -- the last commit is none more
 pub few_last : (came : Result Rounds RanFault) (rounds : Rounds) (most : ℕ)
-    → IfOk came (λ x. (x.shares ≡ rounds.shares) × (x.count ≡ rounds.count)) → rounds.count ≤ most
+    → IfOk came (λ x. (x.shares ≡ rounds.shares) × (x.texts ≡ rounds.texts) × (x.count ≡ rounds.count)) → rounds.count ≤ most
     → IfOk came (λ x. x.count ≤ most)
-few_last (Ok x) rounds most same few = (let count = same.1 in omega (arith, count, few))
+few_last (Ok x) rounds most same few = (let count = same.2 in omega (arith, count, few))
 few_last (Err fault) rounds most same few = tt

@@ -44,14 +44,14 @@ one_asked caller behind l query own is =
 passed : (caller : ℕ) (done rest : List Line) (l : Line) → ask_in caller (last_behind caller 0 done) l ≡ []
     → asks_from caller (last_behind caller 0 done) (l ∷ rest) ≡ asks_from caller (last_behind caller 0 (done ++ l ∷ [])) rest
 passed caller done rest l none =
-    ap (λ (as : List Ask). as ++ asks_from caller (behind_past caller (last_behind caller 0 done) l) rest) none
+    ap (λ (these : List Ask). these ++ asks_from caller (behind_past caller (last_behind caller 0 done) l) rest) none
     ∙ ap (λ (b : ℕ). asks_from caller b rest) (sym (behind_more caller 0 done l))
 
 asked : (caller : ℕ) (done rest : List Line) (l : Line) (a : Ask) → ask_in caller (last_behind caller 0 done) l ≡ a ∷ []
     → asks_from caller (last_behind caller 0 done) (l ∷ rest)
     ≡ a ∷ asks_from caller (last_behind caller 0 (done ++ l ∷ [])) rest
 asked caller done rest l a is =
-    ap (λ (as : List Ask). as ++ asks_from caller (behind_past caller (last_behind caller 0 done) l) rest) is
+    ap (λ (these : List Ask). these ++ asks_from caller (behind_past caller (last_behind caller 0 done) l) rest) is
     ∙ ap (λ (b : ℕ). a ∷ asks_from caller b rest) (sym (behind_more caller 0 done l))
 
 -- ---- the texts of all callers
@@ -66,7 +66,7 @@ module _ (first : State) (log done rest : List Line) (l : Line) where
       → AreTextsFrom first log i done (l ∷ rest) texts → AreTextsFrom first log i (done ++ l ∷ []) rest texts
   texts_stay i [] none are = tt
   texts_stay i (own ∷ texts) none are = (
-    subst (λ (as : List Ask). AllZip (IsTextOf first log) as (into_iter_items own)) (passed i done rest l (none i (omega arith)))
+    subst (λ (these : List Ask). AllZip (IsTextOf first log) these (into_iter_items own)) (passed i done rest l (none i (omega arith)))
         are.0,
     are.1,
     texts_stay (i + 1) texts (λ caller le. none caller (omega (arith, le))) are.2,
@@ -83,7 +83,7 @@ module _ (first : State) (log done rest : List Line) (l : Line) where
       let here : caller ≡ i = omega (arith, is) in
       subst (λ (own : Texts). AllZip (IsTextOf first log) (a ∷ asks_from caller (last_behind caller 0 (done ++ l ∷ [])) rest) (into_iter_items own)
       × (into_iter_len own ≡ length (into_iter_items own))) same (
-        subst (λ (as : List Ask). AllZip (IsTextOf first log) as (into_iter_items x)) (asked caller done rest l a asks)
+        subst (λ (these : List Ask). AllZip (IsTextOf first log) these (into_iter_items x)) (asked caller done rest l a asks)
             (subst (λ (c : ℕ). AllZip (IsTextOf first log) (asks_from c (last_behind c 0 done) (l ∷ rest)) (into_iter_items x))
             (sym here) are.0),
         are.1,
@@ -107,7 +107,7 @@ module _ (first : State) (log done rest : List Line) (l : Line) where
             are.2,
       )
   text_taken i (x ∷ texts) (suc at) new is inside left counts are = (
-    subst (λ (as : List Ask). AllZip (IsTextOf first log) as (into_iter_items x))
+    subst (λ (these : List Ask). AllZip (IsTextOf first log) these (into_iter_items x))
         (passed i done rest l (ask_of_other i (last_behind i 0 done) l (λ same. absurd (omega (arith, is, same))))) are.0,
     are.1,
     text_taken (i + 1) texts at new (omega (arith, is)) (omega (arith, inside)) left counts are.2,

@@ -20,7 +20,7 @@ use Rattle.line_shares.specs.Shares.{AreShares, GoesOn}
 use Rattle.line_shares.specs.Asks.{AreAsks}
 use Rattle.line_shares.specs.Committed.{no_commit}
 use Rattle.line_shares.specs.declared.asks.Ask.{Ask}
-use Rattle.line_shares.specs.declared.committed.Committed.{Committed}
+use Rattle.line_shares.specs.declared.round_commit.CommitLine.{CommitLine}
 use Rattle.line_shares.specs.Tells.{AreTold, IsLogOf, pairs_since}
 use Rattle.run_report.specs.declared.outcome.Outcome.{Outcome}
 use Rattle.index_writer.specs.declared.round.CommitInfo.{CommitInfo}
@@ -69,7 +69,7 @@ number_in None = []
 number_in (Some s) = s ∷ []
 
 -- where a commit is pending, this is its line in the log, with its pairs
-abbrev pub IsDueCommit : ℕ → List Line → Option ℕ → Committed → Type 0
+abbrev pub IsDueCommit : ℕ → List Line → Option ℕ → CommitLine → Type 0
 IsDueCommit base log pending due = IfSome pending (λ s. HasLine log due.line × (number_of base log due.line ≡ s)
     × (due.pairs ≡ pairs_at base log s))
 
@@ -102,7 +102,7 @@ pub record HasDone (r : Run) (lines : List Line) (shares : List Share) (log : Li
 -- The same, with the number of each commit that was written and how many rows it has. Behind these the log has the
 -- commit that is pending, by this line, if one is.
 pub record HasCome (r : Run) (lines : List Line) (shares : List Share) (log : List Line) (commits : List (ℕ × ℕ))
-    (due : Committed) (w : State) (now : Option Disk)
+    (due : CommitLine) (w : State) (now : Option Disk)
     : Type 0 where
   pub done : HasDone r lines shares log w now
   pub numbers : map (λ (c : ℕ × ℕ). c.0) commits ++ number_in w.pending ≡ commit_numbers (base_of r) log
@@ -115,7 +115,7 @@ Begins r lines shares asks w now = AreAsks lines asks × HasCome r lines shares 
 
 -- How far a run has come whose search lines were answered that stand behind the log's commits.
 pub record IsUnderWay (r : Run) (lines : List Line) (shares : List Share) (asks : List (Vec Ask)) (commits : List (ℕ × ℕ))
-    (due : Committed) (texts : List (Vec (List ℕ))) (w : State) (now : Option Disk)
+    (due : CommitLine) (texts : List (Vec (List ℕ))) (w : State) (now : Option Disk)
     : Type 0 where
   pub log : List Line
   pub come : HasCome r lines shares log commits due w now
@@ -123,7 +123,7 @@ pub record IsUnderWay (r : Run) (lines : List Line) (shares : List Share) (asks 
 
 -- A round more was done: its lines stand behind the log. Their only commit is the one that is pending, if one is.
 pub record GoesOnBy (r : Run) (lines : List Line) (shares : List Share) (log : List Line) (commits : List (ℕ × ℕ))
-    (due : Committed) (w : State) (now : Option Disk)
+    (due : CommitLine) (w : State) (now : Option Disk)
     : Type 0 where
   pub more : List Line
   pub come : HasCome r lines shares (log ++ more) commits due w now
@@ -144,7 +144,7 @@ pub record IsRound (r : Run) (lines : List Line) (olds news : List Share) (log :
 
 -- What the end of a round leaves: its lines stand behind the log. Their only commit is the one that is pending then,
 -- by this line, if one is.
-pub record EndsRound (r : Run) (lines : List Line) (news : List Share) (log : List Line) (due : Committed) (w : State)
+pub record EndsRound (r : Run) (lines : List Line) (news : List Share) (log : List Line) (due : CommitLine) (w : State)
     (now : Option Disk)
     : Type 0 where
   pub more : List Line
@@ -216,7 +216,7 @@ IsRunBy workers keep r = (r.workers ≡ workers) × KeepsBy keep r
 
 -- A writer's pending commit was written, by this line, if there was one, and then all but so many commits were given
 -- up, if only so many are kept: whatever a run had come to, it has come to the same, and notes the commit. Or it stopped.
-pub record WritesPending {S : Type 0} (disk : S → Option Disk) (keep : Option ℕ) (due : Committed) (old : IndexWriter S)
+pub record WritesPending {S : Type 0} (disk : S → Option Disk) (keep : Option ℕ) (due : CommitLine) (old : IndexWriter S)
     (ran : Ran S (Option CommitInfo))
     : Type 0 where
   pub come : (r : Run) (lines : List Line) (shares : List Share) (log : List Line) (commits : List (ℕ × ℕ)) → KeepsBy keep r

@@ -1,9 +1,9 @@
 //! The lines of a script, done in rounds by workers that run at the same time.
-ghost use Rattle.std.specs.Prelude.{◌≡◌, ◌≤◌, ℕ, List as ListOf, [], length, IfErr, IfOk, IfSome, OnOk, Err, None, false};
+ghost use Rattle.std.specs.Prelude.{◌≡◌, ◌≤◌, ℕ, List as ListOf, [], length, IfErr, IfOk, IfSome, IsSome, OnOk, Err, None, false};
 ghost use Rattle.std.specs.Global.{Vec};
 ghost use Rattle.std.specs.List.{AllByRecursion};
 ghost use Rattle.index_run.specs.Answered.{AllAnswerBehind, IsNone};
-ghost use Rattle.line_shares.specs.declared.committed.Committed.{Committed};
+ghost use Rattle.line_shares.specs.declared.round_commit.CommitLine.{CommitLine};
 ghost use Rattle.ix_outside.specs.Causes.{Rose};
 ghost use Rattle.op_script.specs.Shape.{AreScriptLines};
 ghost use Rattle.index_run.specs.Doing.{CanBegin};
@@ -18,7 +18,7 @@ use crate::searches::{answer_behind, no_texts};
 use index_writer::{CommitInfo, IndexWriter, WriterFault, pruned_go_on, segments_stand};
 use ix_base::{List, NoMemory};
 use ix_outside::{Gate, Store};
-use line_shares::{Ask, Committed, Dealt, all_done, deal};
+use line_shares::{Ask, CommitLine, Dealt, all_done, deal};
 use op_script::Line;
 use run_report::Outcome;
 use std::alloc::Global;
@@ -120,7 +120,7 @@ fn do_rounds<R: Threads + Wait + Sync, S: Store, G: Gate>(
         × Begins r lines shares.items asks.now writer.state (S.disk writer.store) }
     ensures over { (r : Run) (lines : ListOf Line) → IsRunBy threads keep r
         → Begins r lines shares.items asks.now writer.state (S.disk writer.store)
-        → IfOk result.came (λ x. (due : Committed) × IsUnderWay r lines x.shares.items asks.now
+        → IfOk result.came (λ x. (due : CommitLine) × IsUnderWay r lines x.shares.items asks.now
         x.commits.items due x.texts.items result.writer.state (S.disk result.writer.store)) }
     ensures cut { (r : Run) (lines : ListOf Line) → IsRunBy threads keep r
         → Begins r lines shares.items asks.now writer.state (S.disk writer.store)
@@ -136,7 +136,7 @@ fn do_rounds<R: Threads + Wait + Sync, S: Store, G: Gate>(
 {
     let mut writer = writer;
     let mut shares = shares;
-    let mut due = Committed::none(alloc);
+    let mut due = CommitLine::none(alloc);
     let mut commits = Vec::new(alloc);
     let mut count = 0;
     let mut texts = match first_texts(alloc, &mut writer, asks) {
@@ -154,9 +154,8 @@ fn do_rounds<R: Threads + Wait + Sync, S: Store, G: Gate>(
         };
         shares = left.shares;
         due = left.due;
-        let settled = note(&mut commits, left.commit)
-            .and_then(|()| answer_due(alloc, &mut writer, &due, asks, &mut texts));
-        match settled {
+        let commit = left.commit;
+        match settle(alloc, &mut writer, &mut commits, commit, &due, asks, &mut texts) {
             Ok(()) => {}
             Err(error) => return Ran::stopped(writer, WriterFault::from(error)),
         }
@@ -186,23 +185,27 @@ fn first_texts<S>(
     Ok(texts)
 }
 
-/// Answers the search lines that stand behind the commit line with which the round ended, if it ended
-/// with one. The only error is out of memory.
-fn answer_due<S>(
+/// Notes the commit that was written beside a round, if one was, and answers the search lines that stand behind the
+/// commit line with which the round ended, if it ended with one. The only error is out of memory.
+fn settle<S>(
     alloc: Global,
     writer: &mut IndexWriter<S>,
-    due: &Committed,
+    commits: &mut Vec<(u64, u64)>,
+    commit: Option<CommitInfo>,
+    due: &CommitLine,
     asks: &[Vec<Ask>],
     texts: &mut Vec<Vec<List<u8>>>,
 ) -> Result<(), NoMemory>
     requires count { length texts.old.items ≡ length asks.now }
-    ensures none { writer.old.state.pending ≡ None → texts.new ≡ texts.old }
+    ensures noted { OnOk result (commits.new.items ≡ given commits.old.items commit) }
+    ensures none { writer.old.state.pending ≡ None → OnOk result (texts.new.items ≡ texts.old.items) }
     ensures answers { IsSome writer.old.state.pending → OnOk result
         (AllAnswerBehind writer.old.state due.now.line asks.now texts.old.items texts.new.items) }
     ensures count { length texts.new.items ≡ length asks.now }
     ensures state { writer.new.state ≡ writer.old.state }
     ensures store { writer.new.store ≡ writer.old.store }
 {
+    note(commits, commit)?;
     if writer.pending_commit().is_none() {
         return Ok(());
     }
@@ -213,7 +216,7 @@ fn answer_due<S>(
 fn write_last<S: Store>(
     writer: IndexWriter<S>,
     rounds: Rounds,
-    due: &Committed,
+    due: &CommitLine,
 ) -> Ran<S, Rounds>
     requires come { (r : Run) × (lines log : ListOf Line)
         × HasCome r lines rounds.shares.items log rounds.commits.items due.now writer.state

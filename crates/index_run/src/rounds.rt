@@ -23,7 +23,7 @@ use index_writer::{
 };
 use ix_base::{Damaged, NoMemory};
 use ix_outside::{Gate, Store};
-use line_shares::{Committed, find_committed, told_counts};
+use line_shares::{CommitLine, committed, told_counts};
 use round_work::{Stop, Worked, run_round};
 use std::alloc::Global;
 use std::sync::Wait;
@@ -236,7 +236,7 @@ fn finish_round<R: Threads + Sync, S: Store>(
     parts: RoundParts,
     counts: &[usize],
     shares: &[Share],
-) -> Result<Committed, WriterFault>
+) -> Result<CommitLine, WriterFault>
     requires round { (r : Run) × (lines : List Line) × (olds : List Share) × (log : List Line)
         × (counts.now ≡ map told_count olds)
         × IsRound r lines olds shares.now log writer.old.state parts (S.disk writer.old.store) }
@@ -253,8 +253,8 @@ fn finish_round<R: Threads + Sync, S: Store>(
 {
     end_round(rt, writer, parts)?;
     match writer.pending_commit() {
-        Some(number) => Ok(find_committed(alloc, counts, shares, number)?),
-        None => Ok(Committed::none(alloc)),
+        Some(number) => Ok(committed(alloc, counts, shares, number)?),
+        None => Ok(CommitLine::none(alloc)),
     }
 }
 
@@ -262,7 +262,7 @@ fn finish_round<R: Threads + Sync, S: Store>(
 /// its number and how many rows it has, beside the writer. A round may be out.
 pub fn write_pending<S: Store>(
     writer: IndexWriter<S>,
-    due: &Committed,
+    due: &CommitLine,
 ) -> Ran<S, Option<CommitInfo>>
     requires sound { IsSound writer.state }
     requires open { writer.state.closed ≡ false }
@@ -299,7 +299,7 @@ pub fn write_pending<S: Store>(
 fn write_and_prune<S: Store>(
     writer: IndexWriter<S>,
     keep: Option<u32>,
-    due: &Committed,
+    due: &CommitLine,
 ) -> Ran<S, Option<CommitInfo>>
     requires sound { IsSound writer.state }
     requires open { writer.state.closed ≡ false }
@@ -365,7 +365,7 @@ pub struct RoundLeft {
     /// The commit of the round before, which was written meanwhile, if there was one.
     pub commit: Option<CommitInfo>,
     /// The line of the commit with which the round ended, with its pairs, or none.
-    pub due: Committed,
+    pub due: CommitLine,
 }
 
 /// Does a round: its workers go on with their shares at the same time, each by a writer of its own,
@@ -380,7 +380,7 @@ pub fn do_round<R: Threads + Wait + Sync, S: Store, G: Gate>(
     threads: u32,
     keep: Option<u32>,
     shares: Vec<Share>,
-    due: Committed,
+    due: CommitLine,
     rounds: &mut u64,
 ) -> Ran<S, RoundLeft>
     requires threads { (1 ≤ threads) × (threads ≤ 16) }

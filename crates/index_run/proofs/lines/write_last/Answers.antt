@@ -2,17 +2,16 @@ use Rattle.index_run.proofs.Rounding.{cut_done, halted_cut, on_fault, on_ok, sto
 use Rattle.index_run.proofs.lines.write_last.Goals as goal
 
 pub returns-in-Err-clause-cut : goal.returns-in-Err-clause-cut
-returns-in-Err-clause-cut g c = λ r lines come.
+returns-in-Err-clause-cut g c = λ r lines log come.
     let rounds = c.args.rounds in
     halted_cut g.S.Store.disk r lines _ _ _ c.halted.ensures
     (on_fault _ _ _ c.in-Err.is
-    (c.write_pending-writer.ensures.pending.cut r lines rounds.shares.items rounds.commits.items tt come))
+    (c.write_pending-writer.ensures.pending.cut r lines rounds.shares.items log rounds.commits.items tt come))
 
 pub returns-in-Err-note-clause-cut : goal.returns-in-Err-note-clause-cut
-returns-in-Err-note-clause-cut g c = λ r lines come.
+returns-in-Err-note-clause-cut g c = λ r lines log come.
     let rounds = c.args.rounds in
     let next =
     on_ok _ _ _ c.in-Ok.is
-    (c.write_pending-writer.ensures.pending.come r lines rounds.shares.items rounds.commits.items tt come) in
-    stopped_cut g.S.Store.disk r lines _ _ _ c.stopped.ensures
-    (cut_done r lines rounds.shares.items next.log _ _ next.done)
+    (c.write_pending-writer.ensures.pending.come r lines rounds.shares.items log rounds.commits.items tt come) in
+    stopped_cut g.S.Store.disk r lines _ _ _ c.stopped.ensures (cut_done r lines rounds.shares.items log _ _ next.done)

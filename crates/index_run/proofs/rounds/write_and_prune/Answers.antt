@@ -13,15 +13,15 @@ use Rattle.index_run.proofs.rounds.write_and_prune.Goals as goal
 
 pub returns-in_default-clause-pending : goal.returns-in_default-clause-pending
 returns-in_default-clause-pending g c =
-    subst (λ (k : Option ℕ). WritesPending g.S.Store.disk k c.args.pairs.now c.args.writer c.write_pending.result) (sym c.in_default.is)
+    subst (λ (k : Option ℕ). WritesPending g.S.Store.disk k c.args.due.now c.args.writer c.write_pending.result) (sym c.in_default.is)
     c.write_pending.ensures.pending
 
 pub returns-in-Err-clause-pending : goal.returns-in-Err-clause-pending
 returns-in-Err-clause-pending g c =
     let wrote = c.write_pending-writer.ensures.pending in
-    subst (WritesPending g.S.Store.disk c.args.keep c.args.pairs.now c.args.writer) (sym c.halted.ensures) (record {
-      come = λ r lines shares commits keeps come. tt;
-      cut = λ r lines shares commits keeps come. on_fault _ _ _ c.in-Err.is (wrote.cut r lines shares commits tt come);
+    subst (WritesPending g.S.Store.disk c.args.keep c.args.due.now c.args.writer) (sym c.halted.ensures) (record {
+      come = λ r lines shares log commits keeps come. tt;
+      cut = λ r lines shares log commits keeps come. on_fault _ _ _ c.in-Err.is (wrote.cut r lines shares log commits tt come);
       written = tt;
       upto = tt;
       is_open = tt;
@@ -33,8 +33,8 @@ pub returns-then-is_none-clause-pending : goal.returns-then-is_none-clause-pendi
 returns-then-is_none-clause-pending g c =
     let wrote = c.write_pending-writer.ensures.pending in
     record {
-      come = λ r lines shares commits keeps come. on_ok _ _ _ c.in-Ok.is (wrote.come r lines shares commits tt come);
-      cut = λ r lines shares commits keeps come. tt;
+      come = λ r lines shares log commits keeps come. on_ok _ _ _ c.in-Ok.is (wrote.come r lines shares log commits tt come);
+      cut = λ r lines shares log commits keeps come. tt;
       written = on_ok _ _ _ c.in-Ok.is wrote.written;
       upto = on_ok _ _ _ c.in-Ok.is wrote.upto;
       is_open = on_ok _ _ _ c.in-Ok.is wrote.is_open;
@@ -62,11 +62,11 @@ returns-in-Ok-prune-clause-pending g c =
       goes_on = p.goes_on;
     } in
     record {
-      come = λ r lines shares commits keeps come.
-          come_pruned c.in-Some.keep r lines shares _ c.args.pairs.now w.state v.state (g.S.Store.disk w.store) (g.S.Store.disk v.store)
+      come = λ r lines shares log commits keeps come.
+          come_pruned c.in-Some.keep r lines shares log _ c.args.due.now w.state v.state (g.S.Store.disk w.store) (g.S.Store.disk v.store)
           (subst (λ (k : Option ℕ). KeepsBy k r) c.in-Some.is keeps) same gives c.in-Ok-prune.ensures.kept
-          (on_ok _ _ _ c.in-Ok.is (wrote.come r lines shares commits tt come));
-      cut = λ r lines shares commits keeps come. tt;
+          (on_ok _ _ _ c.in-Ok.is (wrote.come r lines shares log commits tt come));
+      cut = λ r lines shares log commits keeps come. tt;
       written = ap (λ (s : State). s.pending) same ∙ on_ok _ _ _ c.in-Ok.is wrote.written;
       upto = ap (λ (s : State). s.published.upto) same ∙ on_ok _ _ _ c.in-Ok.is wrote.upto;
       is_open = still;
@@ -97,14 +97,14 @@ returns-in-Err-prune-clause-pending g c =
       crash = p.crash;
       goes_on = p.goes_on;
     } in
-    subst (WritesPending g.S.Store.disk c.args.keep c.args.pairs.now c.args.writer) (sym c.halted-in-Err-prune.ensures) (record {
-      come = λ r lines shares commits keeps come. tt;
-      cut = λ r lines shares commits keeps come.
+    subst (WritesPending g.S.Store.disk c.args.keep c.args.due.now c.args.writer) (sym c.halted-in-Err-prune.ensures) (record {
+      come = λ r lines shares log commits keeps come. tt;
+      cut = λ r lines shares log commits keeps come.
           let by = subst (λ (k : Option ℕ). KeepsBy k r) c.in-Some.is keeps in
-          let there = on_ok _ _ _ c.in-Ok.is (wrote.come r lines shares commits tt come) in
+          let there = on_ok _ _ _ c.in-Ok.is (wrote.come r lines shares log commits tt come) in
           subst (λ (f : RanFault). IsCut r lines f now) (sym c.from.ensures)
-          (cut_pruned keep r lines shares _ c.args.pairs.now w.state v.state mid now why by gives
-          (finds_broken keep r lines shares _ c.args.pairs.now w.state mid now why by
+          (cut_pruned keep r lines shares log _ c.args.due.now w.state v.state mid now why by gives
+          (finds_broken keep r lines shares log _ c.args.due.now w.state mid now why by
           (λ damaged is. e.untouched damaged (ap Err is)) (λ damaged is. e.damaged damaged (ap Err is))
           (λ files damaged told is. e.staying files damaged told (ap Err is))
           (λ files damaged told whole is. e.whole files damaged told whole (ap Err is)) there) there);
