@@ -1,6 +1,6 @@
 //! What became of a line.
 
-use ix_base::{Query, Refusal};
+use ix_base::{List, Refusal};
 
 /// What became of a line.
 #[derive(Drop)]
@@ -11,8 +11,8 @@ pub enum Answer {
     Committed(u64, u64),
     /// It was refused.
     Refused(Refusal),
-    /// It searches the commit of this number, or nothing where that is 0.
-    Searched(u64, Query),
+    /// It searched, and this is its text.
+    Found(List<u8>),
 }
 
 /// A line, by its place in the script, and what became of it.

@@ -1,4 +1,4 @@
-//! Tests of `run_report`: reports whose searches are answered from their commits.
+//! Tests of `run_report`: the texts of lines of each kind, in the order of the script.
 #![tactic(auto)]
 
 #[cfg(test)]
