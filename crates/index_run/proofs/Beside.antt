@@ -21,7 +21,7 @@ use Rattle.report_text.specs.Lines.{summary_value, text_line}
 use Rattle.report_text.specs.Summaries.{summary_of}
 use Rattle.report_text.specs.declared.fault.Fault.TheVariants as fault
 use Rattle.run_report.specs.declared.outcome.Outcome.{Outcome}
-use Rattle.run_report.specs.Searching.{CanSearch}
+use Rattle.searcher.specs.Searching.{IsDamagedIn}
 use Rattle.run_report.specs.Texts.{texts}
 use Rattle.run_log.specs.Headline.{CanRun, Given, IsKept, IsLast, IsOn}
 use Rattle.index_run.specs.Beginning.{BeginsOn, CanBeginOn}
@@ -33,7 +33,7 @@ use Rattle.index_run.specs.Keeping.{AreSpelled, FindsStaying, IsBeside, Preserve
 use Rattle.index_run.specs.KeptDisk.{IsDiskBy}
 use Rattle.index_run.specs.Leaving.{IsDiskAfter}
 use Rattle.index_run.specs.Promises.{CanKeep}
-use Rattle.index_run.specs.Telling.{CanTell, TellsDamaged, is_committed}
+use Rattle.index_run.specs.Telling.{CanTell, is_committed}
 use Rattle.index_run.specs.declared.rounds.RanFault.{RanFault}
 use Rattle.index_run.specs.declared.rounds.RanFault.TheVariants as halt
 use Rattle.index_run.specs.declared.stop.Stop.{Stop}
@@ -41,11 +41,10 @@ use Rattle.index_run.specs.declared.stop.Stop.TheVariants as stop
 use Rattle.index_run.specs.declared.telling.Form.{Form}
 use Rattle.index_run.specs.declared.telling.Form.TheVariants.{Report, Summary}
 use Rattle.index_run.proofs.DiskAfter.{the_files}
-use Rattle.index_run.proofs.Finish.{broken_by, cut_keeps, cut_stops, listed_outside, over_asked, over_keeps, over_settled, over_stops, rounds_outside, told_by, untold, whole_in}
-use Rattle.index_run.proofs.KeepingEnds.{cut_leaves, over_leaves, over_settles, plain_read, plain_runs, plain_whole}
+use Rattle.index_run.proofs.Finish.{broken_by, cut_keeps, cut_stops, listed_outside, over_keeps, over_settled, over_stops, rounds_outside, told_by, untold, whole_in}
+use Rattle.index_run.proofs.KeepingEnds.{cut_leaves, over_leaves, over_settles, report_runs}
 use Rattle.index_run.proofs.Pruning.{all_leaving, leaves_all, preserves_pruned, stops_less}
 use Rattle.index_run.proofs.RunEnds.{spells}
-use Rattle.index_run.proofs.Searchable.{SearchesAt}
 
 abbrev Bytes : Type 0
 Bytes = Vec ℕ Global
@@ -54,9 +53,14 @@ Bytes = Vec ℕ Global
 abbrev pub by : Option ℕ → Run → Run
 by keep r = record r { keep = keep }
 
-pub many_beside : (form : Form) (lines : List Line) (beside : Option ℕ) → IsBeside form lines beside → IfSome beside (λ k. 1 ≤ k)
-many_beside form lines None is = tt
-many_beside form lines (Some k) is = is.0
+pub many_beside : (form : Form) (beside : Option ℕ) → IsBeside form beside → IfSome beside (λ k. 1 ≤ k)
+many_beside form None is = tt
+many_beside form (Some k) is = is.0
+
+-- where a summary keeps all commits, so many are kept of a report
+pub is_report : (form : Form) (keep : Option ℕ) (k : ℕ) → (form ≡ Summary → keep ≡ None) → keep ≡ Some k → form ≡ Report
+is_report Report keep k all is = refl
+is_report Summary keep k all is = absurd (let none : None ≡ Some k = sym (all refl) ∙ is in cc)
 
 -- a store that is as it was
 pub steps_none : (keep : Option ℕ) (old new : Option Disk) → new ≡ old → StepsBy keep old new
@@ -154,91 +158,51 @@ over_spelled_by (Some k) g r lines outcomes w now told last begun here o = o.dis
 
 -- the text was made
 pub texts_by : MadeRuns → (keep : Option ℕ) (g : Given) (r : Run) (form : Form) (lines : List Line) (outcomes : List Outcome) (w : State)
-    (now : Option Disk) (base upto : ℕ) (result : Result Bytes Stop) → IsBeside form lines keep → g.lines ≡ lines → LinesRise 1 lines
+    (now : Option Disk) (base upto : ℕ) (result : Result Bytes Stop) → IsBeside form keep → g.lines ≡ lines
     → (form ≡ Summary → IsMade lines) → CanRun g → told_files r.start ≡ Some g.files → IsOnGiven g r.first
     → IsOver (by keep r) lines outcomes w now → base ≡ r.first.published.upto → upto ≡ w.published.upto
-    → ((f : Files) (rows : ℕ → List Row) → form ≡ Report → told_files now ≡ Some f → CanSearch f rows outcomes
-    → SearchesAt w g.base outcomes rows → IfOk result (λ bytes. bytes.items ≡ texts rows outcomes))
+    → (form ≡ Report → IfOk result (λ bytes. bytes.items ≡ texts outcomes))
     → ((f : Files) (next : ℕ) (rows : List Row) → form ≡ Summary → told_files now ≡ Some f → HoldsInverted f upto next rows
     → IfOk result (λ bytes. bytes.items ≡ text_line (summary_value (summary_of (count_by is_committed outcomes)
     (upto - base) (map hit_of (born_after base rows))))))
     → IfOk result (λ bytes. RunsLeavingBy keep g (form_text form g) (λ said. bytes.items ≡ said) r.start now)
-texts_by law None g r form lines outcomes w now base upto result beside same rise made can told on o first last reported summed =
-    told_by law g r form lines outcomes w now base upto result same rise made can told on o first last reported summed
-texts_by law (Some k) g r form lines outcomes w now base upto result beside same rise made can told on o first last reported summed =
+texts_by law None g r form lines outcomes w now base upto result beside same made can told on o first last reported summed =
+    told_by law g r form lines outcomes w now base upto result same made can told on o first last reported summed
+texts_by law (Some k) g r form lines outcomes w now base upto result beside same made can told on o first last reported summed =
     subst (λ (f : Form). IfOk result (λ bytes. RunsLeaving k g (form_text f g) (λ said. bytes.items ≡ said) r.start now)) (sym beside.1)
-    (plain_runs k g r lines outcomes w now result beside.2 same rise can told on o
-    (λ f rows is search found. reported f rows beside.1 is search found))
+    (report_runs k g r lines outcomes w now result same can told on o (reported beside.1))
 
 -- what is read for it is there
 pub whole_by : MadeRuns → (keep : Option ℕ) (g : Given) (r : Run) (form : Form) (lines : List Line) (outcomes : List Outcome) (w : State)
-    (now : Option Disk) (upto : ℕ) (result : Result Bytes Stop) → IsBeside form lines keep → LinesRise 1 lines
+    (now : Option Disk) (upto : ℕ) (result : Result Bytes Stop) → IsBeside form keep
     → (form ≡ Summary → IsMade lines) → IsOn g → told_files r.start ≡ Some g.files → BeginsOn g r.first → upto ≡ w.published.upto
     → IsOver (by keep r) lines outcomes w now
-    → ((f : Files) → told_files now ≡ Some f → CanTell form upto f outcomes
+    → ((f : Files) → told_files now ≡ Some f → CanTell form upto f
     → IfErr result (λ s. (s ≡ stop.Fault fault.Store) ⊎ (s ≡ stop.NoMemory)))
     → IfErr result (λ s. IsOneOf (stop_status s) (4 ∷ 7 ∷ []))
-whole_by law None g r form lines outcomes w now upto result beside rise made on told here last o whole =
-    whole_in law g r form lines outcomes w now upto result rise made on told here last o whole
-whole_by law (Some k) g r form lines outcomes w now upto (Ok bytes) beside rise made on told here last o whole = tt
-whole_by law (Some k) g r form lines outcomes w now upto (Err s) beside rise made on told here last o whole =
+whole_by law None g r form lines outcomes w now upto result beside made on told here last o whole =
+    whole_in law g r form lines outcomes w now upto result made on told here last o whole
+whole_by law (Some k) g r form lines outcomes w now upto (Ok bytes) beside made on told here last o whole = tt
+whole_by law (Some k) g r form lines outcomes w now upto (Err s) beside made on told here last o whole =
     let found = the_files (told_files now) (AreSpelled g.files) (o.disk.spelled g.files told) in
-    listed_outside s
-    (whole found.0 found.1
-    (subst (λ (f : Form). CanTell f upto found.0 outcomes) (sym beside.1)
-    (plain_read (base_of r) o.log lines found.0 outcomes beside.2 (over_asked (by (Some k) r) lines outcomes w now o))))
+    listed_outside s (whole found.0 found.1 (subst (λ (f : Form). CanTell f upto found.0) (sym beside.1) tt))
 
 -- where something is damaged the store tells nothing
 pub untold_by : MadeRuns → (keep : Option ℕ) (r : Run) (form : Form) (lines : List Line) (outcomes : List Outcome) (w : State)
-    (now : Option Disk) (upto : ℕ) (result : Result Bytes Stop) (damaged : Damaged) → IsBeside form lines keep → LinesRise 1 lines
+    (now : Option Disk) (upto : ℕ) (result : Result Bytes Stop) (damaged : Damaged) → IsBeside form keep
     → (form ≡ Summary → IsMade lines) → ((f : Files) → told_files r.start ≡ Some f → CanBeginOn f)
     → ((g : Given) → told_files r.start ≡ Some g.files → IsLast g.files g.base → IsOn g → BeginsOn g r.first)
     → upto ≡ w.published.upto → IsOver (by keep r) lines outcomes w now
-    → ((f : Files) → told_files now ≡ Some f → CanTell form upto f outcomes
+    → ((f : Files) → told_files now ≡ Some f → CanTell form upto f
     → IfErr result (λ s. (s ≡ stop.Fault fault.Store) ⊎ (s ≡ stop.NoMemory)))
-    → TellsDamaged form upto outcomes (told_files now) damaged
+    → (form ≡ Summary) × IsDamagedIn (told_files now) upto damaged
     → result ≡ Err (stop.Fault (fault.Damaged damaged)) → (r.start ≡ None) × (now ≡ None)
-untold_by law None r form lines outcomes w now upto result damaged beside rise made begins on last o whole found is =
-    untold law r form lines outcomes w now upto result damaged rise made begins on last o whole is
-untold_by law (Some k) r form lines outcomes w now upto result damaged beside rise made begins on last o whole found is =
-    absurd (plain_whole (by (Some k) r) lines outcomes w now now damaged beside.2 o
-    (subst (λ (f : Form). TellsDamaged f upto outcomes (told_files now) damaged) beside.1 found))
-
--- ---- behind the rounds so many are kept in the end
-
-abbrev pub IsNoneOr : Option ℕ → ℕ → Type 0
-IsNoneOr beside keep = IfSome beside (λ k. k ≡ keep)
-
-pub stops_in_end : (beside : Option ℕ) (keep : ℕ) (g : Given) (old new : Option Disk) → IsNoneOr beside keep
-    → StopsBy beside g old new → StopsKeeping keep g old new
-stops_in_end None keep g old new is stops = stops_less keep g old new stops
-stops_in_end (Some k) keep g old new is stops = subst (λ (n : ℕ). StopsKeeping n g old new) is stops
-
-pub leaves_in_end : (beside : Option ℕ) (keep status : ℕ) → LeavesStoreBy (Some keep) status → LeavesStoreBy beside status
-leaves_in_end None keep status leaves = leaves_all (Some keep) status leaves
-leaves_in_end (Some k) keep status leaves = leaves
-
-pub can_in_end : (beside : Option ℕ) (keep : ℕ) (files : Files) → CanKeep (Some keep) files → CanKeep beside files
-can_in_end None keep files can = tt
-can_in_end (Some k) keep files can = can
-
-pub runs_in_end : (beside : Option ℕ) (keep : ℕ) (g : Given) (text : List Line → List ℕ) (result : Result Bytes Stop)
-    (old new : Option Disk) → IsNoneOr beside keep
-    → IfOk result (λ bytes. RunsLeavingBy beside g text (λ said. bytes.items ≡ said) old new)
-    → IfOk result (λ bytes. RunsLeaving keep g text (λ said. bytes.items ≡ said) old new)
-runs_in_end None keep g text result old new is runs = all_leaving keep g text result old new runs
-runs_in_end (Some k) keep g text result old new is runs =
-    subst (λ (n : ℕ). IfOk result (λ bytes. RunsLeaving n g text (λ said. bytes.items ≡ said) old new)) is runs
+untold_by law None r form lines outcomes w now upto result damaged beside made begins on last o whole found is =
+    untold law r form lines outcomes w now upto result damaged made begins on last o whole is
+untold_by law (Some k) r form lines outcomes w now upto result damaged beside made begins on last o whole found is =
+    absurd (let both : Report ≡ Summary = sym beside.1 ∙ found.0 in cc)
 
 -- where all commits are kept none was found broken that stays
 pub read_alone : {A : Type 0} {F : ℕ → Type 0} → A ⊎ ((k : ℕ) × (None ≡ Some k) × F k) → A
 read_alone {A} {F} (inl read) = read
 read_alone {A} {F} (inr found) = absurd (let none : None ≡ Some found.0 = found.1 in cc)
-
-pub finds_in_end : {A : Type 0} (beside options : Option ℕ) (keep : ℕ) (told : Option Files) (damaged : Damaged) → IsNoneOr beside keep
-    → options ≡ Some keep → A ⊎ ((k : ℕ) × (beside ≡ Some k) × FindsStaying k told damaged)
-    → A ⊎ ((k : ℕ) × (options ≡ Some k) × FindsStaying k told damaged)
-finds_in_end {A} beside options keep told damaged is kept (inl read) = inl read
-finds_in_end {A} beside options keep told damaged is kept (inr found) =
-    let same : found.0 ≡ keep = subst (λ (o : Option ℕ). IsNoneOr o keep) found.1 is in
-    inr (keep, kept, subst (λ (n : ℕ). FindsStaying n told damaged) same found.2)

@@ -50,7 +50,7 @@ use Rattle.index_run.specs.Replied.{CanTell, IsCounted}
 use Rattle.index_run.proofs.RepliedLaws.{outcomes_counted}
 use Rattle.index_run.specs.Outcomes.{AreOutcomes}
 use Rattle.index_run.specs.Rounds.{AllCame, gave_of, pieces_of, share_of, writers_of}
-use Rattle.index_run.proofs.Answering.{all_first, all_more, all_plain, due_commit, none_commit, number_at, settled_at}
+use Rattle.index_run.proofs.AnswerLaws.{all_first, all_more, all_plain, due_commit, none_commit, number_at, settled_at}
 use Rattle.index_run.proofs.DiskBy.{by_commit, by_count, by_same, by_start, pending_above, stopped_done}
 use Rattle.index_run.specs.KeptDisk.{KeepLaws}
 use Rattle.index_writer.specs.declared.fault.WriterFault.{WriterFault}

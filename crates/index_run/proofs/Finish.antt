@@ -26,7 +26,6 @@ use Rattle.report_text.specs.Lines.{summary_value, text_line}
 use Rattle.report_text.specs.Summaries.{summary_of}
 use Rattle.report_text.specs.declared.fault.Fault.TheVariants as fault
 use Rattle.run_report.specs.declared.outcome.Outcome.{Outcome}
-use Rattle.run_report.specs.Searching.{CanSearch, ReadsCommit}
 use Rattle.run_report.specs.Texts.{texts}
 use Rattle.run_log.proofs.AgainLaws.{commits_run_on}
 use Rattle.run_log.proofs.CountLaws.{same_count}
@@ -45,13 +44,14 @@ use Rattle.index_run.specs.Commands.{IsMade, form_text}
 use Rattle.index_run.specs.Damage.{ReadsDamaged}
 use Rattle.index_run.specs.Doing.{IsOnGiven}
 use Rattle.index_run.specs.Driving.{IsCut, IsDocs, IsOver, Run, base_of}
-use Rattle.index_run.proofs.OutcomeLaws.{asked_by, outcomes_weaker, texts_with_none}
-use Rattle.index_run.specs.Outcomes.{AreOutcomes, IsAskedBy, rows_of}
-use Rattle.index_run.specs.Telling.{CanTell, TellsDamaged, is_committed}
+use Rattle.index_run.proofs.OutcomeLaws.{HasCount, HasFound, outcomes_weaker, texts_found}
+use Rattle.index_run.specs.Answered.{IsFound}
+use Rattle.index_run.specs.Outcomes.{AreOutcomes}
+use Rattle.index_run.specs.Telling.{CanTell, ReadsCommit, is_committed}
+use Rattle.searcher.specs.Searching.{IsDamagedIn}
 use Rattle.index_run.proofs.DiskAfter.{some_onto, the_files}
 use Rattle.index_run.proofs.Listed.{at_err}
 use Rattle.index_run.proofs.RunEnds.{crash_some, each_some, ends_again, ends_files, ends_images, ends_own, keeps_some, own_some, reads}
-use Rattle.index_run.proofs.Searchable.{SearchesAt, can_read, can_search, is_asked, no_rows, searches_last}
 use Rattle.index_run.proofs.Summarised.{commits_counted, last_above, last_in, summarised}
 
 -- the run, where it keeps all commits
@@ -206,29 +206,19 @@ over_settled g r lines outcomes w now told on o are f told_now =
 
 -- what became of the lines, by what was given
 pub outcomes_given : (g : Given) (r : Run) (log lines : List Line) (outcomes : List Outcome) → IsOnGiven g r.first
-    → AreOutcomes (IsDocs r.first log) (base_of r) log [] lines outcomes
-    → AreOutcomes (λ (s docs : ℕ). docs ≡ doc_count (rows_at g.base g.rows log s)) g.base log [] lines outcomes
+    → AreOutcomes (IsDocs r.first log) (IsFound r.first log) (base_of r) log [] lines outcomes
+    → AreOutcomes (HasCount g.base g.rows log) (HasFound g.base g.rows log) g.base log [] lines outcomes
 outcomes_given g r log lines outcomes on are =
-    subst
-    (λ (n : ℕ). AreOutcomes (λ (s docs : ℕ). docs ≡ doc_count (rows_at n g.rows log s)) n log [] lines outcomes)
-    on.number
-    (outcomes_weaker (IsDocs r.first log) (λ (s docs : ℕ). docs ≡ doc_count (rows_at (base_of r) g.rows log s))
-    (λ s docs is. is g.rows on.rows) (base_of r) log [] lines outcomes are)
+    subst (λ (n : ℕ). AreOutcomes (HasCount n g.rows log) (HasFound n g.rows log) n log [] lines outcomes) on.number
+    (outcomes_weaker (IsDocs r.first log) (HasCount (base_of r) g.rows log) (IsFound r.first log) (HasFound (base_of r) g.rows log)
+    (λ s docs is. is g.rows on.rows) (λ s query line text is. is g.rows on.rows) (base_of r) log [] lines outcomes are)
 
 -- the text is the report
-over_report : (g : Given) (r : Run) (lines : List Line) (outcomes : List Outcome) (w : State) (now : Option Disk)
-    (f : Files) (text : List ℕ) → g.lines ≡ lines → LinesRise 1 lines → CanRun g → IsOnGiven g r.first
-    → (o : IsOver (all r) lines outcomes w now) → HasAll g o.log f
-    → ((by : ℕ → List Row) → CanSearch f by outcomes → SearchesAt w g.base outcomes by → text ≡ texts by outcomes)
+pub over_report : (g : Given) (r : Run) (lines : List Line) (outcomes : List Outcome) (w : State) (now : Option Disk)
+    (text : List ℕ) → g.lines ≡ lines → IsOnGiven g r.first → (o : IsOver r lines outcomes w now) → text ≡ texts outcomes
     → text ≡ report g.base g.rows g.lines o.log
-over_report g r lines outcomes w now f text same rise can on o has told =
-    let are = outcomes_given g r o.log lines outcomes on o.outcomes in
-    let asked =
-    asked_by (λ (s docs : ℕ). docs ≡ doc_count (rows_at g.base g.rows o.log s)) g.base o.log lines outcomes are in
-    told (rows_of g.base g.rows o.log) (can_search g o.log lines f outcomes can o.numbering rise has asked)
-    (searches_last (λ (s docs : ℕ). docs ≡ doc_count (rows_at g.base g.rows o.log s)) g r.first o.log lines outcomes w can on
-    o.writer rise o.numbering are)
-    ∙ texts_with_none g.base g.rows o.log lines outcomes (no_rows g can) are
+over_report g r lines outcomes w now text same on o told =
+    told ∙ texts_found g.base g.rows o.log lines outcomes (outcomes_given g r o.log lines outcomes on o.outcomes)
     ∙ ap (λ (ls : List Line). report g.base g.rows ls o.log) (sym same)
 
 over_runs : (g : Given) (r : Run) (lines : List Line) (outcomes : List Outcome) (w : State) (now : Option Disk)
@@ -267,22 +257,13 @@ over_told g r lines outcomes w now form (Ok bytes) same can told on o text =
 
 -- the lines were done, and then their report was made
 pub runs_of : (g : Given) (r : Run) (lines : List Line) (outcomes : List Outcome) (w : State) (now : Option Disk)
-    (result : Result Bytes Stop) → g.lines ≡ lines → LinesRise 1 lines → CanRun g
-    → told_files r.start ≡ Some g.files → IsOnGiven g r.first → IsOver (all r) lines outcomes w now
-    → ((f : Files) (by : ℕ → List Row) → told_files now ≡ Some f → CanSearch f by outcomes
-    → SearchesAt w g.base outcomes by → IfOk result (λ bytes. bytes.items ≡ texts by outcomes))
+    (result : Result Bytes Stop) → g.lines ≡ lines → CanRun g → told_files r.start ≡ Some g.files → IsOnGiven g r.first
+    → IsOver (all r) lines outcomes w now → IfOk result (λ bytes. bytes.items ≡ texts outcomes)
     → IfOk result (λ bytes. Runs g (form_text Report g) (λ told. bytes.items ≡ told) r.start now)
-runs_of g r lines outcomes w now result same rise can told on o text =
-    over_told g r lines outcomes w now Report result same can told on o (λ f is all. by result f is all (text f))
-  where
-    by : (result : Result Bytes Stop) (f : Files) → told_files now ≡ Some f → HasAll g o.log f
-        → ((by : ℕ → List Row) → told_files now ≡ Some f → CanSearch f by outcomes → SearchesAt w g.base outcomes by
-        → IfOk result (λ bytes. bytes.items ≡ texts by outcomes))
-        → IfOk result (λ bytes. bytes.items ≡ report g.base g.rows g.lines o.log)
-    by (Err s) f is all text = tt
-    by (Ok bytes) f is all text =
-        over_report g r lines outcomes w now f bytes.items same rise can on o all
-        (λ rows search found. text rows is search found)
+runs_of g r lines outcomes w now (Err s) same can told on o text = tt
+runs_of g r lines outcomes w now (Ok bytes) same can told on o text =
+    over_runs g r lines outcomes w now (form_text Report g) (λ (said : List ℕ). bytes.items ≡ said) same can told on o
+    (over_report g (all r) lines outcomes w now bytes.items same on o text)
 
 -- the lines of a made script were done, and then their summary was made
 pub sums_of : MadeRuns → (g : Given) (r : Run) (lines : List Line) (outcomes : List Outcome) (w : State)
@@ -303,7 +284,7 @@ sums_of law g r lines outcomes w now base upto result same made can told on o fr
     last = let end = o.writer.upto in let number = on.number in omega (arith, last_is, end, number)
 
     count : count_by is_committed outcomes ≡ count_by (λ (l : Line). is_commit l.act) lines
-    count = commits_counted (IsDocs r.first o.log) (base_of r) o.log [] lines outcomes o.outcomes
+    count = commits_counted (IsDocs r.first o.log) (IsFound r.first o.log) (base_of r) o.log [] lines outcomes o.outcomes
 
     by : (result : Result Bytes Stop) (f : Files) → HasAll g o.log f
         → ((next : ℕ) (rows : List Row) → HoldsInverted f upto next rows
@@ -319,27 +300,21 @@ sums_of law g r lines outcomes w now base upto result same made can told on o fr
 
 -- the lines were done, and then the text of this form was made
 pub told_by : MadeRuns → (g : Given) (r : Run) (form : Form) (lines : List Line) (outcomes : List Outcome) (w : State)
-    (now : Option Disk) (base upto : ℕ) (result : Result Bytes Stop) → g.lines ≡ lines → LinesRise 1 lines
+    (now : Option Disk) (base upto : ℕ) (result : Result Bytes Stop) → g.lines ≡ lines
     → (form ≡ Summary → IsMade lines) → CanRun g → told_files r.start ≡ Some g.files → IsOnGiven g r.first
     → IsOver (all r) lines outcomes w now → base ≡ r.first.published.upto → upto ≡ w.published.upto
-    → ((f : Files) (by : ℕ → List Row) → form ≡ Report → told_files now ≡ Some f → CanSearch f by outcomes
-    → SearchesAt w g.base outcomes by → IfOk result (λ bytes. bytes.items ≡ texts by outcomes))
+    → (form ≡ Report → IfOk result (λ bytes. bytes.items ≡ texts outcomes))
     → ((f : Files) (next : ℕ) (rows : List Row) → form ≡ Summary → told_files now ≡ Some f → HoldsInverted f upto next rows
     → IfOk result (λ bytes. bytes.items ≡ text_line (summary_value (summary_of (count_by is_committed outcomes)
     (upto - base) (map hit_of (born_after base rows))))))
     → IfOk result (λ bytes. Runs g (form_text form g) (λ told. bytes.items ≡ told) r.start now)
-told_by law g r Report lines outcomes w now base upto result same rise made can told on o first last reported summed =
-    runs_of g r lines outcomes w now result same rise can told on o (λ f by is search found. reported f by refl is search found)
-told_by law g r Summary lines outcomes w now base upto result same rise made can told on o first last reported summed =
+told_by law g r Report lines outcomes w now base upto result same made can told on o first last reported summed =
+    runs_of g r lines outcomes w now result same can told on o (reported refl)
+told_by law g r Summary lines outcomes w now base upto result same made can told on o first last reported summed =
     sums_of law g r lines outcomes w now base upto result same (made refl) can told on o first last
     (λ f next rows is holds. summed f next rows refl is holds)
 
 -- ---- a text of which nothing is damaged
-
--- each search has its line, by the number that a run began on
-pub over_asked : (r : Run) (lines : List Line) (outcomes : List Outcome) (w : State) (now : Option Disk)
-    → (o : IsOver r lines outcomes w now) → AllByRecursion (IsAskedBy (base_of r) o.log lines) outcomes
-over_asked r lines outcomes w now o = asked_by (IsDocs r.first o.log) (base_of r) o.log lines outcomes o.outcomes
 
 pub listed_outside : (s : Stop) → (s ≡ stop.Fault fault.Store) ⊎ (s ≡ stop.NoMemory)
     → IsOneOf (stop_status s) (4 ∷ 7 ∷ [])
@@ -348,14 +323,14 @@ listed_outside s (inr e) = subst (λ (x : Stop). IsOneOf (stop_status x) (4 ∷ 
 
 -- what is read after the lines were done is there
 pub whole_in : MadeRuns → (g : Given) (r : Run) (form : Form) (lines : List Line) (outcomes : List Outcome) (w : State)
-    (now : Option Disk) (upto : ℕ) (result : Result Bytes Stop) → LinesRise 1 lines → (form ≡ Summary → IsMade lines)
+    (now : Option Disk) (upto : ℕ) (result : Result Bytes Stop) → (form ≡ Summary → IsMade lines)
     → IsOn g → told_files r.start ≡ Some g.files → BeginsOn g r.first → upto ≡ w.published.upto
     → IsOver (all r) lines outcomes w now
-    → ((f : Files) → told_files now ≡ Some f → CanTell form upto f outcomes
+    → ((f : Files) → told_files now ≡ Some f → CanTell form upto f
     → IfErr result (λ s. (s ≡ stop.Fault fault.Store) ⊎ (s ≡ stop.NoMemory)))
     → IfErr result (λ s. IsOneOf (stop_status s) (4 ∷ 7 ∷ []))
-whole_in law g r form lines outcomes w now upto (Ok bytes) rise made on told here last_is o whole = tt
-whole_in law g r form lines outcomes w now upto (Err s) rise made on told here last_is o whole =
+whole_in law g r form lines outcomes w now upto (Ok bytes) made on told here last_is o whole = tt
+whole_in law g r form lines outcomes w now upto (Err s) made on told here last_is o whole =
     listed_outside s (whole found.0 found.1 (can form made))
   where
     CanBeRead : Files → Type 0
@@ -368,10 +343,8 @@ whole_in law g r form lines outcomes w now upto (Err s) rise made on told here l
     last : upto ≡ g.base + length o.log
     last = let end = o.writer.upto in let number = here.number in omega (arith, last_is, end, number)
 
-    can : (form : Form) → (form ≡ Summary → IsMade lines) → CanTell form upto found.0 outcomes
-    can Report made =
-        can_read g o.log lines found.0 outcomes o.numbering rise found.2
-        (subst (λ (n : ℕ). AllByRecursion (IsAskedBy n o.log lines) outcomes) here.number (over_asked (all r) lines outcomes w now o))
+    can : (form : Form) → (form ≡ Summary → IsMade lines) → CanTell form upto found.0
+    can Report made = tt
     can Summary made =
         subst (ReadsCommit found.0) (sym last)
         (found.2 (g.base + length o.log) (inr (last_in law lines o.log g.base (made refl) o.numbering)))
@@ -384,14 +357,14 @@ none_still (Some disk) now only is = absurd cc
 
 -- where something is damaged after the lines were done, the store tells nothing
 pub untold : MadeRuns → (r : Run) (form : Form) (lines : List Line) (outcomes : List Outcome) (w : State)
-    (now : Option Disk) (upto : ℕ) (result : Result Bytes Stop) (damaged : Damaged) → LinesRise 1 lines
+    (now : Option Disk) (upto : ℕ) (result : Result Bytes Stop) (damaged : Damaged)
     → (form ≡ Summary → IsMade lines) → ((f : Files) → told_files r.start ≡ Some f → CanBeginOn f)
     → ((g : Given) → told_files r.start ≡ Some g.files → IsLast g.files g.base → IsOn g → BeginsOn g r.first)
     → upto ≡ w.published.upto → IsOver (all r) lines outcomes w now
-    → ((f : Files) → told_files now ≡ Some f → CanTell form upto f outcomes
+    → ((f : Files) → told_files now ≡ Some f → CanTell form upto f
     → IfErr result (λ s. (s ≡ stop.Fault fault.Store) ⊎ (s ≡ stop.NoMemory)))
     → result ≡ Err (stop.Fault (fault.Damaged damaged)) → (r.start ≡ None) × (now ≡ None)
-untold law r form lines outcomes w now upto result damaged rise made begins on last_is o whole is =
+untold law r form lines outcomes w now upto result damaged made begins on last_is o whole is =
     let start = by r.start refl in (start, none_still r.start now o.disk.only start)
   where
     not_told : (f : Files) → told_files r.start ≡ Some f → ⊥
@@ -400,7 +373,7 @@ untold law r form lines outcomes w now upto result damaged rise made begins on l
         let given : told_files r.start ≡ Some can.0.files = told ∙ ap Some (sym can.1) in
         let listed : IsOneOf 8 (4 ∷ 7 ∷ []) =
         at_err result (stop.Fault (fault.Damaged damaged)) (λ s. IsOneOf (stop_status s) (4 ∷ 7 ∷ [])) is
-        (whole_in law can.0 r form lines outcomes w now upto result rise made can.3 given (on can.0 given can.2 can.3)
+        (whole_in law can.0 r form lines outcomes w now upto result made can.3 given (on can.0 given can.2 can.3)
         last_is o whole) in
         cc
 
@@ -443,21 +416,10 @@ rounds_outside (halt.Damaged damaged) s is whole = absurd (whole damaged refl)
 pub damaged_in : MadeRuns → (r : Run) (form : Form) (lines : List Line) (outcomes : List Outcome) (w : State)
     (old now : Option Disk) (base upto : ℕ) (damaged : Damaged) → (form ≡ Summary → IsMade lines)
     → IsBase (told_files old) (base_of r) → upto ≡ w.published.upto → IsOver r lines outcomes w now
-    → (told_files old ≡ None) × (told_files now ≡ None) → TellsDamaged form upto outcomes (told_files now) damaged
+    → (told_files old ≡ None) × (told_files now ≡ None) → (form ≡ Summary) × IsDamagedIn (told_files now) upto damaged
     → ReadsDamaged form lines (told_files old) (told_files now) damaged
-damaged_in law r Report lines outcomes w old now base upto damaged made is_base last_is o none found = record {
-  base = base_of r;
-  last = is_base;
-  number = found.2.number;
-  some = found.2.some;
-  reads = inr (
-    none.0,
-    none.1,
-    is_asked (base_of r) o.log lines outcomes found.0 found.2.number found.2.query o.numbering
-        (over_asked r lines outcomes w now o) found.1 found.2.searches,
-  );
-  broken = found.2.broken;
-}
+damaged_in law r Report lines outcomes w old now base upto damaged made is_base last_is o none found =
+    absurd (let other : Report ≡ Summary = found.0 in cc)
 damaged_in law r Summary lines outcomes w old now base upto damaged made is_base last_is o none found =
     let last : upto ≡ base_of r + length o.log = (let end = o.writer.upto in omega (arith, last_is, end)) in
     record {
@@ -466,5 +428,5 @@ damaged_in law r Summary lines outcomes w old now base upto damaged made is_base
       number = upto;
       some = (let above = last_above law lines o.log (base_of r) (made refl) o.numbering in omega (arith, last, above));
       reads = inr (none.0, none.1, record { log = o.log; numbering = o.numbering; is = last });
-      broken = found;
+      broken = found.1;
     }

@@ -18,7 +18,6 @@ use Rattle.commit_point.specs.Holds.{AreKept}
 use Rattle.op_script.specs.Shape.{LinesRise}
 use Rattle.op_script.specs.declared.script.Line.{Line}
 use Rattle.run_report.specs.declared.outcome.Outcome.{Outcome}
-use Rattle.run_report.specs.Searching.{AnswerHolds, AnswerReads, CanRead, CanSearch, SearchesDamaged}
 use Rattle.run_report.specs.Texts.{texts}
 use Rattle.run_log.proofs.AgainLaws.{again, commits_run_on}
 use Rattle.run_log.proofs.CountLaws.{same_count}
@@ -31,16 +30,13 @@ use Rattle.index_run.specs.declared.stop.Stop.{Stop}
 use Rattle.index_run.specs.declared.telling.Form.TheVariants.{Report}
 use Rattle.index_run.specs.Doing.{IsOnGiven}
 use Rattle.index_run.specs.Driving.{IsCut, IsDocs, IsOver, Run, base_of}
-use Rattle.index_run.specs.Keeping.{Left, RunsLeaving, StopsKeeping, has_search, is_search}
+use Rattle.index_run.specs.Keeping.{Left, RunsLeaving, StopsKeeping}
 use Rattle.index_run.specs.KeptDisk.{BeginsOnLast, IsDiskLeft, LeftSome, StandsLeft}
 use Rattle.index_run.specs.Leaving.{HasSomeFront, first_numbers}
-use Rattle.index_run.specs.Outcomes.{AreOutcomes, AsksBy, IsAskedBy, rows_of}
 use Rattle.index_run.proofs.DiskAfter.{some_onto, the_files}
-use Rattle.index_run.proofs.Finish.{numbering_of, outcomes_given}
-use Rattle.index_run.proofs.OutcomeLaws.{asked_by, texts_with_none}
+use Rattle.index_run.proofs.Finish.{numbering_of, over_report}
 use Rattle.index_run.proofs.Pruning.{can_run_left}
 use Rattle.index_run.proofs.RunEnds.{has_all, has_first}
-use Rattle.index_run.proofs.Searchable.{SearchesAt, each_answer, holds_other, no_rows, reads_other, searches_last}
 
 -- the run, where it keeps so many commits
 abbrev pub some : ℕ → Run → Run
@@ -157,72 +153,15 @@ module _ (keep : ℕ) (g : Given) (r : Run) (lines : List Line) (outcomes : List
     again = again_of same can;
   }
 
--- ---- lines of which none searches
-
-search_among : (before rest : List Line) (l : Line) → is_search l.act ≡ true → has_search (before ++ l ∷ rest) ≡ true
-search_among [] rest l is = ap (λ (b : Bool). b || has_search rest) is
-search_among (x ∷ before) rest l is = by (is_search x.act) (search_among before rest l is)
-  where
-    by : (b : Bool) → has_search (before ++ l ∷ rest) ≡ true → (b || has_search (before ++ l ∷ rest)) ≡ true
-    by true there = refl
-    by false there = there
-
-none_asks : (base : ℕ) (log lines : List Line) (s : ℕ) (query : Query) → has_search lines ≡ false → AsksBy base log lines s query → ⊥
-none_asks base log lines s query none asks =
-    let among = search_among asks.before asks.rest asks.line (ap is_search asks.search) in
-    let both : has_search lines ≡ true = ap has_search asks.at ∙ among in cc
-
-pub plain_search : (base : ℕ) (log lines : List Line) (f : Files) (by : ℕ → List Row) (outcomes : List Outcome) → has_search lines ≡ false
-    → by 0 ≡ [] → AllByRecursion (IsAskedBy base log lines) outcomes → CanSearch f by outcomes
-plain_search base log lines f by outcomes none nothing asked = record {
-  none = nothing;
-  each = All-from_recursion (λ (o : Outcome). AnswerHolds f by o.answer) outcomes
-      (each_answer (AnswerHolds f by) base log lines outcomes (λ s query asks. absurd (none_asks base log lines s query none asks))
-      (holds_other f by) asked);
-}
-
-pub plain_read : (base : ℕ) (log lines : List Line) (f : Files) (outcomes : List Outcome) → has_search lines ≡ false
-    → AllByRecursion (IsAskedBy base log lines) outcomes → CanRead f outcomes
-plain_read base log lines f outcomes none asked =
-    All-from_recursion (λ (o : Outcome). AnswerReads f o.answer) outcomes
-    (each_answer (AnswerReads f) base log lines outcomes (λ s query asks. absurd (none_asks base log lines s query none asks))
-    (reads_other f) asked)
-
--- nothing is read for their report
-pub plain_whole : (r : Run) (lines : List Line) (outcomes : List Outcome) (w : State) (now told : Option Disk) (damaged : Damaged)
-    → has_search lines ≡ false → IsOver r lines outcomes w now
-    → ((o : Outcome) × Contains outcomes o × SearchesDamaged (told_files told) o.answer damaged) → ⊥
-plain_whole r lines outcomes w now told damaged none over found =
-    let asks =
-    All-contains (IsAskedBy (base_of r) over.log lines) outcomes found.0
-    (All-from_recursion (IsAskedBy (base_of r) over.log lines) outcomes (asked_by (IsDocs r.first over.log) (base_of r) over.log lines outcomes over.outcomes)) found.1
-    found.2.number found.2.query found.2.searches in
-    none_asks (base_of r) over.log lines found.2.number found.2.query none asks
+-- ---- their report
 
 -- the report was made
-pub plain_runs : (keep : ℕ) (g : Given) (r : Run) (lines : List Line) (outcomes : List Outcome) (w : State) (now : Option Disk)
-    (result : Result (Vec ℕ Global) Stop) → has_search lines ≡ false → g.lines ≡ lines → LinesRise 1 lines → CanRun g
-    → told_files r.start ≡ Some g.files → IsOnGiven g r.first → IsOver (some keep r) lines outcomes w now
-    → ((f : Files) (by : ℕ → List Row) → told_files now ≡ Some f → CanSearch f by outcomes → SearchesAt w g.base outcomes by
-    → IfOk result (λ bytes. bytes.items ≡ texts by outcomes))
+pub report_runs : (keep : ℕ) (g : Given) (r : Run) (lines : List Line) (outcomes : List Outcome) (w : State) (now : Option Disk)
+    (result : Result (Vec ℕ Global) Stop) → g.lines ≡ lines → CanRun g → told_files r.start ≡ Some g.files
+    → IsOnGiven g r.first → IsOver (some keep r) lines outcomes w now
+    → IfOk result (λ bytes. bytes.items ≡ texts outcomes)
     → IfOk result (λ bytes. RunsLeaving keep g (form_text Report g) (λ said. bytes.items ≡ said) r.start now)
-plain_runs keep g r lines outcomes w now (Err s) none same rise can told on o text = tt
-plain_runs keep g r lines outcomes w now (Ok bytes) none same rise can told on o text =
+report_runs keep g r lines outcomes w now (Err s) same can told on o text = tt
+report_runs keep g r lines outcomes w now (Ok bytes) same can told on o text =
     over_runs_on keep g r lines outcomes w now told on o same can (form_text Report g) (λ (said : List ℕ). bytes.items ≡ said)
-    (text found.0 (rows_of g.base g.rows o.log) found.1
-    (plain_search g.base o.log lines found.0 (rows_of g.base g.rows o.log) outcomes none refl asked)
-    (searches_last Docs g r.first o.log lines outcomes w can on o.writer rise o.numbering are)
-    ∙ texts_with_none g.base g.rows o.log lines outcomes (no_rows g can) are
-    ∙ ap (λ (ls : List Line). report g.base g.rows ls o.log) (sym same))
-  where
-    Docs : ℕ → ℕ → Type 0
-    Docs s docs = docs ≡ doc_count (rows_at g.base g.rows o.log s)
-
-    found : (f : Files) × (told_files now ≡ Some f) × Left keep (HasAll g o.log) f
-    found = the_files (told_files now) (Left keep (HasAll g o.log)) (files_of keep g r lines outcomes w now told on o)
-
-    are : AreOutcomes Docs g.base o.log [] lines outcomes
-    are = outcomes_given g r o.log lines outcomes on o.outcomes
-
-    asked : AllByRecursion (IsAskedBy g.base o.log lines) outcomes
-    asked = asked_by Docs g.base o.log lines outcomes are
+    (over_report g (some keep r) lines outcomes w now bytes.items same on o text)

@@ -1,4 +1,5 @@
-pub mod Answering
+pub mod AnswerLaws
+pub mod CallerAnswers
 pub mod Pieces
 pub mod LogNumbers
 pub mod EndsMerged
@@ -18,7 +19,6 @@ pub mod Replying
 pub mod Coming
 pub mod Beginnings
 pub mod Inputs
-pub mod Searchable
 pub mod Summarised
 pub mod Listed
 pub mod Finish

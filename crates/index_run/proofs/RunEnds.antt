@@ -22,7 +22,7 @@ use Rattle.run_log.proofs.CommitLaws.{each_at}
 use Rattle.run_log.proofs.NumberLaws.{pairs_at_front}
 use Rattle.run_log.specs.Headline.{CanRun, CanRunOn, Given, GivesBack, HasAll, HasFirst, HasOnly, HasOwnAll, HasOwnFirst, HasOwnSome, HasSome}
 use Rattle.run_log.specs.Headline.{IsIn, IsKept, IsLast, IsLastSettled, IsNewCommit, IsOn, IsOwnCommit, IsSettled, KeepsCommit, commit_numbers, pairs_at, rows_at}
-use Rattle.run_report.specs.Searching.{ReadsCommit}
+use Rattle.index_run.specs.Telling.{ReadsCommit}
 use Rattle.commit_point.proofs.KeptLaws.{kept_through}
 use Rattle.run_log.proofs.OnlyLaws.{only_image, only_itself}
 use Rattle.run_log.proofs.AgainLaws.{again}

@@ -21,7 +21,7 @@ use Rattle.run_log.proofs.PlaceLaws.{none_below}
 use Rattle.run_log.specs.Headline.{Interleaves, last_commit}
 use Rattle.index_run.specs.Answered.{AreAnswered, IsAnswered, IsFound, IsTextOf, number_behind}
 use Rattle.index_run.specs.Replied.{AreFound, AreTextsFrom, AreTextsLeft, AreTextsOf, IsAnsweredBy, Texts}
-use Rattle.index_run.proofs.Answering.{answered_all, behind_number}
+use Rattle.index_run.proofs.AnswerLaws.{answered_all, behind_number}
 
 -- ---- one line
 

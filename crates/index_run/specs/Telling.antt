@@ -1,5 +1,5 @@
 -- What the text that tells of a run reads of the store.
-use Rattle.std.specs.Prelude.{ℕ, List, Bool, true, false, Unit}
+use Rattle.std.specs.Prelude.{ℕ, List, Bool, true, false}
 use Rattle.ix_base.specs.declared.document.Row.{Row}
 use Rattle.ix_outside.specs.Files.{Files}
 use Rattle.commit_point.specs.Holds.{Holds}

@@ -108,8 +108,8 @@ pub fn do_script<R: Threads + Wait + Sync, S: Store, G: Gate>(
     if !commits {
         return tell_script(rt, alloc, store, gate, options, None, form, lines);
     }
-    let kept = Some(keep);
-    let Done { text, store } = tell_script(rt, alloc, store, gate, options, kept, form, lines);
+    let told = tell_script(rt, alloc, store, gate, options, Some(keep), form, lines);
+    let Done { text, store } = told;
     let text = match text {
         Ok(text) => text,
         Err(stop) => {

@@ -52,7 +52,8 @@ fn answer_caller<S>(
     ensures state { writer.new.state ≡ writer.old.state }
     ensures store { writer.new.store ≡ writer.old.store }
 {
-    while let Some(ask) = asks.get(texts.len()) {
+    for at in texts.len()..asks.len() {
+        let ask = &asks[at];
         if ask.behind != place {
             return Ok(());
         }

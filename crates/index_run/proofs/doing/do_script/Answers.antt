@@ -12,21 +12,20 @@ use Rattle.run_log.specs.Headline.{Given}
 use Rattle.index_run.specs.Beginning.{CanBeginOn}
 use Rattle.index_run.specs.Causes.{IsOneOf, LeavesStoreBy, stop_status}
 use Rattle.index_run.specs.Commands.{form_text}
-use Rattle.index_run.specs.Keeping.{AreSpelled, IsBeside, PreservesBy, RunsBy, RunsLeaving, StopsBy, has_commit}
+use Rattle.index_run.specs.Keeping.{AreSpelled, PreservesBy, RunsBy, RunsLeaving, StopsBy, has_commit}
 use Rattle.index_run.specs.Promises.{CanKeep}
 use Rattle.index_run.specs.declared.stop.Stop.{Stop}
 use Rattle.index_run.specs.declared.stop.Stop.TheVariants as stop
-use Rattle.index_run.proofs.Beside.{can_in_end, finds_in_end, leaves_in_end, read_alone, runs_in_end, stops_in_end}
+use Rattle.index_run.proofs.Beside.{is_report, read_alone}
 use Rattle.index_run.proofs.DiskAfter.{the_files}
 use Rattle.index_run.proofs.Pruning.{Prunes, Settles, all_leave, all_runs, are_whole, preserves_all, preserves_pruned, pruning_damaged, pruning_outside, runs_pruned, stops_by, stops_pruned}
 use Rattle.index_run.proofs.doing.do_script.Goals as goal
 
 pub tell_script-told-requires-clause-beside : goal.tell_script-told-requires-clause-beside
-tell_script-told-requires-clause-beside g c κs within =
-    subst (λ (ls : List Line). IsBeside c.args.form ls c.kept_beside-beside.result) c.as_slice-2.ensures c.kept_beside-beside.ensures.plain
-
-pub kept_beside-beside-requires : goal.kept_beside-beside-requires
-kept_beside-beside-requires g c = subst (λ (o : Option ℕ). IfSome o (λ k. 1 ≤ k)) c.in-Some.is c.requires.keep
+tell_script-told-requires-clause-beside g c κs within = (
+  subst (λ (o : Option ℕ). IfSome o (λ k. 1 ≤ k)) c.in-Some.is c.requires.keep,
+  is_report c.args.form c.args.options.keep c.in-Some.keep c.requires.all c.in-Some.is,
+)
 
 -- ---- all commits are kept
 
@@ -92,35 +91,34 @@ returns-then-not-commits-clause-damaged g c = λ damaged is. inl (read_alone (c.
 pub returns-in-Err-clause-stops : goal.returns-in-Err-clause-stops
 returns-in-Err-clause-stops g c = λ run same told can.
     subst (λ (k : Option ℕ). StopsBy k run (g.S.Store.disk c.args.store) (g.S.Store.disk c.tell_script-told.result.store)) (sym c.in-Some.is)
-    (stops_in_end c.kept_beside-beside.result c.in-Some.keep run _ _ c.kept_beside-beside.ensures.same
-    (c.tell_script-told.ensures.stops run same told can))
+    (c.tell_script-told.ensures.stops run same told can)
 
 pub returns-in-Err-clause-kept : goal.returns-in-Err-clause-kept
 returns-in-Err-clause-kept g c = λ run told can.
     subst (λ (k : Option ℕ). PreservesBy k run (g.S.Store.disk c.args.store) (g.S.Store.disk c.tell_script-told.result.store)) (sym c.in-Some.is)
     (preserves_pruned c.in-Some.keep run c.args.lines _ _
-    (stops_in_end c.kept_beside-beside.result c.in-Some.keep (record run { lines = c.args.lines }) _ _ c.kept_beside-beside.ensures.same
-    (c.tell_script-told.ensures.stops (record run { lines = c.args.lines }) refl told can)))
+    (c.tell_script-told.ensures.stops (record run { lines = c.args.lines }) refl told can))
 
 pub returns-in-Err-clause-same : goal.returns-in-Err-clause-same
 returns-in-Err-clause-same g c = λ leaves.
     let same =
-    subst (λ (r : Result (Vec ℕ) Stop). IfErr r (λ s. LeavesStoreBy c.kept_beside-beside.result (stop_status s)
+    subst (λ (r : Result (Vec ℕ) Stop). IfErr r (λ s. LeavesStoreBy (Some c.in-Some.keep) (stop_status s)
     → g.S.Store.disk c.tell_script-told.result.store ≡ g.S.Store.disk c.args.store)) c.in-Err.is c.tell_script-told.ensures.same in
-    same (leaves_in_end c.kept_beside-beside.result c.in-Some.keep (stop_status c.in-Err.stop)
-    (subst (λ (k : Option ℕ). LeavesStoreBy k (stop_status c.in-Err.stop)) c.in-Some.is leaves))
+    same (subst (λ (k : Option ℕ). LeavesStoreBy k (stop_status c.in-Err.stop)) c.in-Some.is leaves)
 
 pub returns-in-Err-clause-whole : goal.returns-in-Err-clause-whole
 returns-in-Err-clause-whole g c = λ run told last can may_keep.
     subst (λ (r : Result (Vec ℕ) Stop). IfErr r (λ s. IsOneOf (stop_status s) (4 ∷ 7 ∷ []))) c.in-Err.is
     (c.tell_script-told.ensures.whole run told last can
-    (can_in_end c.kept_beside-beside.result c.in-Some.keep run.files (subst (λ (k : Option ℕ). CanKeep k run.files) c.in-Some.is may_keep)))
+    (subst (λ (k : Option ℕ). CanKeep k run.files) c.in-Some.is may_keep))
 
 pub returns-in-Err-clause-damaged : goal.returns-in-Err-clause-damaged
 returns-in-Err-clause-damaged g c = λ damaged is.
     let said : c.tell_script-told.result.text ≡ Err (stop.Fault (fault.Damaged damaged)) = c.in-Err.is ∙ is in
-    finds_in_end c.kept_beside-beside.result c.args.options.keep c.in-Some.keep _ damaged c.kept_beside-beside.ensures.same c.in-Some.is
-    (c.tell_script-told.ensures.damaged damaged said)
+    elim (c.tell_script-told.ensures.damaged damaged said) [
+      | inl read ↦ inl read
+      | inr found ↦ inr (found.0, c.in-Some.is ∙ found.1, found.2)
+    ]
 
 -- ---- commits were given up
 
@@ -146,8 +144,7 @@ returns-in-Ok-prune-clause-done g c = λ run same told can.
     (runs_pruned keep run text (λ said. c.in-Ok.text.items ≡ said) start mid new c.in-Ok-prune.field-0 commits can prunes settles
     c.in-Ok-prune.ensures.pruned c.in-Ok-prune.ensures.kept
     (subst (λ (r : Result (Vec ℕ) Stop). IfOk r (λ made. RunsLeaving keep run text (λ said. made.items ≡ said) start mid)) c.in-Ok.is
-    (runs_in_end c.kept_beside-beside.result keep run text c.tell_script-told.result.text start mid c.kept_beside-beside.ensures.same
-    (c.tell_script-told.ensures.done run same told can))))
+    (c.tell_script-told.ensures.done run same told can)))
 
 pub returns-in-Ok-prune-clause-stops : goal.returns-in-Ok-prune-clause-stops
 returns-in-Ok-prune-clause-stops g c = λ run same told can.
@@ -166,8 +163,7 @@ returns-in-Ok-prune-clause-stops g c = λ run same told can.
     (c.tell_script-told.ensures.settled run f told can are told_mid) in
     subst (λ (k : Option ℕ). StopsBy k run start new) (sym c.in-Some.is)
     (stops_pruned keep run start mid new prunes settles
-    (stops_in_end c.kept_beside-beside.result keep run start mid c.kept_beside-beside.ensures.same
-    (c.tell_script-told.ensures.stops run same told can)))
+    (c.tell_script-told.ensures.stops run same told can))
 
 pub returns-in-Ok-prune-clause-kept : goal.returns-in-Ok-prune-clause-kept
 returns-in-Ok-prune-clause-kept g c = λ run told can.
@@ -188,8 +184,7 @@ returns-in-Ok-prune-clause-kept g c = λ run told can.
     subst (λ (k : Option ℕ). PreservesBy k run start new) (sym c.in-Some.is)
     (preserves_pruned keep run c.args.lines start new
     (stops_pruned keep own start mid new prunes settles
-    (stops_in_end c.kept_beside-beside.result keep own start mid c.kept_beside-beside.ensures.same
-    (c.tell_script-told.ensures.stops own refl told can))))
+    (c.tell_script-told.ensures.stops own refl told can)))
 
 pub returns-in-Ok-prune-clause-unbegun : goal.returns-in-Ok-prune-clause-unbegun
 returns-in-Ok-prune-clause-unbegun g c = λ files told not.
@@ -213,8 +208,7 @@ returns-in-Err-prune-clause-stops g c = λ run same told can.
     (c.tell_script-told.ensures.settled run f told can are told_mid) in
     subst (λ (k : Option ℕ). StopsBy k run start new) (sym c.in-Some.is)
     (stops_pruned keep run start mid new prunes settles
-    (stops_in_end c.kept_beside-beside.result keep run start mid c.kept_beside-beside.ensures.same
-    (c.tell_script-told.ensures.stops run same told can)))
+    (c.tell_script-told.ensures.stops run same told can))
 
 pub returns-in-Err-prune-clause-kept : goal.returns-in-Err-prune-clause-kept
 returns-in-Err-prune-clause-kept g c = λ run told can.
@@ -235,8 +229,7 @@ returns-in-Err-prune-clause-kept g c = λ run told can.
     subst (λ (k : Option ℕ). PreservesBy k run start new) (sym c.in-Some.is)
     (preserves_pruned keep run c.args.lines start new
     (stops_pruned keep own start mid new prunes settles
-    (stops_in_end c.kept_beside-beside.result keep own start mid c.kept_beside-beside.ensures.same
-    (c.tell_script-told.ensures.stops own refl told can))))
+    (c.tell_script-told.ensures.stops own refl told can)))
 
 pub returns-in-Err-prune-clause-unbegun : goal.returns-in-Err-prune-clause-unbegun
 returns-in-Err-prune-clause-unbegun g c = λ files told not.

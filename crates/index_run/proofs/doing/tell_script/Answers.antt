@@ -16,7 +16,6 @@ use Rattle.index_run.proofs.Finish.{damaged_in, over_same, same_disks, same_told
 use Rattle.index_run.proofs.Listed.{ok_always}
 use Rattle.index_run.proofs.Pruning.{Settles, all_leave, keeps_by, stops_by}
 use Rattle.index_run.proofs.Rounding.{on_fault, on_ok}
-use Rattle.index_run.proofs.Searchable.{searches_same}
 use Rattle.index_run.proofs.doing.tell_script.Given as given
 use Rattle.index_run.proofs.doing.tell_script.Goals as goal
 
@@ -43,7 +42,7 @@ returns-in-Err-came-clause-stops g c = λ run same told can.
     let r : Run = record { workers = c.args.options.threads; keep = c.args.beside; first = c.in-Ok.writer.state; start = began } in
     same_disks (StopsBy c.args.beside run) start began _ (g.S.Store.disk c.into_parts-store.result.0) c.in-Ok.ensures.reads
     (ap (λ s. g.S.Store.disk s) c.into_parts-store.ensures.store)
-    (cut_stops_by c.args.beside run r c.args.lines _ _ (many_beside c.args.form c.args.lines c.args.beside c.requires.beside) same can
+    (cut_stops_by c.args.beside run r c.args.lines _ _ (many_beside c.args.form c.args.beside c.requires.beside) same can
     (told_still start began run.files c.in-Ok.ensures.reads told) (c.in-Ok.ensures.given run told can)
     (on_fault _ _ _ c.in-Err-came.is c.do_lines-writer.ensures.cut))
 
@@ -55,7 +54,7 @@ returns-in-Err-came-clause-kept g c = λ run told can.
     let r : Run = record { workers = c.args.options.threads; keep = c.args.beside; first = c.in-Ok.writer.state; start = began } in
     same_disks (PreservesBy c.args.beside run) start began _ (g.S.Store.disk c.into_parts-store.result.0) c.in-Ok.ensures.reads
     (ap (λ s. g.S.Store.disk s) c.into_parts-store.ensures.store)
-    (cut_keeps_by c.args.beside run r c.args.lines _ _ (many_beside c.args.form c.args.lines c.args.beside c.requires.beside) can
+    (cut_keeps_by c.args.beside run r c.args.lines _ _ (many_beside c.args.form c.args.beside c.requires.beside) can
     (told_still start began run.files c.in-Ok.ensures.reads told) (c.in-Ok.ensures.given run told can) (c.in-Ok.ensures.given own told can)
     (on_fault _ _ _ c.in-Err-came.is c.do_lines-writer.ensures.cut))
 
@@ -137,13 +136,9 @@ returns-in-Ok-came-clause-done g c = λ run same told can.
     same_disks (λ a b. IfOk c.text_of.result (λ text. RunsLeavingBy c.args.beside run (form_text c.args.form run) (λ said. text.items ≡ said) a b)) start began
     (g.S.Store.disk c.into_parts-store.result.0) (g.S.Store.disk c.text_of.new.store) c.in-Ok.ensures.reads c.text_of.ensures.reads
     (texts_by c.made_runs.ensures c.args.beside run (run_of g c) c.args.form c.args.lines c.as_slice.result.now _ _ c.upto-base.result
-    c.upto-number.result c.text_of.result c.requires.beside same c.requires.lines.rise c.requires.made can
-    (told_still start began run.files c.in-Ok.ensures.reads told) on (over g c) c.upto-base.ensures c.upto-number.ensures
-    (λ f by is here search found.
-    c.text_of.ensures.report f by is here search
-    (searches_same c.do_lines-writer.result.writer.state by _ _ _ run.base _ c.into_parts-store.ensures.segments
-    c.upto-number.ensures (c.upto-base.ensures ∙ on.number) found))
-    c.text_of.ensures.summary)
+    c.upto.result c.text_of.result c.requires.beside same c.requires.made can
+    (told_still start began run.files c.in-Ok.ensures.reads told) on (over g c) c.upto-base.ensures c.upto.ensures
+    c.text_of.ensures.report c.text_of.ensures.summary)
 
 pub returns-in-Ok-came-clause-stops : goal.returns-in-Ok-came-clause-stops
 returns-in-Ok-came-clause-stops g c = λ run same told can.
@@ -174,10 +169,10 @@ returns-in-Ok-came-clause-steps g c =
 pub returns-in-Ok-came-clause-whole : goal.returns-in-Ok-came-clause-whole
 returns-in-Ok-came-clause-whole g c = λ run told last can may_keep.
     let began = g.S.Store.disk c.in-Ok.writer.store in
-    whole_by c.made_runs.ensures c.args.beside run (run_of g c) c.args.form c.args.lines c.as_slice.result.now _ _ c.upto-number.result
-    c.text_of.result c.requires.beside c.requires.lines.rise c.requires.made can.0
+    whole_by c.made_runs.ensures c.args.beside run (run_of g c) c.args.form c.args.lines c.as_slice.result.now _ _ c.upto.result
+    c.text_of.result c.requires.beside c.requires.made can.0
     (told_still (g.S.Store.disk c.args.store) began run.files c.in-Ok.ensures.reads told) (c.in-Ok.ensures.on run told last can.0)
-    c.upto-number.ensures (over g c) c.text_of.ensures.whole
+    c.upto.ensures (over g c) c.text_of.ensures.whole
 
 -- where the text met what is damaged the store tells nothing
 none_told : (g : given.Over) (c : goal.After-drop-outcomes g) (damaged : Damaged)
@@ -186,11 +181,11 @@ none_told : (g : given.Over) (c : goal.After-drop-outcomes g) (damaged : Damaged
 none_told g c damaged is =
     let before = c.in-Ok.ensures.reads in
     let none =
-    untold_by c.made_runs.ensures c.args.beside (run_of g c) c.args.form c.args.lines c.as_slice.result.now _ _ c.upto-number.result
-    c.text_of.result damaged c.requires.beside c.requires.lines.rise c.requires.made
+    untold_by c.made_runs.ensures c.args.beside (run_of g c) c.args.form c.args.lines c.as_slice.result.now _ _ c.upto.result
+    c.text_of.result damaged c.requires.beside c.requires.made
     (λ f told. c.in-Ok.ensures.begins f (sym (ap told_files before) ∙ told))
     (λ run told last on. c.in-Ok.ensures.on run (sym (ap told_files before) ∙ told) last on)
-    c.upto-number.ensures (over g c) c.text_of.ensures.whole (c.text_of.ensures.damaged damaged is) is in
+    c.upto.ensures (over g c) c.text_of.ensures.whole (c.text_of.ensures.damaged damaged is) is in
     (sym before ∙ none.0, none.1)
 
 pub returns-in-Ok-came-clause-damaged : goal.returns-in-Ok-came-clause-damaged
@@ -199,7 +194,7 @@ returns-in-Ok-came-clause-damaged g c = λ damaged is.
     inl (subst (λ (told : Option Files). ReadsDamaged c.args.form c.args.lines (told_files (g.S.Store.disk c.args.store)) told damaged)
     (sym (ap told_files c.text_of.ensures.reads))
     (damaged_in c.made_runs.ensures (run_of g c) c.args.form c.args.lines c.as_slice.result.now _ _ _ c.upto-base.result
-    c.upto-number.result damaged c.requires.made c.in-Ok.ensures.last c.upto-number.ensures (over g c)
+    c.upto.result damaged c.requires.made c.in-Ok.ensures.last c.upto.ensures (over g c)
     (ap told_files none.0, ap told_files none.1) (c.text_of.ensures.damaged damaged is)))
 
 pub returns-in-Ok-came-clause-same : goal.returns-in-Ok-came-clause-same
