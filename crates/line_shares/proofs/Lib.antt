@@ -7,3 +7,5 @@ pub mod ReplyLaws
 pub mod ShareLaws
 pub mod TellLaws
 pub mod CommittedLaws
+pub mod AskLaws
+pub mod ToldLaws

@@ -1,4 +1,5 @@
 pub mod Shares
+pub mod Asks
 pub mod Dealing
 pub mod Tells
 pub mod Committed

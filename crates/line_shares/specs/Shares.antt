@@ -44,7 +44,7 @@ kind_of_operation (Commit pairs) = kind.Commit
 
 abbrev pub kind_of : Act → Kind
 kind_of (Do op) = kind_of_operation op
-kind_of (Search query) = kind.Search query
+kind_of (Search query) = kind.Search
 
 -- what is kept of a line to tell what became of it
 abbrev pub place_of : Line → Place

@@ -3,20 +3,24 @@ ghost use Rattle.std.specs.Prelude.{◌≡◌, ◌≤◌, ◌<◌, ◌↔◌, �
 ghost use Rattle.std.specs.Prelude.{IsTrue};
 ghost use Rattle.std.specs.List.{filter, AllByRecursion, AllZip};
 ghost use Rattle.op_script.specs.declared.script.Line.{Line};
-ghost use Rattle.line_shares.specs.Dealing.{AreNoTasks, AreTasks, IsShareOf};
+ghost use Rattle.line_shares.specs.Asks.{AreAsks};
+ghost use Rattle.line_shares.specs.Dealing.{AreNoTasks, AreTasks, HasAsked, IsShareOf};
 ghost use Rattle.line_shares.specs.Shares.{AreDone, AreShares, IsFresh, kind_of_operation, place_of};
 
+use crate::asks::{Ask, Asked};
 use crate::place::{Kind, Place};
 use ix_base::{List, NoMemory, Operation};
 use op_script::{Act, Line};
 use std::alloc::Global;
 use worker_tasks::{Share, Task};
 
-/// A script's lines: the place of each, in their order, and the share of each worker.
+/// A script's lines: the place of each, in their order, the share of each worker, and the search lines of
+/// each of the 256 callers.
 #[derive(Drop)]
 pub struct Dealt {
     pub places: Vec<Place>,
     pub shares: Vec<Share>,
+    pub asks: Vec<Vec<Ask>>,
 }
 
 /// Deals the lines out to so many workers. The only error is out of memory.
@@ -25,15 +29,18 @@ pub fn deal(alloc: Global, threads: u32, lines: List<Line>) -> Result<Dealt, NoM
     ensures places { IfOk result (λ dealt. dealt.places.items ≡ map place_of lines) }
     ensures shares { IfOk result (λ dealt. AreShares threads lines dealt.shares.items) }
     ensures fresh { IfOk result (λ dealt. AllByRecursion IsFresh dealt.shares.items) }
+    ensures asks { IfOk result (λ dealt. AreAsks lines dealt.asks.items) }
 {
     let mut places = Vec::with_capacity(alloc, lines.len())?;
     let mut tasks = no_tasks(alloc, threads, lines.as_slice())?;
+    let mut asked = Asked::new(alloc)?;
     for line in lines.into_vec() {
-        deal_line(threads, line, &mut places, &mut tasks)?;
+        deal_line(threads, line, &mut places, &mut tasks, &mut asked)?;
     }
     Ok(Dealt {
         places,
         shares: shares_of(alloc, tasks)?,
+        asks: asked.asks,
     })
 }
 
@@ -63,28 +70,34 @@ fn line_count(threads: u32, worker: u32, lines: &[Line]) -> usize
         .count()
 }
 
-/// Deals one line more out: its place, and what its worker is to do.
+/// Deals one line more out: its place, and what its worker is to do, or what its caller asks.
 fn deal_line(
     threads: u32,
     line: Line,
     places: &mut Vec<Place>,
     tasks: &mut Vec<Vec<Task>>,
+    asked: &mut Asked,
 ) -> Result<(), NoMemory>
     requires threads { (1 ≤ threads) × (length tasks.old.items ≡ threads) }
+    requires callers { length asked.old.asks.items ≡ 256 }
     ensures places { OnOk result (places.new.items ≡ places.old.items ++ place_of line ∷ []) }
     ensures tasks { (done : ListOf Line) → AreTasks threads done tasks.old.items
         → OnOk result (AreTasks threads (done ++ line ∷ []) tasks.new.items) }
     ensures count { length tasks.new.items ≡ length tasks.old.items }
+    ensures asked { (done : ListOf Line) → HasAsked done asked.old
+        → OnOk result (HasAsked (done ++ line ∷ []) asked.new) }
 {
     let Line { line, caller, act } = line;
     match act {
         Act::Search(query) => {
-            let kind = Kind::Search(query);
+            let kind = Kind::Search;
             places.push(Place { line, caller, kind })?;
+            asked.search(line, caller, query)?;
         }
         Act::Do(operation) => {
             let kind = kind_of(&operation);
             places.push(Place { line, caller, kind })?;
+            asked.pass(line, caller, &operation);
             let worker = (u32::from(caller) % threads) as usize;
             tasks[worker].push(Task { line, operation })?;
         }

@@ -1,12 +1,10 @@
 //! What is kept of a line to tell what became of it.
 
-use ix_base::Query;
-
 /// What a line does.
 #[derive(Drop)]
 pub enum Kind {
-    /// It searches, in its caller's last commit.
-    Search(Query),
+    /// It searches, in its caller's last commit: what it searches stands among its caller's asks.
+    Search,
     /// It writes: what became of it stands in its worker's share.
     Write,
     /// It commits: what became of it stands there too.

@@ -2,7 +2,7 @@
 ghost use Rattle.std.specs.Prelude.{◌≤◌};
 
 use ix_base::{Block, Document, Fields, List, Name, Operation, Query, Term, Text};
-use line_shares::{Dealt, Kind, Place, all_done, deal};
+use line_shares::{Ask, Dealt, Kind, Place, all_done, deal};
 use op_script::{Act, Line};
 use std::alloc::Global;
 use std::fmt::Write;
@@ -45,8 +45,7 @@ fn renewing(alloc: Global) -> Result<Act, Fail> {
 /// What a line does.
 fn kind_of<'a>(place: &'a Place) -> &'a str {
     match &place.kind {
-        Kind::Search(Query::All) => "all",
-        Kind::Search(_) => "other",
+        Kind::Search => "search",
         Kind::Write => "write",
         Kind::Commit => "commit",
     }
@@ -125,7 +124,7 @@ fn seven_lines(alloc: Global) -> Result<Vec<Line>, Fail> {
 #[test]
 fn seven_lines_of_three_callers(rt: HostRuntime) -> Result<(), Fail> {
     let shown = dealt(rt.alloc(), 2, seven_lines(rt.alloc())?)?;
-    let expected = " 1.0 write 2.1 all 3.2 commit 5.1 write 6.0 write 7.1 write 8.2 write; \
+    let expected = " 1.0 write 2.1 search 3.2 commit 5.1 write 6.0 write 7.1 write 8.2 write; \
          1 a1 3 commit 6 other 8 renewed 0; 5 b1 7 block 0";
     assert!(rt; shown.as_str() == expected);
     Ok(())
@@ -151,7 +150,54 @@ fn searches_alone(rt: HostRuntime) -> Result<(), Fail> {
         })?;
     }
     let shown = dealt(rt.alloc(), 2, lines)?;
-    assert!(rt; shown.as_str() == " 7.0 all 7.255 all; 0; 0");
+    assert!(rt; shown.as_str() == " 7.0 search 7.255 search; 0; 0");
+    Ok(())
+}
+
+/// Shows what each caller asks, and behind which line.
+fn show_asks(out: &mut String, asks: &[Vec<Ask>]) -> Result<(), Fail> {
+    for (caller, own) in asks.iter().enumerate() {
+        for ask in own {
+            write!(out, " {}.{} {}", ask.line, caller, ask.behind)?;
+        }
+    }
+    Ok(())
+}
+
+/// Searches and commits of two callers, in turn: of each line its caller, and whether it searches.
+fn searches_and_commits(alloc: Global) -> Result<Vec<Line>, Fail> {
+    let mut lines = Vec::new(alloc);
+    for (line, caller, searches) in [
+        (1, 0, true),
+        (2, 0, false),
+        (3, 255, true),
+        (4, 0, true),
+        (6, 255, false),
+        (7, 0, true),
+        (8, 0, false),
+        (9, 255, true),
+        (10, 0, true),
+    ] {
+        let act = if searches {
+            Act::Search(Query::All)
+        } else {
+            Act::Do(Operation::Commit(Fields::none(alloc)))
+        };
+        lines.push(Line { line, caller, act })?;
+    }
+    Ok(lines)
+}
+
+/// Each search stands behind the last commit of its own caller, and behind 0 where there is none.
+#[test]
+fn asks_stand_behind_their_callers_commits(rt: HostRuntime) -> Result<(), Fail> {
+    let alloc = rt.alloc();
+    let lines = searches_and_commits(alloc)?;
+    let Dealt { asks, .. } = deal(alloc, 2, List::from_vec(lines))?;
+    let mut shown = String::new(alloc);
+    show_asks(&mut shown, asks.as_slice())?;
+    assert!(rt; asks.len() == 256);
+    assert!(rt; shown.as_str() == " 1.0 0 4.0 2 7.0 2 10.0 8 3.255 0 9.255 6");
     Ok(())
 }
 
@@ -209,7 +255,7 @@ fn have_their_lines(shares: &[Share]) -> bool {
 #[test]
 fn all_callers_to_sixteen_workers(rt: HostRuntime) -> Result<(), Fail> {
     let lines = lines_of_all(rt.alloc())?;
-    let Dealt { places, shares } = deal(rt.alloc(), 16, List::from_vec(lines))?;
+    let Dealt { places, shares, .. } = deal(rt.alloc(), 16, List::from_vec(lines))?;
     assert!(rt; places.len() == 4096);
     assert!(rt; have_their_lines(shares.as_slice()));
     Ok(())

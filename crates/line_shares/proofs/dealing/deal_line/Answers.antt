@@ -1,12 +1,12 @@
-use Rattle.std.proofs.Common.{◌≡◌, ℕ, ◌+◌, ◌<◌, ◌%◌, ◌∙◌, ◌++◌, [], ◌∷◌, length, sym, ap, arith}
+use Rattle.std.proofs.Common.{◌≡◌, refl, ℕ, ◌+◌, ◌<◌, ◌%◌, ◌∙◌, ◌++◌, [], ◌∷◌, length, sym, ap, arith}
 use Rattle.ix_base.specs.declared.document.Operation.{Operation}
 use Rattle.op_script.specs.declared.script.Act.{Act}
 use Rattle.line_shares.specs.Shares.{is_doing, operation_of}
 use Rattle.line_shares.proofs.Sharing.{tasks_done, tasks_searched}
 use Rattle.line_shares.proofs.dealing.deal_line.Goals as goal
 
-pub returns-in_ok-push-in-Search-clause-tasks : goal.returns-in_ok-push-in-Search-clause-tasks
-returns-in_ok-push-in-Search-clause-tasks c = λ done are.
+pub returns-in_ok-search-in-Search-clause-tasks : goal.returns-in_ok-search-in-Search-clause-tasks
+returns-in_ok-search-in-Search-clause-tasks c = λ done are.
     tasks_searched c.args.threads 0 done c.args.line c.args.tasks.now.items
     (ap (λ (a : Act). is_doing a) c.in-Search.is)
     are
@@ -27,3 +27,7 @@ returns-in_ok-push-in-Do-2-clause-tasks c = λ done are.
     (c.in_ok-push-in-Do-2.ensures.items
     ∙ ap (λ (op : Operation). v.items ++ (record { line = l.line; operation = op }) ∷ []) operation)
     are
+
+pub returns-in_ok-push-in-Do-2-clause-asked : goal.returns-in_ok-push-in-Do-2-clause-asked
+returns-in_ok-push-in-Do-2-clause-asked c = λ done has.
+    c.pass.ensures.asked done c.args.line refl refl c.in-Do.is has

@@ -1,6 +1,6 @@
 use Rattle.std.proofs.Common.{◌≡◌, drop}
 use Rattle.line_shares.specs.Committed.{commit_among, told_past}
-use Rattle.line_shares.proofs.committed.committed_pairs.Given as goal
+use Rattle.line_shares.proofs.round_commit.committed.Given as goal
 
 abbrev pub invariant-loop-at : goal.invariant-loop-at
 invariant-loop-at l =
