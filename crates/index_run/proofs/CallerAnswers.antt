@@ -134,3 +134,13 @@ pub none_more : (texts : List (Vec (List ℕ))) (v : Vec (List ℕ)) → AllByRe
     → AllByRecursion IsNone (texts ++ v ∷ [])
 none_more [] v none empty = (empty, tt)
 none_more (t ∷ texts) v none empty = (none.0, none_more texts v none.1 empty)
+
+-- as many callers have texts as have search lines
+pub behind_count : (w : State) (place : ℕ) (asks : List (Vec Ask)) (olds news : List (Vec (List ℕ)))
+    → AllAnswerBehind w place asks olds news → length news ≡ length asks
+behind_count w place [] [] [] are = refl
+behind_count w place [] [] (t ∷ news) are = absurd are
+behind_count w place [] (o ∷ olds) news are = absurd are
+behind_count w place (a ∷ asks) [] news are = absurd are
+behind_count w place (a ∷ asks) (o ∷ olds) [] are = absurd are
+behind_count w place (a ∷ asks) (o ∷ olds) (t ∷ news) are = ap suc (behind_count w place asks olds news are.1)
