@@ -15,6 +15,7 @@ mod merging;
 mod pace;
 mod pruning;
 mod round;
+mod searching;
 mod state;
 mod writer;
 

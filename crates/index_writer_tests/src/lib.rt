@@ -18,6 +18,8 @@ mod tests_pruning;
 #[cfg(test)]
 mod tests_reopened;
 #[cfg(test)]
+mod tests_searching;
+#[cfg(test)]
 mod tests_steps;
 #[cfg(test)]
 mod working;

@@ -13,12 +13,12 @@ use Rattle.op_script.specs.Shape.{LinesRise}
 use Rattle.op_script.specs.declared.script.Act.{Act}
 use Rattle.op_script.specs.declared.script.Act.TheVariants.{Do, Search}
 use Rattle.op_script.specs.declared.script.Line.{Line}
-use Rattle.run_log.specs.Headline.{is_commit}
-use Rattle.run_log.proofs.Lists.{each_in_both, each_says}
+use Rattle.run_log.specs.Headline.{is_commit, last_commit, number_of}
+use Rattle.run_log.proofs.Lists.{each_in_both}
 use Rattle.line_shares.specs.declared.asks.Ask.{Ask}
 use Rattle.line_shares.specs.declared.asks.Asked.{Asked}
 use Rattle.line_shares.specs.Asks.{AreAsks, AreAsksFrom, BehindsRise, HasCommitLine, IsBehindCommit, ask_by, ask_in, asks_from}
-use Rattle.line_shares.specs.Asks.{asks_of, behind_past, last_behind}
+use Rattle.line_shares.specs.Asks.{asks_of, behind_past, last_behind, number_behind}
 use Rattle.line_shares.specs.Dealing.{AreBehindsFrom, HasAsked}
 
 -- ---- one line more at the end
@@ -315,3 +315,28 @@ behinds_commit caller lines = within lines 0 lines (inl refl) (λ place has. has
         (past_cases caller behind l (λ (b : ℕ). (b ≡ 0) ⊎ HasCommitLine caller all b) from
         (λ own is. inr (has l.line (inl (refl, own, is)))))
         (λ place later. has place (inr later)))
+
+-- ---- the commits that they search
+
+number_of_line : (base : ℕ) (log : List Line) (line : ℕ) → 1 ≤ line
+    → number_of base log line ≡ number_behind base log line
+number_of_line base log zero some = absurd (omega (arith, some))
+number_of_line base log (suc line) some = refl
+
+-- The commit of a caller's search behind some lines is that of its last commit line among them.
+pub commit_behind : (base : ℕ) (log : List Line) (caller found behind low : ℕ) (lines : List Line) → 1 ≤ low
+    → LinesRise low lines → found ≡ number_behind base log behind
+    → last_commit base log caller found lines ≡ number_behind base log (last_behind caller behind lines)
+commit_behind base log caller found behind low [] some rise is = is
+commit_behind base log caller found behind low (l ∷ ls) some rise is =
+    by (eqb l.caller caller && is_commit l.act)
+    (λ number last same. commit_behind base log caller number last (l.line + 1) ls (omega arith) rise.1 same)
+  where
+    by : (b : Bool)
+        → ((number last : ℕ) → number ≡ number_behind base log last
+        → last_commit base log caller number ls ≡ number_behind base log (last_behind caller last ls))
+        → last_commit base log caller (cond b (number_of base log l.line) found) ls
+        ≡ number_behind base log (last_behind caller (cond b l.line behind) ls)
+    by true rest =
+        rest (number_of base log l.line) l.line (number_of_line base log l.line (omega (arith, some, rise.0)))
+    by false rest = rest found behind is

@@ -1,6 +1,6 @@
 -- A commit that a worker was told of since some time, and the log.
-use Rattle.std.proofs.Common.{◌≡◌, ◌⊎◌, ◌∙◌, inl, inr, ℕ, zero, suc, ◌+◌, ◌<◌, ◌≤◌, List, [], ◌∷◌, ◌++◌, length, map, drop}
-use Rattle.std.proofs.Common.{Option, None, Some, slice_index_or, refl, sym, ap, subst, arith}
+use Rattle.std.proofs.Common.{◌≡◌, ◌∙◌, inl, inr, ℕ, zero, suc, ◌+◌, ◌<◌, ◌≤◌, List, [], ◌∷◌, ◌++◌, length, map, drop}
+use Rattle.std.proofs.Common.{Option, None, Some, slice_index_or, sym, ap, subst, arith}
 use Rattle.std.specs.Prelude.{IfSome}
 use Rattle.std.specs.List.{AllByRecursion}
 use Rattle.op_script.specs.declared.script.Act.TheVariants.{Do}
@@ -11,7 +11,7 @@ use Rattle.run_log.specs.Telling.{Tell}
 use Rattle.run_log.proofs.Lists.{each_in_second}
 use Rattle.worker_tasks.specs.declared.share.Share.{Share}
 use Rattle.worker_tasks.specs.declared.task.Reply.{Reply}
-use Rattle.worker_tasks.specs.declared.task.Reply.TheVariants.{Numbered, Refused}
+use Rattle.worker_tasks.specs.declared.task.Reply.TheVariants.{Numbered}
 use Rattle.worker_tasks.specs.declared.task.Task.{Task}
 use Rattle.worker_tasks.specs.Replies.{told_in}
 use Rattle.commit_point.specs.Holds.{Pairs}

@@ -1,10 +1,10 @@
 -- The search lines of each caller, and behind which of its commit lines they search.
-use Rattle.std.specs.Prelude.{◌≡◌, ◌⊎◌, ℕ, ◌+◌, ◌≤◌, ◌==◌, ◌&&◌, if◌then◌else◌, true, List, [], ◌∷◌, ◌++◌, length}
+use Rattle.std.specs.Prelude.{◌≡◌, ◌⊎◌, ℕ, zero, suc, ◌+◌, ◌≤◌, ◌==◌, ◌&&◌, if◌then◌else◌, true, List, [], ◌∷◌, ◌++◌, length}
 use Rattle.std.specs.Global.{Vec}
 use Rattle.op_script.specs.declared.script.Act.{Act}
 use Rattle.op_script.specs.declared.script.Act.TheVariants.{Do, Search}
 use Rattle.op_script.specs.declared.script.Line.{Line}
-use Rattle.run_log.specs.Headline.{is_commit}
+use Rattle.run_log.specs.Headline.{is_commit, number_of}
 use Rattle.line_shares.specs.declared.asks.Ask.{Ask}
 
 -- ---- one line
@@ -64,3 +64,8 @@ HasCommitLine caller (l ∷ ls) place =
 -- it searches behind a commit line of its caller among these, or behind none
 abbrev pub IsBehindCommit : ℕ → List Line → Ask → Type 0
 IsBehindCommit caller lines a = (a.behind ≡ 0) ⊎ HasCommitLine caller lines a.behind
+
+-- the number of the commit of this line in the log, and of none that of the commit before the first line
+abbrev pub number_behind : ℕ → List Line → ℕ → ℕ
+number_behind base log zero = base
+number_behind base log (suc line) = number_of base log (suc line)

@@ -39,7 +39,7 @@ fn texts_stand_in_the_order_of_the_lines(rt: HostRuntime) -> Result<(), Fail> {
     Ok(())
 }
 
-/// Many lines that found nothing and no text: the report of none is empty.
+/// The report of no line.
 #[test]
 fn a_report_of_no_line_is_empty(rt: HostRuntime) -> Result<(), Fail> {
     assert!(rt; report(rt.alloc(), &[])?.as_slice() == "".as_bytes());
@@ -63,6 +63,6 @@ fn a_thousand_searches_are_all_told(rt: HostRuntime) -> Result<(), Fail> {
     let alloc = rt.alloc();
     let outcomes = searches(alloc, "{\"commit\":1000,\"hits\":[],\"line\":1}\n", 1000)?;
     let bytes = report(alloc, outcomes.as_slice())?;
-    assert!(rt; bytes.len() == 37_000);
+    assert!(rt; bytes.len() == 35_000);
     Ok(())
 }

@@ -1,4 +1,4 @@
-use Rattle.std.proofs.Common.{◌≡◌, ◌∙◌, ◌<◌, refl, sym, ap, arith}
+use Rattle.std.proofs.Common.{◌∙◌, ◌<◌, refl, sym, ap, arith}
 use Rattle.ix_base.specs.declared.document.Operation.{Operation}
 use Rattle.op_script.specs.declared.script.Act.TheVariants.{Do}
 use Rattle.line_shares.proofs.AskLaws.{asked_commit, asked_write, not_commit}

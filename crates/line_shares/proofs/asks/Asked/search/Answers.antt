@@ -1,4 +1,4 @@
-use Rattle.std.proofs.Common.{◌≡◌, ◌∙◌, ◌<◌, refl, sym, arith}
+use Rattle.std.proofs.Common.{◌∙◌, ◌<◌, refl, sym, arith}
 use Rattle.line_shares.proofs.AskLaws.{asked_search}
 use Rattle.line_shares.proofs.asks.Asked.search.Goals as goal
 
