@@ -1,203 +1,27 @@
 -- A script's search lines are answered as its rounds end: the first ones, those behind one commit more, and in the end all.
-use Rattle.std.proofs.Common.{◌≡◌, ◌≢◌, ◌⊎◌, ◌∙◌, inl, inr, ℕ, zero, suc, ◌+◌, ◌-◌, ◌<◌, ◌≤◌, Bool, true, false, cond, eqb, eq-eqb, ◌&&◌}
+use Rattle.std.proofs.Common.{◌≡◌, ◌≢◌, ◌⊎◌, ◌∙◌, inl, inr, ℕ, zero, suc, ◌+◌, ◌-◌, ◌<◌, ◌≤◌, Bool, true, false, cond, eqb}
 use Rattle.std.proofs.Common.{List, [], ◌∷◌, ◌++◌, length, take, drop, refl, sym, ap, subst, arith, append-nil, append_assoc}
 use Rattle.std.proofs.lemmas.Bool.Decides.{eqb_tells}
 use Rattle.std.proofs.lemmas.List.{drop-drop, length-append, take-append-drop}
-use Rattle.std.proofs.lemmas.List.Elements.{filter-append}
-use Rattle.std.proofs.Math.Seq.{take-add, take-length}
+use Rattle.std.proofs.Math.Seq.{take-add}
 use Rattle.std.specs.Global.{Vec}
-use Rattle.std.specs.List.{AllByRecursion, AllZip, filter}
+use Rattle.std.specs.List.{AllByRecursion, AllZip}
 use Rattle.ix_base.specs.declared.document.Row.{Row}
 use Rattle.ix_base.specs.Steps.{after}
 use Rattle.op_script.specs.Shape.{LinesRise}
-use Rattle.op_script.specs.declared.script.Act.{Act}
 use Rattle.op_script.specs.declared.script.Line.{Line}
-use Rattle.index_writer.specs.Ready.{HasRows}
 use Rattle.index_writer.specs.declared.state.State.{State}
 use Rattle.line_shares.proofs.AskLaws.{behinds_commit, behinds_rise}
-use Rattle.line_shares.specs.Asks.{AreAsks, AreAsksFrom, BehindsRise, HasCommitLine, IsBehindCommit, asks_of, behind_past, last_behind}
+use Rattle.line_shares.specs.Asks.{AreAsksFrom, BehindsRise, HasCommitLine, IsBehindCommit, asks_of, number_behind}
 use Rattle.line_shares.specs.declared.asks.Ask.{Ask}
-use Rattle.run_log.proofs.Lists.{Decided, each_in_first, each_in_second, each_pair, each_says}
-use Rattle.run_log.proofs.LogLaws.{commit_numbered, each_filtered, each_logged, number_of-le}
-use Rattle.run_log.proofs.NumberLaws.{has_line_behind, has_line_in_front, number_in_front, number_past, rows_at_all, rows_at_front}
-use Rattle.run_log.proofs.PlaceLaws.{filter_rises, none_below}
-use Rattle.run_log.specs.Headline.{Interleaves, commit_numbers, is_commit, is_numbered, last_commit, number_of, numbered, operations, rows_at}
+use Rattle.run_log.proofs.Lists.{Decided, each_in_first, each_in_second, each_pair}
+use Rattle.run_log.proofs.NumberLaws.{has_line_in_front, number_in_front, number_past, rows_at_all, rows_at_front}
+use Rattle.run_log.specs.Headline.{Interleaves, commit_numbers, is_commit, number_of, numbered, operations, rows_at}
 use Rattle.run_log.specs.Numbering.{HasLine}
-use Rattle.run_log.specs.Telling.{of_caller}
-use Rattle.index_run.specs.Answered.{AllAnswerBehind, AnswersBehind, AreAnswered, IsAnswerBehind, IsAnswerOf, IsAnswered, IsFound, IsNone}
-use Rattle.index_run.specs.Answered.{IsSettled, IsTextBy, IsTextOf, found_text, number_behind}
+use Rattle.index_run.specs.Answered.{AllAnswerBehind, AnswersBehind, AreAnswered, IsAnswerBehind, IsAnswerOf, IsAnswered, IsNone}
+use Rattle.index_run.specs.Answered.{IsSettled, IsTextOf, found_text}
 use Rattle.index_run.specs.Doing.{IsWriterOn}
-
--- ---- lists
-
-module _ {A B : Type 0} where
-  -- what is true of each pair is true of each, where it says more
-  zip_says : (P Q : A → B → Type 0) (xs : List A) (ys : List B) → ((x : A) (y : B) → P x y → Q x y) → AllZip P xs ys
-      → AllZip Q xs ys
-  zip_says P Q [] [] says are = tt
-  zip_says P Q [] (y ∷ ys) says are = absurd are
-  zip_says P Q (x ∷ xs) [] says are = absurd are
-  zip_says P Q (x ∷ xs) (y ∷ ys) says are = (says x y are.0, zip_says P Q xs ys says are.1)
-
-  zip_both : (P : A → B → Type 0) (xs us : List A) (ys vs : List B) → AllZip P xs ys → AllZip P us vs
-      → AllZip P (xs ++ us) (ys ++ vs)
-  zip_both P [] us [] vs are more = more
-  zip_both P [] us (y ∷ ys) vs are more = absurd are
-  zip_both P (x ∷ xs) us [] vs are more = absurd are
-  zip_both P (x ∷ xs) us (y ∷ ys) vs are more = (are.0, zip_both P xs us ys vs are.1 more)
-
--- ---- lines by their places
-
-has_either : (xs ys : List Line) (place : ℕ) → HasLine (xs ++ ys) place → HasLine xs place ⊎ HasLine ys place
-has_either [] ys place has = inr has
-has_either (x ∷ xs) ys place (inl e) = inl (inl e)
-has_either (x ∷ xs) ys place (inr has) = by (has_either xs ys place has)
-  where
-    by : HasLine xs place ⊎ HasLine ys place → HasLine (x ∷ xs) place ⊎ HasLine ys place
-    by (inl h) = inl (inr h)
-    by (inr h) = inr h
-
--- some line stands there, or none does
-has_or_none : (xs : List Line) (place : ℕ) → HasLine xs place ⊎ AllByRecursion (λ (l : Line). l.line ≢ place) xs
-has_or_none [] place = inr tt
-has_or_none (x ∷ xs) place = by (eqb_tells x.line place) (has_or_none xs place)
-  where
-    by : Decided x.line place → HasLine xs place ⊎ AllByRecursion (λ (l : Line). l.line ≢ place) xs
-        → HasLine (x ∷ xs) place ⊎ AllByRecursion (λ (l : Line). l.line ≢ place) (x ∷ xs)
-    by (inl k) rest = inl (inl k.1)
-    by (inr k) (inl h) = inl (inr h)
-    by (inr k) (inr none) = inr (k.1, none)
-
--- what is true of the line that stands at a place, and only of one there, is true of that place
-has_says : (P : ℕ → Type 0) (xs : List Line) (place : ℕ)
-    → AllByRecursion (λ (l : Line). l.line ≡ place → P place) xs → HasLine xs place → P place
-has_says P [] place each has = absurd has
-has_says P (x ∷ xs) place each (inl e) = each.0 e
-has_says P (x ∷ xs) place each (inr has) = has_says P xs place each.1 has
-
-has_low : (low : ℕ) (xs : List Line) (place : ℕ) → LinesRise low xs → HasLine xs place → low ≤ place
-has_low low [] place rise has = absurd has
-has_low low (x ∷ xs) place rise (inl e) = omega (arith, rise.0, e)
-has_low low (x ∷ xs) place rise (inr has) = let above = has_low (x.line + 1) xs place rise.1 has in omega (arith, rise.0, above)
-
--- lines that rise stand before those behind them
-rises_apart : (low : ℕ) (xs ys : List Line) (x y : ℕ) → LinesRise low (xs ++ ys) → HasLine xs x → HasLine ys y → x < y
-rises_apart low [] ys x y rise here there = absurd here
-rises_apart low (l ∷ xs) ys x y rise (inl e) there =
-    let above = has_low (l.line + 1) (xs ++ ys) y rise.1 (has_line_behind xs ys y there) in omega (arith, above, e)
-rises_apart low (l ∷ xs) ys x y rise (inr here) there = rises_apart (l.line + 1) xs ys x y rise.1 here there
-
--- a line that passes is there, and one of those that pass is
-has_filtered : (p : Line → Bool) (xs : List Line) (place : ℕ) → AllByRecursion (λ (l : Line). l.line ≡ place → p l ≡ true) xs
-    → HasLine xs place → HasLine (filter p xs) place
-has_filtered p [] place passes has = absurd has
-has_filtered p (x ∷ xs) place passes (inl e) = rw (passes.0 e) (inl e)
-has_filtered p (x ∷ xs) place passes (inr has) = by (p x) (has_filtered p xs place passes.1 has)
-  where
-    by : (b : Bool) → HasLine (filter p xs) place → HasLine (cond b (x ∷ filter p xs) (filter p xs)) place
-    by true h = inr h
-    by false h = h
-
-has_passed : (p : Line → Bool) (xs : List Line) (place : ℕ) → HasLine (filter p xs) place → HasLine xs place
-has_passed p [] place has = has
-has_passed p (x ∷ xs) place has = by (p x) has (has_passed p xs place)
-  where
-    by : (b : Bool) → HasLine (cond b (x ∷ filter p xs) (filter p xs)) place
-        → (HasLine (filter p xs) place → HasLine xs place) → HasLine (x ∷ xs) place
-    by true (inl e) rest = inl e
-    by true (inr h) rest = inr (rest h)
-    by false h rest = inr (rest h)
-
--- ---- a caller's commit lines
-
--- at the place of a caller's commit line stands no other line
-commit_at : (caller low : ℕ) (lines : List Line) (place : ℕ) → LinesRise low lines → HasCommitLine caller lines place
-    → AllByRecursion (λ (l : Line). l.line ≡ place → (l.caller ≡ caller) × (is_commit l.act ≡ true)) lines
-commit_at caller low [] place rise has = tt
-commit_at caller low (l ∷ ls) place rise (inl here) = (
-  (λ e. (here.1, here.2)),
-  each_says (λ (y : Line). l.line + 1 ≤ y.line) (λ (y : Line). y.line ≡ place → (y.caller ≡ caller) × (is_commit y.act ≡ true)) ls
-      (λ y le e. absurd (let at = here.0 in omega (arith, le, e, at))) (none_below (l.line + 1) ls rise.1),
-)
-commit_at caller low (l ∷ ls) place rise (inr has) = (
-  (λ e. absurd (let above = commit_low caller (l.line + 1) ls place rise.1 has in omega (arith, above, e))),
-  commit_at caller (l.line + 1) ls place rise.1 has,
-)
-  where
-    commit_low : (caller low : ℕ) (xs : List Line) (place : ℕ) → LinesRise low xs → HasCommitLine caller xs place → low ≤ place
-    commit_low caller low [] place rise has = absurd has
-    commit_low caller low (x ∷ xs) place rise (inl here) = let at = here.0 in omega (arith, rise.0, at)
-    commit_low caller low (x ∷ xs) place rise (inr has) =
-        let above = commit_low caller (x.line + 1) xs place rise.1 has in omega (arith, rise.0, above)
-
--- it gets a number
-commit_in_script : (caller : ℕ) (lines : List Line) (place : ℕ) → HasCommitLine caller lines place
-    → HasLine (of_caller caller (numbered lines)) place
-commit_in_script caller [] place has = absurd has
-commit_in_script caller (l ∷ ls) place (inl here) =
-    rw (commit_numbered l.act here.2, eq-eqb l.caller caller here.1) (inl here.0)
-commit_in_script caller (l ∷ ls) place (inr has) =
-    by (is_numbered l.act) (eqb l.caller caller) (commit_in_script caller ls place has)
-  where
-    own : List Line
-    own = of_caller caller (numbered ls)
-
-    by : (n c : Bool) → HasLine own place → HasLine (of_caller caller (cond n (l ∷ numbered ls) (numbered ls))) place
-    by true c h = behind (eqb l.caller caller) h
-      where
-        behind : (b : Bool) → HasLine own place → HasLine (cond b (l ∷ own) own) place
-        behind true h = inr h
-        behind false h = h
-    by false c h = h
-
--- the log's lines are such as the script's
-module _ (caller : ℕ) (lines log : List Line) (rise : LinesRise 1 lines) (numbering : Interleaves lines log)
-    (place : ℕ) (has : HasCommitLine caller lines place) where
-  pub commit_logged : AllByRecursion (λ (l : Line). l.line ≡ place → (l.caller ≡ caller) × (is_commit l.act ≡ true)) log
-  commit_logged =
-      each_logged (λ (l : Line). l.line ≡ place → (l.caller ≡ caller) × (is_commit l.act ≡ true)) lines log numbering
-      (each_filtered (λ (l : Line). is_numbered l.act)
-      (λ (l : Line). l.line ≡ place → (l.caller ≡ caller) × (is_commit l.act ≡ true)) lines
-      (commit_at caller 1 lines place rise has))
-
-  -- a commit line of the script is in a log that has all of its lines
-  pub commit_there : HasLine (of_caller caller log) place
-  commit_there =
-      subst (λ (ls : List Line). HasLine ls place) (sym (numbering caller)) (commit_in_script caller lines place has)
-
--- Where a log has a caller's commit line, it has those before it.
-earlier : (caller : ℕ) (lines log rest : List Line) (place later : ℕ) → LinesRise 1 lines → Interleaves lines (log ++ rest)
-    → HasCommitLine caller lines place → HasCommitLine caller lines later → place < later → HasLine log later
-    → HasLine log place
-earlier caller lines log rest place later rise numbering has other before there =
-    by (has_either (of_caller caller log) (of_caller caller rest) place (subst (λ (ls : List Line). HasLine ls place) parts
-    (commit_there caller lines (log ++ rest) rise numbering place has)))
-  where
-    parts : of_caller caller (log ++ rest) ≡ of_caller caller log ++ of_caller caller rest
-    parts = filter-append (λ (l : Line). eqb l.caller caller) log rest
-
-    rises : LinesRise 1 (of_caller caller log ++ of_caller caller rest)
-    rises =
-        subst (LinesRise 1) parts
-        (subst (LinesRise 1) (sym (numbering caller))
-        (filter_rises (λ (l : Line). eqb l.caller caller) 1 (numbered lines)
-        (filter_rises (λ (l : Line). is_numbered l.act) 1 lines rise)))
-
-    own : HasLine (of_caller caller log) later
-    own =
-        has_filtered (λ (l : Line). eqb l.caller caller) log later
-        (each_says (λ (l : Line). l.line ≡ later → (l.caller ≡ caller) × (is_commit l.act ≡ true))
-        (λ (l : Line). l.line ≡ later → eqb l.caller caller ≡ true) log
-        (λ l says e. eq-eqb l.caller caller (says e).0)
-        (each_in_first (λ (l : Line). l.line ≡ later → (l.caller ≡ caller) × (is_commit l.act ≡ true)) log rest
-        (commit_logged caller lines (log ++ rest) rise numbering later other)))
-        there
-
-    by : HasLine (of_caller caller log) place ⊎ HasLine (of_caller caller rest) place → HasLine log place
-    by (inl h) = has_passed (λ (l : Line). eqb l.caller caller) log place h
-    by (inr h) =
-        absurd (let after_it = rises_apart 1 (of_caller caller log) (of_caller caller rest) later place rises own h in
-        omega (arith, after_it, before))
+use Rattle.index_run.proofs.CommitLines.{commit_logged, commit_there, earlier, has_either, has_or_none, has_passed, has_says, placed_from, zip_both, zip_says}
 
 -- ---- the texts
 
@@ -544,27 +368,6 @@ answered_all first caller lines log asks texts rise numbering asks_are is =
         absurd (is.next a left at (settled a (next_says (IsBehindCommit caller lines) asks (length texts) a left
         (subst (AllByRecursion (IsBehindCommit caller lines)) (sym asks_are) (behinds_commit caller lines)) at)))
 
--- ---- the commit of a search line
-
--- the number of the last commit line of a caller among these is that of its last commit
-pub behind_number : (base : ℕ) (log : List Line) (caller behind : ℕ) (done : List Line)
-    → AllByRecursion (λ (l : Line). 1 ≤ l.line) done
-    → number_behind base log (last_behind caller behind done)
-    ≡ last_commit base log caller (number_behind base log behind) done
-behind_number base log caller behind [] placed = refl
-behind_number base log caller behind (l ∷ ls) placed =
-    behind_number base log caller (behind_past caller behind l) ls placed.1
-    ∙ ap (λ (found : ℕ). last_commit base log caller found ls) (by (eqb l.caller caller && is_commit l.act))
-  where
-    own : (place : ℕ) → 1 ≤ place → number_behind base log place ≡ number_of base log place
-    own zero le = absurd (omega (arith, le))
-    own (suc place) le = refl
-
-    by : (b : Bool) → number_behind base log (cond b l.line behind)
-        ≡ cond b (number_of base log l.line) (number_behind base log behind)
-    by true = own l.line placed.0
-    by false = refl
-
 -- ---- all callers
 
 pub all_first : (first w : State) (lines : List Line) (asks : List (Vec Ask)) (olds news : List (Vec (List ℕ)))
@@ -614,16 +417,6 @@ all_more first w caller lines log more rest place (a ∷ asks) (o ∷ olds) (n �
 )
 
 -- ---- a line of the log
-
--- each line of the log stands at a place from 1 on
-placed_from : (lines log : List Line) (place : ℕ) → LinesRise 1 lines → Interleaves lines log → HasLine log place → 1 ≤ place
-placed_from lines log place rise numbering has =
-    has_says (λ (p : ℕ). 1 ≤ p) log place
-    (each_says (λ (l : Line). 1 ≤ l.line) (λ (l : Line). l.line ≡ place → 1 ≤ place) log
-    (λ l le e. omega (arith, le, e))
-    (each_logged (λ (l : Line). 1 ≤ l.line) lines log numbering
-    (each_filtered (λ (l : Line). is_numbered l.act) (λ (l : Line). 1 ≤ l.line) lines (none_below 1 lines rise))))
-    has
 
 pub settled_at : (log : List Line) (place : ℕ) → HasLine log place → IsSettled log place
 settled_at log zero has = tt

@@ -1,3 +1,4 @@
+pub mod CommitLines
 pub mod AnswerLaws
 pub mod CallerAnswers
 pub mod Pieces

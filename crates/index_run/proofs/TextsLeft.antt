@@ -1,14 +1,14 @@
 -- The texts that the search lines left still have.
-use Rattle.std.proofs.Common.{◌≡◌, ◌≢◌, ◌∙◌, ℕ, zero, suc, ◌+◌, ◌<◌, ◌≤◌, true, false, Bool, cond, eqb, List, [], ◌∷◌, ◌++◌, length, refl, sym, ap, subst, arith}
+use Rattle.std.proofs.Common.{◌≡◌, ◌∙◌, ℕ, zero, suc, ◌+◌, ◌<◌, ◌≤◌, true, false, Bool, cond, eqb, List, [], ◌∷◌, ◌++◌, length, refl, sym, ap, subst, arith}
 use Rattle.std.proofs.Common.{append_assoc}
 use Rattle.std.specs.Prelude.{slice_index_or, slice_set}
 use Rattle.std.specs.Global.{Vec}
-use Rattle.std.specs.List.{AllByRecursion, AllZip}
+use Rattle.std.specs.List.{AllZip}
 use Rattle.std.specs.Vec.Iter.{into_iter_items, into_iter_len}
 use Rattle.std.proofs.lemmas.List.{length-set}
 use Rattle.ix_base.specs.declared.query.Query.{Query}
 use Rattle.index_writer.specs.declared.state.State.{State}
-use Rattle.line_shares.proofs.AskLaws.{ask_of_other, ask_of_own, behind_more}
+use Rattle.line_shares.proofs.AskLaws.{commit_behind, ask_of_other, ask_of_own, behind_more}
 use Rattle.line_shares.specs.Asks.{AreAsksFrom, ask_by, ask_in, asks_from, behind_past, last_behind}
 use Rattle.line_shares.specs.Shares.{is_doing}
 use Rattle.line_shares.specs.declared.asks.Ask.{Ask}
@@ -16,12 +16,10 @@ use Rattle.op_script.specs.Shape.{LinesRise}
 use Rattle.op_script.specs.declared.script.Act.{Act}
 use Rattle.op_script.specs.declared.script.Act.TheVariants.{Do, Search}
 use Rattle.op_script.specs.declared.script.Line.{Line}
-use Rattle.run_log.proofs.Lists.{each_in_first}
-use Rattle.run_log.proofs.PlaceLaws.{none_below}
 use Rattle.run_log.specs.Headline.{Interleaves, last_commit}
-use Rattle.index_run.specs.Answered.{AreAnswered, IsAnswered, IsFound, IsTextOf, number_behind}
+use Rattle.index_run.specs.Answered.{AreAnswered, IsAnswered, IsFound, IsTextOf}
 use Rattle.index_run.specs.Replied.{AreFound, AreTextsFrom, AreTextsLeft, AreTextsOf, IsAnsweredBy, Texts}
-use Rattle.index_run.proofs.AnswerLaws.{answered_all, behind_number}
+use Rattle.index_run.proofs.AnswerLaws.{answered_all}
 
 -- ---- one line
 
@@ -115,17 +113,15 @@ module _ (first : State) (log done rest : List Line) (l : Line) where
 
   -- ---- a line is passed
 
-  placed_on : AllByRecursion (λ (x : Line). 1 ≤ x.line) (done ++ l ∷ rest)
-      → AllByRecursion (λ (x : Line). 1 ≤ x.line) ((done ++ l ∷ []) ++ rest)
-  placed_on placed =
-      subst (AllByRecursion (λ (x : Line). 1 ≤ x.line)) (sym (append_assoc done (l ∷ []) rest)) placed
+  rise_on : LinesRise 1 (done ++ l ∷ rest) → LinesRise 1 ((done ++ l ∷ []) ++ rest)
+  rise_on rise = subst (LinesRise 1) (sym (append_assoc done (l ∷ []) rest)) rise
 
   -- a line that writes or commits takes no text
   pub texts_done : (texts : List Texts) → is_doing l.act ≡ true → AreTextsLeft first log done (l ∷ rest) texts
       → AreTextsLeft first log (done ++ l ∷ []) rest texts
   texts_done texts doing are = record {
     size = are.size;
-    placed = placed_on are.placed;
+    rise = rise_on are.rise;
     each = texts_stay 0 texts (λ caller le. none_asked caller (last_behind caller 0 done) l doing) are.each;
   }
 
@@ -133,6 +129,10 @@ module _ (first : State) (log done rest : List Line) (l : Line) where
   pub record IsNextText (old new : Texts) (text : List ℕ) : Type 0 where
     pub items : into_iter_items old ≡ text ∷ into_iter_items new
     pub count : into_iter_len new + 1 ≡ into_iter_len old
+
+rises_in_front : (low : ℕ) (xs ys : List Line) → LinesRise low (xs ++ ys) → LinesRise low xs
+rises_in_front low [] ys rise = tt
+rises_in_front low (x ∷ xs) ys rise = (rise.0, rises_in_front (x.line + 1) xs ys rise.1)
 
 searching : (a : Act) → is_doing a ≡ false → (query : Query) × (a ≡ Search query)
 searching (Do op) is = absurd (let no : true ≡ false = is in cc)
@@ -172,7 +172,7 @@ module _ (first : State) (log done : List Line) (l : Line) (rest : List Line) (t
       (subst (AllZip (IsTextOf first log) (own_ask ∷ asks_from l.caller (last_behind l.caller 0 (done ++ l ∷ [])) rest)) next.items some.0).0 in
       subst (λ (q : Query). IsFound first log (last_commit base log l.caller base done) q l.line text) same_query
       (subst (λ (s : ℕ). IsFound first log s query_in.0 l.line text)
-      (behind_number base log l.caller 0 done (each_in_first (λ (x : Line). 1 ≤ x.line) done (l ∷ rest) are.placed)) here)
+      (sym (commit_behind base log l.caller base 0 1 done (omega arith) (rises_in_front 1 done (l ∷ rest) are.rise) refl)) here)
 
   -- and the rest is left
   pub text_left : (new : Texts) (text : List ℕ) → IsNextText first log done rest l own new text
@@ -181,7 +181,7 @@ module _ (first : State) (log done : List Line) (l : Line) (rest : List Line) (t
       let long : length (into_iter_items own) ≡ 1 + length (into_iter_items new) = ap length next.items in
       record {
         size = length-set texts l.caller new ∙ are.size;
-        placed = placed_on first log done rest l are.placed;
+        rise = rise_on first log done rest l are.rise;
         each =
             text_taken first log done rest l 0 texts l.caller new (omega arith) inside
             (subst (AllZip (IsTextOf first log) (own_ask ∷ asks_from l.caller (last_behind l.caller 0 (done ++ l ∷ [])) rest)) next.items some.0).1
@@ -219,6 +219,6 @@ all_texts_left first lines log texts found rise numbering are of = record {
       × (into_iter_len own ≡ length (into_iter_items own))) texts found of
       ∙ zip_length (λ (a : Vec Ask) (t : Vec (List ℕ)). IsAnswered first log a.items t.items) are.asks texts are.answered
       ∙ are.asks_are.count;
-  placed = none_below 1 lines rise;
+  rise = rise;
   each = texts_first first 0 lines log are.asks texts found rise numbering are.asks_are.each are.answered of;
 }

@@ -9,8 +9,9 @@ use Rattle.op_script.specs.declared.script.Line.{Line}
 use Rattle.report_text.specs.Lines.{search_value, text_line}
 use Rattle.index_writer.specs.Ready.{HasRows}
 use Rattle.index_writer.specs.declared.state.State.{State}
+use Rattle.line_shares.specs.Asks.{number_behind}
 use Rattle.line_shares.specs.declared.asks.Ask.{Ask}
-use Rattle.run_log.specs.Headline.{number_of, rows_at}
+use Rattle.run_log.specs.Headline.{rows_at}
 use Rattle.run_log.specs.Numbering.{HasLine}
 
 -- ---- one answer
@@ -23,11 +24,6 @@ found_text s query rows line = text_line (search_value s (hits query rows) line)
 abbrev pub IsTextBy : State → Ask → List ℕ → Type 0
 IsTextBy w a text = (rows : List Row) → HasRows w rows
     → text ≡ found_text w.published.upto a.query rows a.line
-
--- the number of the commit line at this place of the script; at the place 0 that of the commit on which the run began
-abbrev pub number_behind : ℕ → List Line → ℕ → ℕ
-number_behind base log zero = base
-number_behind base log (suc place) = number_of base log (suc place)
 
 -- The text answers a search of the commit s from its rows, where the writer had some when the run began.
 abbrev pub IsFound : State → List Line → ℕ → Query → ℕ → List ℕ → Type 0

@@ -1,5 +1,5 @@
 -- What the workers' replies tell of a script's lines.
-use Rattle.std.specs.Prelude.{◌≡◌, ◌⊎◌, ℕ, ◌+◌, ◌<◌, ◌≤◌, List, [], ◌∷◌, ◌++◌, length, map, Some, None}
+use Rattle.std.specs.Prelude.{◌≡◌, ◌⊎◌, ℕ, ◌+◌, ◌<◌, List, [], ◌∷◌, ◌++◌, length, map, Some, None}
 use Rattle.std.specs.List.{AllByRecursion, AllZip}
 use Rattle.std.specs.Vec.Iter.{into_iter_items, into_iter_len}
 use Rattle.std.specs.Global.{Global, Vec}
@@ -102,10 +102,10 @@ AreTextsFrom first log caller done rest (own ∷ others) =
     × (into_iter_len own ≡ length (into_iter_items own))
     × AreTextsFrom first log (caller + 1) done rest others
 
--- The texts left of all 256 callers. The lines stand at places from 1 on.
+-- The texts left of all 256 callers, of lines that stand at places from 1 on.
 pub record AreTextsLeft (first : State) (log done rest : List Line) (texts : List Texts) : Type 0 where
   pub size : length texts ≡ 256
-  pub placed : AllByRecursion (λ (l : Line). 1 ≤ l.line) (done ++ rest)
+  pub rise : LinesRise 1 (done ++ rest)
   pub each : AreTextsFrom first log 0 done rest texts
 
 -- the text answers this search line, in its caller's last commit before it
