@@ -407,7 +407,7 @@ way_on r lines news asks log commits due olds texts w now asks_are answered on s
         let due_at = due_is base (log ++ on.more) w.pending s due there on.come.is_due in
         let next = next_commit r.first (log ++ on.more) at.front w.published.upto s w.pending there at.due in
         let last : s ≡ base + length (log ++ on.more) = next.1 ∙ at.writer.upto in
-        let some : IsSome w.pending = subst IsSome (sym there) tt in
+        let some : IsSome w.pending = subst IsSome (sym there) refl in
         all_more r.first w 0 lines log on.more rest.0 due.line asks olds texts on.come.done.rise rest.1 asks_are.each
         (due_commit base log on.more s due.line (on.commit_is ∙ ap number_in there) last due_at.0 due_at.1)
         at.writer (settled_at (log ++ on.more) due.line due_at.0)

@@ -72,6 +72,14 @@ pub stopped_cut : {S T : Type 0} (disk : S → Option Disk) (r : Run) (lines : L
 stopped_cut {S} {T} disk r lines writer fault ran is cut =
     subst (λ (x : Ran S T). IfErr x.came (λ why. IsCut r lines why (disk x.writer.store))) (sym is) cut
 
+-- the same, where the disk is as it was
+pub stopped_same : {S T : Type 0} (disk : S → Option Disk) (r : Run) (lines : List Line) (writer : IndexWriter S)
+    (fault : WriterFault) (ran : Ran S T) (before : Option Disk) → ran ≡ record { writer = writer; came = Err (halt.Writer fault) }
+    → disk writer.store ≡ before → IsCut r lines (halt.Writer fault) before
+    → IfErr ran.came (λ why. IsCut r lines why (disk ran.writer.store))
+stopped_same {S} {T} disk r lines writer fault ran before is same cut =
+    stopped_cut disk r lines writer fault ran is (subst (IsCut r lines (halt.Writer fault)) (sym same) cut)
+
 -- one that stopped for whatever reason
 pub halted_cut : {S T : Type 0} (disk : S → Option Disk) (r : Run) (lines : List Line) (writer : IndexWriter S)
     (fault : RanFault) (ran : Ran S T) → ran ≡ record { writer = writer; came = Err fault }

@@ -178,7 +178,7 @@ module _ (first : State) (log done : List Line) (l : Line) (rest : List Line) (t
   pub text_left : (new : Texts) (text : List ℕ) → IsNextText first log done rest l own new text
       → AreTextsLeft first log (done ++ l ∷ []) rest (slice_set texts l.caller new)
   text_left new text next =
-      let long : length (into_iter_items own) ≡ 1 + length (into_iter_items new) = ap length next.items in
+      let long = ap length next.items in
       record {
         size = length-set texts l.caller new ∙ are.size;
         rise = rise_on first log done rest l are.rise;
