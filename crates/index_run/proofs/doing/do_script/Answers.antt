@@ -25,9 +25,6 @@ pub tell_script-told-requires-clause-beside : goal.tell_script-told-requires-cla
 tell_script-told-requires-clause-beside g c κs within =
     subst (λ (ls : List Line). IsBeside c.args.form ls c.kept_beside-beside.result) c.as_slice-2.ensures c.kept_beside-beside.ensures.plain
 
-pub kept_beside-beside-requires : goal.kept_beside-beside-requires
-kept_beside-beside-requires g c = subst (λ (o : Option ℕ). IfSome o (λ k. 1 ≤ k)) c.in-Some.is c.requires.keep
-
 -- ---- all commits are kept
 
 pub returns-in_default-clause-done : goal.returns-in_default-clause-done

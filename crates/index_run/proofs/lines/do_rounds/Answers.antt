@@ -31,3 +31,6 @@ returns-clause-few g c = λ lines are.
     let at = c.loop-alloc in
     few_last c.write_last.result.came (record { shares = at.shares; commits = at.commits; count = at.count })
     (length (doing_lines lines)) c.write_last.ensures.same (omega (arith, few, at.invariant.few))
+
+pub returns-clause-cut : goal.returns-clause-cut
+returns-clause-cut g c = λ r lines size come. c.write_last.ensures.cut r lines (c.loop-alloc.invariant.come r lines size come)

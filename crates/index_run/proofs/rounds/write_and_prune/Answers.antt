@@ -1,7 +1,11 @@
-use Rattle.std.proofs.Common.{◌≡◌, ◌∙◌, ℕ, Err, Some, Option, true, false, sym, ap, subst, arith}
+use Rattle.std.proofs.Common.{◌≡◌, ◌∙◌, ◌≤◌, ℕ, Err, Some, Option, true, false, sym, ap, subst, arith}
+use Rattle.std.proofs.lemmas.Bool.{true≢false}
+use Rattle.ix_outside.specs.Causes.{Rose}
 use Rattle.index_writer.specs.declared.fault.WriterFault.TheVariants as writing
 use Rattle.index_writer.specs.declared.state.State.{State}
+use Rattle.index_writer.specs.declared.writer.IndexWriter.{IndexWriter}
 use Rattle.index_run.specs.Driving.{IsCut, KeepsBy, WritesPending}
+use Rattle.index_run.specs.declared.rounds.Ran.{Ran}
 use Rattle.index_run.specs.declared.rounds.RanFault.{RanFault}
 use Rattle.index_run.specs.declared.rounds.RanFault.TheVariants as halt
 use Rattle.index_run.proofs.DiskAfter.{same_stored}
@@ -118,17 +122,32 @@ returns-in-Err-prune-clause-pending g c =
       sound = p.sound;
     })
 
+-- a fault that came is the one by which it was halted
+halted_for : {S T : Type 0} (writer : IndexWriter S) (fault why : RanFault) (ran : Ran S T)
+    → ran ≡ record { writer = writer; came = Err fault } → ran.came ≡ Err why → fault ≡ why
+halted_for {S} {T} writer fault why ran is e =
+    let both = sym (ap (λ (x : Ran S T). x.came) is) ∙ e in cc
+
+rose_before : (before mid now : ℕ) → before ≤ mid → Rose mid now → Rose before now
+rose_before before mid now le rose = omega (arith, le, rose)
+
+halted_rose : {S T : Type 0} (count : S → ℕ) (before mid : ℕ) (writer : IndexWriter S) (fault : RanFault) (ran : Ran S T)
+    → ran ≡ record { writer = writer; came = Err fault } → before ≤ mid → Rose mid (count writer.store)
+    → Rose before (count ran.writer.store)
+halted_rose {S} {T} count before mid writer fault ran is le rose =
+    subst (λ (x : Ran S T). Rose before (count x.writer.store)) (sym is) (rose_before before mid (count writer.store) le rose)
+
 pub returns-in-Err-prune-clause-closed : goal.returns-in-Err-prune-clause-closed
 returns-in-Err-prune-clause-closed g c = λ is.
-    let said : c.from.result ≡ halt.Writer writing.Closed = cc in
+    let said = halted_for c.prune.new.self c.from.result (halt.Writer writing.Closed) _ c.halted-in-Err-prune.ensures is in
     let why = pruned_closed c.in-Err-prune.fault (sym c.from.ensures ∙ said) in
     let closed = c.in-Err-prune.ensures.closed.0 (ap Err why) in
     let before = on_ok _ _ _ c.in-Ok.is c.write_pending-writer.ensures.pending.is_open in
-    let both : true ≡ false = sym closed ∙ before in cc
+    let both : true ≡ false = sym closed ∙ before in absurd (true≢false both)
 
 pub returns-in-Err-prune-clause-failed : goal.returns-in-Err-prune-clause-failed
 returns-in-Err-prune-clause-failed g c = λ is.
-    let said : c.from.result ≡ halt.Writer writing.Store = cc in
+    let said = halted_for c.prune.new.self c.from.result (halt.Writer writing.Store) _ c.halted-in-Err-prune.ensures is in
     let why = pruned_failed c.in-Err-prune.fault (sym c.from.ensures ∙ said) in
-    let rose = c.in-Err-prune.ensures.failed (ap Err why) in
-    let later = c.write_pending-writer.ensures.later in omega (arith, rose, later)
+    halted_rose g.S.Store.fault_count _ _ c.prune.new.self c.from.result _ c.halted-in-Err-prune.ensures
+    c.write_pending-writer.ensures.later (c.in-Err-prune.ensures.failed (ap Err why))
