@@ -28,13 +28,7 @@ pub fn kept_beside(keep: u32, form: Form, lines: &[Line]) -> Option<u32>
     ensures same { IfSome result (λ beside. beside ≡ keep) }
 {
     match form {
-        Form::Report => {
-            if has_search(lines) {
-                None
-            } else {
-                Some(keep)
-            }
-        }
+        Form::Report => { if has_search(lines) { None } else { Some(keep) } }
         Form::Summary => None,
     }
 }
