@@ -1,6 +1,7 @@
 -- How far a run has come, with one round more.
 use Rattle.std.proofs.Common.{◌≡◌, ◌∙◌, ℕ, ◌+◌, ◌<◌, ◌≤◌, ◌^◌, List, [], ◌∷◌, ◌++◌, length, map, true, refl, sym, ap, subst, arith}
-use Rattle.std.specs.Prelude.{Option, Some, None}
+use Rattle.std.specs.Prelude.{IfSome, IsSome, Option, Some, None}
+use Rattle.std.specs.Global.{Vec}
 use Rattle.std.specs.List.{AllByRecursion, AllZip}
 use Rattle.std.proofs.lemmas.List.{append-nil, map-append}
 use Rattle.ix_base.specs.Counts.{doc_count}
@@ -21,7 +22,11 @@ use Rattle.round_work.specs.declared.worked.Worked.{Worked}
 use Rattle.round_work.specs.Working.{AreWorked}
 use Rattle.line_shares.specs.declared.place.Place.{Place}
 use Rattle.line_shares.specs.Shares.{AreDone, AreShares, GoesOn, IsFresh, place_of}
-use Rattle.line_shares.proofs.LogLaws.{fresh_log, fresh_told, log_whole}
+use Rattle.line_shares.proofs.LogLaws.{fresh_log, fresh_told, log_completes, log_whole}
+use Rattle.line_shares.specs.Asks.{AreAsks}
+use Rattle.line_shares.specs.Committed.{no_commit}
+use Rattle.line_shares.specs.declared.asks.Ask.{Ask}
+use Rattle.line_shares.specs.declared.round_commit.CommitLine.{CommitLine}
 use Rattle.line_shares.specs.Tells.{AreTold, pairs_since}
 use Rattle.run_report.specs.declared.outcome.Outcome.{Outcome}
 use Rattle.index_writer.specs.declared.round.CommitInfo.{CommitInfo}
@@ -32,19 +37,25 @@ use Rattle.index_writer.specs.Rounds.{AreBegunFrom, ArePartsOf, IsBegun}
 use Rattle.index_writer.specs.Ready.{HasRows, IsReady, IsSound}
 use Rattle.index_writer.specs.Standing.{Settles}
 use Rattle.index_writer.specs.Storing.{Commits, GoesOn as WriterGoesOn, MayCommit, on_commit}
-use Rattle.run_log.specs.Headline.{commit_numbers, numbered, operations, pairs_at}
+use Rattle.run_log.specs.Headline.{Interleaves, commit_numbers, number_of, numbered, operations, pairs_at}
+use Rattle.run_log.specs.Numbering.{HasLine}
 use Rattle.run_log.proofs.Lists.{each_behind, each_in_both, each_pair}
 use Rattle.run_log.proofs.NumberLaws.{commits_append, commits_within, rows_at_all, rows_at_front}
 use Rattle.index_run.specs.Doing.{CanBegin, IsWriterOn}
-use Rattle.index_run.specs.Driving.{EndsRound, HasCome, HasDone, IsAt, IsCut, AreDuePairs, IsDocs, IsDue, IsOver, IsRound, Run, base_of, number_in}
+use Rattle.index_run.specs.Answered.{AllAnswerBehind, AreAnswered, IsFound, IsNone}
+use Rattle.index_run.specs.Driving.{Begins, EndsRound, GoesOnBy, HasCome, HasDone, IsAt, IsCut, IsDocs, IsDue, IsDueCommit}
+use Rattle.index_run.specs.Driving.{IsOver, IsRound, IsUnderWay, Run, base_of, number_in}
 use Rattle.index_run.specs.Leaving.{CommitLaws, IsNextCommit, due_pairs, first_numbers}
 use Rattle.index_run.specs.Replied.{CanTell, IsCounted}
 use Rattle.index_run.proofs.RepliedLaws.{outcomes_counted}
 use Rattle.index_run.specs.Outcomes.{AreOutcomes}
 use Rattle.index_run.specs.Rounds.{AllCame, gave_of, pieces_of, share_of, writers_of}
-use Rattle.index_run.proofs.DiskAfter.{crash_longer, disk_commit, disk_count, disk_same, disk_start}
+use Rattle.index_run.proofs.AnswerLaws.{all_first, all_more, all_plain, due_commit, none_commit, number_at, settled_at}
+use Rattle.index_run.proofs.DiskBy.{by_commit, by_count, by_same, by_start, pending_above, stopped_done}
+use Rattle.index_run.specs.KeptDisk.{KeepLaws}
+use Rattle.index_writer.specs.declared.fault.WriterFault.{WriterFault}
+use Rattle.index_run.specs.declared.rounds.RanFault.TheVariants as halt
 use Rattle.index_run.proofs.LogNumbers.{numbers_whole}
-use Rattle.index_run.proofs.RunEnds.{stops_files}
 use Rattle.index_run.proofs.Workers.{all_go_on, parts_back}
 use Rattle.index_run.proofs.WriterOn.{writer_commit, writer_same, writer_start}
 
@@ -52,50 +63,47 @@ abbrev Pair : Type 0
 Pair = ℕ × ℕ
 
 -- where no commit is pending
-no_data : (base : ℕ) (log : List Line) (pairs : Pairs) (pending : Option ℕ) → pending ≡ None
-    → AreDuePairs base log pending pairs
-no_data base log pairs pending none = subst (λ (p : Option ℕ). AreDuePairs base log p pairs) (sym none) tt
+no_due : (base : ℕ) (log : List Line) (due : CommitLine) (pending : Option ℕ) → pending ≡ None
+    → IsDueCommit base log pending due
+no_due base log due pending none = subst (λ (p : Option ℕ). IsDueCommit base log p due) (sym none) tt
 
 -- ---- the beginning
 
-pub at_start : (r : Run) → CanBegin r.first → IsAt r [] r.first r.start
-at_start r can = record {
+pub at_start : (r : Run) → KeepLaws → IfSome r.keep (λ k. 1 ≤ k) → CanBegin r.first → IsAt r [] r.first r.start
+at_start r laws some can = record {
   first = can;
   writer = writer_start r.first can;
   front = 0;
   within = omega arith;
   due = subst (IsDue r.first [] 0 r.first.published.upto) (sym can.pending) refl;
-  disk = disk_start r.first r.start can;
+  disk = by_start laws r.keep some r.first r.start can;
 }
 
 -- a stop before the lines were dealt out
-pub cut_start : (r : Run) (lines : List Line) → CanBegin r.first → IsCut r lines r.start
-cut_start r lines can =
-    let disk = disk_start r.first r.start can in
-    record {
-      log = numbered lines;
-      numbering = λ caller. refl;
-      crash = crash_longer r.first [] (numbered lines) r.start r.start disk.crash;
-      files = λ g told on.
-          stops_files g r.first r.first [] (numbered lines) 0 r.start r.start on (omega arith) told disk;
-      only = disk.only;
-      standing = disk.standing;
-    }
+pub cut_start : {fault : WriterFault} (r : Run) (lines : List Line) → KeepLaws → IfSome r.keep (λ k. 1 ≤ k) → CanBegin r.first
+    → IsCut r lines (halt.Writer fault) r.start
+cut_start {fault} r lines laws some can = record {
+  log = numbered lines;
+  numbering = λ caller. refl;
+  stopped =
+      stopped_done r.keep r.first r.first [] (numbered lines) 0 r.start r.start (omega arith)
+      (by_start laws r.keep some r.first r.start can);
+  found = tt;
+}
 
-pub come_start : (r : Run) (lines : List Line) (shares : List Share) → CanBegin r.first → LinesRise 1 lines
-    → AreShares r.workers lines shares → AllByRecursion IsFresh shares → HasCome r lines shares [] [] r.first r.start
-come_start r lines shares can rise are fresh = record {
-  log = [];
+pub come_start : (r : Run) (lines : List Line) (shares : List Share) → KeepLaws → IfSome r.keep (λ k. 1 ≤ k) → CanBegin r.first → LinesRise 1 lines
+    → AreShares r.workers lines shares → AllByRecursion IsFresh shares → HasCome r lines shares [] [] no_commit r.first r.start
+come_start r lines shares laws some can rise are fresh = record {
   done = record {
     rise = rise;
     shares_are = are;
-    at = at_start r can;
+    at = at_start r laws some can;
     log_is = fresh_log r.workers lines shares are fresh;
     told = fresh_told r.workers (base_of r) lines shares [] are fresh;
   };
   numbers = ap number_in can.pending;
   docs = tt;
-  due_pairs = no_data (base_of r) [] [] r.first.pending can.pending;
+  is_due = no_due (base_of r) [] no_commit r.first.pending can.pending;
 }
 
 -- ---- a round was begun
@@ -112,7 +120,7 @@ at_same r log w v now at ready published written last since closed pending = rec
   due =
       subst (λ (p : Published). IsDue r.first log at.front p.upto v.pending) (sym published)
       (subst (IsDue r.first log at.front w.published.upto) (sym pending) at.due);
-  disk = disk_same r.first log at.front w v r.start now published written last since at.disk;
+  disk = by_same r.keep r.first log at.front w v r.start now published written last since at.disk;
 }
 
 done_begun : (r : Run) (lines : List Line) (shares : List Share) (log : List Line) (w v : State) (now : Option Disk)
@@ -130,19 +138,17 @@ done_begun r lines shares log w v now is sound h =
       told = h.told;
     }
 
-pub come_begun : (r : Run) (lines : List Line) (shares : List Share) (commits : List Pair) (pairs : Pairs) (w v : State)
-    (old now : Option Disk) → now ≡ old → v ≡ record w { out = true } → IsSound v
-    → HasCome r lines shares commits pairs w old → HasCome r lines shares commits pairs v now
-come_begun r lines shares commits pairs w v old now same is sound come =
-    subst (HasCome r lines shares commits pairs v) (sym same) (record {
-      log = come.log;
-      done = done_begun r lines shares come.log w v old is sound come.done;
+pub come_begun : (r : Run) (lines : List Line) (shares : List Share) (log : List Line) (commits : List Pair) (due : CommitLine)
+    (w v : State) (old now : Option Disk) → now ≡ old → v ≡ record w { out = true } → IsSound v
+    → HasCome r lines shares log commits due w old → HasCome r lines shares log commits due v now
+come_begun r lines shares log commits due w v old now same is sound come =
+    subst (HasCome r lines shares log commits due v) (sym same) (record {
+      done = done_begun r lines shares log w v old is sound come.done;
       numbers =
           ap (λ (s : State). map (λ (c : Pair). c.0) commits ++ number_in s.pending) is ∙ come.numbers;
       docs = come.docs;
-      due_pairs =
-          subst (λ (p : Option ℕ). AreDuePairs (base_of r) come.log p pairs) (sym (ap (λ (s : State). s.pending) is))
-          come.due_pairs;
+      is_due =
+          subst (λ (p : Option ℕ). IsDueCommit (base_of r) log p due) (sym (ap (λ (s : State). s.pending) is)) come.is_due;
     })
 
 -- ---- the pending commit was written
@@ -152,12 +158,17 @@ pub next_commit : (first : State) (log : List Line) (front upto s : ℕ) (pendin
     → IsDue first log front upto pending → IsNextCommit first log front s × (s ≡ upto)
 next_commit first log front upto s pending is due = subst (IsDue first log front upto) is due
 
--- and its pairs are those of that line
-pub pairs_due : (first : State) (log : List Line) (w : State) (s : ℕ) (pairs : Pairs) → w.pending ≡ Some s
-    → s ≡ w.published.upto → AreDuePairs first.published.upto log w.pending pairs → pairs ≡ due_pairs first log w
-pairs_due first log w s pairs pending at is =
-    subst (λ (p : Option ℕ). AreDuePairs first.published.upto log p pairs) pending is
-    ∙ ap (λ (n : ℕ). pairs_at first.published.upto log n) at
+-- what is known of a commit that is due
+pub due_is : (base : ℕ) (log : List Line) (pending : Option ℕ) (s : ℕ) (due : CommitLine) → pending ≡ Some s
+    → IsDueCommit base log pending due
+    → HasLine log due.line × (number_of base log due.line ≡ s) × (due.pairs ≡ pairs_at base log s)
+due_is base log pending s due there is = subst (λ (p : Option ℕ). IsDueCommit base log p due) there is
+
+-- its pairs are those of that line
+pub pairs_due : (first : State) (log : List Line) (w : State) (s : ℕ) (due : CommitLine) → w.pending ≡ Some s
+    → s ≡ w.published.upto → IsDueCommit first.published.upto log w.pending due → due.pairs ≡ due_pairs first log w
+pairs_due first log w s due pending at is =
+    (due_is first.published.upto log w.pending s due pending is).2 ∙ ap (λ (n : ℕ). pairs_at first.published.upto log n) at
 
 -- the commit of the log's last line has the rows of all its lines
 docs_written : (first w : State) (log : List Line) (c : CommitInfo) → IsWriterOn first log w
@@ -168,30 +179,27 @@ docs_written first w log c on is docs_of rows has =
     docs_of (after rows first.published.upto (operations log)) (on.rows rows has)
     ∙ ap doc_count (sym (rows_at_all first.published.upto rows log c.number at_end))
 
-module _ (r : Run) (lines : List Line) (shares : List Share) (commits : List Pair) (pairs : Pairs) (w v : State)
-    (old now : Option Disk) (come : HasCome r lines shares commits pairs w old) where
-  abbrev log : List Line
-  log = come.log
-
+module _ (r : Run) (lines : List Line) (shares : List Share) (log : List Line) (commits : List Pair) (due : CommitLine)
+    (w v : State) (old now : Option Disk) (come : HasCome r lines shares log commits due w old) where
   pub come_written : (c : CommitInfo) → CommitLaws → w.pending ≡ Some c.number → v ≡ on_commit w → IsReady v
       → w.published.next_id ≤ 2 ^ 62 → ((rows : List Row) → HasRows w rows → c.docs ≡ doc_count rows)
       → ((rows : List Row) → HasRows w rows → HasRows v rows)
-      → (w.published.next_id ≤ 2 ^ 62 → Changes (Commits pairs w v) (told_files old) (told_files now))
-      → (w.published.next_id ≤ 2 ^ 62 → Follows (Commits pairs w v) (MayHold old) (MayHold now))
+      → (w.published.next_id ≤ 2 ^ 62 → Changes (Commits due.pairs w v) (told_files old) (told_files now))
+      → (w.published.next_id ≤ 2 ^ 62 → Follows (Commits due.pairs w v) (MayHold old) (MayHold now))
       → (w.published.next_id ≤ 2 ^ 62 → Settles w old now)
-      → (w.published.next_id ≤ 2 ^ 62 → LeavesOnly old now (Reaches (MayCommit pairs w) (MayHold old)))
+      → (w.published.next_id ≤ 2 ^ 62 → LeavesOnly old now (Reaches (MayCommit due.pairs w) (MayHold old)))
       → Told OnlyCommits old now
       → ((files : Files) → told_files old ≡ Some files → WriterGoesOn files w → Told KeepsMade old now)
-      → HasCome r lines shares (commits ++ (c.number, c.docs) ∷ []) pairs v now
+      → HasCome r lines shares log (commits ++ (c.number, c.docs) ∷ []) due v now
   come_written c laws pending is ready room docs_of keeps_rows made acknowledged settled crash only standing =
       let at = come.done.at in
-      let due = next_commit r.first log at.front w.published.upto c.number w.pending pending at.due in
+      let number_is = next_commit r.first log at.front w.published.upto c.number w.pending pending at.due in
       let next : IsNextCommit r.first log at.front w.published.upto =
-      subst (IsNextCommit r.first log at.front) due.1 due.0 in
+      subst (IsNextCommit r.first log at.front) number_is.1 number_is.0 in
       let none : v.pending ≡ None = ap (λ (s : State). s.pending) is in
-      let own : pairs ≡ due_pairs r.first log w = pairs_due r.first log w c.number pairs pending due.1 come.due_pairs in
+      let own : due.pairs ≡ due_pairs r.first log w =
+      pairs_due r.first log w c.number due pending number_is.1 come.is_due in
       record {
-        log = log;
         done = record {
           rise = come.done.rise;
           shares_are = come.done.shares_are;
@@ -204,7 +212,8 @@ module _ (r : Run) (lines : List Line) (shares : List Share) (commits : List Pai
                 subst (IsDue r.first log (length log) v.published.upto) (sym none)
                 (sym (numbers_whole (base_of r) log));
             disk =
-                disk_commit r.first w v log at.front r.start old now laws at.first at.writer at.within next is room
+                by_commit r.keep r.first w v log at.front r.start old now laws at.first at.writer
+                (pending_above w c.number at.writer.ready pending) at.within next is room
                 (λ low. subst (λ (ps : Pairs). Changes (Commits ps w v) (told_files old) (told_files now)) own (made low))
                 (λ low. subst (λ (ps : Pairs). Follows (Commits ps w v) (MayHold old) (MayHold now)) own (acknowledged low))
                 settled
@@ -222,8 +231,8 @@ module _ (r : Run) (lines : List Line) (shares : List Share) (commits : List Pai
             ∙ come.numbers;
         docs =
             each_in_both (λ (p : Pair). IsDocs r.first log p.0 p.1) commits ((c.number, c.docs) ∷ []) come.docs
-            (docs_written r.first w log c at.writer due.1 docs_of, tt);
-        due_pairs = no_data (base_of r) log pairs v.pending none;
+            (docs_written r.first w log c at.writer number_is.1 docs_of, tt);
+        is_due = no_due (base_of r) log due v.pending none;
       }
 
 -- ---- a round was done
@@ -239,14 +248,14 @@ begun_on n w v round upto buffer begun = record {
 }
 
 -- what came back of the workers of a round that was begun
-pub round_done : (r : Run) (lines : List Line) (commits : List Pair) (pairs : Pairs) (threads : ℕ) (w v : State) (round : Round)
+pub round_done : (r : Run) (lines log : List Line) (commits : List Pair) (due : CommitLine) (threads : ℕ) (w v : State) (round : Round)
     (shares news : List Share) (worked : List Worked) (parts : RoundParts) (now : Option Disk) → r.workers ≡ threads
-    → (come : HasCome r lines shares commits pairs v now) → v.pending ≡ None → v.out ≡ true
+    → (come : HasCome r lines shares log commits due v now) → v.pending ≡ None → v.out ≡ true
     → v.published.upto ≡ w.published.upto → v.buffer ≡ w.buffer → IsBegun threads w round
     → AreWorked round.queue round.writers.items shares worked → AllCame worked → parts.queue ≡ round.queue
     → parts.writers.items ≡ writers_of worked → pieces_of parts.pieces.items ≡ gave_of worked
-    → news ≡ map share_of worked → IsRound r lines shares news come.log v parts now
-round_done r lines commits pairs threads w v round shares news worked parts now size come pending out upto buffer begun all came queue writers pieces news_are =
+    → news ≡ map share_of worked → IsRound r lines shares news log v parts now
+round_done r lines log commits due threads w v round shares news worked parts now size come pending out upto buffer begun all came queue writers pieces news_are =
     let are : AreShares threads lines shares =
     subst (λ (n : ℕ). AreShares n lines shares) size come.done.shares_are in
     record {
@@ -292,31 +301,33 @@ all_written base log commits pending none numbers =
     ∙ sym (ap (λ (p : Option ℕ). map (λ (c : Pair). c.0) commits ++ number_in p) none)
     ∙ numbers
 
-pub come_on : (r : Run) (lines : List Line) (olds news : List Share) (commits : List Pair) (written due : Pairs)
-    (w v : State) (now : Option Disk) → (come : HasCome r lines olds commits written w now) → w.pending ≡ None
-    → EndsRound r lines news come.log due v now → HasCome r lines news commits due v now
-come_on r lines olds news commits written due w v now come none ends =
-    let log = come.log in
+pub goes_on : (r : Run) (lines : List Line) (olds news : List Share) (log : List Line) (commits : List Pair)
+    (written due : CommitLine) (w v : State) (now : Option Disk) → (come : HasCome r lines olds log commits written w now)
+    → w.pending ≡ None → EndsRound r lines news log due v now → GoesOnBy r lines news log commits due v now
+goes_on r lines olds news log commits written due w v now come none ends =
     let numbers = all_written (base_of r) log commits w.pending none come.numbers in
     record {
-      log = log ++ ends.more;
-      done = ends.done;
-      numbers =
-          ap (λ (ns : List ℕ). ns ++ number_in v.pending) numbers
-          ∙ ap (λ (ns : List ℕ). commit_numbers (base_of r) log ++ ns) (sym ends.commit_is)
-          ∙ sym (commits_append (base_of r) log ends.more);
-      docs = all_stay r.first log ends.more commits numbers come.docs;
-      due_pairs = ends.due_pairs;
+      more = ends.more;
+      come = record {
+        done = ends.done;
+        numbers =
+            ap (λ (ns : List ℕ). ns ++ number_in v.pending) numbers
+            ∙ ap (λ (ns : List ℕ). commit_numbers (base_of r) log ++ ns) (sym ends.commit_is)
+            ∙ sym (commits_append (base_of r) log ends.more);
+        docs = all_stay r.first log ends.more commits numbers come.docs;
+        is_due = ends.is_due;
+      };
+      commit_is = ends.commit_is;
     }
 
 -- ---- the end
 
 -- what was told of the lines, where each was told something
-pub can_tell : (r : Run) (lines : List Line) (places : List Place) (shares : List Share) (commits : List Pair)
-    (pairs : Pairs) (w : State) (now : Option Disk) → AllByRecursion (λ (l : Line). l.caller < 256) lines → places ≡ map place_of lines
-    → AreDone shares → w.pending ≡ None → (h : HasCome r lines shares commits pairs w now)
-    → CanTell (base_of r) lines h.log places shares commits
-can_tell r lines places shares commits pairs w now callers places_are done none h =
+pub can_tell : (r : Run) (lines : List Line) (places : List Place) (shares : List Share) (log : List Line) (commits : List Pair)
+    (due : CommitLine) (w : State) (now : Option Disk) → AllByRecursion (λ (l : Line). l.caller < 256) lines → places ≡ map place_of lines
+    → AreDone shares → w.pending ≡ None → HasCome r lines shares log commits due w now
+    → CanTell (base_of r) lines log places shares commits
+can_tell r lines places shares log commits due w now callers places_are done none h =
     let are = h.done.shares_are in
     record {
       rise = h.done.rise;
@@ -324,27 +335,81 @@ can_tell r lines places shares commits pairs w now callers places_are done none 
       places_are = places_are;
       shares_are = subst (λ (n : ℕ). AreShares n lines shares) (sym are.count) are;
       done = done;
-      numbering = log_whole r.workers lines shares h.log are done h.done.log_is;
-      told = subst (λ (n : ℕ). AreTold n (base_of r) lines shares h.log) (sym are.count) h.done.told;
-      numbers = all_written (base_of r) h.log commits w.pending none h.numbers;
+      numbering = log_whole r.workers lines shares log are done h.done.log_is;
+      told = subst (λ (n : ℕ). AreTold n (base_of r) lines shares log) (sym are.count) h.done.told;
+      numbers = all_written (base_of r) log commits w.pending none h.numbers;
     }
 
 -- the run is over
-pub over_of : (r : Run) (lines : List Line) (shares : List Share) (commits : List Pair) (pairs : Pairs)
+pub over_of : (r : Run) (lines : List Line) (shares : List Share) (log : List Line) (commits : List Pair) (due : CommitLine)
     (became : List Outcome) (w : State) (now : Option Disk) → AreDone shares → w.pending ≡ None
-    → (h : HasCome r lines shares commits pairs w now)
-    → AreOutcomes (IsCounted commits) (base_of r) h.log [] lines became → IsOver r lines became w now
-over_of r lines shares commits pairs became w now done none h are =
+    → HasCome r lines shares log commits due w now
+    → AreOutcomes (IsCounted commits) (IsFound r.first log) (base_of r) log [] lines became → IsOver r lines became w now
+over_of r lines shares log commits due became w now done none h are =
     let at = h.done.at in
-    let all : commit_numbers (base_of r) h.log ≡ first_numbers r.first h.log at.front =
-    subst (IsDue r.first h.log at.front w.published.upto) none at.due in
+    let all : commit_numbers (base_of r) log ≡ first_numbers r.first log at.front =
+    subst (IsDue r.first log at.front w.published.upto) none at.due in
     record {
-      log = h.log;
+      log = log;
       writer = at.writer;
       disk =
-          disk_count r.first h.log at.front (length h.log) w r.start now
-          (sym all ∙ sym (numbers_whole (base_of r) h.log)) at.disk;
-      numbering = log_whole r.workers lines shares h.log h.done.shares_are done h.done.log_is;
+          by_count r.keep r.first log at.front (length log) w r.start now
+          (sym all ∙ sym (numbers_whole (base_of r) log)) at.disk;
+      numbering = log_whole r.workers lines shares log h.done.shares_are done h.done.log_is;
       outcomes =
-          outcomes_counted (IsDocs r.first h.log) commits (base_of r) h.log lines became h.docs are;
+          outcomes_counted (IsDocs r.first log) (IsFound r.first log) commits (base_of r) log lines became h.docs are;
     }
+
+-- ---- the search lines
+
+-- a run begins
+pub begins : (r : Run) (lines : List Line) (shares : List Share) (asks : List (Vec Ask)) → KeepLaws
+    → IfSome r.keep (λ k. 1 ≤ k) → CanBegin r.first → LinesRise 1 lines → AreShares r.workers lines shares
+    → AllByRecursion IsFresh shares → AreAsks lines asks → Begins r lines shares asks r.first r.start
+begins r lines shares asks laws some can rise are fresh asks_are =
+    (asks_are, come_start r lines shares laws some can rise are fresh)
+
+-- and answers the search lines that stand behind no commit line
+pub under_way : (r : Run) (lines : List Line) (shares : List Share) (asks : List (Vec Ask)) (w : State) (now : Option Disk)
+    (none texts : List (Vec (List ℕ))) → Begins r lines shares asks w now → AllByRecursion IsNone none
+    → AllAnswerBehind w 0 asks none texts → IsUnderWay r lines shares asks [] no_commit texts w now
+under_way r lines shares asks w now none texts begins empty answers = record {
+  log = [];
+  come = begins.1;
+  answered = all_first r.first w lines asks none texts begins.1.done.at.writer empty answers;
+}
+
+-- it answers those behind the commit with which a round ended, if it ended with one
+pub way_on : (r : Run) (lines : List Line) (news : List Share) (asks : List (Vec Ask)) (log : List Line) (commits : List Pair)
+    (due : CommitLine) (olds texts : List (Vec (List ℕ))) (w : State) (now : Option Disk) → AreAsks lines asks
+    → AreAnswered r.first log asks olds → GoesOnBy r lines news log commits due w now
+    → (w.pending ≡ None → texts ≡ olds) → (IsSome w.pending → AllAnswerBehind w due.line asks olds texts)
+    → IsUnderWay r lines news asks commits due texts w now
+way_on r lines news asks log commits due olds texts w now asks_are answered on same answers = record {
+  log = log ++ on.more;
+  come = on.come;
+  answered = by w.pending refl;
+}
+  where
+    base : ℕ
+    base = base_of r
+
+    rest : (left : List Line) × Interleaves lines ((log ++ on.more) ++ left)
+    rest = log_completes r.workers lines news (log ++ on.more) on.come.done.shares_are on.come.done.log_is
+
+    by : (pending : Option ℕ) → w.pending ≡ pending → AreAnswered r.first (log ++ on.more) asks texts
+    by None none =
+        subst (AreAnswered r.first (log ++ on.more) asks) (sym (same none))
+        (all_plain r.first 0 lines log on.more rest.0 asks olds on.come.done.rise rest.1 asks_are.each
+        (none_commit (base + length log) on.more (on.commit_is ∙ ap number_in none)) answered)
+    by (Some s) there =
+        let at = on.come.done.at in
+        let due_at = due_is base (log ++ on.more) w.pending s due there on.come.is_due in
+        let next = next_commit r.first (log ++ on.more) at.front w.published.upto s w.pending there at.due in
+        let last : s ≡ base + length (log ++ on.more) = next.1 ∙ at.writer.upto in
+        let some : IsSome w.pending = subst IsSome (sym there) refl in
+        all_more r.first w 0 lines log on.more rest.0 due.line asks olds texts on.come.done.rise rest.1 asks_are.each
+        (due_commit base log on.more s due.line (on.commit_is ∙ ap number_in there) last due_at.0 due_at.1)
+        at.writer (settled_at (log ++ on.more) due.line due_at.0)
+        (number_at lines (log ++ on.more) rest.0 base due.line on.come.done.rise rest.1 due_at.0 ∙ due_at.1 ∙ next.1)
+        (answers some) answered

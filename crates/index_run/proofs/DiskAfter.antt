@@ -51,7 +51,7 @@ some_onto (Some f) P Q implies h = implies f h
 
 -- ---- at the beginning
 
-stands_none : (first : State) (log : List Line) (files : Files) → Stands first log [] first files files
+pub stands_none : (first : State) (log : List Line) (files : Files) → Stands first log [] first files files
 stands_none first log files = record {
   front = front_none first log first.since files;
   stored = λ stored. stored;
@@ -76,7 +76,7 @@ disk_start first disk can = record {
 -- ---- a state that differs only in what a round in work leaves open
 
 -- what is said of the segments, of what is on the store of them and of the last commit, of the same ones
-same_goes_on : (files : Files) (w v : State) → (IsStored files w → IsStored files v) → v.last ≡ w.last
+pub same_goes_on : (files : Files) (w v : State) → (IsStored files w → IsStored files v) → v.last ≡ w.last
     → v.since ≡ w.since → GoesOn files w → GoesOn files v
 same_goes_on files w v stored last since goes = record {
   none_above = λ t above. goes.none_above t (omega (arith, above, last));
@@ -94,7 +94,7 @@ same_on_last files w v stored last on = record {
   stored = stored on.own on.stored;
 }
 
-stands_other : (first : State) (log : List Line) (numbers : List ℕ) (w v : State) (old new : Files)
+pub stands_other : (first : State) (log : List Line) (numbers : List ℕ) (w v : State) (old new : Files)
     → ((files : Files) → IsStored files w → IsStored files v) → v.last ≡ w.last → v.since ≡ w.since
     → Stands first log numbers w old new → Stands first log numbers v old new
 stands_other first log numbers w v old new stored last since stands = record {
@@ -104,7 +104,7 @@ stands_other first log numbers w v old new stored last since stands = record {
   on_last = λ goes on. same_on_last new w v stored last (stands.on_last goes on);
 }
 
-same_stored : (files : Files) (w v : State) → v.published ≡ w.published → v.written ≡ w.written → IsStored files w
+pub same_stored : (files : Files) (w v : State) → v.published ≡ w.published → v.written ≡ w.written → IsStored files w
     → IsStored files v
 same_stored files w v published written stored =
     let here : AreWritten files v.published.upto v.published.segments w.written =
@@ -138,7 +138,7 @@ disk_same first log count w v start now published written last since disk =
 
 -- ---- a longer log
 
-stands_longer : (first : State) (log more : List Line) (numbers same : List ℕ) (w : State) (old new : Files)
+pub stands_longer : (first : State) (log more : List Line) (numbers same : List ℕ) (w : State) (old new : Files)
     → same ≡ numbers → Stands first log numbers w old new → Stands first (log ++ more) same w old new
 stands_longer first log more numbers same w old new is stands =
     subst (λ (ns : List ℕ). Stands first (log ++ more) ns w old new) (sym is) (record {
@@ -148,7 +148,7 @@ stands_longer first log more numbers same w old new is stands =
       on_last = stands.on_last;
     })
 
-some_longer : (first : State) (log more : List Line) (old new : Files) → HasSomeFront first log old new
+pub some_longer : (first : State) (log more : List Line) (old new : Files) → HasSomeFront first log old new
     → HasSomeFront first (log ++ more) old new
 some_longer first log more old new some =
     let next = first.published.next_id in
@@ -227,7 +227,7 @@ comes_next first w log count laws begun on low numbers =
     record { laws = laws; begun = begun; on = on; above = last.0; below = last.1; low = low }
 
 -- all of the log's commits
-all_numbers : (first : State) (log : List Line) (count s : ℕ)
+pub all_numbers : (first : State) (log : List Line) (count s : ℕ)
     → IsNextCommit first log count s
     → first_numbers first log count ++ s ∷ [] ≡ first_numbers first log (length log)
 all_numbers first log count s numbers = sym (numbers_whole first.published.upto log ∙ numbers)

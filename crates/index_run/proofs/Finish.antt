@@ -16,7 +16,6 @@ use Rattle.ix_outside.specs.Files.{Files}
 use Rattle.commit_point.specs.Holds.{AreKept, HoldsInverted, KeepsCommits}
 use Rattle.commit_point.proofs.StepLaws.{goes_none}
 use Rattle.commit_point.specs.Steps.{KeepsStanding, OnlyCommits}
-use Rattle.index_writer.specs.declared.fault.WriterFault.{WriterFault}
 use Rattle.index_writer.specs.declared.fault.WriterFault.TheVariants as writing
 use Rattle.index_writer.specs.declared.state.State.{State}
 use Rattle.made_runs.specs.Summary.{MadeRuns, script_summary}
@@ -27,7 +26,6 @@ use Rattle.report_text.specs.Lines.{summary_value, text_line}
 use Rattle.report_text.specs.Summaries.{summary_of}
 use Rattle.report_text.specs.declared.fault.Fault.TheVariants as fault
 use Rattle.run_report.specs.declared.outcome.Outcome.{Outcome}
-use Rattle.run_report.specs.Searching.{CanSearch, ReadsCommit}
 use Rattle.run_report.specs.Texts.{texts}
 use Rattle.run_log.proofs.AgainLaws.{commits_run_on}
 use Rattle.run_log.proofs.CountLaws.{same_count}
@@ -39,20 +37,26 @@ use Rattle.index_run.specs.declared.stop.Stop.TheVariants as stop
 use Rattle.index_run.specs.declared.telling.Form.{Form}
 use Rattle.index_run.specs.declared.telling.Form.TheVariants.{Report, Summary}
 use Rattle.index_run.specs.Beginning.{BeginsOn, CanBeginOn, IsBase}
-use Rattle.index_run.specs.Causes.{IsOneOf, LeavesStore, stop_by, stop_status}
+use Rattle.index_run.specs.Causes.{IsOneOf, LeavesStore, stop_by_rounds, stop_status}
+use Rattle.index_run.specs.declared.rounds.RanFault.{RanFault}
+use Rattle.index_run.specs.declared.rounds.RanFault.TheVariants as halt
 use Rattle.index_run.specs.Commands.{IsMade, form_text}
 use Rattle.index_run.specs.Damage.{ReadsDamaged}
-use Rattle.index_run.specs.Doing.{CanBegin, IsOnGiven}
-use Rattle.index_run.specs.Keeping.{AreSpelled}
+use Rattle.index_run.specs.Doing.{IsOnGiven}
 use Rattle.index_run.specs.Driving.{IsCut, IsDocs, IsOver, Run, base_of}
-use Rattle.index_run.proofs.OutcomeLaws.{asked_by, outcomes_weaker, texts_with_none}
-use Rattle.index_run.specs.Outcomes.{AreOutcomes, IsAskedBy, rows_of}
-use Rattle.index_run.specs.Telling.{CanTell, TellsDamaged, is_committed}
+use Rattle.index_run.proofs.OutcomeLaws.{HasCount, HasFound, outcomes_weaker, texts_found}
+use Rattle.index_run.specs.Answered.{IsFound}
+use Rattle.index_run.specs.Outcomes.{AreOutcomes}
+use Rattle.index_run.specs.Telling.{CanTell, ReadsCommit, is_committed}
+use Rattle.searcher.specs.Searching.{IsDamagedIn}
 use Rattle.index_run.proofs.DiskAfter.{some_onto, the_files}
 use Rattle.index_run.proofs.Listed.{at_err}
-use Rattle.index_run.proofs.RunEnds.{begins_image, crash_some, each_some, ends_again, ends_files, ends_images, ends_own, keeps_some, own_some, reads, spells}
-use Rattle.index_run.proofs.Searchable.{SearchesAt, can_read, can_search, is_asked, no_rows, searches_last}
+use Rattle.index_run.proofs.RunEnds.{crash_some, each_some, ends_again, ends_files, ends_images, ends_own, keeps_some, own_some, reads}
 use Rattle.index_run.proofs.Summarised.{commits_counted, last_above, last_in, summarised}
+
+-- the run, where it keeps all commits
+abbrev pub all : Run → Run
+all r = record r { keep = None }
 
 abbrev Bytes : Type 0
 Bytes = Vec ℕ Global
@@ -131,28 +135,28 @@ keeps_none g disk now same told =
 
 -- ---- a run that stopped
 
-numbering_of : (given lines log : List Line) → given ≡ lines → Interleaves lines log → Interleaves given log
+pub numbering_of : (given lines log : List Line) → given ≡ lines → Interleaves lines log → Interleaves given log
 numbering_of given lines log same numbering =
     subst (λ (ls : List Line). Interleaves ls log) (sym same) numbering
 
-pub cut_stops : (g : Given) (r : Run) (lines : List Line) (now : Option Disk) → g.lines ≡ lines → CanRun g
-    → told_files r.start ≡ Some g.files → IsOnGiven g r.first → IsCut r lines now → Stops g r.start now
-cut_stops g r lines now same can told on cut =
-    stops_by g cut.log r.start now can (numbering_of g.lines lines cut.log same cut.numbering) (cut.files g told on)
-    (crash_some g r.first cut.log r.start now on cut.crash) (own_some g r.first cut.log r.start now on cut.crash)
+pub cut_stops : (g : Given) (r : Run) (lines : List Line) (fault : RanFault) (now : Option Disk) → g.lines ≡ lines → CanRun g
+    → told_files r.start ≡ Some g.files → IsOnGiven g r.first → IsCut (all r) lines fault now → Stops g r.start now
+cut_stops g r lines fault now same can told on cut =
+    stops_by g cut.log r.start now can (numbering_of g.lines lines cut.log same cut.numbering) (cut.stopped.files g told on)
+    (crash_some g r.first cut.log r.start now on cut.stopped.crash) (own_some g r.first cut.log r.start now on cut.stopped.crash)
 
 -- where the first of the log's commits are there, those that were there are kept
 kept_some : (g : Given) (log : List Line) (now : Option Disk) → IsSomeAnd (told_files now) (HasSome g log)
     → IsSomeAnd (told_files now) (KeepsCommits g.files)
 kept_some g log now = some_onto (told_files now) (HasSome g log) (KeepsCommits g.files) (λ f some. some.1.kept)
 
-pub cut_keeps : (g : Given) (r : Run) (lines : List Line) (now : Option Disk) → told_files r.start ≡ Some g.files
-    → IsOnGiven g r.first → IsCut r lines now → Preserves g r.start now
-cut_keeps g r lines now told on cut = record {
-  kept = kept_some g cut.log now (cut.files g told on);
-  crash = λ are. keeps_some g cut.log r.start now (crash_some g r.first cut.log r.start now on cut.crash are);
-  standing = cut.standing g.files told on.goes_on;
-  each = each_some g r.first cut.log r.start now on cut.crash;
+pub cut_keeps : (g : Given) (r : Run) (lines : List Line) (fault : RanFault) (now : Option Disk) → told_files r.start ≡ Some g.files
+    → IsOnGiven g r.first → IsCut (all r) lines fault now → Preserves g r.start now
+cut_keeps g r lines fault now told on cut = record {
+  kept = kept_some g cut.log now (cut.stopped.files g told on);
+  crash = λ are. keeps_some g cut.log r.start now (crash_some g r.first cut.log r.start now on cut.stopped.crash are);
+  standing = cut.stopped.standing g.files told on.goes_on;
+  each = each_some g r.first cut.log r.start now on cut.stopped.crash;
 }
 
 -- ---- a run that was done
@@ -165,12 +169,12 @@ over_same r lines outcomes seen w did now same still over =
     subst (λ (d : Option Disk). IsOver r lines seen w d) (sym still) here
 
 over_crash : (g : Given) (r : Run) (lines : List Line) (outcomes : List Outcome) (w : State) (now : Option Disk)
-    → IsOnGiven g r.first → (o : IsOver r lines outcomes w now) → IsKept g r.start
+    → IsOnGiven g r.first → (o : IsOver (all r) lines outcomes w now) → IsKept g r.start
     → LeavesOnly r.start now (HasSome g o.log)
 over_crash g r lines outcomes w now on o are = crash_some g r.first o.log r.start now on o.disk.crash are
 
 over_files : (g : Given) (r : Run) (lines : List Line) (outcomes : List Outcome) (w : State) (now : Option Disk)
-    → told_files r.start ≡ Some g.files → IsOnGiven g r.first → (o : IsOver r lines outcomes w now)
+    → told_files r.start ≡ Some g.files → IsOnGiven g r.first → (o : IsOver (all r) lines outcomes w now)
     → IsSomeAnd (told_files now) (HasSome g o.log)
 over_files g r lines outcomes w now told on o =
     some_onto (told_files now) (HasAll g o.log) (HasSome g o.log) (λ f all. (length o.log, all))
@@ -178,14 +182,14 @@ over_files g r lines outcomes w now told on o =
 
 pub over_stops : (g : Given) (r : Run) (lines : List Line) (outcomes : List Outcome) (w : State) (now : Option Disk)
     → g.lines ≡ lines → CanRun g → told_files r.start ≡ Some g.files → IsOnGiven g r.first
-    → IsOver r lines outcomes w now → Stops g r.start now
+    → IsOver (all r) lines outcomes w now → Stops g r.start now
 over_stops g r lines outcomes w now same can told on o =
     stops_by g o.log r.start now can (numbering_of g.lines lines o.log same o.numbering)
     (over_files g r lines outcomes w now told on o) (over_crash g r lines outcomes w now on o)
     (own_some g r.first o.log r.start now on o.disk.crash)
 
 pub over_keeps : (g : Given) (r : Run) (lines : List Line) (outcomes : List Outcome) (w : State) (now : Option Disk)
-    → told_files r.start ≡ Some g.files → IsOnGiven g r.first → IsOver r lines outcomes w now → Preserves g r.start now
+    → told_files r.start ≡ Some g.files → IsOnGiven g r.first → IsOver (all r) lines outcomes w now → Preserves g r.start now
 over_keeps g r lines outcomes w now told on o = record {
   kept = kept_some g o.log now (over_files g r lines outcomes w now told on o);
   crash = λ are. keeps_some g o.log r.start now (over_crash g r lines outcomes w now on o are);
@@ -195,55 +199,31 @@ over_keeps g r lines outcomes w now told on o = record {
 
 -- each commit is kept then, where each was kept at the beginning
 pub over_settled : (g : Given) (r : Run) (lines : List Line) (outcomes : List Outcome) (w : State) (now : Option Disk)
-    → told_files r.start ≡ Some g.files → IsOnGiven g r.first → IsOver r lines outcomes w now → IsKept g r.start
+    → told_files r.start ≡ Some g.files → IsOnGiven g r.first → IsOver (all r) lines outcomes w now → IsKept g r.start
     → (f : Files) → told_files now ≡ Some f → AreKept f (MayHold now)
 over_settled g r lines outcomes w now told on o are f told_now =
     o.disk.settled g.files f told told_now on.goes_on on.on_last are
 
--- the commits that are there have their files as before, or new ones
-pub over_spelled : (g : Given) (r : Run) (lines : List Line) (outcomes : List Outcome) (w : State) (now : Option Disk)
-    (f : Files) → told_files r.start ≡ Some g.files → IsLast g.files g.base → CanBegin r.first → BeginsOn g r.first
-    → IsOver r lines outcomes w now → told_files now ≡ Some f → AreSpelled g.files f
-over_spelled g r lines outcomes w now f told last begun here o told_now =
-    subst (AreSpelled g.files) same found.2
-  where
-    found : (d : Files) × (told_files now ≡ Some d) × AreSpelled g.files d
-    found = the_files (told_files now) (AreSpelled g.files)
-        (spells g r.first w o.log r.start now told last begun here.number here.stored o.disk)
-
-    same : found.0 ≡ f
-    same = let both = sym found.1 ∙ told_now in cc
-
 -- what became of the lines, by what was given
-outcomes_given : (g : Given) (r : Run) (log lines : List Line) (outcomes : List Outcome) → IsOnGiven g r.first
-    → AreOutcomes (IsDocs r.first log) (base_of r) log [] lines outcomes
-    → AreOutcomes (λ (s docs : ℕ). docs ≡ doc_count (rows_at g.base g.rows log s)) g.base log [] lines outcomes
+pub outcomes_given : (g : Given) (r : Run) (log lines : List Line) (outcomes : List Outcome) → IsOnGiven g r.first
+    → AreOutcomes (IsDocs r.first log) (IsFound r.first log) (base_of r) log [] lines outcomes
+    → AreOutcomes (HasCount g.base g.rows log) (HasFound g.base g.rows log) g.base log [] lines outcomes
 outcomes_given g r log lines outcomes on are =
-    subst
-    (λ (n : ℕ). AreOutcomes (λ (s docs : ℕ). docs ≡ doc_count (rows_at n g.rows log s)) n log [] lines outcomes)
-    on.number
-    (outcomes_weaker (IsDocs r.first log) (λ (s docs : ℕ). docs ≡ doc_count (rows_at (base_of r) g.rows log s))
-    (λ s docs is. is g.rows on.rows) (base_of r) log [] lines outcomes are)
+    subst (λ (n : ℕ). AreOutcomes (HasCount n g.rows log) (HasFound n g.rows log) n log [] lines outcomes) on.number
+    (outcomes_weaker (IsDocs r.first log) (HasCount (base_of r) g.rows log) (IsFound r.first log) (HasFound (base_of r) g.rows log)
+    (λ s docs is. is g.rows on.rows) (λ s query line text is. is g.rows on.rows) (base_of r) log [] lines outcomes are)
 
 -- the text is the report
-over_report : (g : Given) (r : Run) (lines : List Line) (outcomes : List Outcome) (w : State) (now : Option Disk)
-    (f : Files) (text : List ℕ) → g.lines ≡ lines → LinesRise 1 lines → CanRun g → IsOnGiven g r.first
-    → (o : IsOver r lines outcomes w now) → HasAll g o.log f
-    → ((by : ℕ → List Row) → CanSearch f by outcomes → SearchesAt w g.base outcomes by → text ≡ texts by outcomes)
+pub over_report : (g : Given) (r : Run) (lines : List Line) (outcomes : List Outcome) (w : State) (now : Option Disk)
+    (text : List ℕ) → g.lines ≡ lines → IsOnGiven g r.first → (o : IsOver r lines outcomes w now) → text ≡ texts outcomes
     → text ≡ report g.base g.rows g.lines o.log
-over_report g r lines outcomes w now f text same rise can on o has told =
-    let are = outcomes_given g r o.log lines outcomes on o.outcomes in
-    let asked =
-    asked_by (λ (s docs : ℕ). docs ≡ doc_count (rows_at g.base g.rows o.log s)) g.base o.log lines outcomes are in
-    told (rows_of g.base g.rows o.log) (can_search g o.log lines f outcomes can o.numbering rise has asked)
-    (searches_last (λ (s docs : ℕ). docs ≡ doc_count (rows_at g.base g.rows o.log s)) g r.first o.log lines outcomes w can on
-    o.writer rise o.numbering are)
-    ∙ texts_with_none g.base g.rows o.log lines outcomes (no_rows g can) are
+over_report g r lines outcomes w now text same on o told =
+    told ∙ texts_found g.base g.rows o.log lines outcomes (outcomes_given g r o.log lines outcomes on o.outcomes)
     ∙ ap (λ (ls : List Line). report g.base g.rows ls o.log) (sym same)
 
 over_runs : (g : Given) (r : Run) (lines : List Line) (outcomes : List Outcome) (w : State) (now : Option Disk)
     (text : List Line → List ℕ) (wrote : List ℕ → Type 0) → g.lines ≡ lines → CanRun g → told_files r.start ≡ Some g.files
-    → IsOnGiven g r.first → (o : IsOver r lines outcomes w now) → wrote (text o.log)
+    → IsOnGiven g r.first → (o : IsOver (all r) lines outcomes w now) → wrote (text o.log)
     → Runs g text wrote r.start now
 over_runs g r lines outcomes w now text wrote same can told on o written = record {
   log = o.log;
@@ -264,7 +244,7 @@ over_runs g r lines outcomes w now text wrote same can told on o written = recor
 -- What is said of the text that was made, by the files that have all of the log's commits.
 over_told : (g : Given) (r : Run) (lines : List Line) (outcomes : List Outcome) (w : State) (now : Option Disk)
     (form : Form) (result : Result Bytes Stop) → g.lines ≡ lines → CanRun g → told_files r.start ≡ Some g.files
-    → IsOnGiven g r.first → (o : IsOver r lines outcomes w now)
+    → IsOnGiven g r.first → (o : IsOver (all r) lines outcomes w now)
     → ((f : Files) → told_files now ≡ Some f → HasAll g o.log f
     → IfOk result (λ bytes. bytes.items ≡ form_text form g o.log))
     → IfOk result (λ bytes. Runs g (form_text form g) (λ told. bytes.items ≡ told) r.start now)
@@ -277,27 +257,18 @@ over_told g r lines outcomes w now form (Ok bytes) same can told on o text =
 
 -- the lines were done, and then their report was made
 pub runs_of : (g : Given) (r : Run) (lines : List Line) (outcomes : List Outcome) (w : State) (now : Option Disk)
-    (result : Result Bytes Stop) → g.lines ≡ lines → LinesRise 1 lines → CanRun g
-    → told_files r.start ≡ Some g.files → IsOnGiven g r.first → IsOver r lines outcomes w now
-    → ((f : Files) (by : ℕ → List Row) → told_files now ≡ Some f → CanSearch f by outcomes
-    → SearchesAt w g.base outcomes by → IfOk result (λ bytes. bytes.items ≡ texts by outcomes))
+    (result : Result Bytes Stop) → g.lines ≡ lines → CanRun g → told_files r.start ≡ Some g.files → IsOnGiven g r.first
+    → IsOver (all r) lines outcomes w now → IfOk result (λ bytes. bytes.items ≡ texts outcomes)
     → IfOk result (λ bytes. Runs g (form_text Report g) (λ told. bytes.items ≡ told) r.start now)
-runs_of g r lines outcomes w now result same rise can told on o text =
-    over_told g r lines outcomes w now Report result same can told on o (λ f is all. by result f is all (text f))
-  where
-    by : (result : Result Bytes Stop) (f : Files) → told_files now ≡ Some f → HasAll g o.log f
-        → ((by : ℕ → List Row) → told_files now ≡ Some f → CanSearch f by outcomes → SearchesAt w g.base outcomes by
-        → IfOk result (λ bytes. bytes.items ≡ texts by outcomes))
-        → IfOk result (λ bytes. bytes.items ≡ report g.base g.rows g.lines o.log)
-    by (Err s) f is all text = tt
-    by (Ok bytes) f is all text =
-        over_report g r lines outcomes w now f bytes.items same rise can on o all
-        (λ rows search found. text rows is search found)
+runs_of g r lines outcomes w now (Err s) same can told on o text = tt
+runs_of g r lines outcomes w now (Ok bytes) same can told on o text =
+    over_runs g r lines outcomes w now (form_text Report g) (λ (said : List ℕ). bytes.items ≡ said) same can told on o
+    (over_report g (all r) lines outcomes w now bytes.items same on o text)
 
 -- the lines of a made script were done, and then their summary was made
 pub sums_of : MadeRuns → (g : Given) (r : Run) (lines : List Line) (outcomes : List Outcome) (w : State)
     (now : Option Disk) (base upto : ℕ) (result : Result Bytes Stop) → g.lines ≡ lines → IsMade lines → CanRun g
-    → told_files r.start ≡ Some g.files → IsOnGiven g r.first → IsOver r lines outcomes w now
+    → told_files r.start ≡ Some g.files → IsOnGiven g r.first → IsOver (all r) lines outcomes w now
     → base ≡ r.first.published.upto → upto ≡ w.published.upto
     → ((f : Files) (next : ℕ) (rows : List Row) → told_files now ≡ Some f → HoldsInverted f upto next rows
     → IfOk result (λ bytes. bytes.items ≡ text_line (summary_value (summary_of (count_by is_committed outcomes)
@@ -313,7 +284,7 @@ sums_of law g r lines outcomes w now base upto result same made can told on o fr
     last = let end = o.writer.upto in let number = on.number in omega (arith, last_is, end, number)
 
     count : count_by is_committed outcomes ≡ count_by (λ (l : Line). is_commit l.act) lines
-    count = commits_counted (IsDocs r.first o.log) (base_of r) o.log [] lines outcomes o.outcomes
+    count = commits_counted (IsDocs r.first o.log) (IsFound r.first o.log) (base_of r) o.log [] lines outcomes o.outcomes
 
     by : (result : Result Bytes Stop) (f : Files) → HasAll g o.log f
         → ((next : ℕ) (rows : List Row) → HoldsInverted f upto next rows
@@ -329,27 +300,21 @@ sums_of law g r lines outcomes w now base upto result same made can told on o fr
 
 -- the lines were done, and then the text of this form was made
 pub told_by : MadeRuns → (g : Given) (r : Run) (form : Form) (lines : List Line) (outcomes : List Outcome) (w : State)
-    (now : Option Disk) (base upto : ℕ) (result : Result Bytes Stop) → g.lines ≡ lines → LinesRise 1 lines
+    (now : Option Disk) (base upto : ℕ) (result : Result Bytes Stop) → g.lines ≡ lines
     → (form ≡ Summary → IsMade lines) → CanRun g → told_files r.start ≡ Some g.files → IsOnGiven g r.first
-    → IsOver r lines outcomes w now → base ≡ r.first.published.upto → upto ≡ w.published.upto
-    → ((f : Files) (by : ℕ → List Row) → form ≡ Report → told_files now ≡ Some f → CanSearch f by outcomes
-    → SearchesAt w g.base outcomes by → IfOk result (λ bytes. bytes.items ≡ texts by outcomes))
+    → IsOver (all r) lines outcomes w now → base ≡ r.first.published.upto → upto ≡ w.published.upto
+    → (form ≡ Report → IfOk result (λ bytes. bytes.items ≡ texts outcomes))
     → ((f : Files) (next : ℕ) (rows : List Row) → form ≡ Summary → told_files now ≡ Some f → HoldsInverted f upto next rows
     → IfOk result (λ bytes. bytes.items ≡ text_line (summary_value (summary_of (count_by is_committed outcomes)
     (upto - base) (map hit_of (born_after base rows))))))
     → IfOk result (λ bytes. Runs g (form_text form g) (λ told. bytes.items ≡ told) r.start now)
-told_by law g r Report lines outcomes w now base upto result same rise made can told on o first last reported summed =
-    runs_of g r lines outcomes w now result same rise can told on o (λ f by is search found. reported f by refl is search found)
-told_by law g r Summary lines outcomes w now base upto result same rise made can told on o first last reported summed =
+told_by law g r Report lines outcomes w now base upto result same made can told on o first last reported summed =
+    runs_of g r lines outcomes w now result same can told on o (reported refl)
+told_by law g r Summary lines outcomes w now base upto result same made can told on o first last reported summed =
     sums_of law g r lines outcomes w now base upto result same (made refl) can told on o first last
     (λ f next rows is holds. summed f next rows refl is holds)
 
 -- ---- a text of which nothing is damaged
-
--- each search has its line, by the number that a run began on
-pub over_asked : (r : Run) (lines : List Line) (outcomes : List Outcome) (w : State) (now : Option Disk)
-    → (o : IsOver r lines outcomes w now) → AllByRecursion (IsAskedBy (base_of r) o.log lines) outcomes
-over_asked r lines outcomes w now o = asked_by (IsDocs r.first o.log) (base_of r) o.log lines outcomes o.outcomes
 
 pub listed_outside : (s : Stop) → (s ≡ stop.Fault fault.Store) ⊎ (s ≡ stop.NoMemory)
     → IsOneOf (stop_status s) (4 ∷ 7 ∷ [])
@@ -358,14 +323,14 @@ listed_outside s (inr e) = subst (λ (x : Stop). IsOneOf (stop_status x) (4 ∷ 
 
 -- what is read after the lines were done is there
 pub whole_in : MadeRuns → (g : Given) (r : Run) (form : Form) (lines : List Line) (outcomes : List Outcome) (w : State)
-    (now : Option Disk) (upto : ℕ) (result : Result Bytes Stop) → LinesRise 1 lines → (form ≡ Summary → IsMade lines)
+    (now : Option Disk) (upto : ℕ) (result : Result Bytes Stop) → (form ≡ Summary → IsMade lines)
     → IsOn g → told_files r.start ≡ Some g.files → BeginsOn g r.first → upto ≡ w.published.upto
-    → IsOver r lines outcomes w now
-    → ((f : Files) → told_files now ≡ Some f → CanTell form upto f outcomes
+    → IsOver (all r) lines outcomes w now
+    → ((f : Files) → told_files now ≡ Some f → CanTell form upto f
     → IfErr result (λ s. (s ≡ stop.Fault fault.Store) ⊎ (s ≡ stop.NoMemory)))
     → IfErr result (λ s. IsOneOf (stop_status s) (4 ∷ 7 ∷ []))
-whole_in law g r form lines outcomes w now upto (Ok bytes) rise made on told here last_is o whole = tt
-whole_in law g r form lines outcomes w now upto (Err s) rise made on told here last_is o whole =
+whole_in law g r form lines outcomes w now upto (Ok bytes) made on told here last_is o whole = tt
+whole_in law g r form lines outcomes w now upto (Err s) made on told here last_is o whole =
     listed_outside s (whole found.0 found.1 (can form made))
   where
     CanBeRead : Files → Type 0
@@ -378,10 +343,8 @@ whole_in law g r form lines outcomes w now upto (Err s) rise made on told here l
     last : upto ≡ g.base + length o.log
     last = let end = o.writer.upto in let number = here.number in omega (arith, last_is, end, number)
 
-    can : (form : Form) → (form ≡ Summary → IsMade lines) → CanTell form upto found.0 outcomes
-    can Report made =
-        can_read g o.log lines found.0 outcomes o.numbering rise found.2
-        (subst (λ (n : ℕ). AllByRecursion (IsAskedBy n o.log lines) outcomes) here.number (over_asked r lines outcomes w now o))
+    can : (form : Form) → (form ≡ Summary → IsMade lines) → CanTell form upto found.0
+    can Report made = tt
     can Summary made =
         subst (ReadsCommit found.0) (sym last)
         (found.2 (g.base + length o.log) (inr (last_in law lines o.log g.base (made refl) o.numbering)))
@@ -394,14 +357,14 @@ none_still (Some disk) now only is = absurd cc
 
 -- where something is damaged after the lines were done, the store tells nothing
 pub untold : MadeRuns → (r : Run) (form : Form) (lines : List Line) (outcomes : List Outcome) (w : State)
-    (now : Option Disk) (upto : ℕ) (result : Result Bytes Stop) (damaged : Damaged) → LinesRise 1 lines
+    (now : Option Disk) (upto : ℕ) (result : Result Bytes Stop) (damaged : Damaged)
     → (form ≡ Summary → IsMade lines) → ((f : Files) → told_files r.start ≡ Some f → CanBeginOn f)
     → ((g : Given) → told_files r.start ≡ Some g.files → IsLast g.files g.base → IsOn g → BeginsOn g r.first)
-    → upto ≡ w.published.upto → IsOver r lines outcomes w now
-    → ((f : Files) → told_files now ≡ Some f → CanTell form upto f outcomes
+    → upto ≡ w.published.upto → IsOver (all r) lines outcomes w now
+    → ((f : Files) → told_files now ≡ Some f → CanTell form upto f
     → IfErr result (λ s. (s ≡ stop.Fault fault.Store) ⊎ (s ≡ stop.NoMemory)))
     → result ≡ Err (stop.Fault (fault.Damaged damaged)) → (r.start ≡ None) × (now ≡ None)
-untold law r form lines outcomes w now upto result damaged rise made begins on last_is o whole is =
+untold law r form lines outcomes w now upto result damaged made begins on last_is o whole is =
     let start = by r.start refl in (start, none_still r.start now o.disk.only start)
   where
     not_told : (f : Files) → told_files r.start ≡ Some f → ⊥
@@ -410,7 +373,7 @@ untold law r form lines outcomes w now upto result damaged rise made begins on l
         let given : told_files r.start ≡ Some can.0.files = told ∙ ap Some (sym can.1) in
         let listed : IsOneOf 8 (4 ∷ 7 ∷ []) =
         at_err result (stop.Fault (fault.Damaged damaged)) (λ s. IsOneOf (stop_status s) (4 ∷ 7 ∷ [])) is
-        (whole_in law can.0 r form lines outcomes w now upto result rise made can.3 given (on can.0 given can.2 can.3)
+        (whole_in law can.0 r form lines outcomes w now upto result made can.3 given (on can.0 given can.2 can.3)
         last_is o whole) in
         cc
 
@@ -432,34 +395,31 @@ same_told (Err s) start now (inr (inl e)) none = λ listed.
 same_told (Err s) start now (inr (inr found)) none = λ listed.
     let both = none found.0 (ap Err found.1) in both.1 ∙ sym both.0
 
--- at none of these does the writer stop
-pub none_stopped : (why : WriterFault) (s : Stop) → s ≡ stop_by why → LeavesStore (stop_status s) → ⊥
-none_stopped writing.Store s is listed =
-    let store : LeavesStore 7 = subst (λ (x : Stop). LeavesStore (stop_status x)) is listed in cc
-none_stopped writing.Closed s is listed =
-    let memory : LeavesStore 4 = subst (λ (x : Stop). LeavesStore (stop_status x)) is listed in cc
-none_stopped writing.NoMemory s is listed =
-    let memory : LeavesStore 4 = subst (λ (x : Stop). LeavesStore (stop_status x)) is listed in cc
+-- why the rounds stopped where something is damaged
+pub broken_by : (why : RanFault) (s : Stop) (damaged : Damaged) → s ≡ stop_by_rounds why
+    → s ≡ stop.Fault (fault.Damaged damaged) → why ≡ halt.Damaged damaged
+broken_by (halt.Writer writing.Store) s damaged is e = absurd (let both = sym is ∙ e in cc)
+broken_by (halt.Writer writing.Closed) s damaged is e = absurd (let both = sym is ∙ e in cc)
+broken_by (halt.Writer writing.NoMemory) s damaged is e = absurd (let both = sym is ∙ e in cc)
+broken_by (halt.Damaged found) s damaged is e =
+    let both : stop.Fault (fault.Damaged found) ≡ stop.Fault (fault.Damaged damaged) = sym is ∙ e in cc
+
+-- they stop with one of these statuses, where nothing is damaged
+pub rounds_outside : (why : RanFault) (s : Stop) → s ≡ stop_by_rounds why
+    → ((damaged : Damaged) → why ≡ halt.Damaged damaged → ⊥) → IsOneOf (stop_status s) (4 ∷ 7 ∷ [])
+rounds_outside (halt.Writer writing.Store) s is whole = subst (λ (x : Stop). IsOneOf (stop_status x) (4 ∷ 7 ∷ [])) (sym is) refl
+rounds_outside (halt.Writer writing.Closed) s is whole = subst (λ (x : Stop). IsOneOf (stop_status x) (4 ∷ 7 ∷ [])) (sym is) refl
+rounds_outside (halt.Writer writing.NoMemory) s is whole = subst (λ (x : Stop). IsOneOf (stop_status x) (4 ∷ 7 ∷ [])) (sym is) refl
+rounds_outside (halt.Damaged damaged) s is whole = absurd (whole damaged refl)
 
 -- what is damaged after the lines were done was to be read
 pub damaged_in : MadeRuns → (r : Run) (form : Form) (lines : List Line) (outcomes : List Outcome) (w : State)
     (old now : Option Disk) (base upto : ℕ) (damaged : Damaged) → (form ≡ Summary → IsMade lines)
     → IsBase (told_files old) (base_of r) → upto ≡ w.published.upto → IsOver r lines outcomes w now
-    → (told_files old ≡ None) × (told_files now ≡ None) → TellsDamaged form upto outcomes (told_files now) damaged
+    → (told_files old ≡ None) × (told_files now ≡ None) → (form ≡ Summary) × IsDamagedIn (told_files now) upto damaged
     → ReadsDamaged form lines (told_files old) (told_files now) damaged
-damaged_in law r Report lines outcomes w old now base upto damaged made is_base last_is o none found = record {
-  base = base_of r;
-  last = is_base;
-  number = found.2.number;
-  some = found.2.some;
-  reads = inr (
-    none.0,
-    none.1,
-    is_asked (base_of r) o.log lines outcomes found.0 found.2.number found.2.query o.numbering
-        (over_asked r lines outcomes w now o) found.1 found.2.searches,
-  );
-  broken = found.2.broken;
-}
+damaged_in law r Report lines outcomes w old now base upto damaged made is_base last_is o none found =
+    absurd (let other : Report ≡ Summary = found.0 in cc)
 damaged_in law r Summary lines outcomes w old now base upto damaged made is_base last_is o none found =
     let last : upto ≡ base_of r + length o.log = (let end = o.writer.upto in omega (arith, last_is, end)) in
     record {
@@ -468,5 +428,5 @@ damaged_in law r Summary lines outcomes w old now base upto damaged made is_base
       number = upto;
       some = (let above = last_above law lines o.log (base_of r) (made refl) o.numbering in omega (arith, last, above));
       reads = inr (none.0, none.1, record { log = o.log; numbering = o.numbering; is = last });
-      broken = found;
+      broken = found.1;
     }

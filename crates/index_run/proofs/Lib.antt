@@ -1,3 +1,6 @@
+pub mod CommitLines
+pub mod AnswerLaws
+pub mod CallerAnswers
 pub mod Pieces
 pub mod LogNumbers
 pub mod EndsMerged
@@ -12,12 +15,11 @@ pub mod RoundCount
 pub mod Workers
 pub mod Counting
 pub mod Left
+pub mod TextsLeft
 pub mod Replying
 pub mod Coming
 pub mod Beginnings
 pub mod Inputs
-pub mod Unchanged
-pub mod Searchable
 pub mod Summarised
 pub mod Listed
 pub mod Finish
@@ -27,3 +29,11 @@ pub mod Promised
 pub mod Ended
 pub mod OutcomeLaws
 pub mod RepliedLaws
+pub mod LeftCommits
+pub mod DiskLeft
+pub mod DiskBy
+pub mod DiskPruned
+pub mod GivingUp
+pub mod LatestLeft
+pub mod KeepingEnds
+pub mod Beside

@@ -284,7 +284,7 @@ front_none first log limit files = record {
 
 -- ---- what a commit of the writer leaves as it was
 
-old_ids : (since id : ℕ) (gs : List Lived) (ws : List (Option Written)) → NewIdsFrom since gs ws → id < since
+pub old_ids : (since id : ℕ) (gs : List Lived) (ws : List (Option Written)) → NewIdsFrom since gs ws → id < since
     → IsOldId gs ws id
 old_ids since id [] ws new lt = tt
 old_ids since id (g ∷ gs) [] new lt = tt

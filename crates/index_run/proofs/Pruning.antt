@@ -1,7 +1,8 @@
 -- A run over a store of which old commits are given up once it is done.
-use Rattle.std.proofs.Common.{◌≡◌, ◌≢◌, ◌⊎◌, inl, inr, ◌∙◌, ℕ, suc, ◌<◌, ◌≤◌, Bool, true, false, List, [], ◌∷◌, length, take, Some, None, refl, sym, ap}
-use Rattle.std.proofs.Common.{subst, arith}
-use Rattle.std.specs.Prelude.{Option, IsSome, IsSomeAnd, AllPairs, Contains}
+use Rattle.std.proofs.Common.{◌≡◌, ◌≢◌, ◌⊎◌, inl, inr, ◌∙◌, ℕ, suc, ◌+◌, ◌≤◌, Bool, true, false, List, [], ◌∷◌, length, take, Some, None, refl, sym, ap}
+use Rattle.std.proofs.Common.{subst, arith, Vec}
+use Rattle.std.specs.Prelude.{Result, Ok, Err, Option, IfErr, IfOk, IsSome, IsSomeAnd, Contains}
+use Rattle.std.specs.declared.alloc.Global.{Global}
 use Rattle.std.specs.List.{AllByRecursion}
 use Rattle.ix_base.specs.declared.damaged.Damaged.{Damaged}
 use Rattle.ix_base.specs.declared.document.Row.{Row}
@@ -32,7 +33,9 @@ use Rattle.index_run.proofs.Listed.{listed_onto}
 use Rattle.index_run.specs.Causes.{IsOneOf, LeavesStore, LeavesStoreBy, stop_by_pruning, stop_status}
 use Rattle.index_run.specs.declared.stop.Stop.{Stop}
 use Rattle.index_run.specs.declared.stop.Stop.TheVariants as stop
-use Rattle.index_run.specs.Keeping.{AreSpelled, HasLatest, HasSomeLog, IsLeft, Left, PreservesBy, PreservesKeeping, RunsBy, RunsKeeping, StopsBy, StopsKeeping, has_commit}
+use Rattle.index_run.proofs.LatestLeft.{latest_left, none_higher}
+use Rattle.index_run.proofs.LeftCommits.{latest_stays, left_then}
+use Rattle.index_run.specs.Keeping.{AreSpelled, HasLatest, HasSomeLog, IsLeft, Left, PreservesBy, PreservesKeeping, RunsBy, RunsKeeping, RunsLeaving, StopsBy, StopsKeeping, has_commit}
 use Rattle.index_run.specs.Promises.{CanKeep}
 
 -- ---- nothing was given up
@@ -157,21 +160,9 @@ inverted_whole files d s next rows whole h = record {
     was : HasSegments files s next h.holds.entries h.holds.segments
     was = h.holds.spelled
 
--- a commit above which there is none isn't given up
-none_later : (keep base : ℕ) (f : Files) (later : List ℕ) → 1 ≤ keep → IsLast f base → length later ≡ keep
-    → AllPairs ◌<◌ (base ∷ later) → AllByRecursion (λ (t : ℕ). IsSome (f (Commit t))) later → ⊥
-none_later keep base f [] some last count rise there = absurd (omega (arith, some, count))
-none_later keep base f (t ∷ later) some last count rise there =
-    let above : base < t = rise 0 1 0 (omega arith) (omega arith) in
-    let gone : f (Commit t) ≡ None = last.none_above t above in
-    let here : IsSome (f (Commit t)) = there.0 in
-    cc
-
+-- the last commit stays
 last_stays : (keep base : ℕ) (f : Files) → 1 ≤ keep → IsLast f base → base ≢ 0 → Stays keep f base
-last_stays keep base f some last ne = record {
-  there = last.there ne;
-  not_given_up = λ given. none_later keep base f given.later some last given.count given.rise given.there;
-}
+last_stays keep base f some last ne = latest_stays keep base f some (last.there ne) last.none_above
 
 -- the next run can begin on what is left
 pub can_run_left : (keep : ℕ) (f left : Files) → 1 ≤ keep → MayBePruned keep f left → CanRunOn f → CanRunOn left
@@ -262,17 +253,19 @@ crash_of keep start mid new P Q R f prunes told are first before after =
 abbrev pub Settles : Given → Option Disk → Option Disk → Type 0
 Settles g start mid = IsKept g start → (f : Files) → told_files mid ≡ Some f → AreKept f (MayHold mid)
 
+-- what is left of such files of which more may have been given up
+left_more : (keep : ℕ) (P : Files → Type 0) (f now : Files) → Left keep P f → MayBePruned keep f now → Left keep P now
+left_more keep P f now left may = (left.0, left.1, left_then keep left.0 f now left.2 may)
+
 pub stops_pruned : (keep : ℕ) (g : Given) (start mid new : Option Disk) → Prunes keep mid new → Settles g start mid
-    → Stops g start mid → StopsKeeping keep g start new
+    → StopsKeeping keep g start mid → StopsKeeping keep g start new
 stops_pruned keep g start mid new prunes settles stops = record {
   log = stops.log;
   numbering = stops.numbering;
-  files = left_of keep mid new (HasSome g stops.log) (Left keep (HasSome g stops.log)) prunes
-      (λ f now some may. (f, some, may)) stops.files;
+  files = left_of keep mid new Some_of Some_of prunes (λ f now some may. left_more keep (HasSome g stops.log) f now some may) stops.files;
   crash = λ are.
-      crash_of keep start mid new (HasSome g stops.log) (HasSome g stops.log) (Left keep (HasSome g stops.log)) found.0 prunes
-      found.1 (settles are found.0 found.1) (stops.crash are) (λ c some. left_same keep (HasSome g stops.log) c some)
-      (λ c may. (found.0, found.2, may));
+      crash_of keep start mid new Some_of Some_of Some_of found.0 prunes found.1 (settles are found.0 found.1) (stops.crash are)
+      (λ c some. some) (λ c may. left_more keep (HasSome g stops.log) found.0 c found.2 may);
   again = λ room.
       left_of keep mid new CanRunOn CanRunOn prunes (λ f now can may. can_run_left keep f now prunes.some may can)
       (stops.again room);
@@ -282,40 +275,47 @@ stops_pruned keep g start mid new prunes settles stops = record {
       (stops.restarts are room) (λ c here. here) (λ c may. can_run_left keep can.0 c prunes.some may can.2);
 }
   where
-    found : (f : Files) × (told_files mid ≡ Some f) × HasSome g stops.log f
-    found = the_files (told_files mid) (HasSome g stops.log) stops.files
+    Some_of : Files → Type 0
+    Some_of = Left keep (HasSome g stops.log)
+
+    found : (f : Files) × (told_files mid ≡ Some f) × Some_of f
+    found = the_files (told_files mid) Some_of stops.files
 
 pub runs_pruned : (keep : ℕ) (g : Given) (text : List Line → List ℕ) (wrote : List ℕ → Type 0)
-    (start mid new : Option Disk) (count : ℕ) → has_commit g.lines ≡ true → Prunes keep mid new
+    (start mid new : Option Disk) (count : ℕ) → has_commit g.lines ≡ true → CanRun g → Prunes keep mid new
     → Settles g start mid
     → ((f now : Files) → told_files mid ≡ Some f → told_files new ≡ Some now → IsPruned keep count f now)
     → ((f now : Files) → told_files mid ≡ Some f → told_files new ≡ Some now → AreKept f (MayHold mid)
     → AreKept now (MayHold new))
-    → Runs g text wrote start mid → RunsKeeping keep g text wrote start new
-runs_pruned keep g text wrote start mid new count some prunes settles pruned kept runs = record {
+    → RunsLeaving keep g text wrote start mid → RunsKeeping keep g text wrote start new
+runs_pruned keep g text wrote start mid new count some can prunes settles pruned kept runs = record {
   log = runs.log;
   numbering = runs.numbering;
   written = runs.written;
   files = some_told (HasLatest keep g runs.log) (told_files new) now.0 now.1 (
-    found.0,
-    found.2,
-    subst (λ (b : Bool). IsLeft keep b found.0 now.0) (sym some)
-        (count, pruned found.0 now.0 found.1 now.1),
+    found.2.0,
+    found.2.1,
+    subst (λ (b : Bool). IsLeft keep b found.2.0 now.0) (sym some)
+        (latest_left keep count (g.base + length runs.log) found.2.0 found.0 now.0
+        (none_higher g runs.log found.2.0 can.0 found.2.1) found.2.2 (prunes.left found.0 now.0 found.1 now.1)
+        (pruned found.0 now.0 found.1 now.1)),
   );
-  images = λ are c image. (
-    found.0,
-    found.2,
-    leaves_now mid new (MayBePruned keep found.0) (prunes.crash found.0 found.1 (settles are found.0 found.1)) c image,
-  );
+  images = λ are c image.
+      left_more keep (HasAll g runs.log) found.0 c found.2
+      (leaves_now mid new (MayBePruned keep found.0) (prunes.crash found.0 found.1 (settles are found.0 found.1)) c image);
   crash = λ are.
-      crash_of keep start mid new (HasSome g runs.log) (HasSome g runs.log) (Left keep (HasSome g runs.log)) found.0 prunes
-      found.1 (settles are found.0 found.1) (runs.crash are) (λ c first. left_same keep (HasSome g runs.log) c first)
-      (λ c may. (found.0, (length runs.log, found.2), may));
+      crash_of keep start mid new (Left keep (HasSome g runs.log)) (Left keep (HasSome g runs.log)) (Left keep (HasSome g runs.log)) found.0 prunes
+      found.1 (settles are found.0 found.1) (runs.crash are) (λ c first. first)
+      (λ c may.
+      left_more keep (HasSome g runs.log) found.0 c (found.2.0, (length runs.log, found.2.1), found.2.2) may);
   again = λ are room. back (runs.again are room);
 }
   where
-    found : (f : Files) × (told_files mid ≡ Some f) × HasAll g runs.log f
-    found = the_files (told_files mid) (HasAll g runs.log) runs.files
+    All_of : Files → Type 0
+    All_of = Left keep (HasAll g runs.log)
+
+    found : (f : Files) × (told_files mid ≡ Some f) × All_of f
+    found = the_files (told_files mid) All_of runs.files
 
     now : (f : Files) × (told_files new ≡ Some f)
     now = told_on OnlyDeletes mid new found.0 prunes.only found.1
@@ -329,6 +329,42 @@ runs_pruned keep g text wrote start mid new count some prunes settles pruned kep
           left.2,
           subst (λ (f : Files). AreKept f (MayHold new)) (sym left.1) (kept gives.0.files now.0 gives.1 now.1 gives.3),
         )
+
+-- a run that gave nothing up
+pub runs_leaving : (keep : ℕ) (g : Given) (text : List Line → List ℕ) (wrote : List ℕ → Type 0) (old new : Option Disk)
+    → Runs g text wrote old new → RunsLeaving keep g text wrote old new
+runs_leaving keep g text wrote old new runs = record {
+  log = runs.log;
+  numbering = runs.numbering;
+  written = runs.written;
+  files = some_onto (told_files new) (HasAll g runs.log) (Left keep (HasAll g runs.log))
+      (λ f all. left_same keep (HasAll g runs.log) f all) runs.files;
+  crash = λ are.
+      leaves_less old new (HasSome g runs.log) (Left keep (HasSome g runs.log)) (runs.crash are)
+      (λ c some. left_same keep (HasSome g runs.log) c some);
+  again = runs.again;
+}
+
+pub leaves_all : (keep : Option ℕ) (status : ℕ) → LeavesStoreBy keep status → LeavesStore status
+leaves_all None status leaves = leaves
+leaves_all (Some keep) status leaves =
+    listed_onto status (2 ∷ 3 ∷ 5 ∷ 9 ∷ 10 ∷ 11 ∷ []) (2 ∷ 3 ∷ 5 ∷ 8 ∷ 9 ∷ 10 ∷ 11 ∷ [])
+    (refl, (refl, (refl, (refl, (refl, (refl, tt)))))) leaves
+
+abbrev Bytes : Type 0
+Bytes = Vec ℕ Global
+
+pub all_leaving : (keep : ℕ) (g : Given) (text : List Line → List ℕ) (result : Result Bytes Stop) (old new : Option Disk)
+    → IfOk result (λ bytes. Runs g text (λ said. bytes.items ≡ said) old new)
+    → IfOk result (λ bytes. RunsLeaving keep g text (λ said. bytes.items ≡ said) old new)
+all_leaving keep g text (Ok bytes) old new runs = runs_leaving keep g text (λ said. bytes.items ≡ said) old new runs
+all_leaving keep g text (Err s) old new runs = tt
+
+-- a status at which a run that keeps only so many leaves the store as it was is one at which each run does
+pub all_leave : (keep : Option ℕ) (result : Result Bytes Stop) (old new : Option Disk)
+    → IfErr result (λ s. LeavesStore (stop_status s) → new ≡ old) → IfErr result (λ s. LeavesStoreBy keep (stop_status s) → new ≡ old)
+all_leave keep (Ok bytes) old new same = tt
+all_leave keep (Err s) old new same = λ leaves. same (leaves_all keep (stop_status s) leaves)
 
 -- ---- what pruning reads
 
@@ -397,6 +433,12 @@ preserves_lines keep g lines old new keeps = record {
       (left_lines keep g lines);
 }
 
+pub all_runs : (keep : Option ℕ) (g : Given) (text : List Line → List ℕ) (result : Result Bytes Stop) (old new : Option Disk)
+    → (keep ≡ None) ⊎ (has_commit g.lines ≡ false) → IfOk result (λ bytes. Runs g text (λ said. bytes.items ≡ said) old new)
+    → IfOk result (λ bytes. RunsBy keep g text (λ said. bytes.items ≡ said) old new)
+all_runs keep g text (Ok bytes) old new why runs = runs_all keep g text (λ said. bytes.items ≡ said) old new why runs
+all_runs keep g text (Err s) old new why runs = tt
+
 pub preserves_pruned : (keep : ℕ) (g : Given) (lines : List Line) (old new : Option Disk)
     → StopsKeeping keep (record g { lines = lines }) old new → PreservesKeeping keep g old new
 preserves_pruned keep g lines old new stops =
@@ -407,12 +449,6 @@ pub preserves_all : (keep : Option ℕ) (g : Given) (lines : List Line) (old new
 preserves_all None g lines old new keeps stops = keeps
 preserves_all (Some keep) g lines old new keeps stops =
     preserves_pruned keep g lines old new (stops_less keep (record g { lines = lines }) old new stops)
-
-pub leaves_all : (keep : Option ℕ) (status : ℕ) → LeavesStoreBy keep status → LeavesStore status
-leaves_all None status leaves = leaves
-leaves_all (Some keep) status leaves =
-    listed_onto status (2 ∷ 3 ∷ 5 ∷ 9 ∷ 10 ∷ 11 ∷ []) (2 ∷ 3 ∷ 5 ∷ 8 ∷ 9 ∷ 10 ∷ 11 ∷ [])
-    (refl, (refl, (refl, (refl, (refl, (refl, tt)))))) leaves
 
 -- ---- why pruning stopped
 

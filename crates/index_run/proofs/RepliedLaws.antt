@@ -2,6 +2,7 @@
 use Rattle.std.specs.Prelude.{ℕ, List, [], ◌∷◌}
 use Rattle.std.proofs.Common.{inl, inr, subst}
 use Rattle.std.specs.List.{AllByRecursion}
+use Rattle.ix_base.specs.declared.query.Query.{Query}
 use Rattle.op_script.specs.declared.script.Line.{Line}
 use Rattle.run_report.specs.declared.outcome.Outcome.{Outcome}
 use Rattle.index_run.proofs.OutcomeLaws.{outcomes_weaker}
@@ -17,9 +18,9 @@ counted_each Docs (c ∷ commits) s docs each (inl here) =
 counted_each Docs (c ∷ commits) s docs each (inr there) = counted_each Docs commits s docs each.1 there
 
 -- the outcomes by these commits are those by what is true of each
-pub outcomes_counted : (Docs : ℕ → ℕ → Type 0) (commits : List (ℕ × ℕ)) (base : ℕ) (log lines : List Line)
+pub outcomes_counted : (Docs : ℕ → ℕ → Type 0) (Finds : ℕ → Query → ℕ → List ℕ → Type 0) (commits : List (ℕ × ℕ)) (base : ℕ) (log lines : List Line)
     (outcomes : List Outcome) → AllByRecursion (λ (c : ℕ × ℕ). Docs c.0 c.1) commits
-    → AreOutcomes (IsCounted commits) base log [] lines outcomes → AreOutcomes Docs base log [] lines outcomes
-outcomes_counted Docs commits base log lines outcomes each are =
-    outcomes_weaker (IsCounted commits) Docs (λ s docs is. counted_each Docs commits s docs each is) base log [] lines
-    outcomes are
+    → AreOutcomes (IsCounted commits) Finds base log [] lines outcomes → AreOutcomes Docs Finds base log [] lines outcomes
+outcomes_counted Docs Finds commits base log lines outcomes each are =
+    outcomes_weaker (IsCounted commits) Docs Finds Finds (λ s docs is. counted_each Docs commits s docs each is)
+    (λ s query line text is. is) base log [] lines outcomes are

@@ -1,14 +1,21 @@
 -- No more rounds than lines that write or commit.
-use Rattle.std.proofs.Common.{◌≡◌, ℕ, zero, suc, ◌+◌, ◌<◌, ◌≤◌, ◌%◌, Bool, true, false, cond, eqb, ◌&&◌, List, [], ◌∷◌, length, refl, ap, arith, ne_eqb}
-use Rattle.std.specs.Prelude.{IfOk, Result, Ok, Err}
+use Rattle.std.proofs.Common.{◌≡◌, ℕ, zero, suc, ◌+◌, ◌<◌, ◌≤◌, ◌%◌, Bool, true, false, cond, eqb, ◌&&◌, List, [], ◌∷◌, length, refl, sym, ap, subst, arith, ne_eqb}
+use Rattle.std.specs.Prelude.{IfOk, Option, Result, Ok, Err}
+use Rattle.std.specs.Global.{Vec}
+use Rattle.ix_outside.specs.Disk.{Disk}
+use Rattle.index_writer.specs.declared.state.State.{State}
+use Rattle.line_shares.specs.declared.asks.Ask.{Ask}
+use Rattle.line_shares.specs.declared.round_commit.CommitLine.{CommitLine}
 use Rattle.std.proofs.lemmas.Bool.{eqb-true}
 use Rattle.std.proofs.lemmas.List.{length-map}
 use Rattle.op_script.specs.declared.script.Line.{Line}
 use Rattle.worker_tasks.specs.declared.share.Share.{Share}
 use Rattle.line_shares.specs.Shares.{AreShares, AreSharesFrom, is_doing, open_count, own_lines, task_of}
-use Rattle.index_writer.specs.declared.fault.WriterFault.{WriterFault}
 use Rattle.index_run.specs.declared.lines.Rounds.{Rounds}
+use Rattle.index_run.specs.Answered.{AreAnswered}
+use Rattle.index_run.specs.Driving.{HasCome, IsUnderWay, Run}
 use Rattle.index_run.specs.Rounds.{doing_lines}
+use Rattle.index_run.specs.declared.rounds.RanFault.{RanFault}
 
 -- how many lines so many of n workers have, from this one on
 abbrev pub sum_own : ℕ → ℕ → List Line → ℕ → ℕ
@@ -77,8 +84,25 @@ few_open n lines shares are =
     let few = few_own n 0 lines (length shares) in omega (arith, open_ones, few)
 
 -- the last commit is none more
-pub few_last : (came : Result Rounds WriterFault) (rounds : Rounds) (most : ℕ)
-    → IfOk came (λ x. (x.shares ≡ rounds.shares) × (x.count ≡ rounds.count)) → rounds.count ≤ most
+pub few_last : (came : Result Rounds RanFault) (rounds : Rounds) (most : ℕ)
+    → IfOk came (λ x. (x.shares ≡ rounds.shares) × (x.texts ≡ rounds.texts) × (x.count ≡ rounds.count)) → rounds.count ≤ most
     → IfOk came (λ x. x.count ≤ most)
-few_last (Ok x) rounds most same few = (let count = same.1 in omega (arith, count, few))
+few_last (Ok x) rounds most same few = (let count = same.2 in omega (arith, count, few))
 few_last (Err fault) rounds most same few = tt
+
+-- how far a run has come once its last commit was written
+pub over_last : (r : Run) (lines : List Line) (asks : List (Vec Ask)) (log : List Line) (due : CommitLine) (w : State)
+    (now : Option Disk) (came : Result Rounds RanFault) (rounds : Rounds)
+    → IfOk came (λ x. (x.shares ≡ rounds.shares) × (x.texts ≡ rounds.texts) × (x.count ≡ rounds.count))
+    → AreAnswered r.first log asks rounds.texts.items
+    → IfOk came (λ x. HasCome r lines x.shares.items log x.commits.items due w now)
+    → IfOk came (λ x. (d : CommitLine) × IsUnderWay r lines x.shares.items asks x.commits.items d x.texts.items w now)
+over_last r lines asks log due w now (Ok x) rounds same answered come = (
+  due,
+  record {
+    log = log;
+    come = come;
+    answered = subst (AreAnswered r.first log asks) (sym (ap (λ (t : Vec (Vec (List ℕ))). t.items) same.1)) answered;
+  },
+)
+over_last r lines asks log due w now (Err fault) rounds same answered come = tt

@@ -1,6 +1,6 @@
 -- The end of a round.
 use Rattle.std.proofs.Common.{◌≡◌, ◌∙◌, ℕ, ◌+◌, List, [], ◌∷◌, ◌++◌, length, sym, ap, subst, arith}
-use Rattle.std.specs.Prelude.{Bool, true, false, not, is_some, Option, Some, None, Result, Ok, Err, IfOk, OnErr}
+use Rattle.std.specs.Prelude.{Bool, true, false, not, is_some, Option, Some, None, Result, Ok, Err, IfErr, IfOk}
 use Rattle.std.specs.List.{AllByRecursion}
 use Rattle.std.proofs.lemmas.List.{append-nil, length-append}
 use Rattle.ix_base.specs.declared.document.Operation.{Operation}
@@ -22,7 +22,10 @@ use Rattle.line_shares.proofs.NumberLaws.{told_go_on}
 use Rattle.line_shares.proofs.ShareLaws.{shares_go_on}
 use Rattle.line_shares.proofs.TellLaws.{pairs_are, tells_since}
 use Rattle.line_shares.proofs.CommittedLaws.{commit_found}
-use Rattle.line_shares.specs.Committed.{commit_among}
+use Rattle.line_shares.proofs.ToldLaws.{told_number}
+use Rattle.line_shares.specs.Committed.{IsToldPast, commit_among, commit_task}
+use Rattle.line_shares.specs.declared.round_commit.CommitLine.{CommitLine}
+use Rattle.worker_tasks.specs.declared.task.Reply.TheVariants as reply
 use Rattle.line_shares.specs.Tells.{pairs_since, told_since}
 use Rattle.index_writer.specs.declared.round.RoundEnd.{RoundEnd}
 use Rattle.index_writer.specs.declared.round.RoundEnd.TheVariants as ending
@@ -40,14 +43,16 @@ use Rattle.run_log.proofs.PlaceLaws.{filter_rises}
 use Rattle.run_log.specs.Telling.{AreTells, IsOrder, Tell}
 use Rattle.run_log.proofs.TellingLaws.{order_of}
 use Rattle.index_run.specs.Doing.{IsWriterOn}
-use Rattle.index_run.specs.Driving.{EndsRound, HasDone, IsCut, AreDuePairs, IsDue, IsRound, Run, base_of, number_in}
-use Rattle.index_run.specs.Leaving.{CommitLaws, IsDiskAfter, IsNextCommit, due_pairs, first_numbers}
+use Rattle.index_run.specs.Driving.{EndsRound, HasDone, IsCut, KeepsBy, IsDue, IsDueCommit, IsRound, Run, base_of, number_in}
+use Rattle.index_run.specs.KeptDisk.{IsDiskBy}
+use Rattle.index_run.specs.Leaving.{CommitLaws, IsNextCommit, due_pairs, first_numbers}
 use Rattle.index_run.specs.Merged.{EndsMerged}
 use Rattle.index_run.specs.declared.rounds.Ran.{Ran}
+use Rattle.index_run.specs.declared.rounds.RanFault.{RanFault}
+use Rattle.index_run.specs.declared.rounds.RanFault.TheVariants as halt
 use Rattle.index_run.proofs.Coming.{next_commit, pairs_due}
-use Rattle.index_run.proofs.DiskAfter.{crash_commit, crash_longer, disk_round, standing_commit}
+use Rattle.index_run.proofs.DiskBy.{by_round, pending_above, stopped_done, stopped_written}
 use Rattle.index_run.proofs.LogNumbers.{numbers_front}
-use Rattle.index_run.proofs.RunEnds.{files_commit, stops_files}
 use Rattle.index_run.proofs.WriterOn.{writer_round}
 
 -- ---- stops
@@ -56,30 +61,48 @@ use Rattle.index_run.proofs.WriterOn.{writer_round}
 pub on_ok : {T E : Type 0} (P : T → Type 0) (r : Result T E) (x : T) → r ≡ Ok x → IfOk r P → P x
 on_ok {T} {E} P r x is h = subst (λ (q : Result T E). IfOk q P) is h
 
-pub on_fault : {T E : Type 0} {P : Type 0} (r : Result T E) (e : E) → r ≡ Err e → OnErr r P → P
-on_fault {T} {E} {P} r e is h = subst (λ (q : Result T E). OnErr q P) is h
+pub on_fault : {T E : Type 0} (P : E → Type 0) (r : Result T E) (e : E) → r ≡ Err e → IfErr r P → P e
+on_fault {T} {E} P r e is h = subst (λ (q : Result T E). IfErr q P) is h
 
--- a run that stopped, with its writer
+-- a run that stopped by a fault of its writer, with its writer
 pub stopped_cut : {S T : Type 0} (disk : S → Option Disk) (r : Run) (lines : List Line) (writer : IndexWriter S)
-    (fault : WriterFault) (ran : Ran S T) → ran ≡ record { writer = writer; came = Err fault }
-    → IsCut r lines (disk writer.store) → OnErr ran.came (IsCut r lines (disk ran.writer.store))
+    (fault : WriterFault) (ran : Ran S T) → ran ≡ record { writer = writer; came = Err (halt.Writer fault) }
+    → IsCut r lines (halt.Writer fault) (disk writer.store)
+    → IfErr ran.came (λ why. IsCut r lines why (disk ran.writer.store))
 stopped_cut {S} {T} disk r lines writer fault ran is cut =
-    subst (λ (x : Ran S T). OnErr x.came (IsCut r lines (disk x.writer.store))) (sym is) cut
+    subst (λ (x : Ran S T). IfErr x.came (λ why. IsCut r lines why (disk x.writer.store))) (sym is) cut
+
+-- the same, where the disk is as it was
+pub stopped_same : {S T : Type 0} (disk : S → Option Disk) (r : Run) (lines : List Line) (writer : IndexWriter S)
+    (fault : WriterFault) (ran : Ran S T) (before : Option Disk) → ran ≡ record { writer = writer; came = Err (halt.Writer fault) }
+    → disk writer.store ≡ before → IsCut r lines (halt.Writer fault) before
+    → IfErr ran.came (λ why. IsCut r lines why (disk ran.writer.store))
+stopped_same {S} {T} disk r lines writer fault ran before is same cut =
+    stopped_cut disk r lines writer fault ran is (subst (IsCut r lines (halt.Writer fault)) (sym same) cut)
+
+-- one that stopped for whatever reason
+pub halted_cut : {S T : Type 0} (disk : S → Option Disk) (r : Run) (lines : List Line) (writer : IndexWriter S)
+    (fault : RanFault) (ran : Ran S T) → ran ≡ record { writer = writer; came = Err fault }
+    → IsCut r lines fault (disk writer.store) → IfErr ran.came (λ why. IsCut r lines why (disk ran.writer.store))
+halted_cut {S} {T} disk r lines writer fault ran is cut =
+    subst (λ (x : Ran S T). IfErr x.came (λ why. IsCut r lines why (disk x.writer.store))) (sym is) cut
+
+-- a run keeps as many commits as it keeps
+pub keeps_own : (keep : Option ℕ) (r : Run) → r.keep ≡ keep → KeepsBy keep r
+keeps_own None r is = tt
+keeps_own (Some k) r is = is
 
 -- a stop, where the lines that were told a number are on the log, or are of a round that is lost
-pub cut_done : (r : Run) (lines : List Line) (shares : List Share) (log : List Line) (w : State) (now : Option Disk)
-    → HasDone r lines shares log w now → IsCut r lines now
-cut_done r lines shares log w now h =
+pub cut_done : {fault : WriterFault} (r : Run) (lines : List Line) (shares : List Share) (log : List Line) (w : State)
+    (now : Option Disk) → HasDone r lines shares log w now → IsCut r lines (halt.Writer fault) now
+cut_done {fault} r lines shares log w now h =
     let rest = log_completes r.workers lines shares log h.shares_are h.log_is in
     let at = h.at in
-    let disk = at.disk in
     record {
       log = log ++ rest.0;
       numbering = rest.1;
-      crash = crash_longer r.first log rest.0 r.start now disk.crash;
-      files = λ g told on. stops_files g r.first w log rest.0 at.front r.start now on at.within told disk;
-      only = disk.only;
-      standing = disk.standing;
+      stopped = stopped_done r.keep r.first w log rest.0 at.front r.start now at.within at.disk;
+      found = tt;
     }
 
 -- a number that is there, as one was found
@@ -90,50 +113,56 @@ pending_there pending None true same there is = absurd cc
 pending_there pending None false same there is = absurd cc
 
 -- a stop while the pending commit was written
-pub cut_written : (r : Run) (lines : List Line) (shares : List Share) (log : List Line) (pairs : Pairs) (w : State) (s : ℕ)
+pub cut_written : {fault : WriterFault} (r : Run) (lines : List Line) (shares : List Share) (log : List Line) (due : CommitLine) (w : State) (s : ℕ)
     (old now : Option Disk) → CommitLaws → HasDone r lines shares log w old → w.pending ≡ Some s
-    → AreDuePairs (base_of r) log w.pending pairs
-    → Changes (MayCommit pairs w) (told_files old) (told_files now)
-    → LeavesOnly old now (Reaches (MayCommit pairs w) (MayHold old)) → Told OnlyCommits old now
-    → ((files : Files) → told_files old ≡ Some files → GoesOn files w → Told KeepsMade old now) → IsCut r lines now
-cut_written r lines shares log pairs w s old now laws h pending mine left crash only standing =
+    → IsDueCommit (base_of r) log w.pending due
+    → Changes (MayCommit due.pairs w) (told_files old) (told_files now)
+    → LeavesOnly old now (Reaches (MayCommit due.pairs w) (MayHold old)) → Told OnlyCommits old now
+    → ((files : Files) → told_files old ≡ Some files → GoesOn files w → Told KeepsMade old now) → IsCut r lines (halt.Writer fault) now
+cut_written {fault} r lines shares log due w s old now laws h pending mine left crash only standing =
     let rest = log_completes r.workers lines shares log h.shares_are h.log_is in
     let at = h.at in
-    let due = next_commit r.first log at.front w.published.upto s w.pending pending at.due in
+    let number_is = next_commit r.first log at.front w.published.upto s w.pending pending at.due in
     let next : IsNextCommit r.first log at.front w.published.upto =
-    subst (IsNextCommit r.first log at.front) due.1 due.0 in
-    let own : pairs ≡ due_pairs r.first log w = pairs_due r.first log w s pairs pending due.1 mine in
+    subst (IsNextCommit r.first log at.front) number_is.1 number_is.0 in
+    let own : due.pairs ≡ due_pairs r.first log w = pairs_due r.first log w s due pending number_is.1 mine in
     let crashed = subst (λ (ps : Pairs). LeavesOnly old now (Reaches (MayCommit ps w) (MayHold old))) own crash in
     let may = subst (λ (ps : Pairs). Changes (MayCommit ps w) (told_files old) (told_files now)) own left in
     record {
       log = log ++ rest.0;
       numbering = rest.1;
-      crash =
-          crash_longer r.first log rest.0 r.start now
-          (crash_commit r.first w log at.front r.start old now laws at.first at.writer at.within next crashed at.disk);
-      files = λ g told on.
-          files_commit g r.first w log rest.0 at.front r.start old now laws at.first on at.writer told at.within next
-          may at.disk;
-      only = goes_then (λ step older. MakesCommits step) r.start old now at.disk.only only;
-      standing = standing_commit r.first w log at.front r.start old now standing at.disk;
+      stopped =
+          stopped_written r.keep r.first w log rest.0 at.front r.start old now laws at.first at.writer
+          (pending_above w s at.writer.ready pending) at.within next may crashed only standing at.disk;
+      found = tt;
     }
 
--- ---- the pairs of a round's commit
+-- ---- the commit of a round
 
--- they were found by its number
-pub found_by : (pending : Option ℕ) (number : ℕ) (past since : List (List Numbered)) (pairs : Pairs)
-    → pending ≡ Some number → past ≡ since
-    → ((own : Pairs) → commit_among number past ≡ Some own → pairs ≡ own)
-    → (s : ℕ) (own : Pairs) → pending ≡ Some s → commit_among s since ≡ Some own → pairs ≡ own
-found_by pending number past since pairs there same finds s own is found =
+-- where a commit is pending, and was told among these, this is its line, with its pairs
+abbrev pub IsFoundBy : Option ℕ → List (List Numbered) → List ℕ → List Share → CommitLine → Type 0
+IsFoundBy pending since counts news due = (s : ℕ) (own : Pairs) → pending ≡ Some s → commit_among s since ≡ Some own
+    → (due.pairs ≡ own) × IsToldPast (commit_task due.line own) (reply.Numbered s) counts news
+
+-- it was found by its number
+pub found_by : (pending : Option ℕ) (number : ℕ) (past since : List (List Numbered)) (counts : List ℕ) (news : List Share)
+    (due : CommitLine) → pending ≡ Some number → past ≡ since
+    → ((own : Pairs) → commit_among number past ≡ Some own → due.pairs ≡ own)
+    → ((own : Pairs) → commit_among number past ≡ Some own
+    → IsToldPast (commit_task due.line own) (reply.Numbered number) counts news)
+    → IsFoundBy pending since counts news due
+found_by pending number past since counts news due there same finds told s own is found =
     let other : Some number ≡ Some s = sym there ∙ is in
     let at : s ≡ number = sym (cc) in
-    finds own (ap (commit_among number) same ∙ subst (λ (n : ℕ). commit_among n since ≡ Some own) at found)
+    let here : commit_among number past ≡ Some own =
+    ap (commit_among number) same ∙ subst (λ (n : ℕ). commit_among n since ≡ Some own) at found in
+    (finds own here, subst (λ (n : ℕ). IsToldPast (commit_task due.line own) (reply.Numbered n) counts news) (sym at) (told own here))
 
 -- or none was pending
-pub none_found : (pending : Option ℕ) (since : List (List Numbered)) (pairs : Pairs) → pending ≡ None
-    → (s : ℕ) (own : Pairs) → pending ≡ Some s → commit_among s since ≡ Some own → pairs ≡ own
-none_found pending since pairs none s own is found = absurd (let other : None ≡ Some s = sym none ∙ is in cc)
+pub none_found : (pending : Option ℕ) (since : List (List Numbered)) (counts : List ℕ) (news : List Share) (due : CommitLine)
+    → pending ≡ None → IsFoundBy pending since counts news due
+none_found pending since counts news due none s own is found =
+    absurd (let other : None ≡ Some s = sym none ∙ is in cc)
 
 -- ---- the end of a round
 
@@ -169,9 +198,9 @@ module _ (r : Run) (lines : List Line) (olds news : List Share) (log : List Line
   abbrev front : ℕ
   front = h.before.at.front
 
-  disk_on : IsDiskAfter r.first (log ++ more) front v r.start mid
+  disk_on : IsDiskBy r.keep r.first (log ++ more) front v r.start mid
   disk_on =
-      disk_round r.first w v log more (pairs_since olds news) end front r.start mid e h.before.at.within
+      by_round r.keep r.first w v log more (pairs_since olds news) end front r.start mid e h.before.at.within
       h.before.at.disk
 
   doing : AllByRecursion IsDoing more
@@ -252,29 +281,34 @@ module _ (r : Run) (lines : List Line) (olds news : List Share) (log : List Line
         (subst (λ (n : ℕ). IsOrder r.workers n told e.ts more) on_base order);
   }
 
-  -- the pairs of the commit that is pending then, as they were found
-  data_by : (x : RoundEnd) → EndsBy x (seconds e.ts) v → (pairs : Pairs)
-      → ((s : ℕ) (own : Pairs) → v.pending ≡ Some s → commit_among s (pairs_since olds news) ≡ Some own → pairs ≡ own)
-      → AreDuePairs (base_of r) (log ++ more) v.pending pairs
-  data_by (ending.Committed s) by pairs found =
+  -- the commit that is pending then, as it was found
+  due_by : (x : RoundEnd) → EndsBy x (seconds e.ts) v → (counts : List ℕ) (due : CommitLine)
+      → IsFoundBy v.pending (pairs_since olds news) counts news due
+      → IsDueCommit (base_of r) (log ++ more) v.pending due
+  due_by (ending.Committed s) by counts due found =
       let s_is : s ≡ w.published.upto + length e.ts = by.0 ∙ e.upto in
       let at : s ≡ base_of r + length (log ++ more) =
       omega (arith, s_is, on_base, order.count, length-append log more) in
       let own =
       found s by.2.2 by.1 (commit_found w.published.upto e.ts by.2.0 by.2.2 s s_is by.2.3 (pairs_since olds news) e.order) in
-      subst (λ (p : Option ℕ). AreDuePairs (base_of r) (log ++ more) p pairs) (sym by.1)
-      (own ∙ sym (pairs_at_last (base_of r) log more by.2.0 by.2.2 s at (order.ops ∙ by.2.3)))
-  data_by ending.Turned by pairs found =
-      subst (λ (p : Option ℕ). AreDuePairs (base_of r) (log ++ more) p pairs) (sym by.0) tt
-  data_by ending.Ran by pairs found =
-      subst (λ (p : Option ℕ). AreDuePairs (base_of r) (log ++ more) p pairs) (sym by.0) tt
+      let here =
+      told_number r.workers (base_of r) lines news (log ++ more) counts (commit_task due.line by.2.2) s done_now.shares_are
+      done_now.told own.1 in
+      subst (λ (p : Option ℕ). IsDueCommit (base_of r) (log ++ more) p due) (sym by.1) (
+        here.0,
+        here.1,
+        own.0 ∙ sym (pairs_at_last (base_of r) log more by.2.0 by.2.2 s at (order.ops ∙ by.2.3)),
+      )
+  due_by ending.Turned by counts due found =
+      subst (λ (p : Option ℕ). IsDueCommit (base_of r) (log ++ more) p due) (sym by.0) tt
+  due_by ending.Ran by counts due found =
+      subst (λ (p : Option ℕ). IsDueCommit (base_of r) (log ++ more) p due) (sym by.0) tt
 
-  pub ended : (pairs : Pairs)
-      → ((s : ℕ) (own : Pairs) → v.pending ≡ Some s → commit_among s (pairs_since olds news) ≡ Some own → pairs ≡ own)
-      → EndsRound r lines news log pairs v mid
-  ended pairs found = record {
+  pub ended : (counts : List ℕ) (due : CommitLine) → IsFoundBy v.pending (pairs_since olds news) counts news due
+      → EndsRound r lines news log due v mid
+  ended counts due found = record {
     more = more;
     done = done_now;
     commit_is = is_pending.2;
-    due_pairs = data_by end e.by_end pairs found;
+    is_due = due_by end e.by_end counts due found;
   }

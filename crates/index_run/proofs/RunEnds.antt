@@ -22,7 +22,7 @@ use Rattle.run_log.proofs.CommitLaws.{each_at}
 use Rattle.run_log.proofs.NumberLaws.{pairs_at_front}
 use Rattle.run_log.specs.Headline.{CanRun, CanRunOn, Given, GivesBack, HasAll, HasFirst, HasOnly, HasOwnAll, HasOwnFirst, HasOwnSome, HasSome}
 use Rattle.run_log.specs.Headline.{IsIn, IsKept, IsLast, IsLastSettled, IsNewCommit, IsOn, IsOwnCommit, IsSettled, KeepsCommit, commit_numbers, pairs_at, rows_at}
-use Rattle.run_report.specs.Searching.{ReadsCommit}
+use Rattle.index_run.specs.Telling.{ReadsCommit}
 use Rattle.commit_point.proofs.KeptLaws.{kept_through}
 use Rattle.run_log.proofs.OnlyLaws.{only_image, only_itself}
 use Rattle.run_log.proofs.AgainLaws.{again}
@@ -84,7 +84,7 @@ given_numbers g first log rest count on few =
     ∙ ap (λ (n : ℕ). commit_numbers n (take count (log ++ rest))) on.number
 
 -- commits that were made over files with the given ones are the first of the log's
-has_first : (g : Given) (first : State) (log rest : List Line) (count limit : ℕ) (old new : Files) → IsOnGiven g first
+pub has_first : (g : Given) (first : State) (log rest : List Line) (count limit : ℕ) (old new : Files) → IsOnGiven g first
     → count ≤ length log → limit ≤ first.published.next_id + 2 * length log → HasOnly g.files old → GoesOn old first
     → HasFront first log (first_numbers first log count) limit old new → HasFirst g (log ++ rest) count new
 has_first g first log rest count limit old new on few le has goes front =
@@ -117,7 +117,7 @@ has_own g first log count limit old new on few le stored none_above front =
         (front.made stored)
 
 -- all of the log's
-has_all : (g : Given) (first w : State) (log : List Line) (old new : Files) → IsOnGiven g first
+pub has_all : (g : Given) (first w : State) (log : List Line) (old new : Files) → IsOnGiven g first
     → w.since ≤ first.published.next_id + 2 * length log → HasOnly g.files old → GoesOn old first
     → Stands first log (first_numbers first log (length log)) w old new → HasAll g log new
 has_all g first w log old new on high has goes stands =

@@ -1,18 +1,16 @@
 -- Where a command finds a broken file.
-use Rattle.std.specs.Prelude.{◌≡◌, ◌⊎◌, ℕ, ◌+◌, ◌≤◌, List, ◌∷◌, ◌++◌, length, Option, Some, None, Ok}
+use Rattle.std.specs.Prelude.{◌≡◌, ◌⊎◌, ℕ, ◌+◌, ◌≤◌, List, length, Option, Some, None, Ok}
 use Rattle.command_words.specs.declared.command.Command.{Command}
 use Rattle.command_words.specs.declared.command.Command.TheVariants.{Ask, Make, Run}
 use Rattle.command_words.specs.declared.command.Command.TheVariants as command
 use Rattle.ix_base.specs.declared.damaged.Damaged.{Damaged}
 use Rattle.ix_base.specs.declared.file_name.FileName.{FileName}
-use Rattle.ix_base.specs.declared.query.Query.{Query}
 use Rattle.index_check.specs.Difference.{DiffersIn}
 use Rattle.index_check.specs.Sound.{IsDamagedAt}
 use Rattle.ix_outside.specs.Files.{Files, Was}
 use Rattle.op_script.specs.Language.{script}
-use Rattle.op_script.specs.declared.script.Act.TheVariants.{Search}
 use Rattle.op_script.specs.declared.script.Line.{Line}
-use Rattle.run_log.specs.Headline.{Interleaves, last_commit}
+use Rattle.run_log.specs.Headline.{Interleaves}
 use Rattle.script_maker.specs.Made.{made_script}
 use Rattle.searcher.specs.Searching.{IsDamagedIn}
 use Rattle.store_answers.specs.Asking.{IsDamagedAsked}
@@ -22,34 +20,20 @@ use Rattle.index_run.specs.Keeping.{FindsStaying}
 use Rattle.index_run.specs.declared.telling.Form.{Form}
 use Rattle.index_run.specs.declared.telling.Form.TheVariants.{Report, Summary}
 
--- A search line asks for the commit of this number, for one order of the numbered lines: for that
--- of its caller's last commit line before it, or else for the one that the run began on.
-pub record IsSearched (base : ℕ) (lines : List Line) (number : ℕ) : Type 0 where
-  pub log : List Line
-  pub numbering : Interleaves lines log
-  pub before : List Line
-  pub line : Line
-  pub rest : List Line
-  pub query : Query
-  pub at : lines ≡ before ++ line ∷ rest
-  pub search : line.act ≡ Search query
-  pub is : number ≡ last_commit base log line.caller base before
-
 -- the number is that of the run's last line, for one order of the numbered lines
 pub record IsEnd (base : ℕ) (lines : List Line) (number : ℕ) : Type 0 where
   pub log : List Line
   pub numbering : Interleaves lines log
   pub is : number ≡ base + length log
 
--- What a run reads once its lines are done: for its report the commits that search lines ask for,
--- and for its summary the last one.
+-- What a run reads once its lines are done: for its report nothing, and for its summary the last commit.
 abbrev pub IsRead : Form → ℕ → List Line → ℕ → Type 0
-IsRead Report base lines number = IsSearched base lines number
+IsRead Report base lines number = ⊥
 IsRead Summary base lines number = IsEnd base lines number
 
 -- A commit that a run over these lines reads is first broken at this place: the last one, on which
--- the run begins, while the files are as they were. Of a store that tells none of its files it may also be one that the
--- run reads once the lines are done. The number 0 stands for no commit.
+-- the run begins, while the files are as they were. Of a store that tells none of its files it may also be the last one of
+-- a run that makes a summary. The number 0 stands for no commit.
 pub record ReadsDamaged (form : Form) (lines : List Line) (old new : Option Files) (damaged : Damaged)
     : Type 0 where
   pub base : ℕ

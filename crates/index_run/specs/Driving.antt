@@ -1,20 +1,26 @@
 -- A run under way: between two rounds, and at the end of one.
-use Rattle.std.specs.Prelude.{◌≡◌, ℕ, ◌+◌, ◌≤◌, List, [], ◌∷◌, ◌++◌, length, map, Option, Some, None, IsSomeAnd, true}
-use Rattle.std.specs.Prelude.{IfOk, IfSome, OnErr, OnOk}
+use Rattle.std.specs.Prelude.{◌≡◌, ℕ, ◌+◌, ◌≤◌, List, [], ◌∷◌, ◌++◌, length, map, Option, Some, None, IsSomeAnd, true, false}
+use Rattle.std.specs.Prelude.{IfErr, IfOk, IfSome, OnOk}
+use Rattle.std.specs.Global.{Vec}
 use Rattle.std.specs.List.{AllByRecursion, AllZip}
 use Rattle.ix_base.specs.Counts.{doc_count}
+use Rattle.ix_base.specs.declared.damaged.Damaged.{Damaged}
 use Rattle.ix_base.specs.declared.document.Row.{Row}
 use Rattle.ix_outside.specs.Calls.{LeavesOnly}
 use Rattle.ix_outside.specs.Crash.{MayHold}
 use Rattle.ix_outside.specs.Disk.{Disk, Told, told_files}
 use Rattle.ix_outside.specs.Files.{Files}
 use Rattle.ix_outside.specs.Images.{Reaches}
-use Rattle.commit_point.specs.Holds.{Pairs}
+use Rattle.commit_point.specs.Holds.{AreKept}
 use Rattle.commit_point.specs.Steps.{KeepsMade, OnlyCommits}
 use Rattle.op_script.specs.Shape.{LinesRise}
 use Rattle.op_script.specs.declared.script.Line.{Line}
 use Rattle.worker_tasks.specs.declared.share.Share.{Share}
 use Rattle.line_shares.specs.Shares.{AreShares, GoesOn}
+use Rattle.line_shares.specs.Asks.{AreAsks}
+use Rattle.line_shares.specs.Committed.{no_commit}
+use Rattle.line_shares.specs.declared.asks.Ask.{Ask}
+use Rattle.line_shares.specs.declared.round_commit.CommitLine.{CommitLine}
 use Rattle.line_shares.specs.Tells.{AreTold, IsLogOf, pairs_since}
 use Rattle.run_report.specs.declared.outcome.Outcome.{Outcome}
 use Rattle.index_writer.specs.declared.round.CommitInfo.{CommitInfo}
@@ -24,16 +30,24 @@ use Rattle.index_writer.specs.declared.writer.IndexWriter.{IndexWriter}
 use Rattle.index_writer.specs.Ready.{HasRows, IsSound}
 use Rattle.index_writer.specs.Rounds.{ArePartsOf}
 use Rattle.index_writer.specs.Storing.{GoesOn as WriterGoesOn}
-use Rattle.run_log.specs.Headline.{Given, HasSome, Interleaves, commit_numbers, pairs_at, rows_at}
+use Rattle.run_log.specs.Headline.{Given, HasSome, Interleaves, commit_numbers, number_of, pairs_at, rows_at}
+use Rattle.run_log.specs.Numbering.{HasLine}
+use Rattle.index_run.specs.Answered.{AreAnswered, IsFound}
 use Rattle.index_run.specs.Doing.{CanBegin, IsOnGiven, IsWriterOn}
-use Rattle.index_run.specs.Leaving.{HasSomeFront, IsDiskAfter, IsNextCommit, first_numbers}
+use Rattle.index_run.specs.Keeping.{FindsStaying}
+use Rattle.index_run.specs.Promises.{CanKeep}
+use Rattle.index_run.specs.KeptDisk.{BeginsOnLast, IsDiskBy, LeftSome}
+use Rattle.index_run.specs.Leaving.{HasSomeFront, IsNextCommit, first_numbers}
 use Rattle.index_run.specs.Outcomes.{AreOutcomes}
 use Rattle.index_run.specs.Rounds.{given}
 use Rattle.index_run.specs.declared.rounds.Ran.{Ran}
+use Rattle.index_run.specs.declared.rounds.RanFault.{RanFault}
+use Rattle.index_run.specs.declared.rounds.RanFault.TheVariants as halt
 
--- What a run began with: so many workers, its writer, and its disk.
+-- What a run began with: so many workers, how many commits are kept, if not all, its writer, and its disk.
 pub record Run : Type 0 where
   pub workers : ℕ
+  pub keep : Option ℕ
   pub first : State
   pub start : Option Disk
 
@@ -54,9 +68,10 @@ abbrev pub number_in : Option ℕ → List ℕ
 number_in None = []
 number_in (Some s) = s ∷ []
 
--- where a commit is pending, these are the pairs of its line
-abbrev pub AreDuePairs : ℕ → List Line → Option ℕ → Pairs → Type 0
-AreDuePairs base log pending pairs = IfSome pending (λ s. pairs ≡ pairs_at base log s)
+-- where a commit is pending, this is its line in the log, with its pairs
+abbrev pub IsDueCommit : ℕ → List Line → Option ℕ → CommitLine → Type 0
+IsDueCommit base log pending due = IfSome pending (λ s. HasLine log due.line × (number_of base log due.line ≡ s)
+    × (due.pairs ≡ pairs_at base log s))
 
 -- The writer is on the log. The disk has the log's commits, but for one that is pending.
 pub record IsAt (r : Run) (log : List Line) (w : State) (now : Option Disk) : Type 0 where
@@ -65,7 +80,7 @@ pub record IsAt (r : Run) (log : List Line) (w : State) (now : Option Disk) : Ty
   pub front : ℕ
   pub within : front ≤ length log
   pub due : IsDue r.first log front w.published.upto w.pending
-  pub disk : IsDiskAfter r.first log front w r.start now
+  pub disk : IsDiskBy r.keep r.first log front w r.start now
 
 -- the commit s has so many rows, where the writer had some when the run began
 abbrev pub IsDocs : State → List Line → ℕ → ℕ → Type 0
@@ -85,15 +100,34 @@ pub record HasDone (r : Run) (lines : List Line) (shares : List Share) (log : Li
   pub told : AreTold r.workers (base_of r) lines shares log
 
 -- The same, with the number of each commit that was written and how many rows it has. Behind these the log has the
--- commit that is pending, with these pairs, if one is.
-pub record HasCome (r : Run) (lines : List Line) (shares : List Share) (commits : List (ℕ × ℕ)) (pairs : Pairs)
-    (w : State) (now : Option Disk)
+-- commit that is pending, by this line, if one is.
+pub record HasCome (r : Run) (lines : List Line) (shares : List Share) (log : List Line) (commits : List (ℕ × ℕ))
+    (due : CommitLine) (w : State) (now : Option Disk)
     : Type 0 where
-  pub log : List Line
   pub done : HasDone r lines shares log w now
   pub numbers : map (λ (c : ℕ × ℕ). c.0) commits ++ number_in w.pending ≡ commit_numbers (base_of r) log
   pub docs : AllByRecursion (λ (c : ℕ × ℕ). IsDocs r.first log c.0 c.1) commits
-  pub due_pairs : AreDuePairs (base_of r) log w.pending pairs
+  pub is_due : IsDueCommit (base_of r) log w.pending due
+
+-- A run of these lines begins: nothing was told, and the asks of each caller are its search lines.
+abbrev pub Begins : Run → List Line → List Share → List (Vec Ask) → State → Option Disk → Type 0
+Begins r lines shares asks w now = AreAsks lines asks × HasCome r lines shares [] [] no_commit w now
+
+-- How far a run has come whose search lines were answered that stand behind the log's commits.
+pub record IsUnderWay (r : Run) (lines : List Line) (shares : List Share) (asks : List (Vec Ask)) (commits : List (ℕ × ℕ))
+    (due : CommitLine) (texts : List (Vec (List ℕ))) (w : State) (now : Option Disk)
+    : Type 0 where
+  pub log : List Line
+  pub come : HasCome r lines shares log commits due w now
+  pub answered : AreAnswered r.first log asks texts
+
+-- A round more was done: its lines stand behind the log. Their only commit is the one that is pending, if one is.
+pub record GoesOnBy (r : Run) (lines : List Line) (shares : List Share) (log : List Line) (commits : List (ℕ × ℕ))
+    (due : CommitLine) (w : State) (now : Option Disk)
+    : Type 0 where
+  pub more : List Line
+  pub come : HasCome r lines shares (log ++ more) commits due w now
+  pub commit_is : commit_numbers (base_of r + length log) more ≡ number_in w.pending
 
 -- ---- one round
 
@@ -109,14 +143,14 @@ pub record IsRound (r : Run) (lines : List Line) (olds news : List Share) (log :
   pub parts_are : ArePartsOf w.published.upto (pairs_since olds news) parts
 
 -- What the end of a round leaves: its lines stand behind the log. Their only commit is the one that is pending then,
--- with these pairs, if one is.
-pub record EndsRound (r : Run) (lines : List Line) (news : List Share) (log : List Line) (pairs : Pairs) (w : State)
+-- by this line, if one is.
+pub record EndsRound (r : Run) (lines : List Line) (news : List Share) (log : List Line) (due : CommitLine) (w : State)
     (now : Option Disk)
     : Type 0 where
   pub more : List Line
   pub done : HasDone r lines news (log ++ more) w now
   pub commit_is : commit_numbers (base_of r + length log) more ≡ number_in w.pending
-  pub due_pairs : AreDuePairs (base_of r) (log ++ more) w.pending pairs
+  pub is_due : IsDueCommit (base_of r) (log ++ more) w.pending due
 
 -- ---- ends
 
@@ -124,36 +158,75 @@ pub record EndsRound (r : Run) (lines : List Line) (news : List Share) (log : Li
 pub record IsOver (r : Run) (lines : List Line) (became : List Outcome) (w : State) (now : Option Disk) : Type 0 where
   pub log : List Line
   pub writer : IsWriterOn r.first log w
-  pub disk : IsDiskAfter r.first log (length log) w r.start now
+  pub disk : IsDiskBy r.keep r.first log (length log) w r.start now
   pub numbering : Interleaves lines log
-  pub outcomes : AreOutcomes (IsDocs r.first log) (base_of r) log [] lines became
+  pub outcomes : AreOutcomes (IsDocs r.first log) (IsFound r.first log) (base_of r) log [] lines became
 
--- A run that stopped: for one order of its numbered lines a crash left the first of their commits,
--- made over an image of the beginning, and the files have the first of them. Each step was one by
--- which commits are made, and no commit that stood at some moment lost its files.
-pub record IsCut (r : Run) (lines : List Line) (now : Option Disk) : Type 0 where
+-- Where a run stopped that keeps all commits, a crash left the first of the log's commits, made over an image of the
+-- beginning, and the files have the first of them. Each step was one by which commits are made, and no commit that stood
+-- at some moment lost its files.
+pub record IsStopped (first : State) (log : List Line) (start now : Option Disk) : Type 0 where
+  pub crash : LeavesOnly start now (Reaches (HasSomeFront first log) (MayHold start))
+  pub files : (g : Given) → told_files start ≡ Some g.files → IsOnGiven g first
+      → IsSomeAnd (told_files now) (HasSome g log)
+  pub only : Told OnlyCommits start now
+  pub standing : (was : Files) → told_files start ≡ Some was → WriterGoesOn was first → Told KeepsMade start now
+
+-- Where one stopped that keeps so many, the files are what is left of files that have the first of the log's commits,
+-- and so is what a crash left.
+pub record IsStoppedLeft (keep : ℕ) (first : State) (log : List Line) (old : Files) (start now : Option Disk) : Type 0 where
+  pub files : IsSomeAnd (told_files now) (LeftSome keep first log old)
+  pub crash : AreKept old (MayHold start) → LeavesOnly start now (LeftSome keep first log old)
+
+abbrev pub IsStoppedBy : Option ℕ → State → List Line → Option Disk → Option Disk → Type 0
+IsStoppedBy None first log start now = IsStopped first log start now
+IsStoppedBy (Some keep) first log start now =
+    (old : Files) → BeginsOnLast first old start → IsStoppedLeft keep first log old start now
+
+-- A run found the commit file of a commit that stays broken. So it was when the run began: not every commit file was in
+-- the grammar then.
+pub record FindsBroken (r : Run) (now : Option Disk) (damaged : Damaged) : Type 0 where
+  pub keep : ℕ
+  pub kept : r.keep ≡ Some keep
+  pub finds : FindsStaying keep (told_files now) damaged
+  pub before : (old : Files) → told_files r.start ≡ Some old → ¬ CanKeep (Some keep) old
+
+-- what is said of the files where a run stopped for this
+abbrev pub StopsFor : Run → Option Disk → RanFault → Type 0
+StopsFor r now (halt.Writer fault) = Unit {0}
+StopsFor r now (halt.Damaged damaged) = FindsBroken r now damaged
+
+-- A run that stopped for this, for one order of its numbered lines.
+pub record IsCut (r : Run) (lines : List Line) (fault : RanFault) (now : Option Disk) : Type 0 where
   pub log : List Line
   pub numbering : Interleaves lines log
-  pub crash : LeavesOnly r.start now (Reaches (HasSomeFront r.first log) (MayHold r.start))
-  pub files : (g : Given) → told_files r.start ≡ Some g.files → IsOnGiven g r.first
-      → IsSomeAnd (told_files now) (HasSome g log)
-  pub only : Told OnlyCommits r.start now
-  pub standing : (was : Files) → told_files r.start ≡ Some was → WriterGoesOn was r.first → Told KeepsMade r.start now
+  pub stopped : IsStoppedBy r.keep r.first log r.start now
+  pub found : StopsFor r now fault
+
+-- a run of which so many commits are kept, where old ones are given up
+abbrev pub KeepsBy : Option ℕ → Run → Type 0
+KeepsBy None r = Unit {0}
+KeepsBy (Some keep) r = r.keep ≡ Some keep
+
+-- a run by so many workers, of which so many commits are kept, where old ones are given up
+abbrev pub IsRunBy : ℕ → Option ℕ → Run → Type 0
+IsRunBy workers keep r = (r.workers ≡ workers) × KeepsBy keep r
 
 -- ---- a pending commit that is written
 
--- A writer's pending commit was written with these pairs, if there was one: whatever a run had come
--- to, it has come to the same, and notes the commit. Or the writer stopped, and so does the run.
-pub record WritesPending {S : Type 0} (disk : S → Option Disk) (pairs : Pairs) (old : IndexWriter S)
+-- A writer's pending commit was written, by this line, if there was one, and then all but so many commits were given
+-- up, if only so many are kept: whatever a run had come to, it has come to the same, and notes the commit. Or it stopped.
+pub record WritesPending {S : Type 0} (disk : S → Option Disk) (keep : Option ℕ) (due : CommitLine) (old : IndexWriter S)
     (ran : Ran S (Option CommitInfo))
     : Type 0 where
-  pub come : (r : Run) (lines : List Line) (shares : List Share) (commits : List (ℕ × ℕ))
-      → HasCome r lines shares commits pairs old.state (disk old.store)
-      → IfOk ran.came (λ commit. HasCome r lines shares (given commits commit) pairs ran.writer.state (disk ran.writer.store))
-  pub cut : (r : Run) (lines : List Line) (shares : List Share) (commits : List (ℕ × ℕ))
-      → HasCome r lines shares commits pairs old.state (disk old.store)
-      → OnErr ran.came (IsCut r lines (disk ran.writer.store))
+  pub come : (r : Run) (lines : List Line) (shares : List Share) (log : List Line) (commits : List (ℕ × ℕ)) → KeepsBy keep r
+      → HasCome r lines shares log commits due old.state (disk old.store)
+      → IfOk ran.came (λ commit. HasCome r lines shares log (given commits commit) due ran.writer.state (disk ran.writer.store))
+  pub cut : (r : Run) (lines : List Line) (shares : List Share) (log : List Line) (commits : List (ℕ × ℕ)) → KeepsBy keep r
+      → HasCome r lines shares log commits due old.state (disk old.store)
+      → IfErr ran.came (λ fault. IsCut r lines fault (disk ran.writer.store))
   pub written : OnOk ran.came (ran.writer.state.pending ≡ None)
   pub upto : OnOk ran.came (ran.writer.state.published.upto ≡ old.state.published.upto)
+  pub is_open : OnOk ran.came (ran.writer.state.closed ≡ false)
   pub same : (ran.writer.state.out ≡ old.state.out) × (ran.writer.state.buffer ≡ old.state.buffer)
   pub sound : IsSound ran.writer.state

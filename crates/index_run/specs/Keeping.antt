@@ -1,19 +1,22 @@
 -- What a run promises that gives up old commits at its end, and one that does or doesn't.
-use Rattle.std.specs.Prelude.{◌≡◌, ◌⊎◌, ℕ, Bool, true, false, List, Option, Some, None, IsSome, IsSomeAnd}
+use Rattle.std.specs.Prelude.{◌≡◌, ◌⊎◌, ◌≤◌, ℕ, Bool, true, false, List, Option, Some, None, IfSome, IsSome, IsSomeAnd}
 use Rattle.std.specs.List.{list_any}
 use Rattle.ix_base.specs.declared.damaged.Damaged.{Damaged}
+use Rattle.ix_base.specs.declared.file_name.FileName.{FileName}
 use Rattle.ix_base.specs.declared.file_name.FileName.TheVariants.{Commit}
 use Rattle.ix_outside.specs.Calls.{LeavesOnly}
 use Rattle.ix_outside.specs.Crash.{MayHold}
 use Rattle.ix_outside.specs.Disk.{Disk, Told, told_files}
 use Rattle.ix_outside.specs.Files.{Files}
-use Rattle.commit_point.specs.Holds.{HasHead}
+use Rattle.commit_point.specs.Holds.{HasHead, IsFileOf}
 use Rattle.commit_point.specs.Steps.{OnlyCommits}
 use Rattle.commit_point.specs.declared.heads.Head.{Head}
-use Rattle.commit_pruning.specs.Pruning.{BreaksStaying, IsBrokenCommit, IsPruned, MayBePruned}
+use Rattle.commit_pruning.specs.Pruning.{BreaksStaying, IsBrokenCommit, IsWholeAs, MayBePruned, Stays}
 use Rattle.op_script.specs.declared.script.Line.{Line}
 use Rattle.run_log.specs.Headline.{CanRunOn, Given, GivesBack, HasAll, HasRoom, HasSome, Interleaves, IsKept, Preserves}
 use Rattle.run_log.specs.Headline.{Runs, Stops, is_commit}
+use Rattle.index_run.specs.declared.telling.Form.{Form}
+use Rattle.index_run.specs.declared.telling.Form.TheVariants.{Report}
 
 -- ---- what is left
 
@@ -21,10 +24,17 @@ use Rattle.run_log.specs.Headline.{Runs, Stops, is_commit}
 abbrev pub Left : ℕ → (Files → Type 0) → Files → Type 0
 Left keep P files = (was : Files) × P was × MayBePruned keep was files
 
+-- Of the commits of some files only so many of the latest are left, each as it was. Each file that is there is one of a
+-- commit that is there.
+pub record HasLatestOnly (keep : ℕ) (was files : Files) : Type 0 where
+  pub stays : (s : ℕ) → Stays keep was s → IsWholeAs s was files
+  pub only : (s : ℕ) → IsSome (files (Commit s)) → Stays keep was s
+  pub clean : (name : FileName) → IsSome (files name) → (s : ℕ) × IsSome (files (Commit s)) × IsFileOf files s name
+
 -- Behind a run of which a line commits only so many of the latest commits are left, and behind another one all.
 abbrev pub IsLeft : ℕ → Bool → Files → Files → Type 0
 IsLeft keep false was files = files ≡ was
-IsLeft keep true was files = (count : ℕ) × IsPruned keep count was files
+IsLeft keep true was files = HasLatestOnly keep was files
 
 -- whether one of the lines commits
 abbrev pub has_commit : List Line → Bool
@@ -49,6 +59,17 @@ pub record RunsKeeping (keep : ℕ) (g : Given) (text : List Line → List ℕ) 
   pub written : wrote (text log)
   pub files : IsSomeAnd (told_files new) (HasLatest keep g log)
   pub images : IsKept g old → (c : Files) → MayHold new c → Left keep (HasAll g log) c
+  pub crash : IsKept g old → LeavesOnly old new (Left keep (HasSome g log))
+  pub again : IsKept g old → HasRoom g → GivesBack new
+
+-- The same before old commits are given up behind the last one: the files are what may be left of all of the log's
+-- commits and of those that were there, and so is what a crash leaves.
+pub record RunsLeaving (keep : ℕ) (g : Given) (text : List Line → List ℕ) (wrote : List ℕ → Type 0) (old new : Option Disk)
+    : Type 0 where
+  pub log : List Line
+  pub numbering : Interleaves g.lines log
+  pub written : wrote (text log)
+  pub files : IsSomeAnd (told_files new) (Left keep (HasAll g log))
   pub crash : IsKept g old → LeavesOnly old new (Left keep (HasSome g log))
   pub again : IsKept g old → HasRoom g → GivesBack new
 
@@ -78,6 +99,11 @@ abbrev pub RunsBy : Option ℕ → Given → (List Line → List ℕ) → (List 
 RunsBy None = Runs
 RunsBy (Some keep) = RunsKeeping keep
 
+-- the same before old commits are given up behind the last one
+abbrev pub RunsLeavingBy : Option ℕ → Given → (List Line → List ℕ) → (List ℕ → Type 0) → Option Disk → Option Disk → Type 0
+RunsLeavingBy None = Runs
+RunsLeavingBy (Some keep) = RunsLeaving keep
+
 abbrev pub StopsBy : Option ℕ → Given → Option Disk → Option Disk → Type 0
 StopsBy None = Stops
 StopsBy (Some keep) = StopsKeeping keep
@@ -89,6 +115,12 @@ PreservesBy (Some keep) = PreservesKeeping keep
 -- where all commits are kept, each step is one by which commits are made
 abbrev pub StepsBy : Option ℕ → Option Disk → Option Disk → Type 0
 StepsBy keep old new = keep ≡ None → Told OnlyCommits old new
+
+-- ---- beside the rounds
+
+-- Only so many commits may be kept beside the rounds where the text is a report, or all.
+abbrev pub IsBeside : Form → Option ℕ → Type 0
+IsBeside form beside = IfSome beside (λ keep. (1 ≤ keep) × (form ≡ Report))
 
 -- ---- what pruning asks of the files
 

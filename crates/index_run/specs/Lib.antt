@@ -1,9 +1,11 @@
 pub mod Keeping
 pub mod Commands
 pub mod Causes
+pub mod Answered
 pub mod Outcomes
 pub mod Replied
 pub mod Leaving
+pub mod KeptDisk
 pub mod Doing
 pub mod Merged
 pub mod Driving

@@ -1,25 +1,26 @@
 //! A script's lines done over a store, and the text that tells of them.
 ghost use Rattle.std.specs.Prelude.{◌≡◌, ◌⊎◌, ◌<◌, ◌≤◌, ◌^◌, ◌∷◌, [], ℕ, List};
-ghost use Rattle.std.specs.Prelude.{IfOk, IfErr, IfSome, IsErrAnd, OnOk, Err, Some};
+ghost use Rattle.std.specs.Prelude.{IfOk, IfErr, IfSome, IsErrAnd, IsSomeAnd, OnOk, Err, None, Some};
 ghost use Rattle.commit_point.specs.Holds.{AreKept};
-ghost use Rattle.commit_point.specs.Steps.{OnlyCommits};
 ghost use Rattle.ix_outside.specs.Crash.{MayHold};
-ghost use Rattle.ix_outside.specs.Disk.{Told, told_files};
+ghost use Rattle.ix_outside.specs.Disk.{told_files};
 ghost use Rattle.ix_outside.specs.Causes.{Rose};
 ghost use Rattle.ix_outside.specs.Files.{Files};
 ghost use Rattle.ix_base.specs.declared.damaged.Damaged.{Damaged};
 ghost use Rattle.op_script.specs.Shape.{AreScriptLines};
 ghost use Rattle.index_run.specs.Beginning.{CanBeginOn, IsHighBase};
-ghost use Rattle.index_run.specs.Causes.{IsOneOf, LeavesStore, LeavesStoreBy, stop_status};
+ghost use Rattle.index_run.specs.Causes.{IsOneOf, LeavesStoreBy, stop_status};
 ghost use Rattle.index_run.specs.Commands.{IsMade, form_text};
 ghost use Rattle.index_run.specs.Damage.{ReadsDamaged};
-ghost use Rattle.index_run.specs.Keeping.{AreSpelled, FindsStaying, PreservesBy, RunsBy, StepsBy, StopsBy, has_commit};
+ghost use Rattle.index_run.specs.Keeping.{AreSpelled, FindsStaying, IsBeside, PreservesBy, RunsBy, RunsLeavingBy};
+ghost use Rattle.index_run.specs.Keeping.{StepsBy, StopsBy, has_commit};
 ghost use Rattle.index_run.specs.Promises.{CanKeep};
-ghost use Rattle.run_log.specs.Headline.{CanEnd, CanRun, Given, IsKept, IsLast, Preserves, Runs, Stops, is_commit};
+ghost use Rattle.run_log.specs.Headline.{CanEnd, CanRun, Given, IsKept, IsLast, is_commit};
 
 use crate::begin::begin;
 use crate::lines::do_lines;
 use crate::rounds::Ran;
+use crate::standing::let_stand;
 use crate::stop::Stop;
 use crate::telling::{Form, text_of};
 use commit_pruning::prune;
@@ -28,8 +29,6 @@ use ix_outside::{Gate, Store};
 use made_runs::made_runs;
 use op_script::{Act, Line};
 use report_text::Fault;
-use run_report::SearchedCommit;
-use searcher::Searcher;
 use std::alloc::Global;
 use std::sync::Wait;
 use std::thread::Threads;
@@ -56,7 +55,7 @@ pub struct Done<S> {
 
 /// Does the lines over the store's last commit, gives up old commits where only so many are to be kept and a
 /// line committed, and returns the text that tells of the lines, of which nothing is written yet. Commits are given
-/// up once the text is made, so the text tells of each commit of the run.
+/// up behind each commit that is written beside a round, and behind the last one once the text is made.
 pub fn do_script<R: Threads + Wait + Sync, S: Store, G: Gate>(
     rt: &R,
     alloc: Global,
@@ -72,6 +71,7 @@ pub fn do_script<R: Threads + Wait + Sync, S: Store, G: Gate>(
     requires buffer { (1 ≤ options.buffer) × (options.buffer ≤ 65536) }
     requires merge { (2 ≤ options.merge) × (options.merge ≤ 64) }
     requires keep { IfSome options.keep (λ keep. 1 ≤ keep) }
+    requires all { form ≡ Form.Summary → options.keep ≡ None }
     ensures done { (g : Given) → g.lines ≡ lines → told_files (S.disk store) ≡ Some g.files
         → CanRun g → IfOk result.text (λ text. RunsBy options.keep g (form_text form g)
         (λ told. text.items ≡ told) (S.disk store) (S.disk result.store)) }
@@ -101,8 +101,15 @@ pub fn do_script<R: Threads + Wait + Sync, S: Store, G: Gate>(
         → Rose (S.fault_count store) (S.fault_count result.store) }
     ensures others { IfErr result.text (λ stop. IsOneOf (stop_status stop) (4 ∷ 7 ∷ 8 ∷ 10 ∷ [])) }
 {
+    let Some(keep) = options.keep else {
+        return tell_script(rt, alloc, store, gate, options, None, form, lines);
+    };
     let commits = has_commit(lines.as_slice());
-    let Done { text, store } = tell_script(rt, alloc, store, gate, options, form, lines);
+    if !commits {
+        return tell_script(rt, alloc, store, gate, options, None, form, lines);
+    }
+    let told = tell_script(rt, alloc, store, gate, options, Some(keep), form, lines);
+    let Done { text, store } = told;
     let text = match text {
         Ok(text) => text,
         Err(stop) => {
@@ -112,18 +119,6 @@ pub fn do_script<R: Threads + Wait + Sync, S: Store, G: Gate>(
             };
         }
     };
-    let Some(keep) = options.keep else {
-        return Done {
-            text: Ok(text),
-            store,
-        };
-    };
-    if !commits {
-        return Done {
-            text: Ok(text),
-            store,
-        };
-    }
     let mut store = store;
     match prune(alloc, &mut store, keep) {
         Ok(_) => Done {
@@ -151,13 +146,15 @@ fn has_commit(lines: &[Line]) -> bool
     lines.iter().any(|line| is_commit(line))
 }
 
-/// Does the lines over the store's last commit, and returns the text that tells of them. All commits are kept.
-fn tell_script<R: Threads + Wait + Sync, S: Store, G: Gate>(
+/// Does the lines over the store's last commit, and returns the text that tells of them. Beside the rounds all commits
+/// are kept, or so many of the latest; behind the last commit none is given up yet.
+pub fn tell_script<R: Threads + Wait + Sync, S: Store, G: Gate>(
     rt: &R,
     alloc: Global,
     store: S,
     gate: &G,
     options: Options,
+    beside: Option<u32>,
     form: Form,
     lines: List<Line>,
 ) -> Done<S>
@@ -166,17 +163,18 @@ fn tell_script<R: Threads + Wait + Sync, S: Store, G: Gate>(
     requires threads { (1 ≤ options.threads) × (options.threads ≤ 16) }
     requires buffer { (1 ≤ options.buffer) × (options.buffer ≤ 65536) }
     requires merge { (2 ≤ options.merge) × (options.merge ≤ 64) }
+    requires beside { IsBeside form beside }
     ensures done { (g : Given) → g.lines ≡ lines → told_files (S.disk store) ≡ Some g.files
-        → CanRun g → IfOk result.text (λ text. Runs g (form_text form g) (λ told. text.items ≡ told)
-        (S.disk store) (S.disk result.store)) }
+        → CanRun g → IfOk result.text (λ text. RunsLeavingBy beside g (form_text form g)
+        (λ told. text.items ≡ told) (S.disk store) (S.disk result.store)) }
     ensures stops { (g : Given) → g.lines ≡ lines → told_files (S.disk store) ≡ Some g.files
-        → CanRun g → Stops g (S.disk store) (S.disk result.store) }
+        → CanRun g → StopsBy beside g (S.disk store) (S.disk result.store) }
     ensures kept { (g : Given) → told_files (S.disk store) ≡ Some g.files → CanRun g
-        → Preserves g (S.disk store) (S.disk result.store) }
-    ensures steps { Told OnlyCommits (S.disk store) (S.disk result.store) }
+        → PreservesBy beside g (S.disk store) (S.disk result.store) }
+    ensures steps { StepsBy beside (S.disk store) (S.disk result.store) }
     ensures base { (base : ℕ) → result.text ≡ Err (Stop.Fault (Fault.Base base))
         → IsHighBase (told_files (S.disk store)) base }
-    ensures same { IfErr result.text (λ stop. LeavesStore (stop_status stop)
+    ensures same { IfErr result.text (λ stop. LeavesStoreBy beside (stop_status stop)
         → S.disk result.store ≡ S.disk store) }
     ensures unbegun { (files : Files) → told_files (S.disk store) ≡ Some files
         → (CanBeginOn files → ⊥) → S.disk result.store ≡ S.disk store }
@@ -184,20 +182,21 @@ fn tell_script<R: Threads + Wait + Sync, S: Store, G: Gate>(
         → IsLast g.files g.base → 2 ^ 61 < g.base
         → IsErrAnd result.text (λ stop. IsOneOf (stop_status stop) (4 ∷ 7 ∷ 10 ∷ [])) }
     ensures whole { (g : Given) → told_files (S.disk store) ≡ Some g.files
-        → IsLast g.files g.base → CanEnd g
+        → IsLast g.files g.base → CanEnd g → CanKeep beside g.files
         → IfErr result.text (λ stop. IsOneOf (stop_status stop) (4 ∷ 7 ∷ [])) }
     ensures damaged { (damaged : Damaged) → result.text ≡ Err (Stop.Fault (Fault.Damaged damaged))
-        → ReadsDamaged form lines (told_files (S.disk store))
-        (told_files (S.disk result.store)) damaged }
+        → ReadsDamaged form lines (told_files (S.disk store)) (told_files (S.disk result.store)) damaged
+        ⊎ ((keep : ℕ) × (beside ≡ Some keep)
+        × FindsStaying keep (told_files (S.disk result.store)) damaged) }
     // What pruning asks of the store that is left.
     ensures begun { (files : Files) → told_files (S.disk store) ≡ Some files
         → OnOk result.text (CanBeginOn files) }
     ensures settled { (g : Given) (now : Files) → told_files (S.disk store) ≡ Some g.files → CanRun g
         → IsKept g (S.disk store) → told_files (S.disk result.store) ≡ Some now
         → OnOk result.text (AreKept now (MayHold (S.disk result.store))) }
-    ensures spelled { (g : Given) (now : Files) → told_files (S.disk store) ≡ Some g.files
-        → IsLast g.files g.base → CanEnd g → told_files (S.disk result.store) ≡ Some now
-        → OnOk result.text (AreSpelled g.files now) }
+    ensures spelled { (g : Given) → told_files (S.disk store) ≡ Some g.files
+        → IsLast g.files g.base → CanEnd g → OnOk result.text
+        (IsSomeAnd (told_files (S.disk result.store)) (AreSpelled g.files)) }
     ensures later { S.fault_count store ≤ S.fault_count result.store }
     ensures failed { result.text ≡ Err (Stop.Fault Fault.Store)
         → Rose (S.fault_count store) (S.fault_count result.store) }
@@ -214,18 +213,13 @@ fn tell_script<R: Threads + Wait + Sync, S: Store, G: Gate>(
         }
     };
     let base = writer.upto();
-    let Ran { writer, came } = do_lines(rt, alloc, gate, writer, options.threads, lines);
-    let number = writer.upto();
+    let Ran { writer, came } = do_lines(rt, alloc, gate, writer, options.threads, beside, lines);
+    let upto = writer.upto();
     let (mut store, segments) = writer.into_parts();
-    let searcher = Searcher { segments };
-    let loaded = SearchedCommit {
-        since: number,
-        number,
-        searcher,
-    };
+    let_stand(segments);
     match came {
         Ok(outcomes) => Done {
-            text: text_of(alloc, &mut store, form, base, loaded, outcomes.as_slice()),
+            text: text_of(alloc, &mut store, form, base, upto, outcomes.as_slice()),
             store,
         },
         Err(fault) => Done {

@@ -21,6 +21,7 @@ mod output;
 mod program;
 mod reading;
 mod rounds;
+mod searches;
 mod standing;
 mod stop;
 mod telling;

@@ -1,43 +1,45 @@
 //! What became of each line, by what the workers were told.
-ghost use Rattle.std.specs.Prelude.{◌≡◌, ◌++◌, [], ◌∷◌, ℕ, List, length, IfOk, true, slice_set};
+ghost use Rattle.std.specs.Prelude.{◌≡◌, ◌++◌, [], ◌∷◌, ℕ, List as ListOf, length, IfOk, true, false};
 ghost use Rattle.op_script.specs.declared.script.Line.{Line};
 ghost use Rattle.worker_tasks.specs.declared.task.Reply.TheVariants as said;
 ghost use Rattle.line_shares.specs.Shares.{is_doing, place_of};
+ghost use Rattle.index_writer.specs.declared.state.State.{State};
+ghost use Rattle.index_run.specs.Answered.{IsFound};
 ghost use Rattle.run_log.specs.Headline.{IsIn};
 ghost use Rattle.run_log.specs.Numbering.{Rises};
 ghost use Rattle.index_run.specs.Outcomes.{AreOutcomes, IsOutcome};
-ghost use Rattle.index_run.specs.Replied.{AreCommits, AreLeft, AreRepliesOf, CanTell, IfNumbered, IsCommitAnswer};
-ghost use Rattle.index_run.specs.Replied.{IsCounted, IsReplyFor, IsSoFar, answer_for, numbers_of};
+ghost use Rattle.index_run.specs.Replied.{AreCommits, AreFound, AreLeft, AreRepliesOf, AreTextsLeft, AreTextsOf, CanTell, IfNumbered};
+ghost use Rattle.index_run.specs.Replied.{IsAnsweredBy, IsCommitAnswer, IsCounted, IsReplyFor, IsSoFar, answer_for, numbers_of};
 
-use ix_base::NoMemory;
+use ix_base::{List, NoMemory};
 use line_shares::{Kind, Place};
 use run_report::{Answer, Outcome};
 use std::alloc::Global;
 use std::vec;
 use worker_tasks::{Reply, Share};
 
-/// What became of each line, in the order of the script, by what the workers were told and by how many
-/// rows each commit has. A search asks in its caller's last commit before it, or else in that of the
-/// number `base`. The only error is out of memory.
+/// What became of each line, in the order of the script, by what the workers were told, by how many rows each
+/// commit has, and by the texts of the search lines of each caller. The only error is out of memory.
 pub fn outcomes_of(
     alloc: Global,
-    base: u64,
     places: Vec<Place>,
     shares: Vec<Share>,
     commits: &[(u64, u64)],
+    texts: Vec<Vec<List<u8>>>,
 ) -> Result<Vec<Outcome>, NoMemory>
-    requires told { (lines : List Line) × (log : List Line)
-        × CanTell base lines log places.items shares.items commits.now }
-    ensures outcomes { (lines log : List Line)
-        → CanTell base lines log places.items shares.items commits.now
-        → IfOk result (λ outcomes.
-        AreOutcomes (IsCounted commits.now) base log [] lines outcomes.items) }
+    requires told { (first : State) × (lines : ListOf Line) × (log : ListOf Line)
+        × CanTell first.published.upto lines log places.items shares.items commits.now
+        × AreFound first lines log texts.items }
+    ensures outcomes { (first : State) (lines log : ListOf Line)
+        → CanTell first.published.upto lines log places.items shares.items commits.now
+        → AreFound first lines log texts.items → IfOk result (λ outcomes.
+        AreOutcomes (IsCounted commits.now) (IsFound first log) first.published.upto log [] lines outcomes.items) }
 {
-    let mut lasts = [base; 256];
     let mut told = replies_of(alloc, shares)?;
+    let mut found = texts_of(alloc, texts)?;
     let mut outcomes = Vec::with_capacity(alloc, places.len())?;
     for place in places {
-        outcomes.push(outcome_of(place, &mut lasts, &mut told, commits))?;
+        outcomes.push(outcome_of(place, &mut told, &mut found, commits))?;
     }
     Ok(outcomes)
 }
@@ -53,43 +55,77 @@ fn replies_of(alloc: Global, shares: Vec<Share>) -> Result<Vec<vec::IntoIter<Rep
     Ok(told)
 }
 
-/// What became of the next line. It takes its reply from its worker's, and notes a commit.
+/// The texts of each caller.
+fn texts_of(
+    alloc: Global,
+    texts: Vec<Vec<List<u8>>>,
+) -> Result<Vec<vec::IntoIter<List<u8>>>, NoMemory>
+    ensures { IfOk result (λ found. AreTextsOf texts.items found.items) }
+{
+    let mut found = Vec::new(alloc);
+    for own in texts {
+        found.push(own.into_iter())?;
+    }
+    Ok(found)
+}
+
+/// What became of the next line. It takes its reply from its worker's, or its text from its caller's.
 fn outcome_of(
     place: Place,
-    lasts: &mut [u64],
     told: &mut Vec<vec::IntoIter<Reply>>,
+    found: &mut Vec<vec::IntoIter<List<u8>>>,
     commits: &[(u64, u64)],
 ) -> Outcome
-    requires far { (base : ℕ) × (log : List Line) × (done : List Line) × (l : Line)
-        × (rest : List Line) × (place ≡ place_of l) × AreCommits base log commits.now
-        × IsSoFar base log done (l ∷ rest) lasts.old told.old.items }
-    ensures outcome { (base : ℕ) (log done : List Line) (l : Line) (rest : List Line)
-        → place ≡ place_of l → AreCommits base log commits.now
-        → IsSoFar base log done (l ∷ rest) lasts.old told.old.items
-        → IsOutcome (IsCounted commits.now) base log done l result }
-    ensures far { (base : ℕ) (log done : List Line) (l : Line) (rest : List Line)
-        → place ≡ place_of l → AreCommits base log commits.now
-        → IsSoFar base log done (l ∷ rest) lasts.old told.old.items
-        → IsSoFar base log (done ++ l ∷ []) rest lasts.new told.new.items }
+    requires far { (first : State) × (log done : ListOf Line) × (l : Line)
+        × (rest : ListOf Line) × (place ≡ place_of l) × AreCommits first.published.upto log commits.now
+        × IsSoFar first log done (l ∷ rest) told.old.items found.old.items }
+    ensures outcome { (first : State) (log done : ListOf Line) (l : Line) (rest : ListOf Line)
+        → place ≡ place_of l → AreCommits first.published.upto log commits.now
+        → IsSoFar first log done (l ∷ rest) told.old.items found.old.items
+        → IsOutcome (IsCounted commits.now) (IsFound first log) first.published.upto log done l result }
+    ensures far { (first : State) (log done : ListOf Line) (l : Line) (rest : ListOf Line)
+        → place ≡ place_of l → AreCommits first.published.upto log commits.now
+        → IsSoFar first log done (l ∷ rest) told.old.items found.old.items
+        → IsSoFar first log (done ++ l ∷ []) rest told.new.items found.new.items }
 {
     let Place { line, caller, kind } = place;
     let answer = match kind {
-        Kind::Search(query) => Answer::Searched(lasts[caller as usize], query),
+        Kind::Search => Answer::Found(next_text(found, caller)),
         Kind::Write => written(next_reply(told, caller)),
-        Kind::Commit => committed(next_reply(told, caller), lasts, caller, commits),
+        Kind::Commit => committed(next_reply(told, caller), commits),
     };
     Outcome { line, answer }
 }
 
+/// The text of the next search line of this caller.
+fn next_text(found: &mut Vec<vec::IntoIter<List<u8>>>, caller: u8) -> List<u8>
+    requires left { (first : State) × (log done : ListOf Line) × (l : Line) × (rest : ListOf Line)
+        × (l.caller ≡ caller) × (is_doing l.act ≡ false)
+        × AreTextsLeft first log done (l ∷ rest) found.old.items }
+    ensures text { (first : State) (log done : ListOf Line) (l : Line) (rest : ListOf Line)
+        → l.caller ≡ caller → is_doing l.act ≡ false
+        → AreTextsLeft first log done (l ∷ rest) found.old.items
+        → IsAnsweredBy first log done l result }
+    ensures left { (first : State) (log done : ListOf Line) (l : Line) (rest : ListOf Line)
+        → l.caller ≡ caller → is_doing l.act ≡ false
+        → AreTextsLeft first log done (l ∷ rest) found.old.items
+        → AreTextsLeft first log (done ++ l ∷ []) rest found.new.items }
+{
+    match found[caller as usize].next() {
+        Some(text) => text,
+        None => unreachable!(),
+    }
+}
+
 /// The reply to the next line of this caller.
 fn next_reply(told: &mut Vec<vec::IntoIter<Reply>>, caller: u8) -> Reply
-    requires left { (base : ℕ) × (log : List Line) × (l : Line) × (rest : List Line)
+    requires left { (base : ℕ) × (log : ListOf Line) × (l : Line) × (rest : ListOf Line)
         × (l.caller ≡ caller) × (is_doing l.act ≡ true)
         × AreLeft base log (l ∷ rest) told.old.items }
-    ensures reply { (base : ℕ) (log : List Line) (l : Line) (rest : List Line) → l.caller ≡ caller
+    ensures reply { (base : ℕ) (log : ListOf Line) (l : Line) (rest : ListOf Line) → l.caller ≡ caller
         → is_doing l.act ≡ true → AreLeft base log (l ∷ rest) told.old.items
         → IsReplyFor base log l result }
-    ensures left { (base : ℕ) (log : List Line) (l : Line) (rest : List Line) → l.caller ≡ caller
+    ensures left { (base : ℕ) (log : ListOf Line) (l : Line) (rest : ListOf Line) → l.caller ≡ caller
         → is_doing l.act ≡ true → AreLeft base log (l ∷ rest) told.old.items
         → AreLeft base log rest told.new.items }
 {
@@ -110,20 +146,14 @@ fn written(reply: Reply) -> Answer
     }
 }
 
-/// The answer of a commit, which is its caller's last one then.
-fn committed(reply: Reply, lasts: &mut [u64], caller: u8, commits: &[(u64, u64)]) -> Answer
-    requires lasts { length lasts.old ≡ 256 }
+/// The answer of a commit.
+fn committed(reply: Reply, commits: &[(u64, u64)]) -> Answer
     requires there { (low : ℕ) × Rises low (numbers_of commits.now)
         × IfNumbered reply (λ n. IsIn (numbers_of commits.now) n) }
-    ensures answer { IsCommitAnswer (IsCounted commits.now) reply result }
-    ensures noted { (n : ℕ) → reply ≡ said.Numbered n → lasts.new ≡ slice_set lasts.old caller n }
-    ensures size { length lasts.new ≡ length lasts.old }
+    ensures { IsCommitAnswer (IsCounted commits.now) reply result }
 {
     match reply {
-        Reply::Numbered(number) => {
-            lasts[caller as usize] = number;
-            Answer::Committed(number, docs_of(commits, number))
-        }
+        Reply::Numbered(number) => Answer::Committed(number, docs_of(commits, number)),
         Reply::Refused(refusal) => Answer::Refused(refusal),
     }
 }

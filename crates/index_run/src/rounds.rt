@@ -1,5 +1,5 @@
 //! The rounds of a run: each is begun, done by its workers, ended and committed.
-ghost use Rattle.std.specs.Prelude.{◌≡◌, ◌+◌, ◌≤◌, ◌<◌, ℕ, List, length, map, IfOk, OnOk, OnErr, IsTrue, Err, None, true, false};
+ghost use Rattle.std.specs.Prelude.{◌≡◌, ◌+◌, ◌≤◌, ◌<◌, ℕ, List, length, map, IfErr, IfOk, IfSome, OnOk, IsTrue, Err, None, true, false};
 ghost use Rattle.std.specs.List.{AllByRecursion};
 ghost use Rattle.ix_outside.specs.Causes.{Rose};
 ghost use Rattle.op_script.specs.declared.script.Line.{Line};
@@ -10,18 +10,20 @@ ghost use Rattle.line_shares.specs.Shares.{AreDone, open_count};
 ghost use Rattle.index_writer.specs.Ready.{IsSound};
 ghost use Rattle.index_writer.specs.Rounds.{ArePartsOf, IsBegun};
 ghost use Rattle.index_writer.specs.Working.{IsStuck};
-ghost use Rattle.index_run.specs.Driving.{EndsRound, HasCome, IsCut, IsRound, Run, WritesPending};
+ghost use Rattle.index_run.specs.Driving.{EndsRound, GoesOnBy, HasCome, IsCut, IsRound, IsRunBy, Run, WritesPending};
+ghost use Rattle.index_run.specs.Causes.{ran_by_pruning};
+ghost use Rattle.index_run.specs.declared.rounds.RanFault.TheVariants as halt;
 ghost use Rattle.index_run.specs.Merged.{EndsMerged};
 ghost use Rattle.index_run.specs.Rounds.{AllCame, gave_of, given, pieces_of, share_of, writers_of};
 
 use delete_queue::DeleteQueue;
 use index_writer::{
-    CommitInfo, IndexWriter, Round, RoundEnd, RoundParts, WriterFault, commits_go_on, commits_hold,
-    segments_stand,
+    CommitInfo, IndexWriter, PruneFault, Round, RoundEnd, RoundParts, WriterFault, commits_go_on,
+    commits_hold, segments_stand,
 };
-use ix_base::{Fields, NoMemory};
+use ix_base::{Damaged, NoMemory};
 use ix_outside::{Gate, Store};
-use line_shares::{committed_pairs, told_counts};
+use line_shares::{CommitLine, committed, told_counts};
 use round_work::{Stop, Worked, run_round};
 use std::alloc::Global;
 use std::sync::Wait;
@@ -33,16 +35,48 @@ use worker_tasks::Share;
 /// leads there.
 const MOST: u64 = 4_611_686_018_427_387_904;
 
+/// Why the rounds of a run stopped.
+#[derive(Clone, Copy, Debug, PartialEq, Eq)]
+pub enum RanFault {
+    /// A call of the writer did not succeed.
+    Writer(WriterFault),
+    /// Old commits were to be given up, and the commit file of one that stays is broken.
+    Damaged(Damaged),
+}
+
+impl From<PruneFault> for RanFault {
+    ghost from_gives = { λ fault reason. reason ≡ ran_by_pruning fault };
+
+    fn from(fault: PruneFault) -> RanFault {
+        match fault {
+            PruneFault::Store => RanFault::Writer(WriterFault::Store),
+            PruneFault::Closed => RanFault::Writer(WriterFault::Closed),
+            PruneFault::Damaged(damaged) => RanFault::Damaged(damaged),
+            PruneFault::NoMemory => RanFault::Writer(WriterFault::NoMemory),
+        }
+    }
+}
+
 /// What was done with a writer, or why it stopped, and the writer.
 #[derive(Drop)]
 pub struct Ran<S, T> {
     pub writer: IndexWriter<S>,
-    pub came: Result<T, WriterFault>,
+    pub came: Result<T, RanFault>,
 }
 
 impl<S, T> Ran<S, T> {
-    /// It stopped by this fault.
+    /// It stopped by this fault of its writer.
     pub fn stopped(writer: IndexWriter<S>, fault: WriterFault) -> Self
+        ensures { result ≡ record { writer = writer; came = Err (halt.Writer fault) } }
+    {
+        Ran {
+            writer,
+            came: Err(RanFault::Writer(fault)),
+        }
+    }
+
+    /// It stopped for this reason.
+    pub fn halted(writer: IndexWriter<S>, fault: RanFault) -> Self
         ensures { result ≡ record { writer = writer; came = Err fault } }
     {
         Ran {
@@ -193,7 +227,7 @@ fn work_of(operations: u64, documents: u64) -> u64
 }
 
 /// Ends the round that is out: its lines stand behind those of the rounds before. A commit with which it
-/// ended is pending then, and its pairs are returned. `counts` are how many tasks of each share were told
+/// ended is pending then, and its line is returned, with its pairs. `counts` are how many tasks of each share were told
 /// something when the round began.
 fn finish_round<R: Threads + Sync, S: Store>(
     rt: &R,
@@ -202,15 +236,15 @@ fn finish_round<R: Threads + Sync, S: Store>(
     parts: RoundParts,
     counts: &[usize],
     shares: &[Share],
-) -> Result<Fields, WriterFault>
+) -> Result<CommitLine, WriterFault>
     requires round { (r : Run) × (lines : List Line) × (olds : List Share) × (log : List Line)
         × (counts.now ≡ map told_count olds)
         × IsRound r lines olds shares.now log writer.old.state parts (S.disk writer.old.store) }
     ensures ends { (r : Run) (lines : List Line) (olds : List Share) (log : List Line)
         → counts.now ≡ map told_count olds
         → IsRound r lines olds shares.now log writer.old.state parts (S.disk writer.old.store)
-        → IfOk result (λ pairs.
-        EndsRound r lines shares.now log pairs writer.new.state (S.disk writer.new.store)) }
+        → IfOk result (λ due.
+        EndsRound r lines shares.now log due writer.new.state (S.disk writer.new.store)) }
     ensures out { OnOk result (writer.new.state.out ≡ false) }
     ensures store { writer.new.store ≡ writer.old.store }
     ensures closed { result ≡ Err WriterFault.Closed → ⊥ }
@@ -219,20 +253,23 @@ fn finish_round<R: Threads + Sync, S: Store>(
 {
     end_round(rt, writer, parts)?;
     match writer.pending_commit() {
-        Some(number) => Ok(committed_pairs(alloc, counts, shares, number)?),
-        None => Ok(Fields::none(alloc)),
+        Some(number) => Ok(committed(alloc, counts, shares, number)?),
+        None => Ok(CommitLine::none(alloc)),
     }
 }
 
-/// Writes the commit with which the last round ended, if it ended with one, with its pairs, and returns
+/// Writes the commit with which the last round ended, if it ended with one, with the pairs of its line, and returns
 /// its number and how many rows it has, beside the writer. A round may be out.
-pub fn write_pending<S: Store>(writer: IndexWriter<S>, pairs: &Fields) -> Ran<S, Option<CommitInfo>>
+pub fn write_pending<S: Store>(
+    writer: IndexWriter<S>,
+    due: &CommitLine,
+) -> Ran<S, Option<CommitInfo>>
     requires sound { IsSound writer.state }
     requires open { writer.state.closed ≡ false }
-    ensures pending { WritesPending S.disk pairs.now writer result }
-    ensures closed { result.came ≡ Err WriterFault.Closed → ⊥ }
+    ensures pending { WritesPending S.disk None due.now writer result }
+    ensures closed { result.came ≡ Err (RanFault.Writer WriterFault.Closed) → ⊥ }
     ensures later { S.fault_count writer.store ≤ S.fault_count result.writer.store }
-    ensures failed { result.came ≡ Err WriterFault.Store
+    ensures failed { result.came ≡ Err (RanFault.Writer WriterFault.Store)
         → Rose (S.fault_count writer.store) (S.fault_count result.writer.store) }
 {
     commits_go_on();
@@ -248,12 +285,51 @@ pub fn write_pending<S: Store>(writer: IndexWriter<S>, pairs: &Fields) -> Ran<S,
     if writer.next_id() > MOST {
         return Ran::stopped(writer, WriterFault::NoMemory);
     }
-    match writer.commit(pairs) {
+    match writer.commit(&due.pairs) {
         Ok(info) => Ran {
             writer,
             came: Ok(Some(info)),
         },
         Err(fault) => Ran::stopped(writer, fault),
+    }
+}
+
+/// Writes the commit with which the last round ended, as `write_pending` does, and then gives up all commits
+/// but so many of the latest, where only so many are kept and one was written. A round may be out.
+fn write_and_prune<S: Store>(
+    writer: IndexWriter<S>,
+    keep: Option<u32>,
+    due: &CommitLine,
+) -> Ran<S, Option<CommitInfo>>
+    requires sound { IsSound writer.state }
+    requires open { writer.state.closed ≡ false }
+    requires some { IfSome keep (λ keep. 1 ≤ keep) }
+    ensures pending { WritesPending S.disk keep due.now writer result }
+    ensures closed { result.came ≡ Err (RanFault.Writer WriterFault.Closed) → ⊥ }
+    ensures later { S.fault_count writer.store ≤ S.fault_count result.writer.store }
+    ensures failed { result.came ≡ Err (RanFault.Writer WriterFault.Store)
+        → Rose (S.fault_count writer.store) (S.fault_count result.writer.store) }
+{
+    let Some(keep) = keep else {
+        return write_pending(writer, due);
+    };
+    let Ran { mut writer, came } = write_pending(writer, due);
+    let commit = match came {
+        Ok(commit) => commit,
+        Err(fault) => return Ran::halted(writer, fault),
+    };
+    if commit.is_none() {
+        return Ran {
+            writer,
+            came: Ok(commit),
+        };
+    }
+    match writer.prune(keep) {
+        Ok(_) => Ran {
+            writer,
+            came: Ok(commit),
+        },
+        Err(fault) => Ran::halted(writer, RanFault::from(fault)),
     }
 }
 
@@ -288,45 +364,47 @@ pub struct RoundLeft {
     pub shares: Vec<Share>,
     /// The commit of the round before, which was written meanwhile, if there was one.
     pub commit: Option<CommitInfo>,
-    /// The pairs of the commit with which the round ended, or none.
-    pub pairs: Fields,
+    /// The line of the commit with which the round ended, with its pairs, or none.
+    pub due: CommitLine,
 }
 
 /// Does a round: its workers go on with their shares at the same time, each by a writer of its own,
 /// until the lines are done or one of them closes the queue. Meanwhile the commit with which the round
-/// before ended is written with these pairs, if it ended with one. It asks that a worker has a line that
-/// was told nothing, and counts the round.
+/// before ended is written, by its line, if it ended with one, and old commits are given up behind it where
+/// only so many are kept. It asks that a worker has a line that was told nothing, and counts the round.
 pub fn do_round<R: Threads + Wait + Sync, S: Store, G: Gate>(
     rt: &R,
     alloc: Global,
     gate: &G,
     writer: IndexWriter<S>,
     threads: u32,
+    keep: Option<u32>,
     shares: Vec<Share>,
-    pairs: Fields,
+    due: CommitLine,
     rounds: &mut u64,
 ) -> Ran<S, RoundLeft>
     requires threads { (1 ≤ threads) × (threads ≤ 16) }
+    requires some { IfSome keep (λ keep. 1 ≤ keep) }
     requires open { AreDone shares.items → ⊥ }
     requires out { writer.state.out ≡ false }
-    requires come { (r : Run) × (lines : List Line) × (commits : List (ℕ × ℕ))
-        × (r.workers ≡ threads)
-        × HasCome r lines shares.items commits pairs writer.state (S.disk writer.store) }
-    ensures come { (r : Run) (lines : List Line) (commits : List (ℕ × ℕ)) → r.workers ≡ threads
-        → HasCome r lines shares.items commits pairs writer.state (S.disk writer.store)
-        → IfOk result.came (λ x. HasCome r lines x.shares.items (given commits x.commit) x.pairs
+    requires come { (r : Run) × (lines : List Line) × (log : List Line) × (commits : List (ℕ × ℕ))
+        × IsRunBy threads keep r
+        × HasCome r lines shares.items log commits due writer.state (S.disk writer.store) }
+    ensures come { (r : Run) (lines log : List Line) (commits : List (ℕ × ℕ)) → IsRunBy threads keep r
+        → HasCome r lines shares.items log commits due writer.state (S.disk writer.store)
+        → IfOk result.came (λ x. GoesOnBy r lines x.shares.items log (given commits x.commit) x.due
         result.writer.state (S.disk result.writer.store)) }
-    ensures cut { (r : Run) (lines : List Line) (commits : List (ℕ × ℕ)) → r.workers ≡ threads
-        → HasCome r lines shares.items commits pairs writer.state (S.disk writer.store)
-        → OnErr result.came (IsCut r lines (S.disk result.writer.store)) }
+    ensures cut { (r : Run) (lines log : List Line) (commits : List (ℕ × ℕ)) → IsRunBy threads keep r
+        → HasCome r lines shares.items log commits due writer.state (S.disk writer.store)
+        → IfErr result.came (λ fault. IsCut r lines fault (S.disk result.writer.store)) }
     ensures out { OnOk result.came (result.writer.state.out ≡ false) }
     // Where a task was left, one was told something.
     ensures goes_on { (AreDone shares.items → ⊥)
         → IfOk result.came (λ x. open_count x.shares.items < open_count shares.items) }
     ensures counted { OnOk result.came (rounds.new ≡ rounds.old + 1) }
-    ensures closed { result.came ≡ Err WriterFault.Closed → ⊥ }
+    ensures closed { result.came ≡ Err (RanFault.Writer WriterFault.Closed) → ⊥ }
     ensures later { S.fault_count writer.store ≤ S.fault_count result.writer.store }
-    ensures failed { result.came ≡ Err WriterFault.Store
+    ensures failed { result.came ≡ Err (RanFault.Writer WriterFault.Store)
         → Rose (S.fault_count writer.store) (S.fault_count result.writer.store) }
 {
     let mut writer = writer;
@@ -348,18 +426,19 @@ pub fn do_round<R: Threads + Wait + Sync, S: Store, G: Gate>(
         move || -> Ran<S, Option<CommitInfo>>
             requires sound { IsSound writer.state }
             requires open { writer.state.closed ≡ false }
-            ensures pending { WritesPending S.disk pairs writer result }
-            ensures closed { result.came ≡ Err WriterFault.Closed → ⊥ }
+            requires some { IfSome keep (λ keep. 1 ≤ keep) }
+            ensures pending { WritesPending S.disk keep due writer result }
+            ensures closed { result.came ≡ Err (RanFault.Writer WriterFault.Closed) → ⊥ }
             ensures later { S.fault_count writer.store ≤ S.fault_count result.writer.store }
-            ensures failed { result.came ≡ Err WriterFault.Store
+            ensures failed { result.came ≡ Err (RanFault.Writer WriterFault.Store)
                 → Rose (S.fault_count writer.store) (S.fault_count result.writer.store) }
-        { write_pending(writer, &pairs) },
+        { write_and_prune(writer, keep, &due) },
     );
     let commit = match came {
         Ok(commit) => commit,
         Err(fault) => {
             let_go(rt, alloc, &mut writer, queue, back);
-            return Ran::stopped(writer, fault);
+            return Ran::halted(writer, fault);
         }
     };
     let worked = match back {
@@ -373,12 +452,12 @@ pub fn do_round<R: Threads + Wait + Sync, S: Store, G: Gate>(
     let told = counts.as_slice();
     let left = shares.as_slice();
     match finish_round(rt, alloc, &mut writer, parts, told, left) {
-        Ok(pairs) => Ran {
+        Ok(due) => Ran {
             writer,
             came: Ok(RoundLeft {
                 shares,
                 commit,
-                pairs,
+                due,
             }),
         },
         Err(fault) => Ran::stopped(writer, fault),

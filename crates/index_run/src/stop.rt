@@ -1,8 +1,9 @@
 //! Why a run stopped before its end.
 ghost use Rattle.std.specs.Prelude.{◌≡◌};
-ghost use Rattle.index_run.specs.Causes.{stop_by, stop_by_pruning, stop_of};
+ghost use Rattle.index_run.specs.Causes.{stop_by_pruning, stop_by_rounds, stop_of};
 ghost use Rattle.index_run.specs.declared.stop.Stop.TheVariants as stop;
 
+use crate::rounds::RanFault;
 use commit_point::OpenFault;
 use commit_pruning::PruningFault;
 use index_writer::WriterFault;
@@ -31,13 +32,14 @@ impl From<OpenFault> for Stop {
     }
 }
 
-impl From<WriterFault> for Stop {
-    ghost from_gives = { λ fault reason. reason ≡ stop_by fault };
+impl From<RanFault> for Stop {
+    ghost from_gives = { λ fault reason. reason ≡ stop_by_rounds fault };
 
-    fn from(fault: WriterFault) -> Stop {
+    fn from(fault: RanFault) -> Stop {
         match fault {
-            WriterFault::Store => Stop::Fault(Fault::Store),
-            WriterFault::Closed | WriterFault::NoMemory => Stop::NoMemory,
+            RanFault::Writer(WriterFault::Store) => Stop::Fault(Fault::Store),
+            RanFault::Writer(WriterFault::Closed | WriterFault::NoMemory) => Stop::NoMemory,
+            RanFault::Damaged(damaged) => Stop::Fault(Fault::Damaged(damaged)),
         }
     }
 }

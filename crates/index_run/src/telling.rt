@@ -1,5 +1,5 @@
 //! The text that tells of a run whose lines are done: its report, or its summary.
-ghost use Rattle.std.specs.Prelude.{◌≡◌, ◌⊎◌, ◌≤◌, ◌-◌, ℕ, List, IfOk, IfErr, Err, Some, Contains, map, count_by};
+ghost use Rattle.std.specs.Prelude.{◌≡◌, ◌⊎◌, ◌≤◌, ◌-◌, ℕ, List, IfOk, IfErr, Err, Some, map, count_by};
 ghost use Rattle.ix_base.specs.Hits.{hit_of};
 ghost use Rattle.ix_base.specs.declared.damaged.Damaged.{Damaged};
 ghost use Rattle.ix_base.specs.declared.document.Row.{Row};
@@ -10,20 +10,15 @@ ghost use Rattle.commit_point.specs.Holds.{HoldsInverted};
 ghost use Rattle.report_text.specs.Born.{born_after};
 ghost use Rattle.report_text.specs.Lines.{summary_value, text_line};
 ghost use Rattle.report_text.specs.Summaries.{summary_of};
-ghost use Rattle.run_report.specs.Searching.{CanRead, CanSearch, ReadsCommit, SearchesDamaged};
 ghost use Rattle.run_report.specs.Texts.{texts};
-ghost use Rattle.run_report.specs.declared.outcome.Outcome.{Outcome};
 ghost use Rattle.searcher.specs.Searching.{IsDamagedIn};
-ghost use Rattle.std.specs.List.{AllByRecursion};
-ghost use Rattle.index_run.specs.Outcomes.{ChangesUpTo, SearchesUnchanged};
-ghost use Rattle.index_run.specs.Telling.{CanTell, TellsDamaged, is_committed};
+ghost use Rattle.index_run.specs.Telling.{CanTell, ReadsCommit, is_committed};
 
-use crate::standing::let_stand;
 use crate::stop::Stop;
 use ix_base::NoMemory;
 use ix_outside::Store;
 use report_text::{Fault, Summary, summary_text};
-use run_report::{Answer, Outcome, SearchedCommit, report};
+use run_report::{Answer, Outcome, report};
 use std::alloc::Global;
 use store_answers::own_hits;
 
@@ -36,31 +31,27 @@ pub enum Form {
     Summary,
 }
 
-/// The text of this form, of a run from the commit `base` in which this became of the lines. What is
-/// in memory, under the run's last number, answers the report's searches in that commit, and in each since
-/// which no line changed a row. A summary asks the store for the last commit.
+/// The text of this form, of a run from the commit `base` to the number `upto` in which this became of the lines. A
+/// report is made from that alone. A summary asks the store for the last commit.
 pub fn text_of<S: Store>(
     alloc: Global,
     store: &mut S,
     form: Form,
     base: u64,
-    loaded: SearchedCommit,
+    upto: u64,
     outcomes: &[Outcome],
 ) -> Result<Vec<u8>, Stop>
-    requires order { base ≤ loaded.number }
-    ensures report { (files : Files) (rows_of : ℕ → List Row) → form ≡ Form.Report
-        → told_files (S.disk store.old) ≡ Some files → CanSearch files rows_of outcomes.now
-        → SearchesUnchanged loaded.searcher.segments base loaded.number outcomes.now rows_of
-        → IfOk result (λ bytes. bytes.items ≡ texts rows_of outcomes.now) }
+    requires order { base ≤ upto }
+    ensures report { form ≡ Form.Report → IfOk result (λ bytes. bytes.items ≡ texts outcomes.now) }
     ensures summary { (files : Files) (next : ℕ) (rows : List Row) → form ≡ Form.Summary
-        → told_files (S.disk store.old) ≡ Some files → HoldsInverted files loaded.number next rows
+        → told_files (S.disk store.old) ≡ Some files → HoldsInverted files upto next rows
         → IfOk result (λ bytes. bytes.items ≡ text_line (summary_value (summary_of
-        (count_by is_committed outcomes.now) (loaded.number - base) (map hit_of (born_after base rows))))) }
+        (count_by is_committed outcomes.now) (upto - base) (map hit_of (born_after base rows))))) }
     ensures whole { (files : Files) → told_files (S.disk store.old) ≡ Some files
-        → CanTell form loaded.number files outcomes.now
+        → CanTell form upto files
         → IfErr result (λ stop. (stop ≡ Stop.Fault Fault.Store) ⊎ (stop ≡ Stop.NoMemory)) }
     ensures damaged { (damaged : Damaged) → result ≡ Err (Stop.Fault (Fault.Damaged damaged))
-        → TellsDamaged form loaded.number outcomes.now (told_files (S.disk store.old)) damaged }
+        → (form ≡ Form.Summary) × IsDamagedIn (told_files (S.disk store.old)) upto damaged }
     ensures reads { S.disk store.new ≡ S.disk store.old }
     ensures later { S.fault_count store.old ≤ S.fault_count store.new }
     ensures failed { result ≡ Err (Stop.Fault Fault.Store)
@@ -69,69 +60,11 @@ pub fn text_of<S: Store>(
         ⊎ ((damaged : Damaged) × (stop ≡ Stop.Fault (Fault.Damaged damaged))))) }
 {
     match form {
-        Form::Report => report_of(alloc, store, base, loaded, outcomes),
-        Form::Summary => {
-            let upto = loaded.number;
-            drop(loaded);
-            summary(alloc, store, base, upto, outcomes)
-        }
-    }
-}
-
-/// The number of the last line that changed a row, or `base` where none did.
-fn last_change(base: u64, outcomes: &[Outcome]) -> u64
-    ensures from { base ≤ result }
-    ensures each { AllByRecursion (ChangesUpTo result) outcomes.now }
-{
-    let mut last = base;
-    for outcome in outcomes {
-        if let Answer::Numbered(number) = &outcome.answer {
-            last = last.max(*number);
-        }
-    }
-    last
-}
-
-/// The report of what became of the lines, or why the run stops.
-fn report_of<S: Store>(
-    alloc: Global,
-    store: &mut S,
-    base: u64,
-    loaded: SearchedCommit,
-    outcomes: &[Outcome],
-) -> Result<Vec<u8>, Stop>
-    ensures text { (files : Files) (rows_of : ℕ → List Row)
-        → told_files (S.disk store.old) ≡ Some files → CanSearch files rows_of outcomes.now
-        → SearchesUnchanged loaded.searcher.segments base loaded.number outcomes.now rows_of
-        → IfOk result (λ bytes. bytes.items ≡ texts rows_of outcomes.now) }
-    ensures whole { (files : Files) → told_files (S.disk store.old) ≡ Some files
-        → CanRead files outcomes.now
-        → IfErr result (λ stop. (stop ≡ Stop.Fault Fault.Store) ⊎ (stop ≡ Stop.NoMemory)) }
-    ensures damaged { (damaged : Damaged) → result ≡ Err (Stop.Fault (Fault.Damaged damaged))
-        → (outcome : Outcome) × Contains outcomes.now outcome
-        × SearchesDamaged (told_files (S.disk store.old)) outcome.answer damaged }
-    ensures reads { S.disk store.new ≡ S.disk store.old }
-    ensures later { S.fault_count store.old ≤ S.fault_count store.new }
-    ensures failed { result ≡ Err (Stop.Fault Fault.Store)
-        → Rose (S.fault_count store.old) (S.fault_count store.new) }
-    ensures others { IfErr result (λ stop. (stop ≡ Stop.Fault Fault.Store) ⊎ ((stop ≡ Stop.NoMemory)
-        ⊎ ((damaged : Damaged) × (stop ≡ Stop.Fault (Fault.Damaged damaged))))) }
-{
-    let SearchedCommit {
-        number,
-        searcher,
-        ..
-    } = loaded;
-    let mut loaded = SearchedCommit {
-        since: last_change(base, outcomes),
-        number,
-        searcher,
-    };
-    let told = report(alloc, store, &mut loaded, outcomes);
-    let_stand(loaded);
-    match told {
-        Ok(text) => Ok(text),
-        Err(fault) => Err(Stop::from(fault)),
+        Form::Report => match report(alloc, outcomes) {
+            Ok(text) => Ok(text),
+            Err(NoMemory) => Err(Stop::NoMemory),
+        },
+        Form::Summary => summary(alloc, store, base, upto, outcomes),
     }
 }
 

@@ -1,7 +1,10 @@
 //! Runs that keep only their last commits: what they report, and what they, or a crash in them, leave.
 use crate::tests::{EVERYTHING, Outside, ended, one_document, run};
 use crate::tests_calls::hold;
+use ix_base::FileName;
 use ix_memory::{FuseStore, MemoryStore};
+use ix_outside::{Store, StoreFault};
+use std::alloc::Global;
 use std::test::*;
 
 /// Runs that keep a commit.
@@ -176,6 +179,133 @@ fn crashes_while_commits_go(rt: HostRuntime) -> Result<(), Fail> {
     for passes in BEFORE - 2..=ALL_CALLS {
         let wanted = (passes <= BEFORE + 1, passes > BEFORE);
         assert!(rt; stopped(&rt, passes)? == wanted, "{passes}");
+    }
+    Ok(())
+}
+
+/// A store that counts the commit files that it holds, and the most that it held at some moment. It tells
+/// nothing of what it holds.
+#[derive(Drop)]
+struct CountingStore {
+    inner: MemoryStore,
+    held: u64,
+    most: u64,
+}
+
+impl Store for CountingStore {
+    ghost use Rattle.std.specs.Prelude.{None};
+
+    ghost disk = { λ _. None };
+
+    ghost fault_count = { λ store. ⟦<MemoryStore as Store>⟧.fault_count store.inner };
+
+    fn list(&mut self, alloc: Global) -> Result<Vec<FileName>, StoreFault> {
+        self.inner.list(alloc)
+    }
+
+    fn read(&mut self, alloc: Global, name: FileName) -> Result<Option<Vec<u8>>, StoreFault> {
+        self.inner.read(alloc, name)
+    }
+
+    fn write(&mut self, name: FileName, bytes: &[u8]) -> Result<(), StoreFault> {
+        self.inner.write(name, bytes)
+    }
+
+    fn sync(&mut self, name: FileName) -> Result<(), StoreFault> {
+        self.inner.sync(name)
+    }
+
+    fn rename(&mut self, from: FileName, to: FileName) -> Result<(), StoreFault> {
+        if let FileName::Commit(_) = to {
+            self.held = self.held.saturating_add(1);
+            self.most = self.most.max(self.held);
+        }
+        self.inner.rename(from, to)
+    }
+
+    fn delete(&mut self, name: FileName) -> Result<(), StoreFault> {
+        if let FileName::Commit(_) = name {
+            self.held = self.held.saturating_sub(1);
+        }
+        self.inner.delete(name)
+    }
+
+    fn sync_all(&mut self) -> Result<(), StoreFault> {
+        self.inner.sync_all()
+    }
+
+    fn faults(&self) -> u64 {
+        self.inner.faults()
+    }
+}
+
+/// A store without a file, of which commits are counted.
+fn counting<R: Outside>(rt: &R) -> CountingStore {
+    CountingStore {
+        inner: MemoryStore::new(rt.alloc()),
+        held: 0,
+        most: 0,
+    }
+}
+
+/// How many commits a run of `count` commits, a document before each, leaves with these words, and the most
+/// that its store held at some moment.
+fn commits_held<R: Outside>(rt: &R, words: &str, count: u64) -> Result<(u64, u64), Fail> {
+    let mut script = String::new(rt.alloc());
+    for _ in 0..count {
+        script.push_str(SECOND)?;
+    }
+    let done = run(rt, words, script.as_bytes(), counting(rt))?;
+    assert!(*rt; done.status == 0);
+    Ok((done.store.held, done.store.most))
+}
+
+/// Old commits go as the run goes on: the store never holds more than one besides those that are kept.
+#[test]
+fn old_commits_go_beside_the_rounds(rt: HostRuntime) -> Result<(), Fail> {
+    assert!(rt; commits_held(&rt, "run --threads 1 --keep 2", 10)? == (2, 3));
+    assert!(rt; commits_held(&rt, "run --threads 1 --keep 1", 10)? == (1, 2));
+    assert!(rt; commits_held(&rt, "run --threads 1", 10)? == (10, 10));
+    Ok(())
+}
+
+/// Three documents, each committed and then searched for by its caller, and two searches of a caller that never
+/// commits, which finds what was there before.
+const SEARCHED: &str = r#"{"c":0,"op":"add","doc":{"key":"a"}}
+{"c":0,"op":"commit"}
+{"c":0,"op":"search","query":"all"}
+{"c":1,"op":"search","query":"all"}
+{"c":0,"op":"add","doc":{"key":"b"}}
+{"c":0,"op":"commit"}
+{"c":0,"op":"search","query":"all"}
+{"c":0,"op":"add","doc":{"key":"c"}}
+{"c":0,"op":"commit"}
+{"c":0,"op":"search","query":"all"}
+{"c":1,"op":"search","query":"all"}
+"#;
+
+/// What is told of it.
+const FOUND: &str = r#"{"line":1,"seq":1}
+{"docs":1,"line":2,"seq":2}
+{"commit":2,"hits":[{"key":"a","num":{}}],"line":3}
+{"commit":0,"hits":[],"line":4}
+{"line":5,"seq":3}
+{"docs":2,"line":6,"seq":4}
+{"commit":4,"hits":[{"key":"a","num":{}},{"key":"b","num":{}}],"line":7}
+{"line":8,"seq":5}
+{"docs":3,"line":9,"seq":6}
+{"commit":6,"hits":[{"key":"a","num":{}},{"key":"b","num":{}},{"key":"c","num":{}}],"line":10}
+{"commit":0,"hits":[],"line":11}
+"#;
+
+/// Old commits go as the run goes on, also where lines search them: each is answered from memory.
+#[test]
+fn searched_commits_go_beside_the_rounds(rt: HostRuntime) -> Result<(), Fail> {
+    for words in ["run --threads 1 --keep 1", "run --threads 2 --keep 1"] {
+        let done = run(&rt, words, SEARCHED.as_bytes(), counting(&rt))?;
+        assert!(rt; done.status == 0);
+        assert!(rt; done.written.as_slice() == FOUND.as_bytes());
+        assert!(rt; (done.store.held, done.store.most) == (1, 2), "{words}");
     }
     Ok(())
 }

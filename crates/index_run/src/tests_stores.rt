@@ -121,10 +121,9 @@ fn files_of_runs(rt: HostRuntime) -> Result<(), Fail> {
     hold(&rt, FILES)
 }
 
-/// Whichever call of the store fails, it is told as the store's fault, and a commit is read once, however many
-/// lines search it, or not at all where only commits came since: there are the list of the files, twelve calls of
-/// a commit that has a new segment and four of one that has not, and the reads of a commit file and of the four
-/// files of each of its segments.
+/// Whichever call of the store fails, it is told as the store's fault, and a commit is read where a run begins on it,
+/// and for no search line: there are the list of the files, twelve calls of a commit that has a new segment and
+/// four of one that has not, and the reads of a commit file and of the four files of each of its segments.
 const STOPPED: &str =
     r#"# The list of the files, and the twelve calls of a commit with a new segment; its search makes none.
 $ run --threads 1
@@ -160,7 +159,7 @@ $ run --threads 1
 < {"c":1,"op":"search","query":"all"}
 stops 22
 
-# A commit that is searched is read at the beginning alone where only a commit without a row follows.
+# A commit that is searched is read at the beginning alone, where a commit without a row follows.
 $ run --threads 1
 < {"c":0,"op":"add","doc":{"key":"a1"}}
 < {"c":0,"op":"commit"}
@@ -173,7 +172,7 @@ $ run --threads 1
 < {"c":0,"op":"commit"}
 stops 10
 
-# It is read once more where one with a new segment follows.
+# And where one with a new segment follows.
 $ run --threads 1
 < {"c":0,"op":"add","doc":{"key":"a1"}}
 < {"c":0,"op":"commit"}
@@ -185,7 +184,7 @@ $ run --threads 1
 < {"c":0,"op":"search","query":"all"}
 < {"c":0,"op":"add","doc":{"key":"a2"}}
 < {"c":0,"op":"commit"}
-stops 23
+stops 18
 
 # A made script's commit is read for the summary.
 $ make --seed 1 --lines 10 --callers 1

@@ -8,6 +8,7 @@ use Rattle.worker_tasks.specs.declared.share.Share.{Share}
 use Rattle.worker_tasks.specs.declared.task.Reply.{Reply}
 use Rattle.worker_tasks.specs.declared.task.Task.{Task}
 use Rattle.worker_tasks.specs.Replies.{told_in}
+use Rattle.line_shares.specs.declared.round_commit.CommitLine.{CommitLine}
 
 -- how many tasks of a share were told something
 abbrev pub told_count : Share → ℕ
@@ -57,3 +58,8 @@ IsToldPast task reply [] shares = ⊥
 IsToldPast task reply (n ∷ counts) [] = ⊥
 IsToldPast task reply (n ∷ counts) (s ∷ shares) =
     WasTold task reply (drop n s.tasks) (drop n s.replies) ⊎ IsToldPast task reply counts shares
+
+-- ---- no commit line
+
+abbrev pub no_commit : CommitLine
+no_commit = record { line = 0; pairs = [] }

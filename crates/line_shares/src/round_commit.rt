@@ -3,7 +3,7 @@ ghost use Rattle.std.specs.Prelude.{◌≡◌, ◌≤◌, ◌↔◌, IsTrue, Lis
 ghost use Rattle.std.specs.List.{AllByRecursion};
 ghost use Rattle.commit_point.specs.Holds.{Pairs};
 ghost use Rattle.line_shares.specs.Committed.{IsToldPast, WasTold, commit_among, commit_in, commit_of, commit_task};
-ghost use Rattle.line_shares.specs.Committed.{told_count, told_past};
+ghost use Rattle.line_shares.specs.Committed.{no_commit, told_count, told_past};
 ghost use Rattle.worker_tasks.specs.Replies.{told_in};
 
 use ix_base::{Fields, NoMemory, Operation};
@@ -26,6 +26,16 @@ pub fn told_counts(alloc: Global, shares: &[Share]) -> Result<Vec<usize>, NoMemo
 pub struct CommitLine {
     pub line: u32,
     pub pairs: Fields,
+}
+
+impl CommitLine {
+    /// No commit line: its place is 0.
+    pub fn none(alloc: Global) -> CommitLine
+        ensures { result ≡ no_commit }
+    {
+        let pairs = Fields::none(alloc);
+        CommitLine { line: 0, pairs }
+    }
 }
 
 /// The commit that got this number, among the tasks that were told something since so many of each share
@@ -52,8 +62,7 @@ pub fn committed(
             return Ok(CommitLine { line, pairs });
         }
     }
-    let pairs = Fields::none(alloc);
-    Ok(CommitLine { line: 0, pairs })
+    Ok(CommitLine::none(alloc))
 }
 
 /// The line and the pairs of the commit that got this number, among the tasks of a share that were told

@@ -1,16 +1,15 @@
-use Rattle.std.proofs.Common.{List, length, replicate, sym, ap, subst, arith}
+use Rattle.std.proofs.Common.{List, length, sym, ap, subst, arith}
 use Rattle.std.specs.Vec.Iter.{into_iter_items}
 use Rattle.line_shares.specs.declared.place.Place.{Place}
 use Rattle.run_report.specs.declared.outcome.Outcome.{Outcome}
-use Rattle.index_run.proofs.Replying.{IsUnderWay, commits_are, next_line, way_ended, way_first, way_next}
+use Rattle.index_run.proofs.Replying.{IsOnWay, commits_are, next_line, way_ended, way_first, way_next}
 use Rattle.index_run.proofs.outcomes.outcomes_of.Goals as goal
 
 pub loop-place-init : goal.loop-place-init
 loop-place-init c =
-    let base = c.args.base in
     let commits = c.args.commits.now in
-    let lasts = replicate 256 base in
     let told = c.in_ok-told.told.items in
+    let found = c.in_ok-found.found.items in
     let gives = c.into_iter-place-iterator.ensures.into_iter_gives in
     record {
       count =
@@ -18,33 +17,33 @@ loop-place-init c =
           let ok = c.args.places.ok in
           let all = ap length gives.0 in
           omega arith;
-      way = λ lines log can.
-          subst (λ (ps : List Place). IsUnderWay base lines log ps commits lasts told c.in_ok-outcomes.outcomes.items)
+      way = λ first lines log can answered.
+          subst (λ (ps : List Place). IsOnWay first lines log ps commits told found c.in_ok-outcomes.outcomes.items)
           (sym gives.0)
-          (subst (λ (os : List Outcome). IsUnderWay base lines log c.args.places.items commits lasts told os)
+          (subst (λ (os : List Outcome). IsOnWay first lines log c.args.places.items commits told found os)
           (sym c.in_ok-outcomes.ensures.items)
-          (way_first base lines log c.args.places.items c.args.shares.items commits told can c.in_ok-told.ensures));
+          (way_first first lines log c.args.places.items c.args.shares.items commits c.args.texts.items told found can answered
+          c.in_ok-told.ensures c.in_ok-found.ensures));
     }
 
 pub outcome_of-requires : goal.outcome_of-requires
 outcome_of-requires c =
     let at = c.loop-place in
-    let base = c.args.base in
     let commits = c.args.commits.now in
-    let (lines, log, can) = c.requires.told in
+    let (first, lines, log, can, answered) = c.requires.told in
     let next =
-    next_line base lines log (into_iter_items at.place-iterator)
+    next_line first lines log (into_iter_items at.place-iterator)
     (into_iter_items c.next.new.self) c.in-Some.place commits
-    at.lasts at.told.items at.outcomes.items (at.invariant.way lines log can) c.in-Some.ensures.steps.0 in
+    at.told.items at.found.items at.outcomes.items (at.invariant.way first lines log can answered) c.in-Some.ensures.steps.0 in
     record {
       far = (
-        base,
+        first,
         log,
         next.done,
         next.line,
         next.rest,
         next.place,
-        commits_are base lines log c.args.places.items c.args.shares.items commits can,
+        commits_are first.published.upto lines log c.args.places.items c.args.shares.items commits can,
         next.far,
       );
     }
@@ -52,7 +51,6 @@ outcome_of-requires c =
 pub loop-place-preserved : goal.loop-place-preserved
 loop-place-preserved c =
     let at = c.loop-place in
-    let base = c.args.base in
     let commits = c.args.commits.now in
     let more = into_iter_items c.next.new.self in
     let o = c.outcome_of.result in
@@ -63,28 +61,29 @@ loop-place-preserved c =
           let all = ap length steps.0 in
           let before = at.invariant.count in
           omega arith;
-      way = λ lines log can.
+      way = λ first lines log can answered.
           let next =
-          next_line base lines log
-          (into_iter_items at.place-iterator) more c.in-Some.place commits at.lasts at.told.items
-          at.outcomes.items (at.invariant.way lines log can) steps.0 in
-          let are = commits_are base lines log c.args.places.items c.args.shares.items commits can in
-          let after = c.outcome_of.new.lasts in
+          next_line first lines log
+          (into_iter_items at.place-iterator) more c.in-Some.place commits at.told.items at.found.items
+          at.outcomes.items (at.invariant.way first lines log can answered) steps.0 in
+          let are =
+          commits_are first.published.upto lines log c.args.places.items c.args.shares.items commits can in
           let new = c.outcome_of.new.told.items in
-          subst (λ (os : List Outcome). IsUnderWay base lines log more commits after new os)
+          let left = c.outcome_of.new.found.items in
+          subst (λ (os : List Outcome). IsOnWay first lines log more commits new left os)
           (sym c.in_ok-push.ensures.items)
-          (way_next base lines log c.in-Some.place more commits at.lasts after at.told.items new
+          (way_next first lines log c.in-Some.place more commits at.told.items new at.found.items left
           at.outcomes.items o next
-          (c.outcome_of.ensures.outcome base log next.done next.line next.rest next.place are next.far)
-          (c.outcome_of.ensures.far base log next.done next.line next.rest next.place are next.far));
+          (c.outcome_of.ensures.outcome first log next.done next.line next.rest next.place are next.far)
+          (c.outcome_of.ensures.far first log next.done next.line next.rest next.place are next.far));
     }
 
 pub returns : goal.returns
 returns c =
     let at = c.loop-place in
     record {
-      outcomes = λ lines log can.
-          way_ended c.args.base lines log (into_iter_items at.place-iterator) c.args.commits.now at.lasts at.told.items
-          at.outcomes.items (at.invariant.way lines log can)
+      outcomes = λ first lines log can answered.
+          way_ended first lines log (into_iter_items at.place-iterator) c.args.commits.now at.told.items at.found.items
+          at.outcomes.items (at.invariant.way first lines log can answered)
           (let none = c.in-None.ensures.steps.0 in let count = at.invariant.count in omega arith);
     }

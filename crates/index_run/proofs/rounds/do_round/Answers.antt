@@ -4,94 +4,96 @@ use Rattle.line_shares.specs.Shares.{AreShares}
 use Rattle.worker_tasks.specs.declared.share.Share.{Share}
 use Rattle.index_writer.specs.declared.state.State.{State}
 use Rattle.index_writer.specs.declared.writer.IndexWriter.{IndexWriter}
-use Rattle.index_run.specs.Driving.{EndsRound, HasCome, IsCut, IsRound}
+use Rattle.index_run.specs.Driving.{EndsRound, GoesOnBy, IsCut, IsRound}
 use Rattle.index_run.specs.Rounds.{given}
-use Rattle.index_run.proofs.Coming.{come_begun, come_on, round_done}
-use Rattle.index_run.proofs.Rounding.{cut_done, on_fault, on_ok, stopped_cut}
+use Rattle.index_run.specs.declared.rounds.RanFault.TheVariants as halt
+use Rattle.index_run.proofs.Coming.{come_begun, goes_on, round_done}
+use Rattle.index_run.proofs.Rounding.{cut_done, halted_cut, on_fault, on_ok, stopped_cut}
 use Rattle.index_run.proofs.Workers.{at_work, fewer_open}
 use Rattle.index_run.proofs.rounds.do_round.Goals as goal
 
 pub returns-in-Err-clause-cut : goal.returns-in-Err-clause-cut
-returns-in-Err-clause-cut g c = λ r lines commits size come.
+returns-in-Err-clause-cut g c = λ r lines log commits size come.
     stopped_cut g.S.Store.disk r lines _ _ _ c.stopped.ensures
-    (subst (IsCut r lines) (sym (ap (λ s. g.S.Store.disk s) c.begin_round.ensures.store))
-    (cut_done r lines c.args.shares.items come.log c.args.writer.state _ come.done))
+    (subst (IsCut r lines (halt.Writer c.in-Err.fault)) (sym (ap (λ s. g.S.Store.disk s) c.begin_round.ensures.store))
+    (cut_done r lines c.args.shares.items log c.args.writer.state _ come.done))
 
 pub returns-in-Err-told_counts-clause-cut : goal.returns-in-Err-told_counts-clause-cut
-returns-in-Err-told_counts-clause-cut g c = λ r lines commits size come.
+returns-in-Err-told_counts-clause-cut g c = λ r lines log commits size come.
     let w = c.args.writer in
     let v = c.begin_round.new.writer in
     let shares = c.args.shares.items in
     let begun =
-    come_begun r lines shares commits c.args.pairs w.state v.state (g.S.Store.disk w.store) (g.S.Store.disk v.store)
+    come_begun r lines shares log commits c.args.due w.state v.state (g.S.Store.disk w.store) (g.S.Store.disk v.store)
     (ap (λ s. g.S.Store.disk s) c.begin_round.ensures.store) c.in-Ok.ensures.on c.begin_round.ensures.sound come in
     stopped_cut g.S.Store.disk r lines _ _ _ c.stopped-in-Err-told_counts.ensures
-    (cut_done r lines shares begun.log _ _ begun.done)
+    (cut_done r lines shares log _ _ begun.done)
 
 pub run_round-writer-requires-clause-workers : goal.run_round-writer-requires-clause-workers
 run_round-writer-requires-clause-workers g c κs within =
     let q = c.requires.come in
     let shares = c.args.shares.items in
     at_work c.args.threads c.args.writer.state c.in-Ok.round q.1 shares c.in-Ok.ensures.begun
-    (subst (λ (n : ℕ). AreShares n q.1 shares) q.3 q.4.done.shares_are)
+    (subst (λ (n : ℕ). AreShares n q.1 shares) q.4.0 q.5.done.shares_are)
 
 pub returns-in-Err-came-clause-cut : goal.returns-in-Err-came-clause-cut
-returns-in-Err-came-clause-cut g c = λ r lines commits size come.
+returns-in-Err-came-clause-cut g c = λ r lines log commits size come.
     let w = c.args.writer in
     let v = c.begin_round.new.writer in
     let shares = c.args.shares.items in
     let begun =
-    come_begun r lines shares commits c.args.pairs w.state v.state (g.S.Store.disk w.store) (g.S.Store.disk v.store)
+    come_begun r lines shares log commits c.args.due w.state v.state (g.S.Store.disk w.store) (g.S.Store.disk v.store)
     (ap (λ s. g.S.Store.disk s) c.begin_round.ensures.store) c.in-Ok.ensures.on c.begin_round.ensures.sound come in
-    stopped_cut g.S.Store.disk r lines _ _ _ c.stopped-in-Err-came.ensures
-    (subst (λ (x : IndexWriter g.row.S.Denot). IsCut r lines (g.S.Store.disk x.store)) (sym c.let_go.ensures)
-    (on_fault _ _ c.in-Err-came.is (c.run_round-writer.ensures.beside.0.cut r lines shares commits begun)))
+    halted_cut g.S.Store.disk r lines _ _ _ c.halted.ensures
+    (subst (λ (x : IndexWriter g.row.S.Denot). IsCut r lines c.in-Err-came.fault (g.S.Store.disk x.store)) (sym c.let_go.ensures)
+    (on_fault _ _ _ c.in-Err-came.is (c.run_round-writer.ensures.beside.0.cut r lines shares log commits size.1 begun)))
 
 pub returns-in-Err-back-clause-cut : goal.returns-in-Err-back-clause-cut
-returns-in-Err-back-clause-cut g c = λ r lines commits size come.
+returns-in-Err-back-clause-cut g c = λ r lines log commits size come.
     let w = c.args.writer in
     let v = c.begin_round.new.writer in
     let shares = c.args.shares.items in
     let begun =
-    come_begun r lines shares commits c.args.pairs w.state v.state (g.S.Store.disk w.store) (g.S.Store.disk v.store)
+    come_begun r lines shares log commits c.args.due w.state v.state (g.S.Store.disk w.store) (g.S.Store.disk v.store)
     (ap (λ s. g.S.Store.disk s) c.begin_round.ensures.store) c.in-Ok.ensures.on c.begin_round.ensures.sound come in
-    let next = on_ok _ _ _ c.in-Ok-came.is (c.run_round-writer.ensures.beside.0.come r lines shares commits begun) in
-    stopped_cut g.S.Store.disk r lines _ _ _ c.stopped-in-Err-back.ensures (cut_done r lines shares next.log _ _ next.done)
+    let next = on_ok _ _ _ c.in-Ok-came.is (c.run_round-writer.ensures.beside.0.come r lines shares log commits size.1 begun) in
+    stopped_cut g.S.Store.disk r lines _ _ _ c.stopped-in-Err-back.ensures (cut_done r lines shares log _ _ next.done)
 
 pub returns-in-Err-part-clause-cut : goal.returns-in-Err-part-clause-cut
-returns-in-Err-part-clause-cut g c = λ r lines commits size come.
+returns-in-Err-part-clause-cut g c = λ r lines log commits size come.
     let w = c.args.writer in
     let v = c.begin_round.new.writer in
     let shares = c.args.shares.items in
     let begun =
-    come_begun r lines shares commits c.args.pairs w.state v.state (g.S.Store.disk w.store) (g.S.Store.disk v.store)
+    come_begun r lines shares log commits c.args.due w.state v.state (g.S.Store.disk w.store) (g.S.Store.disk v.store)
     (ap (λ s. g.S.Store.disk s) c.begin_round.ensures.store) c.in-Ok.ensures.on c.begin_round.ensures.sound come in
-    let next = on_ok _ _ _ c.in-Ok-came.is (c.run_round-writer.ensures.beside.0.come r lines shares commits begun) in
-    stopped_cut g.S.Store.disk r lines _ _ _ c.stopped-in-Err-part.ensures (cut_done r lines shares next.log _ _ next.done)
+    let next = on_ok _ _ _ c.in-Ok-came.is (c.run_round-writer.ensures.beside.0.come r lines shares log commits size.1 begun) in
+    stopped_cut g.S.Store.disk r lines _ _ _ c.stopped-in-Err-part.ensures (cut_done r lines shares log _ _ next.done)
 
 pub finish_round-requires-clause-round : goal.finish_round-requires-clause-round
 finish_round-requires-clause-round g c κs within =
     let q = c.requires.come in
     let r = q.0 in
     let lines = q.1 in
-    let commits = q.2 in
-    let size = q.3 in
-    let come = q.4 in
+    let log = q.2 in
+    let commits = q.3 in
+    let size = q.4 in
+    let come = q.5 in
     let w = c.args.writer in
     let v = c.begin_round.new.writer in
     let shares = c.args.shares.items in
     let begun =
-    come_begun r lines shares commits c.args.pairs w.state v.state (g.S.Store.disk w.store) (g.S.Store.disk v.store)
+    come_begun r lines shares log commits c.args.due w.state v.state (g.S.Store.disk w.store) (g.S.Store.disk v.store)
     (ap (λ s. g.S.Store.disk s) c.begin_round.ensures.store) c.in-Ok.ensures.on c.begin_round.ensures.sound come in
     let wrote = c.run_round-writer.ensures.beside.0 in
-    let next = on_ok _ _ _ c.in-Ok-came.is (wrote.come r lines shares commits begun) in
+    let next = on_ok _ _ _ c.in-Ok-came.is (wrote.come r lines shares log commits size.1 begun) in
     let none = on_ok _ _ _ c.in-Ok-came.is wrote.written in
     let back = c.in-Ok-part.ensures in
     let on = c.in-Ok.ensures.on in
     let news = c.in-Ok-part.parted.1.items in
     let round =
-    round_done r lines _ _ c.args.threads w.state _ c.in-Ok.round shares news c.in-Ok-back.worked.items c.in-Ok-part.parted.0 _
-    size next none (wrote.same.0 ∙ ap (λ (s : State). s.out) on)
+    round_done r lines log _ _ c.args.threads w.state _ c.in-Ok.round shares news c.in-Ok-back.worked.items c.in-Ok-part.parted.0 _
+    size.0 next none (wrote.same.0 ∙ ap (λ (s : State). s.out) on)
     (on_ok _ _ _ c.in-Ok-came.is wrote.upto ∙ ap (λ (s : State). s.published.upto) on) (wrote.same.1 ∙ ap (λ (s : State). s.buffer) on)
     c.in-Ok.ensures.begun (on_ok _ _ _ c.in-Ok-back.is c.run_round-writer.ensures.works) back.came back.queue back.writers back.pieces back.shares in
     let mid = c.run_round-writer.result.0.writer in
@@ -102,28 +104,28 @@ finish_round-requires-clause-round g c κs within =
       r,
       lines,
       shares,
-      next.log,
+      log,
       counts,
-      subst (λ (ss : List Share). IsRound r lines shares ss next.log mid.state parts (g.S.Store.disk mid.store)) (sym left) round,
+      subst (λ (ss : List Share). IsRound r lines shares ss log mid.state parts (g.S.Store.disk mid.store)) (sym left) round,
     )
 
 pub returns-in-Ok-finish_round-clause-come : goal.returns-in-Ok-finish_round-clause-come
-returns-in-Ok-finish_round-clause-come g c = λ r lines commits size come.
+returns-in-Ok-finish_round-clause-come g c = λ r lines log commits size come.
     let w = c.args.writer in
     let v = c.begin_round.new.writer in
     let shares = c.args.shares.items in
     let begun =
-    come_begun r lines shares commits c.args.pairs w.state v.state (g.S.Store.disk w.store) (g.S.Store.disk v.store)
+    come_begun r lines shares log commits c.args.due w.state v.state (g.S.Store.disk w.store) (g.S.Store.disk v.store)
     (ap (λ s. g.S.Store.disk s) c.begin_round.ensures.store) c.in-Ok.ensures.on c.begin_round.ensures.sound come in
     let wrote = c.run_round-writer.ensures.beside.0 in
-    let next = on_ok _ _ _ c.in-Ok-came.is (wrote.come r lines shares commits begun) in
+    let next = on_ok _ _ _ c.in-Ok-came.is (wrote.come r lines shares log commits size.1 begun) in
     let none = on_ok _ _ _ c.in-Ok-came.is wrote.written in
     let back = c.in-Ok-part.ensures in
     let on = c.in-Ok.ensures.on in
     let news = c.in-Ok-part.parted.1.items in
     let round =
-    round_done r lines _ _ c.args.threads w.state _ c.in-Ok.round shares news c.in-Ok-back.worked.items c.in-Ok-part.parted.0 _
-    size next none (wrote.same.0 ∙ ap (λ (s : State). s.out) on)
+    round_done r lines log _ _ c.args.threads w.state _ c.in-Ok.round shares news c.in-Ok-back.worked.items c.in-Ok-part.parted.0 _
+    size.0 next none (wrote.same.0 ∙ ap (λ (s : State). s.out) on)
     (on_ok _ _ _ c.in-Ok-came.is wrote.upto ∙ ap (λ (s : State). s.published.upto) on) (wrote.same.1 ∙ ap (λ (s : State). s.buffer) on)
     c.in-Ok.ensures.begun (on_ok _ _ _ c.in-Ok-back.is c.run_round-writer.ensures.works) back.came back.queue back.writers back.pieces back.shares in
     let mid = c.run_round-writer.result.0.writer in
@@ -133,14 +135,14 @@ returns-in-Ok-finish_round-clause-come g c = λ r lines commits size come.
     c.as_slice-told.ensures.value ∙ c.in-Ok-told_counts.ensures ∙ ap (map told_count) c.as_slice.ensures.value in
     let v' = c.finish_round.new.writer.state in
     let same = ap (λ s. g.S.Store.disk s) c.finish_round.ensures.store in
-    let pairs = c.in-Ok-finish_round.pairs in
+    let due = c.in-Ok-finish_round.due in
     let ends =
-    c.in-Ok-finish_round.ensures.ends r lines shares next.log counts
-    (subst (λ (ss : List Share). IsRound r lines shares ss next.log mid.state parts (g.S.Store.disk mid.store)) (sym left) round) in
-    subst (HasCome r lines news (given commits c.in-Ok-came.commit) pairs v') (sym same)
-    (come_on r lines shares news _ _ pairs _ v' _ next none
-    (subst (EndsRound r lines news next.log pairs v') same
-    (subst (λ (ss : List Share). EndsRound r lines ss next.log pairs v' (g.S.Store.disk c.finish_round.new.writer.store)) left ends)))
+    c.in-Ok-finish_round.ensures.ends r lines shares log counts
+    (subst (λ (ss : List Share). IsRound r lines shares ss log mid.state parts (g.S.Store.disk mid.store)) (sym left) round) in
+    subst (GoesOnBy r lines news log (given commits c.in-Ok-came.commit) due v') (sym same)
+    (goes_on r lines shares news log _ _ due _ v' _ next none
+    (subst (EndsRound r lines news log due v') same
+    (subst (λ (ss : List Share). EndsRound r lines ss log due v' (g.S.Store.disk c.finish_round.new.writer.store)) left ends)))
 
 pub returns-in-Ok-finish_round-clause-goes_on : goal.returns-in-Ok-finish_round-clause-goes_on
 returns-in-Ok-finish_round-clause-goes_on g c =
@@ -150,14 +152,14 @@ returns-in-Ok-finish_round-clause-goes_on g c =
     back.writers back.shares c.in-Ok-finish_round.ensures.open
 
 pub returns-clause-cut : goal.returns-clause-cut
-returns-clause-cut g c = λ r lines commits size come.
+returns-clause-cut g c = λ r lines log commits size come.
     let w = c.args.writer in
     let v = c.begin_round.new.writer in
     let shares = c.args.shares.items in
     let begun =
-    come_begun r lines shares commits c.args.pairs w.state v.state (g.S.Store.disk w.store) (g.S.Store.disk v.store)
+    come_begun r lines shares log commits c.args.due w.state v.state (g.S.Store.disk w.store) (g.S.Store.disk v.store)
     (ap (λ s. g.S.Store.disk s) c.begin_round.ensures.store) c.in-Ok.ensures.on c.begin_round.ensures.sound come in
-    let next = on_ok _ _ _ c.in-Ok-came.is (c.run_round-writer.ensures.beside.0.come r lines shares commits begun) in
+    let next = on_ok _ _ _ c.in-Ok-came.is (c.run_round-writer.ensures.beside.0.come r lines shares log commits size.1 begun) in
     stopped_cut g.S.Store.disk r lines _ _ _ c.stopped-in-Err-finish_round.ensures
-    (subst (IsCut r lines) (sym (ap (λ s. g.S.Store.disk s) c.finish_round.ensures.store))
-    (cut_done r lines shares next.log _ _ next.done))
+    (subst (IsCut r lines (halt.Writer c.in-Err-finish_round.fault)) (sym (ap (λ s. g.S.Store.disk s) c.finish_round.ensures.store))
+    (cut_done r lines shares log _ _ next.done))

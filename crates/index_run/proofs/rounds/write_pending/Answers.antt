@@ -1,4 +1,4 @@
-use Rattle.std.proofs.Common.{◌≡◌, ◌∙◌, ◌≤◌, ◌^◌, false, refl, sym, ap, subst, arith}
+use Rattle.std.proofs.Common.{◌≡◌, ◌∙◌, ◌≤◌, ◌^◌, None, false, refl, sym, ap, subst, arith}
 use Rattle.index_writer.specs.declared.state.State.{State}
 use Rattle.index_run.specs.Driving.{WritesPending}
 use Rattle.index_run.specs.Leaving.{CommitLaws}
@@ -8,12 +8,13 @@ use Rattle.index_run.proofs.rounds.write_pending.Goals as goal
 
 pub returns-then-next_id-gt-MOST-clause-pending : goal.returns-then-next_id-gt-MOST-clause-pending
 returns-then-next_id-gt-MOST-clause-pending g c =
-    subst (WritesPending g.S.Store.disk c.args.pairs.now c.args.writer) (sym c.stopped.ensures) (record {
-      come = λ r lines shares commits come. tt;
-      cut = λ r lines shares commits come.
-          cut_done r lines shares come.log c.args.writer.state (g.S.Store.disk c.args.writer.store) come.done;
+    subst (WritesPending g.S.Store.disk None c.args.due.now c.args.writer) (sym c.stopped.ensures) (record {
+      come = λ r lines shares log commits keeps come. tt;
+      cut = λ r lines shares log commits keeps come.
+          cut_done r lines shares log c.args.writer.state (g.S.Store.disk c.args.writer.store) come.done;
       written = tt;
       upto = tt;
+      is_open = tt;
       same = (refl, refl);
       sound = c.requires.sound;
     })
@@ -32,13 +33,14 @@ returns-in-Ok-clause-pending g c =
     } in
     let closed : x.state.closed ≡ false = ap (λ (s : State). s.closed) well.on ∙ c.requires.open in
     record {
-      come = λ r lines shares commits come.
-          come_written r lines shares commits c.args.pairs.now w.state x.state (g.S.Store.disk w.store) (g.S.Store.disk x.store) come
+      come = λ r lines shares log commits keeps come.
+          come_written r lines shares log commits c.args.due.now w.state x.state (g.S.Store.disk w.store) (g.S.Store.disk x.store) come
           c.in-Ok.info laws well.number well.on (well.sound closed) low well.docs well.stands well.made
           well.acknowledged well.settled c.commit.ensures.crash c.commit.ensures.only c.commit.ensures.standing;
-      cut = λ r lines shares commits come. tt;
+      cut = λ r lines shares log commits keeps come. tt;
       written = ap (λ (s : State). s.pending) well.on;
       upto = ap (λ (s : State). s.published.upto) well.on;
+      is_open = closed;
       same = (ap (λ (s : State). s.out) well.on, ap (λ (s : State). s.buffer) well.on);
       sound = c.commit.ensures.sound;
     }
@@ -56,14 +58,15 @@ returns-in-Err-clause-pending g c =
     } in
     let some =
     pending_there w.state.pending _ _ c.pending_commit.ensures c.is_none.ensures c.if-is_none.false in
-    subst (WritesPending g.S.Store.disk c.args.pairs.now w) (sym c.stopped-in-Err.ensures) (record {
-      come = λ r lines shares commits come. tt;
-      cut = λ r lines shares commits come.
-          cut_written r lines shares come.log c.args.pairs.now w.state some.0 (g.S.Store.disk w.store) (g.S.Store.disk x.store) laws
-          come.done some.1 come.due_pairs (c.in-Err.ensures.left low) (c.commit.ensures.crash low) c.commit.ensures.only
+    subst (WritesPending g.S.Store.disk None c.args.due.now w) (sym c.stopped-in-Err.ensures) (record {
+      come = λ r lines shares log commits keeps come. tt;
+      cut = λ r lines shares log commits keeps come.
+          cut_written r lines shares log c.args.due.now w.state some.0 (g.S.Store.disk w.store) (g.S.Store.disk x.store) laws
+          come.done some.1 come.is_due (c.in-Err.ensures.left low) (c.commit.ensures.crash low) c.commit.ensures.only
           c.commit.ensures.standing;
       written = tt;
       upto = tt;
+      is_open = tt;
       same = (ap (λ (s : State). s.out) c.in-Err.ensures.err, ap (λ (s : State). s.buffer) c.in-Err.ensures.err);
       sound = c.commit.ensures.sound;
     })

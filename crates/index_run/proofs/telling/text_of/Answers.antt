@@ -1,7 +1,4 @@
 use Rattle.index_run.proofs.telling.text_of.Goals as goal
 
-pub returns-in-Report-clause-report : goal.returns-in-Report-clause-report
-returns-in-Report-clause-report g c = λ files by is told search found. c.report_of.ensures.text files by told search found
-
 pub returns-in-Summary-clause-summary : goal.returns-in-Summary-clause-summary
 returns-in-Summary-clause-summary g c = λ files next rows is told holds. c.summary.ensures.text files next rows told holds

@@ -1,0 +1,61 @@
+-- What a run leaves on the disk that gives up old commits as it goes on.
+use Rattle.std.specs.Prelude.{◌≡◌, ℕ, ◌+◌, ◌*◌, ◌≤◌, List, length, Option, Some, None, IsSomeAnd}
+use Rattle.ix_outside.specs.Calls.{LeavesOnly}
+use Rattle.ix_outside.specs.Crash.{MayHold}
+use Rattle.ix_outside.specs.Disk.{Disk, told_files}
+use Rattle.ix_outside.specs.Files.{Files}
+use Rattle.commit_point.specs.Holds.{AreKept}
+use Rattle.commit_pruning.specs.Pruning.{MayBePruned}
+use Rattle.op_script.specs.declared.script.Line.{Line}
+use Rattle.index_writer.specs.declared.state.State.{State}
+use Rattle.index_writer.specs.Standing.{CommitsStand, PrunedGoOn, StandingStays, StandsOnLast}
+use Rattle.index_writer.specs.Storing.{GoesOn}
+use Rattle.index_run.specs.Keeping.{AreSpelled}
+use Rattle.index_run.specs.Leaving.{HasSomeFront, IsDiskAfter, Stands, first_numbers}
+
+-- The laws of a writer of whose store old commits are given up.
+pub record KeepLaws : Type 0 where
+  pub stand : CommitsStand
+  pub stay : StandingStays
+  pub go_on : PrunedGoOn
+
+-- The files are what is left of files in which the log's commits stand; the writer can go on from them, and what is on
+-- the store of its segments stands in its last commit.
+pub record StandsLeft (keep : ℕ) (first : State) (log : List Line) (numbers : List ℕ) (w : State) (old now : Files) : Type 0 where
+  pub was : Files
+  pub stands : Stands first log numbers w old was
+  pub left : MayBePruned keep was now
+  pub goes_on : GoesOn now w
+  pub on_last : StandsOnLast now w
+
+-- the files are what is left of files that have the first of the log's commits
+abbrev pub LeftSome : ℕ → State → List Line → Files → Files → Type 0
+LeftSome keep first log old files = (was : Files) × HasSomeFront first log old was × MayBePruned keep was files
+
+-- What the run began on: the store told these files, from which the writer can go on.
+pub record BeginsOnLast (first : State) (old : Files) (start : Option Disk) : Type 0 where
+  pub told : told_files start ≡ Some old
+  pub goes_on : GoesOn old first
+  pub on_last : StandsOnLast old first
+
+-- What a run has left on the disk that began on these files: of its log the commits of the first `count` lines were
+-- written, and all but so many of the latest commits may have been given up.
+pub record IsDiskLeft (keep : ℕ) (first : State) (log : List Line) (count : ℕ) (w : State) (old : Files) (start now : Option Disk)
+    : Type 0 where
+  pub files : IsSomeAnd (told_files now) (StandsLeft keep first log (first_numbers first log count) w old)
+  pub kept : AreKept old (MayHold start) → (n : Files) → told_files now ≡ Some n → AreKept n (MayHold now)
+  pub crash : AreKept old (MayHold start) → LeavesOnly start now (LeftSome keep first log old)
+
+-- The same of whatever the store told when the run began. Each commit file is as it was then, or in the grammar.
+pub record IsDiskKeeping (keep : ℕ) (first : State) (log : List Line) (count : ℕ) (w : State) (start now : Option Disk) : Type 0 where
+  pub laws : KeepLaws
+  pub some : 1 ≤ keep
+  pub low : first.published.next_id ≤ w.since
+  pub high : w.since ≤ first.published.next_id + 2 * length log
+  pub spelled : (old : Files) → told_files start ≡ Some old → IsSomeAnd (told_files now) (AreSpelled old)
+  pub left : (old : Files) → BeginsOnLast first old start → IsDiskLeft keep first log count w old start now
+
+-- The same of a run that keeps all commits, or so many of the latest.
+abbrev pub IsDiskBy : Option ℕ → State → List Line → ℕ → State → Option Disk → Option Disk → Type 0
+IsDiskBy None = IsDiskAfter
+IsDiskBy (Some keep) = IsDiskKeeping keep
