@@ -152,10 +152,11 @@ fn do_rounds<R: Threads + Wait + Sync, S: Store, G: Gate>(
             Ok(left) => left,
             Err(fault) => return Ran::halted(writer, fault),
         };
+        let place = left.due.line;
+        let commit = left.commit;
         shares = left.shares;
         due = left.due;
-        let commit = left.commit;
-        match settle(alloc, &mut writer, &mut commits, commit, &due, asks, &mut texts) {
+        match settle(alloc, &mut writer, &mut commits, commit, place, asks, &mut texts) {
             Ok(()) => {}
             Err(error) => return Ran::stopped(writer, WriterFault::from(error)),
         }
@@ -186,13 +187,13 @@ fn first_texts<S>(
 }
 
 /// Notes the commit that was written beside a round, if one was, and answers the search lines that stand behind the
-/// commit line with which the round ended, if it ended with one. The only error is out of memory.
+/// commit line with which the round ended, at this place, if it ended with one. The only error is out of memory.
 fn settle<S>(
     alloc: Global,
     writer: &mut IndexWriter<S>,
     commits: &mut Vec<(u64, u64)>,
     commit: Option<CommitInfo>,
-    due: &CommitLine,
+    place: u32,
     asks: &[Vec<Ask>],
     texts: &mut Vec<Vec<List<u8>>>,
 ) -> Result<(), NoMemory>
@@ -200,7 +201,7 @@ fn settle<S>(
     ensures noted { OnOk result (commits.new.items ≡ given commits.old.items commit) }
     ensures none { writer.old.state.pending ≡ None → OnOk result (texts.new.items ≡ texts.old.items) }
     ensures answers { IsSome writer.old.state.pending → OnOk result
-        (AllAnswerBehind writer.old.state due.now.line asks.now texts.old.items texts.new.items) }
+        (AllAnswerBehind writer.old.state place asks.now texts.old.items texts.new.items) }
     ensures count { length texts.new.items ≡ length asks.now }
     ensures state { writer.new.state ≡ writer.old.state }
     ensures store { writer.new.store ≡ writer.old.store }
@@ -209,7 +210,7 @@ fn settle<S>(
     if writer.pending_commit().is_none() {
         return Ok(());
     }
-    answer_behind(alloc, writer, due.line, asks, texts.as_mut_slice())
+    answer_behind(alloc, writer, place, asks, texts.as_mut_slice())
 }
 
 /// Writes the commit with which the last round ended, by its line, if it ended with one, and notes it.

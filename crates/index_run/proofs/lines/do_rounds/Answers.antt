@@ -26,7 +26,7 @@ loop-alloc-init g c =
     let said = c.in-Ok.ensures.answers in
     record {
       come = λ r lines size begins.
-          subst (λ (d : CommitLine). IsUnderWay r lines shares asks [] d texts v.state (g.S.Store.disk v.store)) (sym c.none.ensures)
+          subst (λ (d : CommitLine). IsUnderWay r lines shares asks [] d texts v.state (g.S.Store.disk v.store)) (sym c.none-due.ensures)
           (subst (λ (x : State). IsUnderWay r lines shares asks [] no_commit texts x (g.S.Store.disk v.store)) (sym c.first_texts.ensures.state)
           (subst (λ (d : Option Disk). IsUnderWay r lines shares asks [] no_commit texts w.state d) (sym (ap (λ s. g.S.Store.disk s) c.first_texts.ensures.store))
           (under_way r lines shares asks w.state (g.S.Store.disk w.store) said.0 texts begins said.1 said.2)));

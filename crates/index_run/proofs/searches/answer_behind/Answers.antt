@@ -1,5 +1,6 @@
 use Rattle.std.proofs.Common.{◌≡◌, ◌∙◌, ℕ, suc, ◌+◌, List, length, sym, subst, arith}
 use Rattle.std.specs.Prelude.{slice_set}
+use Rattle.std.specs.Global.{Vec}
 use Rattle.index_writer.specs.declared.state.State.{State}
 use Rattle.line_shares.specs.declared.asks.Ask.{Ask}
 use Rattle.index_run.specs.Answered.{AnswersBehind}
@@ -23,7 +24,8 @@ loop-caller-preserved g c =
           (sym c.index-asks-caller.is) (sym c.index-texts-caller.is)
           (subst (λ (s : State). AnswersBehind s c.args.place own.items texts.items new.items) at.invariant.state
           (subst (λ (these : List Ask). AnswersBehind at.writer.state c.args.place these texts.items new.items) c.as_slice.ensures.value
-          c.in_ok-answer_caller.ensures.answers)));
+          (subst (λ (t : Vec (List ℕ)). AnswersBehind at.writer.state c.args.place c.as_slice.result.now t.items new.items)
+          (sym c.index-texts-caller.is) c.in_ok-answer_caller.ensures.answers))));
       state = c.answer_caller.ensures.state ∙ at.invariant.state;
       store = c.answer_caller.ensures.store ∙ at.invariant.store;
     }
