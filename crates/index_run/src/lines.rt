@@ -156,7 +156,15 @@ fn do_rounds<R: Threads + Wait + Sync, S: Store, G: Gate>(
         let commit = left.commit;
         shares = left.shares;
         due = left.due;
-        match settle(alloc, &mut writer, &mut commits, commit, place, asks, &mut texts) {
+        match settle(
+            alloc,
+            &mut writer,
+            &mut commits,
+            commit,
+            place,
+            asks,
+            &mut texts,
+        ) {
             Ok(()) => {}
             Err(error) => return Ran::stopped(writer, WriterFault::from(error)),
         }
@@ -214,11 +222,7 @@ fn settle<S>(
 }
 
 /// Writes the commit with which the last round ended, by its line, if it ended with one, and notes it.
-fn write_last<S: Store>(
-    writer: IndexWriter<S>,
-    rounds: Rounds,
-    due: &CommitLine,
-) -> Ran<S, Rounds>
+fn write_last<S: Store>(writer: IndexWriter<S>, rounds: Rounds, due: &CommitLine) -> Ran<S, Rounds>
     requires come { (r : Run) × (lines log : ListOf Line)
         × HasCome r lines rounds.shares.items log rounds.commits.items due.now writer.state
         (S.disk writer.store) }
