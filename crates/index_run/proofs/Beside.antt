@@ -1,5 +1,5 @@
 -- A run that keeps all commits beside its rounds, or so many.
-use Rattle.std.proofs.Common.{◌≡◌, ◌⊎◌, inl, inr, ℕ, ◌-◌, ◌≤◌, List, [], ◌∷◌, length, map, Some, None, Ok, Err, Result, refl, sym, subst, Vec}
+use Rattle.std.proofs.Common.{◌≡◌, ◌∙◌, ◌⊎◌, inl, inr, ℕ, ◌-◌, ◌≤◌, List, [], ◌∷◌, length, map, Some, None, Ok, Err, Result, refl, sym, subst, Vec}
 use Rattle.std.specs.Prelude.{Option, IfErr, IfOk, IfSome, IsSomeAnd, count_by}
 use Rattle.std.specs.declared.alloc.Global.{Global}
 use Rattle.ix_base.specs.Hits.{hit_of}

@@ -136,8 +136,8 @@ returns-in-Ok-came-clause-done g c = λ run same told can.
     same_disks (λ a b. IfOk c.text_of.result (λ text. RunsLeavingBy c.args.beside run (form_text c.args.form run) (λ said. text.items ≡ said) a b)) start began
     (g.S.Store.disk c.into_parts-store.result.0) (g.S.Store.disk c.text_of.new.store) c.in-Ok.ensures.reads c.text_of.ensures.reads
     (texts_by c.made_runs.ensures c.args.beside run (run_of g c) c.args.form c.args.lines c.as_slice.result.now _ _ c.upto-base.result
-    c.upto.result c.text_of.result c.requires.beside same c.requires.made can
-    (told_still start began run.files c.in-Ok.ensures.reads told) on (over g c) c.upto-base.ensures c.upto.ensures
+    c.upto-upto.result c.text_of.result c.requires.beside same c.requires.made can
+    (told_still start began run.files c.in-Ok.ensures.reads told) on (over g c) c.upto-base.ensures c.upto-upto.ensures
     c.text_of.ensures.report c.text_of.ensures.summary)
 
 pub returns-in-Ok-came-clause-stops : goal.returns-in-Ok-came-clause-stops
@@ -169,10 +169,10 @@ returns-in-Ok-came-clause-steps g c =
 pub returns-in-Ok-came-clause-whole : goal.returns-in-Ok-came-clause-whole
 returns-in-Ok-came-clause-whole g c = λ run told last can may_keep.
     let began = g.S.Store.disk c.in-Ok.writer.store in
-    whole_by c.made_runs.ensures c.args.beside run (run_of g c) c.args.form c.args.lines c.as_slice.result.now _ _ c.upto.result
+    whole_by c.made_runs.ensures c.args.beside run (run_of g c) c.args.form c.args.lines c.as_slice.result.now _ _ c.upto-upto.result
     c.text_of.result c.requires.beside c.requires.made can.0
     (told_still (g.S.Store.disk c.args.store) began run.files c.in-Ok.ensures.reads told) (c.in-Ok.ensures.on run told last can.0)
-    c.upto.ensures (over g c) c.text_of.ensures.whole
+    c.upto-upto.ensures (over g c) c.text_of.ensures.whole
 
 -- where the text met what is damaged the store tells nothing
 none_told : (g : given.Over) (c : goal.After-drop-outcomes g) (damaged : Damaged)
@@ -181,11 +181,11 @@ none_told : (g : given.Over) (c : goal.After-drop-outcomes g) (damaged : Damaged
 none_told g c damaged is =
     let before = c.in-Ok.ensures.reads in
     let none =
-    untold_by c.made_runs.ensures c.args.beside (run_of g c) c.args.form c.args.lines c.as_slice.result.now _ _ c.upto.result
+    untold_by c.made_runs.ensures c.args.beside (run_of g c) c.args.form c.args.lines c.as_slice.result.now _ _ c.upto-upto.result
     c.text_of.result damaged c.requires.beside c.requires.made
     (λ f told. c.in-Ok.ensures.begins f (sym (ap told_files before) ∙ told))
     (λ run told last on. c.in-Ok.ensures.on run (sym (ap told_files before) ∙ told) last on)
-    c.upto.ensures (over g c) c.text_of.ensures.whole (c.text_of.ensures.damaged damaged is) is in
+    c.upto-upto.ensures (over g c) c.text_of.ensures.whole (c.text_of.ensures.damaged damaged is) is in
     (sym before ∙ none.0, none.1)
 
 pub returns-in-Ok-came-clause-damaged : goal.returns-in-Ok-came-clause-damaged
@@ -194,7 +194,7 @@ returns-in-Ok-came-clause-damaged g c = λ damaged is.
     inl (subst (λ (told : Option Files). ReadsDamaged c.args.form c.args.lines (told_files (g.S.Store.disk c.args.store)) told damaged)
     (sym (ap told_files c.text_of.ensures.reads))
     (damaged_in c.made_runs.ensures (run_of g c) c.args.form c.args.lines c.as_slice.result.now _ _ _ c.upto-base.result
-    c.upto.result damaged c.requires.made c.in-Ok.ensures.last c.upto.ensures (over g c)
+    c.upto-upto.result damaged c.requires.made c.in-Ok.ensures.last c.upto-upto.ensures (over g c)
     (ap told_files none.0, ap told_files none.1) (c.text_of.ensures.damaged damaged is)))
 
 pub returns-in-Ok-came-clause-same : goal.returns-in-Ok-came-clause-same

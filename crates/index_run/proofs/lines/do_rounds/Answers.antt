@@ -26,10 +26,11 @@ loop-alloc-init g c =
     let said = c.in-Ok.ensures.answers in
     record {
       come = λ r lines size begins.
-          subst (λ (d : CommitLine). IsUnderWay r lines shares asks [] d texts v.state (g.S.Store.disk v.store)) (sym c.none-due.ensures)
+          subst (λ (cs : List (ℕ × ℕ)). IsUnderWay r lines shares asks cs c.none-due.result texts v.state (g.S.Store.disk v.store)) (sym c.new-commits.ensures.items)
+          (subst (λ (d : CommitLine). IsUnderWay r lines shares asks [] d texts v.state (g.S.Store.disk v.store)) (sym c.none-due.ensures)
           (subst (λ (x : State). IsUnderWay r lines shares asks [] no_commit texts x (g.S.Store.disk v.store)) (sym c.first_texts.ensures.state)
           (subst (λ (d : Option Disk). IsUnderWay r lines shares asks [] no_commit texts w.state d) (sym (ap (λ s. g.S.Store.disk s) c.first_texts.ensures.store))
-          (under_way r lines shares asks w.state (g.S.Store.disk w.store) said.0 texts begins said.1 said.2)));
+          (under_way r lines shares asks w.state (g.S.Store.disk w.store) said.0 texts begins said.1 said.2))));
       count = behind_count w.state 0 asks said.0 texts said.2;
       out = ap (λ (s : State). s.out) c.first_texts.ensures.state ∙ c.requires.out;
       few = omega arith;
@@ -65,10 +66,10 @@ loop-alloc-preserved g c =
           on_ok _ _ _ c.in-Ok-came.is (c.do_round-round.ensures.come r lines way.log at.commits.items size way.come) in
           subst (λ (x : State). IsUnderWay r lines left.shares.items asks commits left.due texts x (g.S.Store.disk v.store)) (sym c.settle.ensures.state)
           (subst (λ (d : Option Disk). IsUnderWay r lines left.shares.items asks commits left.due texts w.state d) (sym (ap (λ s. g.S.Store.disk s) c.settle.ensures.store))
-          (subst (λ (cs : List (ℕ × ℕ)). IsUnderWay r lines left.shares.items asks cs left.due texts w.state (g.S.Store.disk w.store)) (sym c.in-Ok-settle.ensures.noted)
+          (subst (λ (cs : List (ℕ × ℕ)). IsUnderWay r lines left.shares.items asks cs left.due texts w.state (g.S.Store.disk w.store)) (sym (rw c.in-Ok-came.is at c.in-Ok-settle.ensures.noted))
           (way_on r lines left.shares.items asks way.log (given at.commits.items left.commit) left.due at.texts.items texts
           w.state (g.S.Store.disk w.store) begins.0 way.answered on c.in-Ok-settle.ensures.none
-          c.in-Ok-settle.ensures.answers)));
+          (rw c.in-Ok-came.is at c.in-Ok-settle.ensures.answers))));
       count = c.settle.ensures.count;
       out = ap (λ (s : State). s.out) c.settle.ensures.state ∙ on_ok _ _ _ c.in-Ok-came.is c.do_round-round.ensures.out;
       few = search rules;
