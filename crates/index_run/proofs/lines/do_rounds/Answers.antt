@@ -64,12 +64,13 @@ loop-alloc-preserved g c =
           let way = at.invariant.come r lines size begins in
           let on =
           on_ok _ _ _ c.in-Ok-came.is (c.do_round-round.ensures.come r lines way.log at.commits.items size way.come) in
-          subst (λ (x : State). IsUnderWay r lines left.shares.items asks commits left.due texts x (g.S.Store.disk v.store)) (sym c.settle.ensures.state)
+          rw c.in-Ok-came.is
+          (subst (λ (x : State). IsUnderWay r lines left.shares.items asks commits left.due texts x (g.S.Store.disk v.store)) (sym c.settle.ensures.state)
           (subst (λ (d : Option Disk). IsUnderWay r lines left.shares.items asks commits left.due texts w.state d) (sym (ap (λ s. g.S.Store.disk s) c.settle.ensures.store))
           (subst (λ (cs : List (ℕ × ℕ)). IsUnderWay r lines left.shares.items asks cs left.due texts w.state (g.S.Store.disk w.store)) (sym (rw c.in-Ok-came.is at c.in-Ok-settle.ensures.noted))
           (way_on r lines left.shares.items asks way.log (given at.commits.items left.commit) left.due at.texts.items texts
           w.state (g.S.Store.disk w.store) begins.0 way.answered on c.in-Ok-settle.ensures.none
-          (rw c.in-Ok-came.is at c.in-Ok-settle.ensures.answers))));
+          (rw c.in-Ok-came.is at c.in-Ok-settle.ensures.answers)))));
       count = c.settle.ensures.count;
       out = ap (λ (s : State). s.out) c.settle.ensures.state ∙ on_ok _ _ _ c.in-Ok-came.is c.do_round-round.ensures.out;
       few = search rules;
