@@ -29,8 +29,8 @@ impl<L: BoardLaw> Model for Poster<L> {
     ghost use Rattle.commit_board.specs.Publishing.{listed_in, waiting_in};
 
     ghost view = { λ p. record {
-        posted = option_map_or listed_in p.publisher [];
-        waits = option_map_or waiting_in p.publisher [];
+      posted = option_map_or listed_in p.publisher [];
+      waits = option_map_or waiting_in p.publisher [];
     } };
 
     ghost invariant = { λ p. IsSome p.publisher

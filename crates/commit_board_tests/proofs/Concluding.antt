@@ -14,8 +14,8 @@ found_in lawful this query number found by like = (by.number_is ∙ like.0, λ r
 by_rows : (old new : Commit) (query : Query) (number : ℕ) (found : List Hit) → IsAnswer (IsOfRound old new) query number found → IsByRows old new query number found
 by_rows old new query number found =
     ⊎_elim (λ none. inl none) (λ (by : IsByLawful (IsOfRound old new) query number found). inr (⊎_elim
-      (λ (like : IsLike old by.commit). inl (found_in (IsOfRound old new) old query number found by like))
-      (λ (like : IsLike new by.commit). inr (found_in (IsOfRound old new) new query number found by like)) by.law))
+    (λ (like : IsLike old by.commit). inl (found_in (IsOfRound old new) old query number found by like))
+    (λ (like : IsLike new by.commit). inr (found_in (IsOfRound old new) new query number found by like)) by.law))
 
 pub all_by_rows : {V E : Type 0} (r : Result V E) (items : V → List Shown) (old new : Commit) (query : Query)
     → IfOk r (λ v. All (λ (shown : Shown). IsAnswer (IsOfRound old new) query shown.number shown.hits.items) (items v))

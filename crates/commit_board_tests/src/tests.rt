@@ -2,8 +2,8 @@
 //! has n rows here, so that what is found tells which commit was searched.
 ghost use Rattle.std.specs.Prelude.{◌≡◌, ◌≤◌, IfOk};
 
-use analysis::invert;
 use crate::round::answers_by_rows;
+use analysis::invert;
 use commit_board::{Board, BoardLaw, Commit, Poster, Shown, Watcher};
 use ix_base::{List, NoMemory, Query, Row};
 use live_docs::LiveDocs;
@@ -125,7 +125,11 @@ fn each_is_shown<R: Wait>(
 
 /// On a board without a commit the number 0 is shown, and then each commit that is posted, also once the
 /// board was ended.
-fn on_one_thread<R: Wait>(rt: &R, alloc: Global, commits: Vec<Arc<Commit, Global>>) -> Result<bool, NoMemory> {
+fn on_one_thread<R: Wait>(
+    rt: &R,
+    alloc: Global,
+    commits: Vec<Arc<Commit, Global>>,
+) -> Result<bool, NoMemory> {
     let (mut poster, mut watchers) = Board::make(rt, alloc, 1, None)?;
     let right = match watchers.as_mut_slice() {
         [watcher] => each_is_shown(rt, alloc, &mut poster, watcher, commits),
@@ -238,10 +242,8 @@ fn one_thread_posts_while_another_watches(rt: HostRuntime) -> Result<(), Fail> {
 /// Whether the answers are of these numbers, each with as many hits.
 fn are_of(answers: &[Shown], numbers: &[u64]) -> bool {
     answers.len() == numbers.len()
-        && answers
-            .iter()
-            .zip(numbers.iter())
-            .all(|(shown, number)| shown.number == *number && shown.hits.len() as u64 == *number)
+        && answers.iter().zip(numbers.iter()).all(|(shown, number)| shown.number == *number
+            && shown.hits.len() as u64 == *number)
 }
 
 #[test]
