@@ -60,6 +60,20 @@ pub record AreKeptBut (keep : ℕ) (before files : Files) (images : Files → Ty
   pub only : (d : Files) → images d → (s : ℕ) → IsSome (d (Commit s))
       → IsSome (files (Commit s)) ⊎ (IsGivenUp keep before s × IsWholeAs s before d)
 
+-- ---- one commit by itself, whatever became of the others
+
+-- the commit s is kept: each image has its files with the bytes that reads give
+abbrev pub IsKeptIn : ℕ → Files → (Files → Type 0) → Type 0
+IsKeptIn s files images = (d : Files) → images d → IsWholeAs s files d
+
+-- no image has a commit s
+abbrev pub IsGoneFrom : ℕ → (Files → Type 0) → Type 0
+IsGoneFrom s images = (d : Files) → images d → d (Commit s) ≡ None
+
+-- The commit s is as it was, or it is given up where so many are kept, and has no commit file.
+abbrev pub IsWholeOrGivenUp : ℕ → ℕ → Files → Files → Type 0
+IsWholeOrGivenUp keep s old new = IsWholeAs s old new ⊎ (IsGivenUp keep old s × (new (Commit s) ≡ None))
+
 -- ---- steps
 
 -- a file is deleted, perhaps in part, or the directory is synced

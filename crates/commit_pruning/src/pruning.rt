@@ -1,5 +1,6 @@
 //! Giving old commits up.
-ghost use Rattle.std.specs.Prelude.{◌≡◌, ◌≤◌, ℕ, length, Some, Err, IfOk, IfErr, OnOk};
+ghost use Rattle.std.specs.Prelude.{◌≡◌, ◌≤◌, ℕ, length, Some, None, IsSome, Err, IfOk, IfErr, OnOk};
+ghost use Rattle.ix_base.specs.declared.file_name.FileName.TheVariants.{Commit};
 ghost use Rattle.ix_base.specs.declared.damaged.Damaged.{Damaged};
 ghost use Rattle.ix_outside.specs.Calls.{LeavesOnly};
 ghost use Rattle.ix_outside.specs.Causes.{Rose};
@@ -8,7 +9,7 @@ ghost use Rattle.ix_outside.specs.Disk.{Stops, Told, taken, told_files};
 ghost use Rattle.ix_outside.specs.Files.{Files};
 ghost use Rattle.commit_point.specs.Holds.{AreKept};
 ghost use Rattle.commit_pruning.specs.Deleting.{Pauses, prune_steps};
-ghost use Rattle.commit_pruning.specs.Pruning.{AreKeptBut, AreWhole, BreaksStaying, IsBrokenCommit, IsOutside, IsPruned, MayBePruned, OnlyDeletes};
+ghost use Rattle.commit_pruning.specs.Pruning.{AreKeptBut, AreWhole, BreaksStaying, IsBrokenCommit, IsGivenUp, IsGoneFrom, IsKeptIn, IsOutside, IsPruned, IsWholeOrGivenUp, MayBePruned, OnlyDeletes};
 
 use crate::deleting::prune_files;
 use crate::fault::PruningFault;
@@ -73,6 +74,20 @@ pub fn prune<S: Store>(alloc: Global, store: &mut S, keep: u32) -> Result<u64, P
         → told_files (S.disk store.new) ≡ Some now → AreKept files (MayHold (S.disk store.old))
         → result ≡ Err PruningFault.NoMemory
         → AreKeptBut keep files now (MayHold (S.disk store.new)) }
+    // A commit by itself, whatever became of the others: what reads give of it, and, where it is
+    // kept, what a crash leaves of it at any moment of the call.
+    ensures found { (files : Files) (now : Files) (s : ℕ)
+        → told_files (S.disk store.old) ≡ Some files → told_files (S.disk store.new) ≡ Some now
+        → IsSome (files (Commit s)) → IsWholeOrGivenUp keep s files now }
+    ensures each { (files : Files) (s : ℕ) → told_files (S.disk store.old) ≡ Some files
+        → IsSome (files (Commit s)) → IsKeptIn s files (MayHold (S.disk store.old))
+        → LeavesOnly (S.disk store.old) (S.disk store.new) (IsWholeOrGivenUp keep s files) }
+    // Once it is acknowledged no image has one that was given up, and none that is gone comes back.
+    ensures gone { (files : Files) (s : ℕ) → told_files (S.disk store.old) ≡ Some files
+        → IsSome (files (Commit s)) → IsGivenUp keep files s
+        → OnOk result (IsGoneFrom s (MayHold (S.disk store.new))) }
+    ensures none { (s : ℕ) → IsGoneFrom s (MayHold (S.disk store.old))
+        → LeavesOnly (S.disk store.old) (S.disk store.new) (λ d. d (Commit s) ≡ None) }
     ensures damaged { (damaged : Damaged) → result ≡ Err (PruningFault.Damaged damaged)
         → (s : ℕ) × IsBrokenCommit (told_files (S.disk store.old)) s damaged }
     ensures staying { (files : Files) (damaged : Damaged)

@@ -1,6 +1,7 @@
 //! Old commits: given up, and opened beside the writer.
-ghost use Rattle.std.specs.Prelude.{◌≡◌, ◌≤◌, ◌↔◌, ◌⊎◌, ℕ, List as ListOf, IsTrue, Some, IfOk, IfErr, OnOk, Err};
+ghost use Rattle.std.specs.Prelude.{◌≡◌, ◌≤◌, ◌↔◌, ◌⊎◌, ℕ, List as ListOf, IsSome, IsTrue, None, Some, IfOk, IfErr, OnOk, Err};
 ghost use Rattle.ix_base.specs.declared.damaged.Damaged.{Damaged};
+ghost use Rattle.ix_base.specs.declared.file_name.FileName.TheVariants.{Commit};
 ghost use Rattle.ix_outside.specs.Calls.{LeavesOnly};
 ghost use Rattle.ix_outside.specs.Causes.{Rose};
 ghost use Rattle.ix_outside.specs.Crash.{MayHold};
@@ -11,7 +12,7 @@ ghost use Rattle.commit_point.specs.declared.heads.HeadSegment.{HeadSegment};
 ghost use Rattle.commit_point.specs.Holds.{AreKept, HasSegments};
 ghost use Rattle.commit_point.specs.Loading.{IsOutside, TellsNone};
 ghost use Rattle.commit_point.specs.Reading.{reading};
-ghost use Rattle.commit_pruning.specs.Pruning.{AreKeptBut, AreWhole, BreaksStaying, IsBrokenCommit, IsPruned, MayBePruned, OnlyDeletes};
+ghost use Rattle.commit_pruning.specs.Pruning.{AreKeptBut, AreWhole, BreaksStaying, IsBrokenCommit, IsGivenUp, IsGoneFrom, IsKeptIn, IsPruned, IsWholeOrGivenUp, MayBePruned, OnlyDeletes};
 ghost use Rattle.index_writer.specs.Ready.{IsSound};
 ghost use Rattle.index_writer.specs.Standing.{StandsOnLast};
 ghost use Rattle.index_writer.specs.Storing.{GoesOn};
@@ -62,6 +63,22 @@ impl<S: Store> IndexWriter<S> {
             → told_files (S.disk self.new.store) ≡ Some now
             → AreKept files (MayHold (S.disk self.old.store)) → result ≡ Err PruneFault.NoMemory
             → AreKeptBut keep files now (MayHold (S.disk self.new.store)) }
+        // A commit by itself, whatever became of the others: what reads give of it, and, where it is
+        // kept, what a crash leaves of it at any moment of the call.
+        ensures found { (files : Files) (now : Files) (s : ℕ)
+            → told_files (S.disk self.old.store) ≡ Some files
+            → told_files (S.disk self.new.store) ≡ Some now
+            → IsSome (files (Commit s)) → IsWholeOrGivenUp keep s files now }
+        ensures each { (files : Files) (s : ℕ) → told_files (S.disk self.old.store) ≡ Some files
+            → IsSome (files (Commit s)) → IsKeptIn s files (MayHold (S.disk self.old.store))
+            → LeavesOnly (S.disk self.old.store) (S.disk self.new.store)
+            (IsWholeOrGivenUp keep s files) }
+        // Once it is acknowledged no image has one that was given up, and none that is gone comes back.
+        ensures gone { (files : Files) (s : ℕ) → told_files (S.disk self.old.store) ≡ Some files
+            → IsSome (files (Commit s)) → IsGivenUp keep files s
+            → OnOk result (IsGoneFrom s (MayHold (S.disk self.new.store))) }
+        ensures none { (s : ℕ) → IsGoneFrom s (MayHold (S.disk self.old.store))
+            → LeavesOnly (S.disk self.old.store) (S.disk self.new.store) (λ d. d (Commit s) ≡ None) }
         // The writer can go on from what is left, after an error too.
         ensures goes_on { (files : Files) (now : Files)
             → told_files (S.disk self.old.store) ≡ Some files
