@@ -1,5 +1,5 @@
 -- Which files are deleted.
-use Rattle.std.proofs.Common.{◌≡◌, ◌∙◌, ◌⊎◌, inl, inr, ℕ, zero, suc, ◌<◌, List, [], ◌∷◌, Bool, true, false, not, cond, Option, Some, None, IsSome, get_or, length, map, refl, sym, ap, subst, arith}
+use Rattle.std.proofs.Common.{◌≡◌, ◌∙◌, ◌⊎◌, inl, inr, ℕ, zero, suc, ◌<◌, List, [], ◌∷◌, Bool, true, false, not, cond, Option, IsSome, get_or, length, map, refl, sym, ap, subst, arith}
 use Rattle.std.specs.Prelude.{Contains}
 use Rattle.std.specs.List.{AllZip, filter}
 use Rattle.std.proofs.lemmas.List.Elements.{Contains-append_cases, Contains-append_left, Contains-append_right}
@@ -16,7 +16,8 @@ use Rattle.commit_pruning.proofs.ListedLaws.{listed_by, own_listed}
 use Rattle.commit_pruning.specs.Pruning.{IsPruned, Stays}
 use Rattle.commit_pruning.proofs.Deletes.{among_or_not}
 use Rattle.commit_pruning.proofs.Latest.{AreCommits, are_given_up, earlier_given_up, earlier_is_there, is_latest, latest_stays}
-use Rattle.commit_pruning.proofs.Pruned.{CanPrune, Loses, not_gone, same_number}
+use Rattle.commit_pruning.proofs.OwnFiles.{CanPrune, no_some, not_gone, same_number}
+use Rattle.commit_pruning.proofs.Pruned.{Loses}
 
 -- ---- lists
 
@@ -104,10 +105,6 @@ not_both true p q = cc
 not_both false p q = cc
 
 -- ---- what was planned
-
-no_some : (o : Option (List ℕ)) → o ≡ None → ¬ IsSome o
-no_some None e some = cc
-no_some (Some x) e some = cc
 
 true_or_false : (b : Bool) → (b ≡ true) ⊎ (b ≡ false)
 true_or_false true = inl refl

@@ -1,4 +1,7 @@
 pub mod Deletes
+pub mod OwnFiles
+pub mod Rounds
+pub mod Alone
 pub mod Pruned
 pub mod Halting
 pub mod Latest

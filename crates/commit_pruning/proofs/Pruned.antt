@@ -1,38 +1,22 @@
--- Commits that are given up.
-use Rattle.std.specs.Prelude.{◌≡◌, ◌≢◌, ◌⊎◌, ℕ, zero, suc, List, [], ◌∷◌, ◌++◌, map, length, take, Option, Some, None, IsSome, true, false, Bool, refl}
+-- Commits that are given up, where each commit is kept.
+use Rattle.std.specs.Prelude.{◌≡◌, ◌⊎◌, ℕ, zero, suc, List, [], ◌∷◌, ◌++◌, map, length, take, Option, Some, None, IsSome, refl}
 use Rattle.std.proofs.Common.{inl, inr, subst, sym, ap, ◌∙◌}
-use Rattle.std.specs.List.{AllByRecursion}
 use Rattle.std.proofs.lemmas.List.{append-nil}
 use Rattle.ix_base.specs.declared.file_name.FileName.{FileName}
 use Rattle.ix_base.specs.declared.file_name.FileName.TheVariants.{Commit}
 use Rattle.ix_outside.specs.Files.{Files}
-use Rattle.ix_outside.specs.Images.{MayHaveRemoved}
 use Rattle.ix_outside.specs.declared.step.Step.{Step}
 use Rattle.ix_outside.specs.declared.step.Step.TheVariants.{Deleted, Settled}
-use Rattle.ix_outside.specs.Disk.{Disk, files, is_unsynced, taken, Stops}
+use Rattle.ix_outside.specs.Disk.{Disk, files, taken}
 use Rattle.ix_outside.proofs.CrashLaws.{FollowsSteps}
 use Rattle.ix_outside.proofs.DiskLaws.{taken_then}
-use Rattle.commit_point.specs.declared.heads.HeadSegment.{HeadSegment}
-use Rattle.commit_point.specs.Holds.{AreKept, IsAmong, IsFileOf, KeepsCommits, names_of}
-use Rattle.commit_pruning.specs.Pruning.{IsWholeAs}
+use Rattle.commit_point.specs.Holds.{AreKept, IsAmong, IsFileOf, KeepsCommits}
+use Rattle.commit_pruning.specs.Pruning.{IsGoneFrom, IsWholeAs}
 use Rattle.commit_pruning.specs.Deleting.{Pauses, prune_steps}
-use Rattle.commit_pruning.proofs.Deletes.{same_or_apart, among_or_not, deleted, deleting, stays_none, are_none, others_stay, are_synced}
-
--- ---- what is deleted, by lists of names
-
--- The first names are those of commit files that are there. No file of a commit that stays is among the others, nor is
--- any commit file.
-pub record CanPrune (files : Files) (gone rest : List FileName) : Type 0 where
-  pub commits : (name : FileName) → IsAmong gone name → (s : ℕ) × (name ≡ Commit s)
-  pub there : (s : ℕ) → IsAmong gone (Commit s) → IsSome (files (Commit s))
-  pub no_commits : (s : ℕ) → ¬ IsAmong rest (Commit s)
-  pub unlisted : (s : ℕ) → IsSome (files (Commit s)) → ¬ IsAmong gone (Commit s) → (name : FileName) → IsFileOf files s name → ¬ IsAmong rest name
-
--- what may be seen meanwhile
-pub record MayLose (gone : List FileName) (old new : Files) : Type 0 where
-  pub stays : (s : ℕ) → IsSome (old (Commit s)) → ¬ IsAmong gone (Commit s) → IsWholeAs s old new
-  pub given_up : (s : ℕ) → IsAmong gone (Commit s) → (new (Commit s) ≡ None) ⊎ IsWholeAs s old new
-  pub only : (s : ℕ) → IsSome (new (Commit s)) → IsSome (old (Commit s))
+use Rattle.commit_pruning.proofs.Deletes.{among_or_not, stays_none, are_none, others_stay}
+use Rattle.commit_pruning.proofs.OwnFiles.{AreCommitNames, CanPrune, file_of_same, no_some, none_or_some, not_gone}
+use Rattle.commit_pruning.proofs.Rounds.{Lasts, all_taken, at_end, in_first, in_second, regrouped}
+use Rattle.commit_pruning.proofs.Alone.{IsNoneOrWhole, given_up_lasts, gone_lasts, none_lasts, whole_lasts}
 
 -- all was deleted, and every other file is as it was
 pub record Loses (gone rest : List FileName) (old new : Files) : Type 0 where
@@ -46,195 +30,48 @@ pub record AreKeptBeside (before : Files) (gone : List FileName) (files : Files)
   pub only : (d : Files) → images d → (s : ℕ) → IsSome (d (Commit s))
       → IsSome (files (Commit s)) ⊎ (IsAmong gone (Commit s) × IsWholeAs s before d)
 
--- ---- names of files of commits
+-- ---- one commit after another
 
-pub is_commit : FileName → Bool
-is_commit (Commit s) = true
-is_commit other = false
-
-no_commit_among : (e : HeadSegment) (s : ℕ) → ¬ IsAmong (names_of e) (Commit s)
-unfolding is_commit
-no_commit_among e s (inl same) = let x : true ≡ false = ap is_commit same in cc
-no_commit_among e s (inr (inl same)) = let x : true ≡ false = ap is_commit same in cc
-no_commit_among e s (inr (inr (inl same))) = let x : true ≡ false = ap is_commit same in cc
-no_commit_among e s (inr (inr (inr (inl same)))) = let x : true ≡ false = ap is_commit same in cc
-no_commit_among e s (inr (inr (inr (inr none)))) = none
-
-pub commit_number : FileName → ℕ
-commit_number (Commit s) = s
-commit_number other = 0
-
-pub same_number : (s t : ℕ) → Commit s ≡ Commit t → s ≡ t
-unfolding commit_number
-same_number s t e = ap commit_number e
-
--- of the files of a commit its commit file alone has a name of a commit file
-own_commit : (old : Files) (s t : ℕ) → IsFileOf old s (Commit t) → t ≡ s
-own_commit old s t (inl same) = same_number t s same
-own_commit old s t (inr (e, lists, among)) = absurd (no_commit_among e t among)
-
--- which files a commit has is told by its commit file
-pub file_of_same : (old new : Files) (s : ℕ) (name : FileName) → new (Commit s) ≡ old (Commit s) → IsFileOf new s name → IsFileOf old s name
-file_of_same old new s name same (inl is) = inl is
-file_of_same old new s name same (inr (e, lists, among)) =
-    inr (e, record { head = lists.head; has_head = record { file = sym same ∙ lists.has_head.file; number = lists.has_head.number; fits = lists.has_head.fits }; listed = lists.listed }, among)
-
-all_among : (names rest : List FileName) → ((name : FileName) → IsAmong names name → IsAmong rest name) → AllByRecursion (λ (n : FileName). IsAmong rest n) names
-all_among [] rest each = tt
-all_among (n ∷ ns) rest each = (each n (inl refl), all_among ns rest (λ name more. each name (inr more)))
-
--- ---- the first part: commit files are deleted
-
-record First (gone : List FileName) (old d : Files) : Type 0 where
-  own : (s : ℕ) → IsSome (old (Commit s)) → (name : FileName) → IsFileOf old s name → ¬ IsAmong gone name → d name ≡ old name
-  maybe : (s : ℕ) → IsAmong gone (Commit s) → (d (Commit s) ≡ None) ⊎ (d (Commit s) ≡ old (Commit s))
-  only : (s : ℕ) → IsSome (d (Commit s)) → IsSome (old (Commit s))
-
-no_some : (o : Option (List ℕ)) → o ≡ None → ¬ IsSome o
-no_some None e some = cc
-no_some (Some x) e some = cc
-
-none_or_some : (o : Option (List ℕ)) → (o ≡ None) ⊎ IsSome o
-none_or_some None = inl refl
-none_or_some (Some x) = inr refl
-
-first_begins : (gone : List FileName) (old : Files) (images : Files → Type 0) → AreKept old images → (d : Files) → images d → First gone old d
-first_begins gone old images kept d image = record {
-  own = λ s there name is out. kept.kept d image s there name is;
-  maybe = λ s among. tell s (none_or_some (old (Commit s))) (none_or_some (d (Commit s)));
-  only = kept.only d image;
-}
+-- where each commit is kept, none that reads don't give is in an image
+pub none_kept : (old : Files) (images : Files → Type 0) → AreKept old images → (s : ℕ) → old (Commit s) ≡ None → IsGoneFrom s images
+none_kept old images kept s none d image = tell (none_or_some (d (Commit s)))
   where
-    tell : (s : ℕ) → (old (Commit s) ≡ None) ⊎ IsSome (old (Commit s)) → (d (Commit s) ≡ None) ⊎ IsSome (d (Commit s)) → (d (Commit s) ≡ None) ⊎ (d (Commit s) ≡ old (Commit s))
-    tell s (inr there) any = inr (kept.kept d image s there (Commit s) (inl refl))
-    tell s (inl none) (inl gone') = inl gone'
-    tell s (inl none) (inr some) = absurd (no_some (old (Commit s)) none (kept.only d image s some))
+    tell : (d (Commit s) ≡ None) ⊎ IsSome (d (Commit s)) → d (Commit s) ≡ None
+    tell (inl is) = is
+    tell (inr some) = absurd (no_some (old (Commit s)) none (kept.only d image s some))
 
-first_removed : (gone : List FileName) (old : Files) (n : FileName) → IsAmong gone n → (d c : Files) → First gone old d → MayHaveRemoved n d c → First gone old c
-first_removed gone old n in' d c is (inr same) = subst (First gone old) (sym same) is
-first_removed gone old n in' d c is (inl removes) = record {
-  own = λ s there name file out. removes.others name (λ e. out (subst (IsAmong gone) (sym e) in')) ∙ is.own s there name file out;
-  maybe = λ s among. maybe s among (same_or_apart (Commit s) n);
-  only = λ s some. only s some (same_or_apart (Commit s) n);
-}
+-- what is there was there before
+pub there_before : (old c : Files) (s : ℕ) → (old (Commit s) ≡ None → c (Commit s) ≡ None) → IsSome (c (Commit s)) → IsSome (old (Commit s))
+there_before old c s none some = tell (none_or_some (old (Commit s)))
   where
-    maybe : (s : ℕ) → IsAmong gone (Commit s) → (Commit s ≡ n) ⊎ (Commit s ≢ n) → (c (Commit s) ≡ None) ⊎ (c (Commit s) ≡ old (Commit s))
-    maybe s among (inl same) = inl (subst (λ (x : FileName). c x ≡ None) (sym same) removes.gone)
-    maybe s among (inr apart) = subst (λ (o : Option (List ℕ)). (o ≡ None) ⊎ (o ≡ old (Commit s))) (sym (removes.others (Commit s) apart)) (is.maybe s among)
+    tell : (old (Commit s) ≡ None) ⊎ IsSome (old (Commit s)) → IsSome (old (Commit s))
+    tell (inl is) = absurd (no_some (c (Commit s)) (none is) some)
+    tell (inr is) = is
 
-    only : (s : ℕ) → IsSome (c (Commit s)) → (Commit s ≡ n) ⊎ (Commit s ≢ n) → IsSome (old (Commit s))
-    only s some (inl same) = absurd (no_some (c (Commit s)) (subst (λ (x : FileName). c x ≡ None) (sym same) removes.gone) some)
-    only s some (inr apart) = is.only s (subst (λ (o : Option (List ℕ)). IsSome o) (removes.others (Commit s) apart) some)
-
--- a commit file that isn't its own
-abbrev pub AreCommitNames : List FileName → Type 0
-AreCommitNames gone = (name : FileName) → IsAmong gone name → (s : ℕ) × (name ≡ Commit s)
-
-pub not_gone : (files : Files) (gone : List FileName) → AreCommitNames gone → (s : ℕ) → ¬ IsAmong gone (Commit s) → (name : FileName) → IsFileOf files s name → ¬ IsAmong gone name
-not_gone files gone commits s out name is among =
-    let c = commits name among in
-    let own : c.0 ≡ s = own_commit files s c.0 (subst (IsFileOf files s) c.1 is) in
-    out (subst (IsAmong gone) (c.1 ∙ ap Commit own) among)
-
-whole_again : (files : Files) (gone : List FileName) → AreCommitNames gone → (d : Files) → First gone files d → (s : ℕ) → IsSome (files (Commit s)) → d (Commit s) ≡ files (Commit s) → IsWholeAs s files d
-whole_again files gone commits d is s there same name (inl own) = subst (λ (x : FileName). d x ≡ files x) (sym own) same
-whole_again files gone commits d is s there same name (inr (e, lists, among)) =
-    is.own s there name (inr (e, lists, among)) (λ in'. let c = commits name in' in no_commit_among e c.0 (subst (IsAmong (names_of e)) c.1 among))
-
-first_is : (old : Files) (gone rest : List FileName) → CanPrune old gone rest → (d : Files) → First gone old d → MayLose gone old d
-first_is old gone rest can d is = record {
-  stays = λ s there out name file. is.own s there name file (not_gone old gone can.commits s out name file);
-  given_up = λ s among. tell s among (is.maybe s among);
-  only = is.only;
-}
-  where
-    tell : (s : ℕ) → IsAmong gone (Commit s) → (d (Commit s) ≡ None) ⊎ (d (Commit s) ≡ old (Commit s)) → (d (Commit s) ≡ None) ⊎ IsWholeAs s old d
-    tell s among (inl none) = inl none
-    tell s among (inr same) = inr (whole_again old gone can.commits d is s (can.there s among) same)
-
--- ---- the second part: files that no commit left lists are deleted
-
+-- what is seen once the deletes of commit files are on the disk
 record Second (gone : List FileName) (old d : Files) : Type 0 where
   own : (s : ℕ) → IsSome (old (Commit s)) → ¬ IsAmong gone (Commit s) → IsWholeAs s old d
   gone_is : (s : ℕ) → IsAmong gone (Commit s) → d (Commit s) ≡ None
   only : (s : ℕ) → IsSome (d (Commit s)) → IsSome (old (Commit s))
 
-second_is : (old : Files) (gone : List FileName) (d : Files) → Second gone old d → MayLose gone old d
-second_is old gone d is = record { stays = is.own; given_up = λ s among. inl (is.gone_is s among); only = is.only }
-
-second_removed : (old : Files) (gone rest : List FileName) → CanPrune old gone rest → (n : FileName) → IsAmong rest n → (d c : Files) → Second gone old d → MayHaveRemoved n d c → Second gone old c
-second_removed old gone rest can n in' d c is (inr same) = subst (Second gone old) (sym same) is
-second_removed old gone rest can n in' d c is (inl removes) = record {
-  own = λ s there out name file. removes.others name (λ e. can.unlisted s there out name file (subst (IsAmong rest) (sym e) in')) ∙ is.own s there out name file;
-  gone_is = λ s among. removes.others (Commit s) (apart s) ∙ is.gone_is s among;
-  only = λ s some. is.only s (subst (λ (o : Option (List ℕ)). IsSome o) (removes.others (Commit s) (apart s)) some);
-}
-  where
-    apart : (s : ℕ) → Commit s ≢ n
-    apart s e = can.no_commits s (subst (IsAmong rest) (sym e) in')
-
--- ---- the laws
-
-regrouped : (gone rest : List FileName) → prune_steps gone rest ≡ map Deleted gone ++ Settled ∷ (map Deleted rest ++ Settled ∷ [])
-regrouped [] rest = refl
-regrouped (n ∷ ns) rest = ap (λ (x : List Step). Deleted n ∷ x) (regrouped ns rest)
-
-all_within : (names : List FileName) → AllByRecursion (λ (n : FileName). IsAmong names n) names
-all_within names = all_among names names (λ name among. among)
-
 module _ (Sees : Disk → Files → Type 0) (follows : FollowsSteps Sees) (gone rest : List FileName) (old : Disk) (can : CanPrune (files old) gone rest) (kept : AreKept (files old) (Sees old)) where
-  in_first : (c : Files) → Sees (taken (map Deleted gone) old) c → First gone (files old) c
-  in_first =
-      deleted Sees follows (First gone (files old)) (IsAmong gone) (first_removed gone (files old)) gone (all_within gone) old (first_begins gone (files old) (Sees old) kept)
+  -- a disk of which all is seen that lasts through the second round
+  abbrev SeesLasting : Disk → Type 1
+  SeesLasting x = (P Q : Files → Type 0) → Lasts gone rest old P Q → ((c : Files) → Sees old c → P c) → (c : Files) → Sees x c → Q c
 
-  -- once the deletes of commit files are on the disk
-  settled : (c : Files) → Sees (Settled ∷ taken (map Deleted gone) old) c → Second gone (files old) c
-  settled c sees =
-      let before = follows Settled (taken (map Deleted gone) old) c sees in
-      let is : First gone (files old) before.0 = in_first before.0 before.1 in
-      let may : MayLose gone (files old) before.0 = first_is (files old) gone rest can before.0 is in
-      let settles = before.2 in
-      record {
-        own = λ s there out name file. ap (λ (f : Files). f name) settles.same ∙ may.stays s there out name file;
-        gone_is = λ s among. settles.kept (Commit s) (λ unsynced. let no : is_unsynced (taken (map Deleted gone) old) (Commit s) ≡ false = are_synced gone old (Commit s) among in cc (unsynced, no)) ∙ are_none gone old (Commit s) among;
-        only = λ s some. may.only s (subst (λ (f : Files). IsSome (f (Commit s))) settles.same some);
-      }
+  seen : (x : Disk) → SeesLasting x → (c : Files) → Sees x c → Second gone (files old) c
+  seen x lasting c sees = record {
+    own = λ s there out. lasting (IsWholeAs s (files old)) (IsWholeAs s (files old)) (whole_lasts gone rest old can s there out) (λ d image. kept.kept d image s there) c sees;
+    gone_is = λ s among. lasting (λ d. ⊤) (λ d. d (Commit s) ≡ None) (gone_lasts gone rest old s among) (λ d image. tt) c sees;
+    only = λ s. there_before (files old) c s (λ none.
+        lasting (λ d. d (Commit s) ≡ None) (λ d. d (Commit s) ≡ None) (none_lasts gone rest old s) (none_kept (files old) (Sees old) kept s none) c sees);
+  }
 
-  abbrev Middle : Disk
-  Middle = Settled ∷ taken (map Deleted gone) old
+  second_seen : (c : Files) → Sees (taken (map Deleted rest) (Settled ∷ taken (map Deleted gone) old)) c → Second gone (files old) c
+  second_seen = seen (taken (map Deleted rest) (Settled ∷ taken (map Deleted gone) old)) (λ P Q. in_second Sees follows gone rest old P Q)
 
-  in_second : (c : Files) → Sees (taken (map Deleted rest) Middle) c → Second gone (files old) c
-  in_second =
-      deleted Sees follows (Second gone (files old)) (IsAmong rest) (second_removed (files old) gone rest can) rest (all_within rest) Middle settled
-
-  at_end : (c : Files) → Sees (Settled ∷ taken (map Deleted rest) Middle) c → Second gone (files old) c
-  at_end c sees =
-      let before = follows Settled (taken (map Deleted rest) Middle) c sees in
-      subst (Second gone (files old)) (sym before.2.same) (in_second before.0 before.1)
-
-  stopped : (at : Disk) → Stops (map Deleted gone ++ Settled ∷ (map Deleted rest ++ Settled ∷ [])) old at → (c : Files) → Sees at c → MayLose gone (files old) c
-  stopped at stops =
-      tell (deleting Sees follows (First gone (files old)) (IsAmong gone) (first_removed gone (files old)) gone (all_within gone) (Settled ∷ (map Deleted rest ++ Settled ∷ [])) old at (first_begins gone (files old) (Sees old) kept) stops)
-    where
-      as_second : (x : Disk) → ((c : Files) → Sees x c → Second gone (files old) c) → at ≡ x → (c : Files) → Sees at c → MayLose gone (files old) c
-      as_second x all is c sees = second_is (files old) gone c (all c (subst (λ (y : Disk). Sees y c) is sees))
-
-      last : ((c : Files) → Sees at c → Second gone (files old) c) ⊎ Stops (Settled ∷ []) (taken (map Deleted rest) Middle) at → (c : Files) → Sees at c → MayLose gone (files old) c
-      last (inl all) = λ c sees. second_is (files old) gone c (all c sees)
-      last (inr (inl (inl same))) = as_second (taken (map Deleted rest) Middle) in_second same
-      last (inr (inl (inr part))) = absurd part.1
-      last (inr (inr is)) = as_second (Settled ∷ taken (map Deleted rest) Middle) at_end is
-
-      tell : ((c : Files) → Sees at c → First gone (files old) c) ⊎ Stops (Settled ∷ (map Deleted rest ++ Settled ∷ [])) (taken (map Deleted gone) old) at → (c : Files) → Sees at c → MayLose gone (files old) c
-      tell (inl all) = λ c sees. first_is (files old) gone rest can c (all c sees)
-      tell (inr (inl (inl same))) = λ c sees. first_is (files old) gone rest can c (in_first c (subst (λ (y : Disk). Sees y c) same sees))
-      tell (inr (inl (inr part))) = absurd part.1
-      tell (inr (inr later)) =
-          last (deleting Sees follows (Second gone (files old)) (IsAmong rest) (second_removed (files old) gone rest can) rest (all_within rest) (Settled ∷ []) Middle at settled later)
-
-  -- wherever pruning stops
-  pub prune_leaves : (at : Disk) → Stops (prune_steps gone rest) old at → (c : Files) → Sees at c → MayLose gone (files old) c
-  prune_leaves at stops = stopped at (subst (λ (steps : List Step). Stops steps old at) (regrouped gone rest) stops)
+  end_seen : (c : Files) → Sees (Settled ∷ taken (map Deleted rest) (Settled ∷ taken (map Deleted gone) old)) c → Second gone (files old) c
+  end_seen = seen (Settled ∷ taken (map Deleted rest) (Settled ∷ taken (map Deleted gone) old)) (λ P Q. at_end Sees follows gone rest old P Q)
 
 -- ---- what reads give
 
@@ -251,12 +88,6 @@ made gone rest old = record {
   second = λ name among. are_none rest (Settled ∷ taken (map Deleted gone) old) name among;
   others = λ name out apart. others_stay rest (Settled ∷ taken (map Deleted gone) old) name apart ∙ others_stay gone old name out;
 }
-
-all_taken : (gone rest : List FileName) (old : Disk) → taken (prune_steps gone rest) old ≡ Settled ∷ taken (map Deleted rest) (Settled ∷ taken (map Deleted gone) old)
-all_taken gone rest old =
-    ap (λ (steps : List Step). taken steps old) (regrouped gone rest)
-    ∙ (taken_then (map Deleted gone) (Settled ∷ (map Deleted rest ++ Settled ∷ [])) old
-    ∙ taken_then (map Deleted rest) (Settled ∷ []) (Settled ∷ taken (map Deleted gone) old))
 
 pub prune_makes : (gone rest : List FileName) (old : Disk) → Loses gone rest (files old) (files (taken (prune_steps gone rest) old))
 prune_makes gone rest old = subst (λ (x : Disk). Loses gone rest (files old) (files x)) (sym (all_taken gone rest old)) (made gone rest old)
@@ -288,7 +119,7 @@ pub prune_keeps : (Sees : Disk → Files → Type 0) → FollowsSteps Sees → (
     → AreKept (files (taken (prune_steps gone rest) old)) (Sees (taken (prune_steps gone rest) old))
 prune_keeps Sees follows gone rest old can kept =
     subst (λ (x : Disk). AreKept (files x) (Sees x)) (sym (all_taken gone rest old))
-    (kept_then gone rest (files old) (files (taken (map Deleted rest) (Settled ∷ taken (map Deleted gone) old))) (Sees (Settled ∷ taken (map Deleted rest) (Settled ∷ taken (map Deleted gone) old))) can (made gone rest old) (at_end Sees follows gone rest old can kept))
+    (kept_then gone rest (files old) (files (taken (map Deleted rest) (Settled ∷ taken (map Deleted gone) old))) (Sees (Settled ∷ taken (map Deleted rest) (Settled ∷ taken (map Deleted gone) old))) can (made gone rest old) (end_seen Sees follows gone rest old can kept))
 
 -- ---- pauses
 
@@ -302,39 +133,42 @@ still_can old gone rest count can = record {
 
 kept_in_second : (Sees : Disk → Files → Type 0) → FollowsSteps Sees → (gone rest : List FileName) (old : Disk) → CanPrune (files old) gone rest → AreKept (files old) (Sees old) → AreKept (files (taken (map Deleted rest) (Settled ∷ taken (map Deleted gone) old))) (Sees (taken (map Deleted rest) (Settled ∷ taken (map Deleted gone) old)))
 kept_in_second Sees follows gone rest old can kept =
-    kept_then gone rest (files old) (files (taken (map Deleted rest) (Settled ∷ taken (map Deleted gone) old))) (Sees (taken (map Deleted rest) (Settled ∷ taken (map Deleted gone) old))) can (made gone rest old) (in_second Sees follows gone rest old can kept)
+    kept_then gone rest (files old) (files (taken (map Deleted rest) (Settled ∷ taken (map Deleted gone) old))) (Sees (taken (map Deleted rest) (Settled ∷ taken (map Deleted gone) old))) can (made gone rest old) (second_seen Sees follows gone rest old can kept)
 
 kept_in_first : (Sees : Disk → Files → Type 0) → FollowsSteps Sees → (gone : List FileName) (old : Disk) (all : List FileName) → AreCommitNames gone → ((s : ℕ) → IsAmong gone (Commit s) → IsSome (files old (Commit s)))
     → ((name : FileName) → IsAmong gone name → IsAmong all name) → AreKept (files old) (Sees old)
     → AreKeptBeside (files old) all (files (taken (map Deleted gone) old)) (Sees (taken (map Deleted gone) old))
 kept_in_first Sees follows gone old all commits there more before = record {
-  kept = λ d image s some name file. kept d (firsts d image) s some name file (among_or_not gone (Commit s));
-  only = λ d image s some. only d (firsts d image) s some (among_or_not gone (Commit s));
+  kept = λ d image s some name file. kept d image s some name file (among_or_not gone (Commit s));
+  only = λ d image s some. only d image s some (among_or_not gone (Commit s));
 }
   where
-    firsts : (d : Files) → Sees (taken (map Deleted gone) old) d → First gone (files old) d
-    firsts = deleted Sees follows (First gone (files old)) (IsAmong gone) (first_removed gone (files old)) gone (all_within gone) old (first_begins gone (files old) (Sees old) before)
+    can : CanPrune (files old) gone []
+    can = record { commits = commits; there = there; no_commits = λ s none. none; unlisted = λ s is out name file none. none }
 
-    now : Files
-    now = files (taken (map Deleted gone) old)
+    same : (s : ℕ) → ¬ IsAmong gone (Commit s) → files (taken (map Deleted gone) old) (Commit s) ≡ files old (Commit s)
+    same s out = others_stay gone old (Commit s) out
 
-    kept : (d : Files) → First gone (files old) d → (s : ℕ) → IsSome (files (taken (map Deleted gone) old) (Commit s)) → (name : FileName) → IsFileOf (files (taken (map Deleted gone) old)) s name
+    kept : (d : Files) → Sees (taken (map Deleted gone) old) d → (s : ℕ) → IsSome (files (taken (map Deleted gone) old) (Commit s)) → (name : FileName) → IsFileOf (files (taken (map Deleted gone) old)) s name
         → IsAmong gone (Commit s) ⊎ (¬ IsAmong gone (Commit s)) → d name ≡ files (taken (map Deleted gone) old) name
-    kept d is s some name file (inl among) = absurd (no_some (files (taken (map Deleted gone) old) (Commit s)) (are_none gone old (Commit s) among) some)
-    kept d is s some name file (inr out) =
-        let same : files (taken (map Deleted gone) old) (Commit s) ≡ files old (Commit s) = others_stay gone old (Commit s) out in
-        let was : IsFileOf (files old) s name = file_of_same (files old) (files (taken (map Deleted gone) old)) s name same file in
-        let outside = not_gone (files old) gone commits s out name was in
-        is.own s (subst (λ (o : Option (List ℕ)). IsSome o) same some) name was outside ∙ sym (others_stay gone old name outside)
+    kept d image s some name file (inl among) = absurd (no_some (files (taken (map Deleted gone) old) (Commit s)) (are_none gone old (Commit s) among) some)
+    kept d image s some name file (inr out) =
+        let was : IsFileOf (files old) s name = file_of_same (files old) (files (taken (map Deleted gone) old)) s name (same s out) file in
+        let is : IsSome (files old (Commit s)) = subst (λ (o : Option (List ℕ)). IsSome o) (same s out) some in
+        in_first Sees follows gone [] old (IsWholeAs s (files old)) (IsWholeAs s (files old)) (whole_lasts gone [] old can s is out) (λ c sees. before.kept c sees s is) d image name was
+        ∙ sym (others_stay gone old name (not_gone (files old) gone commits s out name was))
 
-    only : (d : Files) → First gone (files old) d → (s : ℕ) → IsSome (d (Commit s)) → IsAmong gone (Commit s) ⊎ (¬ IsAmong gone (Commit s))
+    only : (d : Files) → Sees (taken (map Deleted gone) old) d → (s : ℕ) → IsSome (d (Commit s)) → IsAmong gone (Commit s) ⊎ (¬ IsAmong gone (Commit s))
         → IsSome (files (taken (map Deleted gone) old) (Commit s)) ⊎ (IsAmong all (Commit s) × IsWholeAs s (files old) d)
-    only d is s some (inr out) = inl (subst (λ (o : Option (List ℕ)). IsSome o) (sym (others_stay gone old (Commit s) out)) (is.only s some))
-    only d is s some (inl among) = inr (more (Commit s) among, whole_again (files old) gone commits d is s (there s among) (tell (is.maybe s among)))
+    only d image s some (inr out) =
+        inl (subst (λ (o : Option (List ℕ)). IsSome o) (sym (same s out)) (there_before (files old) d s (λ none.
+        in_first Sees follows gone [] old (λ c. c (Commit s) ≡ None) (λ c. c (Commit s) ≡ None) (none_lasts gone [] old s) (none_kept (files old) (Sees old) before s none) d image) some))
+    only d image s some (inl among) =
+        tell (in_first Sees follows gone [] old (IsNoneOrWhole s (files old)) (λ c. c (Commit s) ≡ None) (given_up_lasts gone [] old commits s among) (λ c sees. inr (before.kept c sees s (there s among))) d image)
       where
-        tell : (d (Commit s) ≡ None) ⊎ (d (Commit s) ≡ files old (Commit s)) → d (Commit s) ≡ files old (Commit s)
+        tell : IsNoneOrWhole s (files old) d → IsSome (files (taken (map Deleted gone) old) (Commit s)) ⊎ (IsAmong all (Commit s) × IsWholeAs s (files old) d)
         tell (inl none) = absurd (no_some (d (Commit s)) none some)
-        tell (inr same) = same
+        tell (inr whole) = inr (more (Commit s) among, whole)
 
 take_front : (xs ys : List Step) → take (length xs) (xs ++ ys) ≡ xs
 take_front [] ys = refl
@@ -388,7 +222,7 @@ pauses_keep Sees follows gone rest old new can before pauses =
     second k (inr (suc j, e)) =
         subst (λ (steps : List Step). AreKeptBeside (files old) gone (files (taken steps (Settled ∷ taken (map Deleted gone) old))) (Sees (taken steps (Settled ∷ taken (map Deleted gone) old)))) (sym (e ∙ ap (λ (x : List Step). map Deleted rest ++ Settled ∷ x) (take-nil j)))
         (subst (λ (x : Disk). AreKeptBeside (files old) gone (files x) (Sees x)) (sym (taken_then (map Deleted rest) (Settled ∷ []) (Settled ∷ taken (map Deleted gone) old)))
-        (but_none (files old) gone _ _ (kept_then gone rest (files old) (files (taken (map Deleted rest) (Settled ∷ taken (map Deleted gone) old))) (Sees (Settled ∷ taken (map Deleted rest) (Settled ∷ taken (map Deleted gone) old))) can (made gone rest old) (at_end Sees follows gone rest old can before))))
+        (but_none (files old) gone _ _ (kept_then gone rest (files old) (files (taken (map Deleted rest) (Settled ∷ taken (map Deleted gone) old))) (Sees (Settled ∷ taken (map Deleted rest) (Settled ∷ taken (map Deleted gone) old))) can (made gone rest old) (end_seen Sees follows gone rest old can before))))
 
     first : (count : ℕ) → ((k : ℕ) × (take count (map Deleted gone ++ Settled ∷ (map Deleted rest ++ Settled ∷ [])) ≡ map Deleted (take k gone))) ⊎ ((k : ℕ) × (take count (map Deleted gone ++ Settled ∷ (map Deleted rest ++ Settled ∷ [])) ≡ map Deleted gone ++ take k (Settled ∷ (map Deleted rest ++ Settled ∷ []))))
         → AreKeptBeside (files old) gone (files (taken (take count (map Deleted gone ++ Settled ∷ (map Deleted rest ++ Settled ∷ []))) old)) (Sees (taken (take count (map Deleted gone ++ Settled ∷ (map Deleted rest ++ Settled ∷ []))) old))

@@ -1,6 +1,6 @@
 use Rattle.std.proofs.Common.{Err}
 use Rattle.commit_pruning.specs.declared.planning.Plan.{Plan}
-use Rattle.commit_pruning.proofs.Carried.{crash_by, crash_same, kept_by, left_by, left_same, never_damaged, paused_by, paused_same, pruned_by}
+use Rattle.commit_pruning.proofs.Carried.{crash_by, crash_same, each_by, each_same, found_by, found_same, gone_by, kept_by, left_by, left_same, never_damaged, none_by, none_same, paused_by, paused_same, pruned_by}
 use Rattle.commit_point.proofs.StepLaws.{goes_still}
 use Rattle.commit_pruning.specs.Pruning.{Deletes}
 use Rattle.commit_pruning.proofs.Halting.{told_deletes}
@@ -64,3 +64,32 @@ returns-in-Ok-clause-only g c =
 
 pub returns-in-Err-clause-only : goal.returns-in-Err-clause-only
 returns-in-Err-clause-only g c = goes_still (λ step older. Deletes step) (g.S.Store.disk c.args.store.now) (g.S.Store.disk c.make_plan.new.store) c.in-Err.ensures.reads
+
+pub returns-in-Ok-clause-found : goal.returns-in-Ok-clause-found
+returns-in-Ok-clause-found g c =
+    found_by c.args.keep c.in-Ok.plan.gone c.in-Ok.plan.rest (g.S.Store.disk c.args.store.now) (g.S.Store.disk c.make_plan.new.store) (g.S.Store.disk c.carry_out.new.store)
+    c.in-Ok.ensures.plan (c.in-Ok.ensures.reads, c.carry_out.ensures.stops)
+
+pub returns-in-Ok-clause-each : goal.returns-in-Ok-clause-each
+returns-in-Ok-clause-each g c =
+    each_by c.args.keep c.in-Ok.plan.gone c.in-Ok.plan.rest (g.S.Store.disk c.args.store.now) (g.S.Store.disk c.make_plan.new.store) (g.S.Store.disk c.carry_out.new.store)
+    c.in-Ok.ensures.plan (c.in-Ok.ensures.reads, c.carry_out.ensures.stops)
+
+pub returns-in-Ok-clause-gone : goal.returns-in-Ok-clause-gone
+returns-in-Ok-clause-gone g c =
+    gone_by c.args.keep c.in-Ok.plan.gone c.in-Ok.plan.rest (g.S.Store.disk c.args.store.now) (g.S.Store.disk c.make_plan.new.store) (g.S.Store.disk c.carry_out.new.store) c.carry_out.result
+    c.in-Ok.ensures.plan c.in-Ok.ensures.reads c.carry_out.ensures.done
+
+pub returns-in-Ok-clause-none : goal.returns-in-Ok-clause-none
+returns-in-Ok-clause-none g c =
+    none_by c.args.keep c.in-Ok.plan.gone c.in-Ok.plan.rest (g.S.Store.disk c.args.store.now) (g.S.Store.disk c.make_plan.new.store) (g.S.Store.disk c.carry_out.new.store)
+    (c.in-Ok.ensures.reads, c.carry_out.ensures.stops)
+
+pub returns-in-Err-clause-found : goal.returns-in-Err-clause-found
+returns-in-Err-clause-found g c = found_same c.args.keep (g.S.Store.disk c.args.store.now) (g.S.Store.disk c.make_plan.new.store) c.in-Err.ensures.reads
+
+pub returns-in-Err-clause-each : goal.returns-in-Err-clause-each
+returns-in-Err-clause-each g c = each_same c.args.keep (g.S.Store.disk c.args.store.now) (g.S.Store.disk c.make_plan.new.store) c.in-Err.ensures.reads
+
+pub returns-in-Err-clause-none : goal.returns-in-Err-clause-none
+returns-in-Err-clause-none g c = none_same (g.S.Store.disk c.args.store.now) (g.S.Store.disk c.make_plan.new.store) c.in-Err.ensures.reads
