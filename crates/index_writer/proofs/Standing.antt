@@ -5,21 +5,17 @@ use Rattle.std.specs.List.{AllByRecursion}
 use Rattle.std.proofs.lemmas.List.Elements.{Contains-append_left, Contains-append_right}
 use Rattle.ix_base.specs.declared.file_name.FileName.{FileName}
 use Rattle.ix_base.specs.declared.file_name.FileName.TheVariants.{Commit, Pending, Rows, Posts, Live, Values}
-use Rattle.ix_outside.proofs.CallLaws.{leaves_none}
-use Rattle.ix_outside.specs.Calls.{LeavesOnly}
-use Rattle.ix_outside.specs.Crash.{MayHold}
-use Rattle.ix_outside.specs.Disk.{Disk}
 use Rattle.ix_outside.specs.Files.{Files}
 use Rattle.segment_core.specs.LiveRows.{Lived}
 use Rattle.commit_point.specs.declared.heads.HeadSegment.{HeadSegment}
 use Rattle.commit_point.specs.declared.written.Written.{Written}
-use Rattle.commit_point.specs.Holds.{AreKept, HasSegment, HasSegments, HaveSegments, IsAmong, IsFileOf, Lists, head_of, names_of}
+use Rattle.commit_point.specs.Holds.{HasSegment, HasSegments, HaveSegments, IsAmong, IsFileOf, Lists, head_of, names_of}
 use Rattle.commit_point.proofs.KeptLaws.{lists_there}
 use Rattle.commit_point.proofs.RowsKept.{rows_kept}
 use Rattle.commit_point.specs.Writing.{AreWritten, IsWritten, entries_of, entry_of, is_alive, listed, version}
 use Rattle.commit_pruning.specs.Choosing.{has_id, has_written, is_listed}
 use Rattle.commit_pruning.proofs.ListedLaws.{listed_by, own_listed}
-use Rattle.commit_pruning.specs.Pruning.{IsWholeAs, MayBePruned, Stays}
+use Rattle.commit_pruning.specs.Pruning.{IsWholeAs, Stays}
 use Rattle.index_writer.specs.declared.state.State.{State}
 use Rattle.index_writer.specs.Ready.{IsStored, written_of}
 use Rattle.index_writer.specs.Standing.{CommitsStand, OpenedStand, PrunedGoOn, StandingStays, StandsOnLast}
@@ -284,11 +280,3 @@ closed_too now s both = (
   record { none_above = both.0.none_above; ids = both.0.ids; stored = both.0.stored },
   record { own = both.1.own; of_last = both.1.of_last; stored = both.1.stored },
 )
-
--- where nothing was done, a crash leaves what it might have left
-pub crash_before : (keep : ℕ) (a : Option Disk) (files : Files) → AreKept files (MayHold a) → LeavesOnly a a (MayBePruned keep files)
-crash_before keep a files kept = leaves_none a (MayBePruned keep files) (λ image may. record {
-  stays = λ t stays name of. kept.kept image may t stays.there name of;
-  each = λ t there. inr (λ name of. kept.kept image may t there name of);
-  only = kept.only image may;
-})
