@@ -52,7 +52,7 @@ file_of_same old new s name same (inr (e, lists, among)) =
 
 -- ---- what is deleted, by lists of names
 
--- a commit file that isn't its own
+-- each of the names is that of a commit file
 abbrev pub AreCommitNames : List FileName → Type 0
 AreCommitNames gone = (name : FileName) → IsAmong gone name → (s : ℕ) × (name ≡ Commit s)
 
