@@ -48,7 +48,7 @@ pub struct Ended<S> {
 ///
 /// | Command | What it does |
 /// |---|---|
-/// | `run [--threads T] [--buffer B] [--merge M]` | reads a script from the input, does it over the store's last commit by T writers (1 to 16, 4 without the option), each with a buffer of B documents (1 to 65,536, 1,000), merges M segments into one (2 to 64, 8), and writes the report |
+/// | `run [--threads T] [--buffer B] [--merge M] [--keep K]` | reads a script from the input, does it over the store's last commit by T writers (1 to 16, 4 without the option), each with a buffer of B documents (1 to 65,536, 1,000), merges M segments into one (2 to 64, 8), gives up all commits but the K latest where a line commits (1 to 1,000; all stay without the option), and writes the report |
 /// | `ask [--commit S]` | reads questions from the input, a query a line, and answers each from the commit S or, without the option, from the last one |
 /// | `list` | writes a line for each commit, by rising number; it reads no input, and of the store the commit files alone |
 /// | `check` | reads each commit whole, by rising number, compares its postings with those of its documents, and writes the lines of `list` where all are sound; it reads no input |
@@ -71,22 +71,24 @@ pub struct Ended<S> {
 /// text is made whole before its first byte is written. Statuses 2, 3, 5 and 7 to 11 write one
 /// line, which takes no memory.
 ///
-/// `ask`, `list` and `check` change no file, and no call that ends with 2, 3, 5 or 8 to 11 does. What a run
-/// did before it stopped stays: input that was read, and commits that were written. No step of a call
-/// deletes a file, and none but the rename of a pending commit file makes a commit file. Where the
-/// last commit is lawful a commit that stands at some moment of the call stands from then on, and the
-/// next run can begin on the files at every status.
+/// `ask`, `list` and `check` change no file, and no call that ends with 2, 3, 5 or 8 to 11 does, but with
+/// `--keep` one that ends with 8. What a run did before it stopped stays: input that was read, and commits
+/// that were written. Without `--keep` no step of a call deletes a file, none but the rename of a pending
+/// commit file makes a commit file, and where the last commit is lawful a commit that stands at some moment
+/// of the call stands from then on. With `--keep` commits are given up as the run goes on: the latest ones
+/// stay, with their files and bytes, and each other one is whole or has no commit file. Where the last
+/// commit is lawful the next run can begin on the files at every status.
 ///
 /// A crash at any moment of the call leaves the commits that were there, with their files and
 /// bytes, and of the run's own commits the first ones in the order of their numbers, each whole:
-/// no other commit. The next run can begin on what is left. Once the call has ended with 0 or 6 a
-/// crash leaves all of them. This is promised where the store tells its files, its last commit is
-/// lawful, and each commit is kept when the call begins: nothing of it is still on its way to the
-/// disk.
+/// no other commit. With `--keep` those that are given up may be gone. The next run can begin on what is
+/// left. Once the call has ended with 0 or 6 a crash leaves all of them. This is promised where the store
+/// tells its files, its last commit is lawful, and each commit is kept when the call begins: nothing of it
+/// is still on its way to the disk.
 ///
-/// A commit that is kept by itself keeps its files and bytes, whatever becomes of the others. The
-/// run's own commits are left so, and no further one, where the files of the last commit's segments
-/// are on the disk when the call begins, and no commit above it is.
+/// A commit that is kept by itself keeps its files and bytes, whatever becomes of the others, or is given
+/// up. Without `--keep` the run's own commits are left so, and no further one, where the files of the last
+/// commit's segments are on the disk when the call begins, and no commit above it is.
 pub fn top<R: Threads + Wait + Sync, I: Source, O: Sink, S: Store, G: Gate>(
     rt: &R,
     alloc: Global,
@@ -161,7 +163,7 @@ pub fn top<R: Threads + Wait + Sync, I: Source, O: Sink, S: Store, G: Gate>(
         → IsGiven g (HasScript c (I.left input.old)) (S.disk store) → CanRun g
         → StopsBy (keep_of c) g (S.disk store) (S.disk result.store) }
     // At every status the commits that were there have their files and bytes, and a commit that was
-    // made stays: no step of the call deletes.
+    // made stays: without `--keep` no step of the call deletes, and with it the latest ones stay.
     ensures steps { StepsBy (keep_by (command_of words.now)) (S.disk store) (S.disk result.store) }
     ensures kept { (g : Given) → told_files (S.disk store) ≡ Some g.files → CanRun g
         → PreservesBy (keep_by (command_of words.now)) g (S.disk store) (S.disk result.store) }

@@ -148,7 +148,7 @@ fn has_commit(lines: &[Line]) -> bool
 
 /// Does the lines over the store's last commit, and returns the text that tells of them. Beside the rounds all commits
 /// are kept, or so many of the latest; behind the last commit none is given up yet.
-pub fn tell_script<R: Threads + Wait + Sync, S: Store, G: Gate>(
+fn tell_script<R: Threads + Wait + Sync, S: Store, G: Gate>(
     rt: &R,
     alloc: Global,
     store: S,
