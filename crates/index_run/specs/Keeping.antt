@@ -11,7 +11,8 @@ use Rattle.ix_outside.specs.Files.{Files}
 use Rattle.commit_point.specs.Holds.{HasHead, IsFileOf}
 use Rattle.commit_point.specs.Steps.{OnlyCommits}
 use Rattle.commit_point.specs.declared.heads.Head.{Head}
-use Rattle.commit_pruning.specs.Pruning.{BreaksStaying, IsBrokenCommit, IsWholeAs, IsWholeOrGivenUp, MayBePruned, Stays}
+use Rattle.commit_pruning.specs.Pruning.{BreaksStaying, IsBrokenCommit, IsGivenUp, IsGoneFrom, IsKeptIn, IsWholeAs, IsWholeOrGivenUp}
+use Rattle.commit_pruning.specs.Pruning.{MayBePruned, Stays}
 use Rattle.op_script.specs.declared.script.Line.{Line}
 use Rattle.run_log.specs.Headline.{CanRunOn, Given, GivesBack, HasAll, HasRoom, HasSome, Interleaves, IsKept, IsSettled, Preserves}
 use Rattle.run_log.specs.Headline.{Runs, Stops, is_commit}
@@ -32,6 +33,18 @@ LeftOf keep t P files = (was : Files) × P was × IsWholeOrGivenUp keep t was fi
 abbrev pub LeavesEach : ℕ → Given → (Files → Type 0) → Option Disk → Option Disk → Type 0
 LeavesEach keep g P old new =
     (t : ℕ) → IsSome (g.files (Commit t)) → IsSettled t g.files old → LeavesOnly old new (LeftOf keep t P)
+
+-- The commit t of the old files is as it was in each image, one of which is what reads give; or it is given up in such
+-- files, and no image has it.
+abbrev pub StaysOrGone : ℕ → ℕ → (Files → Type 0) → Files → Option Disk → Type 0
+StaysOrGone keep t P old disk =
+    IsKeptIn t old (MayHold disk)
+    ⊎ (((was : Files) × P was × IsGivenUp keep was t) × IsGoneFrom t (MayHold disk))
+
+-- what has become, once the call has ended, of each commit that was there and is settled by itself
+abbrev pub EndsEach : ℕ → Given → (Files → Type 0) → Option Disk → Option Disk → Type 0
+EndsEach keep g P old new =
+    (t : ℕ) → IsSome (g.files (Commit t)) → IsSettled t g.files old → StaysOrGone keep t P g.files new
 
 -- Of the commits of some files only so many of the latest are left, each as it was. Each file that is there is one of a
 -- commit that is there.
@@ -73,7 +86,7 @@ pub record RunsKeeping (keep : ℕ) (g : Given) (text : List Line → List ℕ) 
   pub again : IsKept g old → HasRoom g → GivesBack new
 
 -- The same before old commits are given up behind the last one: the files are what may be left of all of the log's
--- commits and of those that were there, and so is what a crash leaves.
+-- commits and of those that were there, and so is what a crash leaves. Each commit by itself is settled still, or gone.
 pub record RunsLeaving (keep : ℕ) (g : Given) (text : List Line → List ℕ) (wrote : List ℕ → Type 0) (old new : Option Disk)
     : Type 0 where
   pub log : List Line
@@ -82,6 +95,7 @@ pub record RunsLeaving (keep : ℕ) (g : Given) (text : List Line → List ℕ) 
   pub files : IsSomeAnd (told_files new) (Left keep (HasAll g log))
   pub crash : IsKept g old → LeavesOnly old new (Left keep (HasSome g log))
   pub each : LeavesEach keep g (HasSome g log) old new
+  pub ends : EndsEach keep g (HasSome g log) old new
   pub again : IsKept g old → HasRoom g → GivesBack new
 
 -- A run that stopped, or was done: the files, and what a crash leaves, are what may be left of the first ones of its

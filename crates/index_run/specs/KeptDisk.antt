@@ -1,17 +1,17 @@
 -- What a run leaves on the disk that gives up old commits as it goes on.
-use Rattle.std.specs.Prelude.{◌≡◌, ◌⊎◌, ℕ, ◌+◌, ◌*◌, ◌≤◌, List, length, Option, Some, None, IsSome, IsSomeAnd}
+use Rattle.std.specs.Prelude.{◌≡◌, ℕ, ◌+◌, ◌*◌, ◌≤◌, List, length, Option, Some, None, IsSome, IsSomeAnd}
 use Rattle.ix_base.specs.declared.file_name.FileName.TheVariants.{Commit}
 use Rattle.ix_outside.specs.Calls.{LeavesOnly}
 use Rattle.ix_outside.specs.Crash.{MayHold}
 use Rattle.ix_outside.specs.Disk.{Disk, told_files}
 use Rattle.ix_outside.specs.Files.{Files}
 use Rattle.commit_point.specs.Holds.{AreKept}
-use Rattle.commit_pruning.specs.Pruning.{IsGivenUp, IsGoneFrom, IsKeptIn, IsWholeAs, MayBePruned}
+use Rattle.commit_pruning.specs.Pruning.{IsKeptIn, MayBePruned}
 use Rattle.op_script.specs.declared.script.Line.{Line}
 use Rattle.index_writer.specs.declared.state.State.{State}
 use Rattle.index_writer.specs.Standing.{CommitsStand, PrunedGoOn, StandingStays, StandsOnLast}
 use Rattle.index_writer.specs.Storing.{GoesOn}
-use Rattle.index_run.specs.Keeping.{AreSpelled, LeftOf}
+use Rattle.index_run.specs.Keeping.{AreSpelled, LeftOf, StaysOrGone}
 use Rattle.index_run.specs.Leaving.{HasSomeFront, IsDiskAfter, Stands, first_numbers}
 
 -- The laws of a writer of whose store old commits are given up.
@@ -39,20 +39,11 @@ pub record BeginsOnLast (first : State) (old : Files) (start : Option Disk) : Ty
   pub goes_on : GoesOn old first
   pub on_last : StandsOnLast old first
 
--- A commit t of the first files is given up where the first of the log's commits are there.
-abbrev pub IsGivenUpBy : ℕ → State → List Line → ℕ → Files → Type 0
-IsGivenUpBy keep first log t old = (was : Files) × HasSomeFront first log old was × IsGivenUp keep was t
-
--- It is as it was, for reads and in each image, or it is given up and no image has it.
-abbrev pub StaysOrGone : ℕ → State → List Line → ℕ → Files → Option Disk → Files → Type 0
-StaysOrGone keep first log t old disk now =
-    (IsWholeAs t old now × IsKeptIn t old (MayHold disk)) ⊎ (IsGivenUpBy keep first log t old × IsGoneFrom t (MayHold disk))
-
--- What has become of a commit t of the first files that was kept then, whatever became of the others, and what a crash
--- left of it.
-pub record IsOneLeft (keep : ℕ) (first : State) (log : List Line) (t : ℕ) (old : Files) (start now : Option Disk) : Type 0 where
-  pub here : IsSomeAnd (told_files now) (StaysOrGone keep first log t old now)
-  pub crash : LeavesOnly start now (LeftOf keep t (HasSomeFront first log old))
+-- What has become of a commit t that was there and was kept, whatever became of the others, and what a crash left of it:
+-- it is given up in such files, or it is as it was.
+pub record IsOneLeft (keep t : ℕ) (P : Files → Type 0) (old : Files) (start now : Option Disk) : Type 0 where
+  pub here : StaysOrGone keep t P old now
+  pub crash : LeavesOnly start now (LeftOf keep t P)
 
 -- What a run has left on the disk that began on these files: of its log the commits of the first `count` lines were
 -- written, and all but so many of the latest commits may have been given up.
@@ -61,7 +52,8 @@ pub record IsDiskLeft (keep : ℕ) (first : State) (log : List Line) (count : �
   pub files : IsSomeAnd (told_files now) (StandsLeft keep first log (first_numbers first log count) w old)
   pub kept : AreKept old (MayHold start) → (n : Files) → told_files now ≡ Some n → AreKept n (MayHold now)
   pub crash : AreKept old (MayHold start) → LeavesOnly start now (LeftSome keep first log old)
-  pub each : (t : ℕ) → IsSome (old (Commit t)) → IsKeptIn t old (MayHold start) → IsOneLeft keep first log t old start now
+  pub each : (t : ℕ) → IsSome (old (Commit t)) → IsKeptIn t old (MayHold start)
+      → IsOneLeft keep t (HasSomeFront first log old) old start now
 
 -- The same of whatever the store told when the run began. Each commit file is as it was then, or in the grammar.
 pub record IsDiskKeeping (keep : ℕ) (first : State) (log : List Line) (count : ℕ) (w : State) (start now : Option Disk) : Type 0 where
