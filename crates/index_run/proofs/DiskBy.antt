@@ -196,7 +196,7 @@ stopped_done (Some k) first w log rest count start now le disk = λ old begins.
           (λ f h. (h.was, some_longer first log rest old h.was (some_standing first log count w old h.was le disk.high h.stands), h.left))
           d.files;
       crash = λ are. left_crash_longer k first log rest old start now (d.crash are);
-      each = λ t there kept. one_crash k t first log rest old start now (d.each t there kept);
+      each = λ t there kept. one_crash k t first log rest old start now (d.each t there kept).crash;
     }
 
 pub stopped_written : (keep : Option ℕ) (first w : State) (log rest : List Line) (count : ℕ) (start mid now : Option Disk) → CommitLaws
@@ -224,5 +224,5 @@ stopped_written (Some k) first w log rest count start mid now laws begun on belo
       each = λ t there kept.
           one_crash k t first log rest old start now
           (one_commit k t first w log count old start mid now laws begun begins.goes_on there on disk.low numbers crashed
-          (d.each t there kept));
+          (d.each t there kept)).crash;
     }

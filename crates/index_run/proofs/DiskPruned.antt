@@ -3,7 +3,7 @@ use Rattle.std.proofs.Common.{◌≡◌, ℕ, ◌≤◌, List, ◌++◌, length,
 use Rattle.std.specs.Prelude.{Option, IsSome, IsSomeAnd}
 use Rattle.ix_base.specs.declared.file_name.FileName.TheVariants.{Commit}
 use Rattle.ix_outside.specs.Calls.{LeavesOnly}
-use Rattle.ix_outside.proofs.CallLaws.{leaves_less, leaves_then}
+use Rattle.ix_outside.proofs.CallLaws.{leaves_then}
 use Rattle.ix_outside.specs.Crash.{MayHold}
 use Rattle.ix_outside.specs.Disk.{Disk, Told, told_files}
 use Rattle.ix_outside.specs.Files.{Files}
@@ -21,7 +21,7 @@ use Rattle.index_run.proofs.DiskAfter.{some_longer, the_files}
 use Rattle.index_run.proofs.DiskBy.{left_spelled}
 use Rattle.index_run.proofs.DiskLeft.{left_crash_longer, left_prune, some_standing}
 use Rattle.index_run.proofs.LeftCommits.{left_then}
-use Rattle.index_run.proofs.OneLeft.{EndsPrune, PrunesEach, pruned_one_crash, some_none}
+use Rattle.index_run.proofs.OneLeft.{EndsPrune, PrunesEach, one_crash, pruned_one_crash, some_none}
 use Rattle.index_run.proofs.Pruning.{told_on}
 
 -- What a call did by which a writer gave old commits up, or tried to.
@@ -91,11 +91,10 @@ module _ (keep : ℕ) (first w v : State) (log : List Line) (count : ℕ) (start
   pub pruned_each : (rest : List Line) (t : ℕ) → IsSome (old (Commit t)) → IsKeptIn t old (MayHold start)
       → LeavesOnly start now (LeftOf keep t (HasSomeFront first (log ++ rest) old))
   pruned_each rest t there kept =
-      leaves_less start now (LeftOf keep t (HasSomeFront first log old)) (LeftOf keep t (HasSomeFront first (log ++ rest) old))
+      one_crash keep t first log rest old start now
       (pruned_one_crash keep t (HasSomeFront first log old) old stands.was m start mid now (some_none first log old) there told
       (some_standing first log count w old stands.was within disk.high stands.stands) stands.left gives.each
       (here.each t there kept))
-      (λ c left. (left.0, some_longer first log rest old left.0 left.1, left.2))
 
 -- each commit file that is left is as it was at the beginning, or in the grammar
 pub pruned_spelled : (keep : ℕ) (first w v : State) (log : List Line) (count : ℕ) (start mid now : Option Disk) → GivesUp keep w v mid now

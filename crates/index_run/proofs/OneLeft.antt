@@ -46,10 +46,10 @@ one_less keep t P Q old start now onto one = record {
 
 -- what a crash left of it, of a log that goes on
 pub one_crash : (keep t : ℕ) (first : State) (log more : List Line) (old : Files) (start now : Option Disk)
-    → IsOneLeft keep t (HasSomeFront first log old) old start now
+    → LeavesOnly start now (LeftOf keep t (HasSomeFront first log old))
     → LeavesOnly start now (LeftOf keep t (HasSomeFront first (log ++ more) old))
-one_crash keep t first log more old start now one =
-    leaves_less start now (LeftOf keep t (HasSomeFront first log old)) (LeftOf keep t (HasSomeFront first (log ++ more) old)) one.crash
+one_crash keep t first log more old start now crash =
+    leaves_less start now (LeftOf keep t (HasSomeFront first log old)) (LeftOf keep t (HasSomeFront first (log ++ more) old)) crash
     (λ c left. (left.0, some_longer first log more old left.0 left.1, left.2))
 
 -- ---- calls that write none of its files
@@ -76,8 +76,11 @@ one_spared keep t P old start mid now has spares one = record {
     still : StaysOrGone keep t P old mid → StaysOrGone keep t P old now
     still (inl kept) = inl (λ c image name of.
         let left = reached c image in left.2 name of ∙ kept left.0 left.1 name of)
-    still (inr gone) = inr (gone.0, λ c image.
-        let left = reached c image in left.2 (Commit t) (inl refl) ∙ gone.1 left.0 left.1)
+    still (inr gone) = inr (
+      gone.0,
+      λ c image.
+          let left = reached c image in left.2 (Commit t) (inl refl) ∙ gone.1 left.0 left.1,
+    )
 
 -- ---- a commit
 
