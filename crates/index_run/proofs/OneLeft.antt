@@ -25,8 +25,8 @@ use Rattle.index_run.proofs.MadeCommits.{ComesNext, before_next, file_before, fr
 
 -- ---- at the beginning, and of other files
 
-pub one_start : (keep t : ℕ) (P : Files → Type 0) (old : Files) (start : Option Disk) → P old → IsKeptIn t old (MayHold start)
-    → IsOneLeft keep t P old start start
+pub one_start : (keep t : ℕ) (P : Files → Type 0) (old : Files) (start : Option Disk) → P old
+    → IsKeptIn t old (MayHold start) → IsOneLeft keep t P old start start
 one_start keep t P old start has kept = record {
   here = inl kept;
   crash = leaves_none start (LeftOf keep t P) (λ c image. (old, has, inl (kept c image)));
@@ -37,7 +37,8 @@ pub one_less : (keep t : ℕ) (P Q : Files → Type 0) (old : Files) (start now 
     → IsOneLeft keep t P old start now → IsOneLeft keep t Q old start now
 one_less keep t P Q old start now onto one = record {
   here = by one.here;
-  crash = leaves_less start now (LeftOf keep t P) (LeftOf keep t Q) one.crash (λ c left. (left.0, onto left.0 left.1, left.2));
+  crash = leaves_less start now (LeftOf keep t P) (LeftOf keep t Q) one.crash
+      (λ c left. (left.0, onto left.0 left.1, left.2));
 }
   where
     by : StaysOrGone keep t P old now → StaysOrGone keep t Q old now
@@ -49,7 +50,8 @@ pub one_crash : (keep t : ℕ) (first : State) (log more : List Line) (old : Fil
     → LeavesOnly start now (LeftOf keep t (HasSomeFront first log old))
     → LeavesOnly start now (LeftOf keep t (HasSomeFront first (log ++ more) old))
 one_crash keep t first log more old start now crash =
-    leaves_less start now (LeftOf keep t (HasSomeFront first log old)) (LeftOf keep t (HasSomeFront first (log ++ more) old)) crash
+    leaves_less start now (LeftOf keep t (HasSomeFront first log old))
+    (LeftOf keep t (HasSomeFront first (log ++ more) old)) crash
     (λ c left. (left.0, some_longer first log more old left.0 left.1, left.2))
 
 -- ---- calls that write none of its files
@@ -62,8 +64,8 @@ one_spared : (keep t : ℕ) (P : Files → Type 0) (old : Files) (start mid now 
     → IsOneLeft keep t P old start now
 one_spared keep t P old start mid now has spares one = record {
   here = still one.here;
-  crash = leaves_then start mid now (LeftOf keep t P) (Reaches (Spares t old) (MayHold mid)) (LeftOf keep t P) one.crash spares
-      (λ c left. left) (λ c left. after c left one.here);
+  crash = leaves_then start mid now (LeftOf keep t P) (Reaches (Spares t old) (MayHold mid)) (LeftOf keep t P)
+      one.crash spares (λ c left. left) (λ c left. after c left one.here);
 }
   where
     after : (c : Files) → Reaches (Spares t old) (MayHold mid) c → StaysOrGone keep t P old mid → LeftOf keep t P c
@@ -89,14 +91,17 @@ pub some_none : (first : State) (log : List Line) (old : Files) → HasSomeFront
 some_none first log old =
     some_longer first [] log old old (0, omega arith, front_none first [] (first.published.next_id + 2 * 0) old)
 
-pub one_commit : (keep t : ℕ) (first w : State) (log : List Line) (count : ℕ) (old : Files) (start mid now : Option Disk)
+pub one_commit : (keep t : ℕ) (first w : State) (log : List Line) (count : ℕ) (old : Files)
+    (start mid now : Option Disk)
     → CommitLaws → CanBegin first → GoesOn old first → IsSome (old (Commit t)) → IsWriterOn first log w
     → first.published.next_id ≤ w.since → IsNextCommit first log count w.published.upto
     → LeavesOnly mid now (Reaches (MayCommit (due_pairs first log w) w) (MayHold mid))
-    → IsOneLeft keep t (HasSomeFront first log old) old start mid → IsOneLeft keep t (HasSomeFront first log old) old start now
+    → IsOneLeft keep t (HasSomeFront first log old) old start mid
+    → IsOneLeft keep t (HasSomeFront first log old) old start now
 one_commit keep t first w log count old start mid now laws begun goes there on low numbers crash one =
     one_spared keep t (HasSomeFront first log old) old start mid now (some_none first log old)
-    (leaves_less mid now (Reaches (MayCommit (due_pairs first log w) w) (MayHold mid)) (Reaches (Spares t old) (MayHold mid)) crash
+    (leaves_less mid now (Reaches (MayCommit (due_pairs first log w) w) (MayHold mid))
+    (Reaches (Spares t old) (MayHold mid)) crash
     (λ c left. (left.0, left.1, spared left.0 c left.2)))
     one
   where

@@ -63,33 +63,37 @@ told_all : (keep : ℕ) (g : Given) (text : List Line → List ℕ) (wrote : Lis
     → (f : Files) × (told_files mid ≡ Some f) × Left keep (HasAll g runs.log) f
 told_all keep g text wrote start mid runs = the_files (told_files mid) (Left keep (HasAll g runs.log)) runs.files
 
-crash_pruned : (keep : ℕ) (g : Given) (text : List Line → List ℕ) (wrote : List ℕ → Type 0) (start mid new : Option Disk)
+crash_pruned : (keep : ℕ) (g : Given) (text : List Line → List ℕ) (wrote : List ℕ → Type 0)
+    (start mid new : Option Disk)
     → Prunes keep mid new → Settles g start mid → (runs : RunsLeaving keep g text wrote start mid)
     → IsKept g start → LeavesOnly start new (Left keep (HasSome g runs.log))
 crash_pruned keep g text wrote start mid new prunes settles runs are =
     let found = told_all keep g text wrote start mid runs in
-    crash_of keep start mid new (Left keep (HasSome g runs.log)) (Left keep (HasSome g runs.log)) (Left keep (HasSome g runs.log)) found.0 prunes
-    found.1 (settles are found.0 found.1) (runs.crash are) (λ c first. first)
+    let left : Files → Type 0 = Left keep (HasSome g runs.log) in
+    crash_of keep start mid new left left left found.0 prunes found.1 (settles are found.0 found.1) (runs.crash are)
+    (λ c first. first)
     (λ c may.
     left_more keep (HasSome g runs.log) found.0 c (found.2.0, (length runs.log, found.2.1), found.2.2) may)
 
 -- each commit by itself that was settled, whatever became of the others
-each_pruned : (keep : ℕ) (g : Given) (text : List Line → List ℕ) (wrote : List ℕ → Type 0) (start mid new : Option Disk)
-    → Prunes keep mid new → (runs : RunsLeaving keep g text wrote start mid) → LeavesEach keep g (HasSome g runs.log) start new
+each_pruned : (keep : ℕ) (g : Given) (text : List Line → List ℕ) (wrote : List ℕ → Type 0)
+    (start mid new : Option Disk) → Prunes keep mid new → (runs : RunsLeaving keep g text wrote start mid)
+    → LeavesEach keep g (HasSome g runs.log) start new
 each_pruned keep g text wrote start mid new prunes runs t there settled =
     let found = told_all keep g text wrote start mid runs in
-    pruned_one_crash keep t (HasSome g runs.log) g.files found.2.0 found.0 start mid new (has_none g runs.log) there found.1
-    (length runs.log, found.2.1) found.2.2 prunes.each
+    pruned_one_crash keep t (HasSome g runs.log) g.files found.2.0 found.0 start mid new (has_none g runs.log) there
+    found.1 (length runs.log, found.2.1) found.2.2 prunes.each
     (record { here = runs.ends t there settled; crash = runs.each t there settled })
 
 -- pruning may have stopped
-pub stops_pruned : (keep : ℕ) (g : Given) (text : List Line → List ℕ) (wrote : List ℕ → Type 0) (start mid new : Option Disk)
-    → CanRun g → Prunes keep mid new → Settles g start mid → RunsLeaving keep g text wrote start mid
-    → StopsKeeping keep g start new
+pub stops_pruned : (keep : ℕ) (g : Given) (text : List Line → List ℕ) (wrote : List ℕ → Type 0)
+    (start mid new : Option Disk) → CanRun g → Prunes keep mid new → Settles g start mid
+    → RunsLeaving keep g text wrote start mid → StopsKeeping keep g start new
 stops_pruned keep g text wrote start mid new can prunes settles runs =
     stops_left keep g runs.log start new prunes.some can runs.numbering
     (left_of keep mid new (Left keep (HasAll g runs.log)) (Left keep (HasSome g runs.log)) prunes
-    (λ f now all may. left_more keep (HasSome g runs.log) f now (all.0, (length runs.log, all.1), all.2) may) runs.files)
+    (λ f now all may.
+    left_more keep (HasSome g runs.log) f now (all.0, (length runs.log, all.1), all.2) may) runs.files)
     (crash_pruned keep g text wrote start mid new prunes settles runs)
     (each_pruned keep g text wrote start mid new prunes runs)
 
