@@ -53,6 +53,7 @@ runs_onto (Some keep) g text wrote told old new onto r = record {
   files = r.files;
   images = r.images;
   crash = r.crash;
+  each = r.each;
   again = r.again;
 }
 

@@ -1,5 +1,5 @@
 -- A run that keeps all commits, as one of which so many are kept, and what is left where old ones are given up.
-use Rattle.std.proofs.Common.{◌≡◌, ◌≢◌, ◌⊎◌, inl, inr, ◌∙◌, ℕ, suc, ◌≤◌, Bool, false, List, [], ◌∷◌, take, Some, None, refl, sym, ap}
+use Rattle.std.proofs.Common.{◌≡◌, ◌≢◌, ◌⊎◌, inl, inr, ◌∙◌, ℕ, suc, ◌≤◌, Bool, false, List, [], ◌∷◌, take, Some, None, refl, sym}
 use Rattle.std.proofs.Common.{subst, arith, Vec}
 use Rattle.std.specs.Prelude.{Result, Ok, Err, Option, IfErr, IfOk, IsSome, Contains}
 use Rattle.std.specs.declared.alloc.Global.{Global}
