@@ -62,7 +62,7 @@ IsLoser wins count x loser =
     ⊎ ((winner_of wins count x ≡ winner_of wins count (2 * x + 1)) × (loser ≡ winner_of wins count (2 * x)))
 
 -- the two below the node have played, and the one that isn't taken first was put there
-pub record PutsLoser (count : ℕ) (wins losers : List ℕ) (node : ℕ) (won lost : List ℕ) : Type 0 where
+pub record PutsLoser (count : ℕ) (losers : List ℕ) (node : ℕ) (won lost : List ℕ) : Type 0 where
   pub loser : ℕ
   pub set : lost ≡ slice_set losers node loser
   pub is : IsLoser won count node loser
@@ -88,13 +88,6 @@ pub record IsFirst (q : Queued) (w : Waiting) : Type 0 where
   pub within : q.place < length q.waiting
   pub is : (d : Waiting) → slice_index_or q.waiting q.place d ≡ w
   pub from : StartFrom w.first.term q.waiting
-
--- all had played when the source at the place was another one
-pub record WasPlayed (heads : List Waiting) (wins : List ℕ) (place : ℕ) : Type 0 where
-  pub old : List Waiting
-  pub source : Waiting
-  pub played : IsPlayed old wins
-  pub is : heads ≡ slice_set old place source
 
 -- the keys are those of the sources' next terms, beside the field
 pub record IsKeyed (field : List ℕ) (heads : List Waiting) (keys : List Key) : Type 0 where

@@ -38,7 +38,7 @@ fn first_by_texts(heads: &[Head<'_>], one: usize, other: usize) -> usize
 }
 
 /// The one of two sources that is taken first: of two whose next terms are one, that of the lower place.
-#[inline]
+#[inline(always)]
 fn first_of(heads: &[Head<'_>], keys: &[Key], one: usize, other: usize) -> usize
     requires one { one < length heads.now }
     requires other { other < length heads.now }
@@ -68,14 +68,15 @@ fn play(
     requires losers { length losers.old.items ≡ length heads.now }
     requires keyed { (field : List ℕ) × IsKeyed field heads.now keys.now }
     ensures wins { Plays heads.now wins.old.items node wins.new.items }
-    ensures losers { PutsLoser (length heads.now) wins.old.items losers.old.items node wins.new.items losers.new.items }
+    ensures losers { PutsLoser (length heads.now) losers.old.items node wins.new.items losers.new.items }
 {
     let count = heads.len();
     let left = winner_at(wins.as_slice(), count, 2 * node);
     let right = winner_at(wins.as_slice(), count, 2 * node + 1);
     let first = first_of(heads, keys, left, right);
+    let loser = if first == left { right } else { left };
     wins[node] = first;
-    losers[node] = if first == left { right } else { left };
+    losers[node] = loser;
 }
 
 /// The source at this place, which isn't as it was, plays against all that lost to it on the way up. The result is the
@@ -115,7 +116,8 @@ pub(crate) fn play_all(
     requires wins { IsWithin (length heads.now) wins.old.items }
     requires losers { length losers.old.items ≡ length heads.now }
     requires keyed { (field : List ℕ) × IsKeyed field heads.now keys.now }
-    ensures { HavePlayed heads.now losers.new.items result }
+    ensures played { HavePlayed heads.now losers.new.items result }
+    ensures wins { length wins.new.items ≡ length heads.now }
 {
     let mut node = heads.len();
     'nodes: while node > 1 {
