@@ -185,9 +185,9 @@ up_other heads losers node above first other half some h is =
     (winner_within h.wins (length heads) beside h.played.within (omega (arith, h.below)))
 
 -- the source at the node plays against the one that had lost above it
-up_step : (heads : List Waiting) (losers : List ℕ) (node first other taken loser : ℕ) → 2 ≤ node → PlaysUp heads losers node first → other ≡ get_or losers (node / 2) 0 → IsFirstOf heads first other taken
+up_step : (heads : List Waiting) (losers : List ℕ) (node beside first other taken loser : ℕ) → 2 ≤ node → IsBeside beside node → PlaysUp heads losers node first → other ≡ get_or losers (node / 2) 0 → IsFirstOf heads first other taken
     → ((taken ≡ first) × (loser ≡ other)) ⊎ ((taken ≡ other) × (loser ≡ first)) → PlaysUp heads (slice_set losers (node / 2) loser) (node / 2) taken
-up_step heads losers node first other taken loser two h is firsts loses = record {
+up_step heads losers node beside first other taken loser two sum h is firsts loses = record {
   wins = won;
   some = omega arith;
   below = omega (arith, h.below);
@@ -195,15 +195,9 @@ up_step heads losers node first other taken loser two h is firsts loses = record
   played = play_step heads h.wins won (node / 2) (omega arith) low h.played plays;
   all = length-set losers (node / 2) loser ∙ h.all;
   off = λ x a b not. off x a b not (cases_lt x (node / 2)) (cases_lt (node / 2) x);
-  on = λ y b two' above sum. on y b two' above sum (above_upto (node / 2) y above);
+  on = λ y b two' above sum'. on y b two' above sum' (above_upto (node / 2) y above);
 }
   where
-    beside : ℕ
-    beside = 4 * (node / 2) + 1 - node
-
-    sum : IsBeside beside node
-    sum = omega arith
-
     low : node / 2 < length heads
     low = omega (arith, h.below)
 
@@ -263,7 +257,7 @@ up_same : (heads : List Waiting) (losers : List ℕ) (node first other taken : �
 up_same heads losers node first other taken two h is firsts same =
     subst (λ (l : List ℕ). PlaysUp heads l (node / 2) first) (ap (slice_set losers (node / 2)) is ∙ set-get_or losers (node / 2) 0)
     (subst (PlaysUp heads (slice_set losers (node / 2) other) (node / 2)) same
-    (up_step heads losers node first other taken other two h is firsts (inl (same, refl))))
+    (up_step heads losers node (4 * (node / 2) + 1 - node) first other taken other two (omega arith) h is firsts (inl (same, refl))))
 
 pub up_turn : (heads : List Waiting) (losers new : List ℕ) (node above first other taken after : ℕ) → above ≡ node / 2 → 1 ≤ above → PlaysUp heads losers node first → other ≡ get_or losers above 0
     → IsFirstOf heads first other taken → ((taken ≢ first) × (new ≡ slice_set losers above first) × (after ≡ taken)) ⊎ ((taken ≡ first) × (new ≡ losers) × (after ≡ first)) → PlaysUp heads new above after
@@ -273,7 +267,7 @@ up_turn heads losers new node above first other taken after half some h at first
     subst (PlaysUp heads new above) (sym p.2)
     (subst (λ (l : List ℕ). PlaysUp heads l above taken) (sym p.1)
     (subst (λ (k : ℕ). PlaysUp heads (slice_set losers k first) k taken) (sym half)
-    (up_step heads losers node first other taken first (omega (arith, half, some)) h is firsts (inr (wins, refl)))))
+    (up_step heads losers node (4 * (node / 2) + 1 - node) first other taken first (omega (arith, half, some)) (omega arith) h is firsts (inr (wins, refl)))))
 up_turn heads losers new node above first other taken after half some h at firsts (inr p) =
     let is : other ≡ get_or losers (node / 2) 0 = at ∙ ap (λ (k : ℕ). get_or losers k 0) half in
     subst (PlaysUp heads new above) (sym p.2)
