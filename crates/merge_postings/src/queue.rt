@@ -246,8 +246,9 @@ impl<'a> Queue<'a> {
             let count = self.heads.len();
             keep_places(&mut self.wins, count);
             keep_places(&mut self.losers, count);
+            let heads = self.heads.as_slice();
             self.place = play_all(
-                self.heads.as_slice(),
+                heads,
                 self.keys.as_slice(),
                 &mut self.wins,
                 &mut self.losers,
