@@ -4,7 +4,7 @@ use Rattle.std.proofs.Common.{List, [], ◌∷◌, ◌++◌, length, map, refl, 
 use Rattle.std.specs.Prelude.{slice_index_or, slice_set}
 use Rattle.std.specs.Global.{Vec}
 use Rattle.std.specs.List.{AllByRecursion, filter}
-use Rattle.std.proofs.lemmas.List.{length-map, length-set}
+use Rattle.std.proofs.lemmas.List.{length-map, length-set, map-append}
 use Rattle.ix_base.specs.declared.query.Query.{Query}
 use Rattle.op_script.specs.declared.script.Act.{Act}
 use Rattle.op_script.specs.declared.script.Act.TheVariants as act
@@ -190,6 +190,35 @@ pub none_looked : (vs : List (Vec Look)) (v : Vec Look) → AllByRecursion (λ (
     → v.items ≡ [] → AllByRecursion (λ (own : Vec Look). own.items ≡ []) (vs ++ v ∷ [])
 none_looked [] v none empty = (empty, tt)
 none_looked (x ∷ vs) v none empty = (none.0, none_looked vs v none.1 empty)
+
+-- ---- which lines they are
+
+-- A worker's looks are its callers' look lines, one for each, in their order.
+pub looks_lines : (n worker after : ℕ) (lines : List Line)
+    → map (λ (k : Look). k.line) (looks_from n worker after lines)
+    ≡ map (λ (l : Line). l.line) (filter (λ (l : Line). is_look l.act && eqb (l.caller % n) worker) lines)
+looks_lines n worker after [] = refl
+looks_lines n worker after (l ∷ ls) =
+    map-append (λ (k : Look). k.line) (look_in n worker after l) (looks_from n worker next ls)
+    ∙ by (eqb (l.caller % n) worker) l.act (looks_lines n worker next ls)
+  where
+    next : ℕ
+    next = after_past n worker after l
+
+    rest : List Line
+    rest = filter (λ (x : Line). is_look x.act && eqb (x.caller % n) worker) ls
+
+    by : (own : Bool) (a : Act)
+        → map (λ (k : Look). k.line) (looks_from n worker next ls) ≡ map (λ (x : Line). x.line) rest
+        → map (λ (k : Look). k.line) (cond own (look_by after l a) [])
+        ++ map (λ (k : Look). k.line) (looks_from n worker next ls)
+        ≡ map (λ (x : Line). x.line) (cond (is_look a && own) (l ∷ rest) rest)
+    by true (act.Look query) h = ap (λ (ks : List ℕ). l.line ∷ ks) h
+    by true (act.Search query) h = h
+    by true (act.Do op) h = h
+    by false (act.Look query) h = h
+    by false (act.Search query) h = h
+    by false (act.Do op) h = h
 
 -- ---- how many tasks stand before the looks
 
