@@ -17,7 +17,7 @@ use Rattle.round_work.specs.declared.worker.Worker.{Worker}
 use Rattle.round_work.specs.Companions.{AreAlong}
 use Rattle.round_work.specs.Outboxes.{IsFresh}
 use Rattle.round_work.specs.Rounds.{AreFresh, AreNumbered, AreSenders, ComesOf, IsReady, Stops}
-use Rattle.round_work.specs.Rounds.{companion_of, sender_of, sent_of, share_of, with_pieces, without, worked_of, writer_of}
+use Rattle.round_work.specs.Rounds.{companion_in, sender_in, sent_of, share_in, with_pieces, without, worked_of, writer_in}
 use Rattle.round_work.specs.Working.{AreAtWork, AreWorked, IsAtWork}
 
 -- ---- lists
@@ -98,8 +98,8 @@ pub fresh_more : (pieces : PieceQueue) (i n : ℕ) (xs : List Sender) (x : Sende
 fresh_more pieces i n [] x all is fresh = (subst (λ (k : ℕ). IsFresh pieces k x) (let e : n ≡ i = omega (arith, is) in e) fresh, tt)
 fresh_more pieces i n (y ∷ xs) x all is fresh = (all.0, fresh_more pieces (i + 1) n xs x all.1 (omega (arith, is)) fresh)
 
-ready_from : {C : Type 0} (q : DeleteQueue) (pieces : PieceQueue) (i : ℕ) (xs : List (Worker C)) → AreAtWork q i (map writer_of xs) (map share_of xs)
-    → AreFresh pieces i (map sender_of xs) → AllByRecursion (IsReady q pieces) xs
+ready_from : {C : Type 0} (q : DeleteQueue) (pieces : PieceQueue) (i : ℕ) (xs : List (Worker C)) → AreAtWork q i (map writer_in xs) (map share_in xs)
+    → AreFresh pieces i (map sender_in xs) → AllByRecursion (IsReady q pieces) xs
 ready_from q pieces i [] work fresh = tt
 ready_from q pieces i (x ∷ xs) work fresh = (
   record {
@@ -111,15 +111,15 @@ ready_from q pieces i (x ∷ xs) work fresh = (
 
 -- workers that were lined up can begin
 pub all_ready : {C : Type 0} (q : DeleteQueue) (pieces : PieceQueue) (ws : List ThreadWriter) (ss : List Share) (xs : List (Worker C))
-    → AreAtWork q 0 ws ss → map writer_of xs ≡ ws → map share_of xs ≡ ss → AreFresh pieces 0 (map sender_of xs)
+    → AreAtWork q 0 ws ss → map writer_in xs ≡ ws → map share_in xs ≡ ss → AreFresh pieces 0 (map sender_in xs)
     → AllByRecursion (IsReady q pieces) xs
 all_ready q pieces ws ss xs work writers shares fresh =
     ready_from q pieces 0 xs
-    (subst (λ (us : List ThreadWriter). AreAtWork q 0 us (map share_of xs)) (sym writers)
+    (subst (λ (us : List ThreadWriter). AreAtWork q 0 us (map share_in xs)) (sym writers)
     (subst (λ (us : List Share). AreAtWork q 0 ws us) (sym shares) work)) fresh
 
 -- and have their numbers
-pub all_numbered : {C : Type 0} (pieces : PieceQueue) (i : ℕ) (xs : List (Worker C)) → AreFresh pieces i (map sender_of xs) → AreNumbered i xs
+pub all_numbered : {C : Type 0} (pieces : PieceQueue) (i : ℕ) (xs : List (Worker C)) → AreFresh pieces i (map sender_in xs) → AreNumbered i xs
 all_numbered pieces i [] fresh = tt
 all_numbered pieces i (x ∷ xs) fresh = (fresh.0.number_is, all_numbered pieces (i + 1) xs fresh.1)
 
@@ -159,14 +159,14 @@ all_come hears q pieces i (suc n) (x ∷ xs) (y ∷ ys) taken numbered all many 
 )
 
 each_worked : {C : Type 0} (hears : C → ℕ → C → Type 0) (q : DeleteQueue) (xs : List (Worker C)) (all : List (Worked C))
-    → AllZip (ComesOf hears q) xs all → AreWorked q (map writer_of xs) (map share_of xs) all
+    → AllZip (ComesOf hears q) xs all → AreWorked q (map writer_in xs) (map share_in xs) all
 each_worked hears q [] [] come = tt
 each_worked hears q [] (y ∷ all) come = absurd come
 each_worked hears q (x ∷ xs) [] come = absurd come
 each_worked hears q (x ∷ xs) (y ∷ all) come = (come.0.0, each_worked hears q xs all come.1)
 
 each_along : {C : Type 0} (hears : C → ℕ → C → Type 0) (q : DeleteQueue) (xs : List (Worker C)) (all : List (Worked C))
-    → AllZip (ComesOf hears q) xs all → AreAlong hears (map companion_of xs) (map share_of xs) all
+    → AllZip (ComesOf hears q) xs all → AreAlong hears (map companion_in xs) (map share_in xs) all
 each_along hears q [] [] come = tt
 each_along hears q [] (y ∷ all) come = absurd come
 each_along hears q (x ∷ xs) [] come = absurd come
@@ -174,13 +174,13 @@ each_along hears q (x ∷ xs) (y ∷ all) come = (come.0.1, each_along hears q x
 
 -- what came back of workers that were lined up
 pub all_worked : {C : Type 0} (hears : C → ℕ → C → Type 0) (q : DeleteQueue) (ws : List ThreadWriter) (ss : List Share) (xs : List (Worker C))
-    (all : List (Worked C)) → map writer_of xs ≡ ws → map share_of xs ≡ ss → AllZip (ComesOf hears q) xs all → AreWorked q ws ss all
+    (all : List (Worked C)) → map writer_in xs ≡ ws → map share_in xs ≡ ss → AllZip (ComesOf hears q) xs all → AreWorked q ws ss all
 all_worked hears q ws ss xs all writers shares come =
     subst (λ (us : List ThreadWriter). AreWorked q us ss all) writers
-    (subst (λ (us : List Share). AreWorked q (map writer_of xs) us all) shares (each_worked hears q xs all come))
+    (subst (λ (us : List Share). AreWorked q (map writer_in xs) us all) shares (each_worked hears q xs all come))
 
 pub all_along : {C : Type 0} (hears : C → ℕ → C → Type 0) (q : DeleteQueue) (cs : List C) (ss : List Share) (xs : List (Worker C))
-    (all : List (Worked C)) → map companion_of xs ≡ cs → map share_of xs ≡ ss → AllZip (ComesOf hears q) xs all → AreAlong hears cs ss all
+    (all : List (Worked C)) → map companion_in xs ≡ cs → map share_in xs ≡ ss → AllZip (ComesOf hears q) xs all → AreAlong hears cs ss all
 all_along {C} hears q cs ss xs all companions shares come =
     subst (λ (us : List C). AreAlong hears us ss all) companions
-    (subst (λ (us : List Share). AreAlong hears (map companion_of xs) us all) shares (each_along hears q xs all come))
+    (subst (λ (us : List Share). AreAlong hears (map companion_in xs) us all) shares (each_along hears q xs all come))

@@ -22,17 +22,17 @@ use Rattle.round_work.specs.Working.{IsAtWork, Works}
 -- ---- the workers before a round
 
 -- what a worker has
-abbrev pub writer_of : {C : Type 0} → Worker C → ThreadWriter
-writer_of x = x.writer
+abbrev pub writer_in : {C : Type 0} → Worker C → ThreadWriter
+writer_in x = x.writer
 
-abbrev pub share_of : {C : Type 0} → Worker C → Share
-share_of x = x.share
+abbrev pub share_in : {C : Type 0} → Worker C → Share
+share_in x = x.share
 
-abbrev pub companion_of : {C : Type 0} → Worker C → C
-companion_of x = x.companion
+abbrev pub companion_in : {C : Type 0} → Worker C → C
+companion_in x = x.companion
 
-abbrev pub sender_of : {C : Type 0} → Worker C → Sender
-sender_of x = x.sender
+abbrev pub sender_in : {C : Type 0} → Worker C → Sender
+sender_in x = x.sender
 
 -- the senders of the workers from this one on, which have sent nothing
 abbrev pub AreFresh : PieceQueue → ℕ → List Sender → Type 0

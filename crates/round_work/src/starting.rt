@@ -3,7 +3,7 @@ ghost use Rattle.std.specs.Prelude.{◌≡◌, ◌≤◌, [], ℕ, List, length,
 ghost use Rattle.std.specs.List.{AllByRecursion, AllZip};
 ghost use Rattle.piece_queue.specs.Passes.{IsReceiver, ended_with, made_by};
 ghost use Rattle.round_work.specs.Rounds.{AreFresh, ComesBack, IsReady, IsRoom, Starts, Stops};
-ghost use Rattle.round_work.specs.Rounds.{companion_of, sender_of, share_of, writer_of};
+ghost use Rattle.round_work.specs.Rounds.{companion_in, sender_in, share_in, writer_in};
 
 use crate::companion::Companion;
 use crate::worked::Stopped;
@@ -56,11 +56,12 @@ pub(crate) fn line_up<C: Companion>(
     requires room { IsRoom (length writers.items) workers }
     ensures receiver { IsReceiver pieces.now receiver.new }
     ensures made { made_by receiver.new ≡ length result.items }
+    ensures count { length result.items ≡ length writers.items }
     ensures ended { ended_with receiver.new ≡ ended_with receiver.old }
-    ensures writers { map writer_of result.items ≡ writers.items }
-    ensures shares { map share_of result.items ≡ shares.items }
-    ensures companions { map companion_of result.items ≡ companions.items }
-    ensures senders { AreFresh pieces.now 0 (map sender_of result.items) }
+    ensures writers { map writer_in result.items ≡ writers.items }
+    ensures shares { map share_in result.items ≡ shares.items }
+    ensures companions { map companion_in result.items ≡ companions.items }
+    ensures senders { AreFresh pieces.now 0 (map sender_in result.items) }
 {
     let mut shares = shares.into_iter();
     let mut companions = companions.into_iter();

@@ -88,6 +88,35 @@ impl<'a> Companion for Listener<'a> {
     }
 }
 
+/// So many of them.
+fn listeners<'a>(
+    alloc: Global,
+    gate: &'a RecordingGate,
+    count: usize,
+) -> Result<Vec<Listener<'a>>, Fail>
+    ensures { IfOk result (λ all. length all.items ≡ count) }
+{
+    let mut all = Vec::new(alloc);
+    for _ in 0..count {
+        all.push(Listener {
+            gate,
+            heard: Vec::new(alloc),
+        })?;
+    }
+    Ok(all)
+}
+
+/// Nothing to go along, for so many workers.
+fn nothings(alloc: Global, count: usize) -> Result<Vec<()>, Fail>
+    ensures { IfOk result (λ all. length all.items ≡ count) }
+{
+    let mut all = Vec::new(alloc);
+    for _ in 0..count {
+        all.push(())?;
+    }
+    Ok(all)
+}
+
 /// Shows what a worker's companion heard.
 fn show_heard(out: &mut String, heard: &[(usize, u64)]) -> Result<(), Fail> {
     for (told, things) in heard {
@@ -126,13 +155,7 @@ fn one_round<R: Threads + Wait + Sync>(
     let mut shares = Vec::new(alloc);
     shares.push(share)?;
     let (writers, shares) = begin_all(alloc, &queue, seats, shares)?;
-    let mut along = Vec::new(alloc);
-    for _ in 0..writers.len() {
-        along.push(Listener {
-            gate,
-            heard: Vec::new(alloc),
-        })?;
-    }
+    let along = listeners(alloc, gate, writers.len())?;
     let ((), back) = run_round(rt, alloc, &queue, writers, shares, along, gate, || ());
     let mut all = back?;
     let Some(worked) = all.pop() else {
@@ -252,10 +275,7 @@ fn round<R: Threads + Wait + Sync, G: Gate, T: Drop, F: FnOnce() -> T>(
     let (queue, seats) = DeleteQueue::make(alloc, 0, workers, &mut Reserve::new(alloc))?;
     let shares = shares_of(alloc, workers, each)?;
     let (writers, shares) = begin_all(alloc, &queue, seats, shares)?;
-    let mut along = Vec::new(alloc);
-    for _ in 0..writers.len() {
-        along.push(())?;
-    }
+    let along = nothings(alloc, writers.len())?;
     let (seen, back) = run_round(rt, alloc, &queue, writers, shares, along, gate, beside);
     Ok((seen, back?))
 }

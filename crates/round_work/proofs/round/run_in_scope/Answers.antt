@@ -5,12 +5,12 @@ use Rattle.round_work.proofs.round.run_in_scope.Goals as goal
 
 pub gather-requires-clause-made : goal.gather-requires-clause-made
 gather-requires-clause-made g c =
-    let done = c.scoped-done.ensures.1 in
-    done.made
+    let done = c.scoped-done.ensures.1.1.1.1 in
+    done.0
     ∙ (c.requires.made
-    ∙ sym (zip_many (Stops g.C.Companion.hears c.args.queue.now c.args.pieces.now) c.args.workers.items c.scoped-done.result.1.items done.stopped))
+    ∙ sym (zip_many (Stops g.C.Companion.hears c.args.queue.now c.args.pieces.now) c.args.workers.items c.scoped-done.result.1.items done.1))
 
 pub gather-requires-clause-senders : goal.gather-requires-clause-senders
 gather-requires-clause-senders g c =
     senders g.C.Companion.hears c.args.queue.now c.args.pieces.now c.args.workers.items c.scoped-done.result.1.items
-    c.scoped-done.ensures.1.stopped
+    c.scoped-done.ensures.1.1.1.1.1

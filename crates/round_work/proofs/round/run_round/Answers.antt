@@ -1,6 +1,6 @@
 use Rattle.std.proofs.Common.{◌∙◌, length, sym, ap, arith}
 use Rattle.std.proofs.lemmas.List.{length-map}
-use Rattle.round_work.specs.Rounds.{writer_of}
+use Rattle.round_work.specs.Rounds.{writer_in}
 use Rattle.round_work.proofs.Workers.{all_along, all_numbered, all_ready, all_worked, at_work_many}
 use Rattle.round_work.proofs.round.run_round.Goals as goal
 

@@ -2,7 +2,7 @@ use Rattle.std.proofs.Common.{◌≡◌, ◌∙◌, ◌++◌, ◌∷◌, [], Lis
 use Rattle.std.proofs.lemmas.List.{length-map}
 use Rattle.std.specs.Vec.Iter.{into_iter_items}
 use Rattle.round_work.specs.declared.worker.Worker.{Worker}
-use Rattle.round_work.specs.Rounds.{AreFresh, companion_of, sender_of, share_of, writer_of}
+use Rattle.round_work.specs.Rounds.{AreFresh, companion_in, sender_in, share_in, writer_in}
 use Rattle.round_work.proofs.Workers.{fresh_more, mapped, moved_over}
 use Rattle.round_work.proofs.starting.line_up.Goals as goal
 
@@ -43,12 +43,12 @@ loop-writer-preserved g c =
       receiver = made.receiver;
       made = (let before = at.invariant.made in let now = made.made in omega (arith, before, now, many, pushed));
       ended = made.ended ∙ at.invariant.ended;
-      writers = mapped writer_of old new x items ∙ ap (λ ws. ws ++ x.writer ∷ []) at.invariant.writers;
-      shares = moved_over share_of old new x _ _ _ items shares at.invariant.shares;
-      companions = moved_over companion_of old new x _ _ _ items companions at.invariant.companions;
-      senders = subst (AreFresh c.args.pieces.now 0) (sym (mapped sender_of old new x items))
-          (fresh_more c.args.pieces.now 0 (length (map sender_of old)) (map sender_of old) x.sender at.invariant.senders (omega arith)
-          record { is = made.sender; number_is = made.number ∙ at.invariant.made ∙ sym (length-map old sender_of); sent = made.fresh });
+      writers = mapped writer_in old new x items ∙ ap (λ ws. ws ++ x.writer ∷ []) at.invariant.writers;
+      shares = moved_over share_in old new x _ _ _ items shares at.invariant.shares;
+      companions = moved_over companion_in old new x _ _ _ items companions at.invariant.companions;
+      senders = subst (AreFresh c.args.pieces.now 0) (sym (mapped sender_in old new x items))
+          (fresh_more c.args.pieces.now 0 (length (map sender_in old)) (map sender_in old) x.sender at.invariant.senders (omega arith)
+          record { is = made.sender; number_is = made.number ∙ at.invariant.made ∙ sym (length-map old sender_in); sent = made.fresh });
       shares_left = (let left = at.invariant.shares_left in let two = ap length shares in omega (arith, left, one, two));
       companions_left = (let left = at.invariant.companions_left in let two = ap length companions in omega (arith, left, one, two));
       room =
