@@ -137,11 +137,9 @@ fn three_rounds<R: Threads + Wait + Sync>(
 fn worker_of_three_rounds(rt: HostRuntime) -> Result<(), Fail> {
     let gate = RecordingGate::new();
     let shown = three_rounds(&rt, rt.alloc(), &gate)?;
-    let expected = concat!(
-        " 0 at 0, 1 at 2, 2 at 3, 3 at 5, 251 term 32767 252 closed 1;",
-        " 3 at 5, 4 at 7, 251 term 32767 252 253 done 0;",
-        " 4 at 7, 251 term 32767 252 253 done 0; 4",
-    );
+    let expected = " 0 at 0, 1 at 2, 2 at 3, 3 at 5, 251 term 32767 252 closed 1; \
+        3 at 5, 4 at 7, 251 term 32767 252 253 done 0; \
+        4 at 7, 251 term 32767 252 253 done 0; 4";
     assert!(rt; shown.as_str() == expected);
     assert!(rt; gate.count() == 7);
     let heard = [
