@@ -14,11 +14,11 @@ unreachable-requires g c =
     let none = c.in_default.ensures in
     omega (arith, left, one, none)
 
-pub unreachable-requires-in_default-next-2 : goal.unreachable-requires-in_default-next-2
-unreachable-requires-in_default-next-2 g c =
+pub unreachable-requires-in_default-next : goal.unreachable-requires-in_default-next
+unreachable-requires-in_default-next g c =
     let left = c.loop-writer.invariant.companions_left in
     let one = ap length c.in-Some.ensures.steps.0 in
-    let none = c.in_default-next-2.ensures in
+    let none = c.in_default-next.ensures in
     omega (arith, left, one, none)
 
 pub loop-writer-preserved : goal.loop-writer-preserved
