@@ -43,7 +43,7 @@ use Rattle.index_run.specs.declared.telling.Form.TheVariants.{Report, Summary}
 use Rattle.index_run.proofs.DiskAfter.{the_files}
 use Rattle.index_run.proofs.Finish.{broken_by, cut_keeps, cut_stops, listed_outside, over_keeps, over_settled, over_stops, rounds_outside, told_by, untold, whole_in}
 use Rattle.index_run.proofs.KeepingEnds.{cut_leaves, over_leaves, over_settles, report_runs}
-use Rattle.index_run.proofs.Pruning.{all_leaving, leaves_all, preserves_pruned, stops_less}
+use Rattle.index_run.proofs.Pruning.{leaves_all, preserves_pruned}
 use Rattle.index_run.proofs.RunEnds.{spells}
 
 abbrev Bytes : Type 0

@@ -38,7 +38,7 @@ use Rattle.index_run.specs.Damage.{FindsDamage}
 use Rattle.index_run.specs.Endings.{Caused, Met}
 use Rattle.index_run.specs.Keeping.{RunsBy, StopsBy}
 use Rattle.index_run.specs.Promises.{AnswersQuestions, CanKeep, ChecksCommits, Does, IsCheckOf, IsListOf, ListsCommits, RunsScript}
-use Rattle.index_run.proofs.Finish.{stops_none}
+use Rattle.index_run.proofs.Finish.{keeps_none, stops_none}
 use Rattle.index_run.proofs.Listed.{err_and_listed, err_listed, listed_onto}
 use Rattle.index_run.proofs.Pruning.{stops_by}
 
@@ -84,7 +84,8 @@ pub script_undone : (keep : Option ℕ) (IsScript : List Line → Type 0) (form 
     → RunsScript keep IsScript (form_text form) (record { input = input; store = store; left = left; text = Err s })
 script_undone keep IsScript form input store left s still outside = record {
   runs = λ g is can. tt;
-  stops = λ g is can. stops_by keep g store left (stops_none g store left still is.stored can);
+  stops = λ g is can.
+      stops_by keep g store left (keeps_none g store left still is.stored).each (stops_none g store left still is.stored can);
   high = λ g is above. listed_onto (stop_status s) (4 ∷ 5 ∷ []) (4 ∷ 5 ∷ 7 ∷ 10 ∷ []) (refl, (refl, tt)) (outside g.lines is.script);
   whole = λ g is can keeps.
       listed_onto (stop_status s) (4 ∷ 5 ∷ []) (4 ∷ 5 ∷ 7 ∷ []) (refl, (refl, tt)) (outside g.lines is.script);

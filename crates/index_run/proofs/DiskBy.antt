@@ -30,6 +30,7 @@ use Rattle.index_run.specs.Leaving.{CommitLaws, IsDiskAfter, IsNextCommit, due_p
 use Rattle.index_run.specs.Merged.{EndsMerged}
 use Rattle.index_run.proofs.DiskAfter.{changed, crash_commit, crash_longer, disk_commit, disk_count, disk_longer, disk_round, disk_same, disk_start, same_stored, some_longer, some_onto, standing_commit, the_files}
 use Rattle.index_run.proofs.DiskLeft.{left_commit, left_crash_commit, left_crash_longer, left_longer, left_other, left_some_longer, left_start, left_stopped, some_standing}
+use Rattle.index_run.proofs.OneLeft.{one_commit, one_crash}
 use Rattle.index_run.proofs.RunEnds.{files_commit, stops_files}
 
 -- the next id when the run began isn't above that since the last commit, which leaves room
@@ -142,6 +143,7 @@ by_count (Some k) first log count more w start now same disk = record {
         files = subst (λ (ns : List ℕ). IsSomeAnd (told_files now) (StandsLeft k first log ns w old)) same d.files;
         kept = d.kept;
         crash = d.crash;
+        each = d.each;
       };
 }
 
@@ -194,6 +196,7 @@ stopped_done (Some k) first w log rest count start now le disk = λ old begins.
           (λ f h. (h.was, some_longer first log rest old h.was (some_standing first log count w old h.was le disk.high h.stands), h.left))
           d.files;
       crash = λ are. left_crash_longer k first log rest old start now (d.crash are);
+      each = λ t there kept. one_crash k t first log rest old start now (d.each t there kept).crash;
     }
 
 pub stopped_written : (keep : Option ℕ) (first w : State) (log rest : List Line) (count : ℕ) (start mid now : Option Disk) → CommitLaws
@@ -218,4 +221,8 @@ stopped_written (Some k) first w log rest count start mid now laws begun on belo
           left_crash_longer k first log rest old start now
           (left_crash_commit k first w log count old start mid now disk.laws disk.some laws begun begins on below le numbers crashed disk.low
           disk.high d are);
+      each = λ t there kept.
+          one_crash k t first log rest old start now
+          (one_commit k t first w log count old start mid now laws begun begins.goes_on there on disk.low numbers crashed
+          (d.each t there kept)).crash;
     }

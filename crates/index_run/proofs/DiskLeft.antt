@@ -30,7 +30,8 @@ use Rattle.index_run.specs.Leaving.{CommitLaws, HasSomeFront, IsNextCommit, Stan
 use Rattle.index_run.proofs.DiskAfter.{changed, comes_next, same_goes_on, some_crash, some_longer, some_onto, stands_longer, stands_none, stands_other, the_files, all_numbers}
 use Rattle.index_run.proofs.LeftCommits.{AliveSame, CanFollowLeft, RowsStay, alive_over, latest_stays, left_commits, left_crash, left_none, left_then, over, segment_same}
 use Rattle.index_run.proofs.LogNumbers.{numbers_front}
-use Rattle.index_run.proofs.MadeCommits.{ComesNext, front_higher, front_none, old_ids, stands_commit}
+use Rattle.index_run.proofs.MadeCommits.{ComesNext, front_higher, old_ids, stands_commit}
+use Rattle.index_run.proofs.OneLeft.{EndsPrune, PrunesEach, one_commit, one_less, one_start, pruned_one, some_none}
 
 -- ---- what is left
 
@@ -57,7 +58,8 @@ left_start keep first old start can begins = record {
   kept = λ are n told. let same : old ≡ n = (let both = sym begins.told ∙ told in cc) in subst (λ (f : Files). AreKept f (MayHold start)) same are;
   crash = λ are.
       leaves_none start (LeftSome keep first [] old)
-      (λ c image. (old, (0, omega arith, front_none first [] (first.published.next_id + 2 * 0) old), kept_left keep old start are c image));
+      (λ c image. (old, some_none first [] old, kept_left keep old start are c image));
+  each = λ t there kept. one_start keep t (HasSomeFront first [] old) old start (some_none first [] old) kept;
 }
 
 -- ---- another state
@@ -79,6 +81,7 @@ left_other laws keep first log count w v old start now stored last since disk =
           disk.files;
       kept = disk.kept;
       crash = disk.crash;
+      each = disk.each;
     }
 
 -- ---- a longer log
@@ -107,6 +110,9 @@ left_longer keep first log more count w old start now le disk =
       crash = λ are.
           leaves_less start now (LeftSome keep first log old) (LeftSome keep first (log ++ more) old) (disk.crash are)
           (λ c left. left_some_longer keep first log more old c left);
+      each = λ t there kept.
+          one_less keep t (HasSomeFront first log old) (HasSomeFront first (log ++ more) old) old start now
+          (λ f some. some_longer first log more old f some) (disk.each t there kept);
     }
 
 -- the log's commits that stand are some of them
@@ -125,10 +131,11 @@ pub left_prune : (keep : ℕ) (first : State) (log : List Line) (count : ℕ) (w
     → (m n : Files) → told_files mid ≡ Some m → told_files now ≡ Some n → MayBePruned keep m n
     → GoesOn n v × StandsOnLast n v → v.since ≡ w.since → ((files : Files) → IsStored files w → IsStored files v)
     → v.last ≡ w.last → (AreKept m (MayHold mid) → AreKept n (MayHold now))
-    → (AreKept m (MayHold mid) → LeavesOnly mid now (MayBePruned keep m)) → count ≤ length log
+    → (AreKept m (MayHold mid) → LeavesOnly mid now (MayBePruned keep m)) → PrunesEach keep mid now → EndsPrune keep mid now
+    → count ≤ length log
     → w.since ≤ first.published.next_id + 2 * length log
     → IsDiskLeft keep first log count w old start mid → IsDiskLeft keep first log count v old start now
-left_prune keep first log count w v old start mid now m n told_mid told_now pruned goes since stored last settled crash le high disk = record {
+left_prune keep first log count w v old start mid now m n told_mid told_now pruned goes since stored last settled crash each ends le high disk = record {
   files = subst (λ (o : Option Files). IsSomeAnd o (StandsLeft keep first log numbers v old)) (sym told_now) (record {
     was = here.was;
     stands = stands_other first log numbers w v old here.was stored last since here.stands;
@@ -146,6 +153,9 @@ left_prune keep first log count w v old start mid now m n told_mid told_now prun
         some_standing first log count w old here.was le high here.stands,
         left_then keep here.was m c here.left left,
       ));
+  each = λ t there kept.
+      pruned_one keep t (HasSomeFront first log old) old here.was m start mid now (some_none first log old) there told_mid
+      (some_standing first log count w old here.was le high here.stands) here.left each (disk.each t there kept) ends n told_now;
 }
   where
     numbers : List ℕ
@@ -258,6 +268,8 @@ left_commit keeps keep first w v log count old start mid now some laws begun beg
         some_crash first w log count old here.was (over_by w here.was c) le high numbers next here.stands both.0,
         both.1,
       ));
+  each = λ t there kept.
+      one_commit keep t first w log count old start mid now laws begun begins.goes_on there on low numbers crash (disk.each t there kept);
 }
   where
     pairs : Pairs

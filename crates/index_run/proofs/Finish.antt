@@ -76,7 +76,7 @@ told_still start began files same told = ap told_files same ∙ told
 -- ---- a run that did nothing
 
 -- none of a log's commits is there
-none_first : (g : Given) (log : List Line) (c : Files) → HasOnly g.files c → HasSome g log c
+pub none_first : (g : Given) (log : List Line) (c : Files) → HasOnly g.files c → HasSome g log c
 none_first g log c has = (0, record { each = tt; only = λ s there. inl (has.only s there); kept = has.kept })
 
 none_crash : (g : Given) (log : List Line) (disk : Option Disk) → IsKept g disk → LeavesOnly disk disk (HasSome g log)

@@ -22,7 +22,8 @@ use Rattle.index_run.specs.KeptDisk.{BeginsOnLast, IsDiskBy, IsDiskKeeping, IsDi
 use Rattle.index_run.specs.Promises.{CanKeep}
 use Rattle.index_run.specs.declared.rounds.RanFault.TheVariants as halt
 use Rattle.index_run.proofs.DiskAfter.{the_files}
-use Rattle.index_run.proofs.DiskPruned.{GivesUp, after, found, pruned_crash, pruned_files, pruned_left, pruned_spelled}
+use Rattle.index_run.proofs.DiskPruned.{GivesUp, after, found, pruned_crash, pruned_each, pruned_files, pruned_left, pruned_spelled}
+use Rattle.index_run.proofs.OneLeft.{EndsPrune}
 use Rattle.index_run.proofs.Pruning.{are_whole}
 
 -- the disk of a run of which so many commits are kept
@@ -37,8 +38,8 @@ keeping keep r lines shares log commits due w mid by come =
 pub come_pruned : (keep : ℕ) (r : Run) (lines : List Line) (shares : List Share) (log : List Line) (commits : List (ℕ × ℕ)) (due : CommitLine)
     (w v : State) (mid now : Option Disk) → r.keep ≡ Some keep → v ≡ w → GivesUp keep w v mid now
     → ((m n : Files) → told_files mid ≡ Some m → told_files now ≡ Some n → AreKept m (MayHold mid) → AreKept n (MayHold now))
-    → HasCome r lines shares log commits due w mid → HasCome r lines shares log commits due v now
-come_pruned keep r lines shares log commits due w v mid now by same gives kept come =
+    → EndsPrune keep mid now → HasCome r lines shares log commits due w mid → HasCome r lines shares log commits due v now
+come_pruned keep r lines shares log commits due w v mid now by same gives kept ends come =
     subst (λ (s : State). HasCome r lines shares log commits due s now) (sym same) (record {
       done = record {
         rise = come.done.rise;
@@ -71,7 +72,7 @@ come_pruned keep r lines shares log commits due w v mid now by same gives kept c
         let f = found keep r.first w w log come.done.at.front r.start mid now own come.done.at.within was old begins in
         let n = after keep r.first w w log come.done.at.front r.start mid now own come.done.at.within was old begins in
         pruned_left keep r.first w w log come.done.at.front r.start mid now own come.done.at.within was old begins
-        (λ are. kept f.0 n.0 f.1 n.1 are)
+        (λ are. kept f.0 n.0 f.1 n.1 are) ends
 
     pruned : IsDiskKeeping keep r.first log come.done.at.front w r.start now
     pruned = record {
@@ -102,6 +103,7 @@ cut_pruned keep r lines shares log commits due w v mid now why by gives finds co
           (λ old begins. record {
             files = pruned_files keep r.first w v log front r.start mid now gives within was old begins rest.0;
             crash = pruned_crash keep r.first w v log front r.start mid now gives within was old begins rest.0;
+            each = pruned_each keep r.first w v log front r.start mid now gives within was old begins rest.0;
           });
       found = finds;
     }

@@ -1,12 +1,13 @@
 -- A run that gives old commits up as it goes on: one that was done, and one that stopped.
 use Rattle.std.proofs.Common.{◌≡◌, ◌∙◌, ℕ, ◌+◌, ◌*◌, ◌≤◌, Bool, true, false, List, [], ◌∷◌, ◌++◌, length, Some, Ok, Err, Result, refl, sym, ap, subst, Vec, arith}
-use Rattle.std.specs.Prelude.{◌||◌, Option, Contains, IfOk, IsSomeAnd}
+use Rattle.std.specs.Prelude.{◌||◌, Option, Contains, IfOk, IsSome, IsSomeAnd}
 use Rattle.std.specs.List.{AllByRecursion}
 use Rattle.std.specs.declared.alloc.Global.{Global}
 use Rattle.std.proofs.lemmas.List.{append-nil}
 use Rattle.std.proofs.lemmas.List.Elements.{All-contains, All-from_recursion}
 use Rattle.ix_base.specs.declared.damaged.Damaged.{Damaged}
 use Rattle.ix_base.specs.declared.document.Row.{Row}
+use Rattle.ix_base.specs.declared.file_name.FileName.TheVariants.{Commit}
 use Rattle.ix_base.specs.declared.query.Query.{Query}
 use Rattle.ix_base.specs.Counts.{doc_count}
 use Rattle.ix_outside.specs.Calls.{LeavesOnly}
@@ -22,7 +23,7 @@ use Rattle.run_report.specs.Texts.{texts}
 use Rattle.run_log.proofs.AgainLaws.{again, commits_run_on}
 use Rattle.run_log.proofs.CountLaws.{same_count}
 use Rattle.run_log.proofs.OnlyLaws.{only_itself}
-use Rattle.run_log.specs.Headline.{CanRun, CanRunOn, Given, GivesBack, HasAll, HasRoom, HasSome, Interleaves, IsKept, numbered, report, rows_at}
+use Rattle.run_log.specs.Headline.{CanRun, CanRunOn, Given, GivesBack, HasAll, HasRoom, HasSome, Interleaves, IsKept, IsSettled, numbered, report, rows_at}
 use Rattle.index_writer.specs.declared.state.State.{State}
 use Rattle.index_run.specs.Commands.{form_text}
 use Rattle.index_run.specs.declared.rounds.RanFault.{RanFault}
@@ -30,11 +31,12 @@ use Rattle.index_run.specs.declared.stop.Stop.{Stop}
 use Rattle.index_run.specs.declared.telling.Form.TheVariants.{Report}
 use Rattle.index_run.specs.Doing.{IsOnGiven}
 use Rattle.index_run.specs.Driving.{IsCut, IsDocs, IsOver, Run, base_of}
-use Rattle.index_run.specs.Keeping.{Left, RunsLeaving, StopsKeeping}
-use Rattle.index_run.specs.KeptDisk.{BeginsOnLast, IsDiskLeft, LeftSome, StandsLeft}
+use Rattle.index_run.specs.Keeping.{LeavesEach, Left, LeftOf, RunsLeaving, StopsKeeping}
+use Rattle.index_run.specs.KeptDisk.{BeginsOnLast, IsDiskLeft, IsOneLeft, LeftSome, StandsLeft}
 use Rattle.index_run.specs.Leaving.{HasSomeFront, first_numbers}
 use Rattle.index_run.proofs.DiskAfter.{some_onto, the_files}
 use Rattle.index_run.proofs.Finish.{numbering_of, over_report}
+use Rattle.index_run.proofs.OneLeft.{one_less}
 use Rattle.index_run.proofs.Pruning.{can_run_left}
 use Rattle.index_run.proofs.RunEnds.{has_all, has_first}
 
@@ -72,14 +74,15 @@ left_all keep g first w log f on high stands = (
 
 -- ---- a run that stopped
 
-stops_left : (keep : ℕ) (g : Given) (log : List Line) (old now : Option Disk) → 1 ≤ keep → CanRun g → Interleaves g.lines log
+pub stops_left : (keep : ℕ) (g : Given) (log : List Line) (old now : Option Disk) → 1 ≤ keep → CanRun g → Interleaves g.lines log
     → IsSomeAnd (told_files now) (Left keep (HasSome g log)) → (IsKept g old → LeavesOnly old now (Left keep (HasSome g log)))
-    → StopsKeeping keep g old now
-stops_left keep g log old now many can numbering has crash = record {
+    → LeavesEach keep g (HasSome g log) old now → StopsKeeping keep g old now
+stops_left keep g log old now many can numbering has crash each = record {
   log = log;
   numbering = numbering;
   files = has;
   crash = crash;
+  each = each;
   again = λ room. some_onto (told_files now) (Left keep (HasSome g log)) CanRunOn (λ f left. on_left room f left) has;
   restarts = λ are room. leaves_less old now (Left keep (HasSome g log)) CanRunOn (crash are) (λ c left. on_left room c left);
 }
@@ -98,6 +101,9 @@ cut_leaves keep g r lines why now many same can told on cut =
     (λ are.
     leaves_less r.start now (LeftSome keep r.first cut.log g.files) (Left keep (HasSome g cut.log)) (left.crash are)
     (λ c h. left_given keep g r.first cut.log c on h))
+    (λ t there settled.
+    leaves_less r.start now (LeftOf keep t (HasSomeFront r.first cut.log g.files)) (LeftOf keep t (HasSome g cut.log))
+    (left.each t there settled) (λ c one. (one.0, some_given g r.first cut.log one.0 on one.1, one.2)))
 
 -- ---- a run that was done
 
@@ -116,12 +122,18 @@ module _ (keep : ℕ) (g : Given) (r : Run) (lines : List Line) (outcomes : List
       leaves_less r.start now (LeftSome keep r.first o.log g.files) (Left keep (HasSome g o.log)) (left_of.crash are)
       (λ c h. left_given keep g r.first o.log c on h)
 
+  one_of : (t : ℕ) → IsSome (g.files (Commit t)) → IsSettled t g.files r.start
+      → IsOneLeft keep t (HasSome g o.log) g.files r.start now
+  one_of t there settled =
+      one_less keep t (HasSomeFront r.first o.log g.files) (HasSome g o.log) g.files r.start now
+      (λ f front. some_given g r.first o.log f on front) (left_of.each t there settled)
+
   pub over_leaves : g.lines ≡ lines → CanRun g → StopsKeeping keep g r.start now
   over_leaves same can =
       stops_left keep g o.log r.start now o.disk.some can (numbering_of g.lines lines o.log same o.numbering)
       (some_onto (told_files now) (Left keep (HasAll g o.log)) (Left keep (HasSome g o.log))
       (λ f all. (all.0, (length o.log, all.1), all.2)) files_of)
-      crash_of
+      crash_of (λ t there settled. (one_of t there settled).crash)
 
   -- each commit is kept then, where each was kept at the beginning
   pub over_settles : IsKept g r.start → (f : Files) → told_files now ≡ Some f → AreKept f (MayHold now)
@@ -150,6 +162,8 @@ module _ (keep : ℕ) (g : Given) (r : Run) (lines : List Line) (outcomes : List
     written = written;
     files = files_of;
     crash = crash_of;
+    each = λ t there settled. (one_of t there settled).crash;
+    ends = λ t there settled. (one_of t there settled).here;
     again = again_of same can;
   }
 

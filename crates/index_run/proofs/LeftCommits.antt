@@ -690,7 +690,7 @@ file_whole a b s name whole (inr h) = inr (
   h.2,
 )
 
-whole_then : (a b c : Files) (s : ℕ) → IsWholeAs s a b → IsWholeAs s b c → IsWholeAs s a c
+pub whole_then : (a b c : Files) (s : ℕ) → IsWholeAs s a b → IsWholeAs s b c → IsWholeAs s a c
 whole_then a b c s first second name of = second name (file_whole a b s name first of) ∙ first name of
 
 all_there : (a b : Files) (later : List ℕ) → ((t : ℕ) → IsSome (b (Commit t)) → IsSome (a (Commit t)))
@@ -698,7 +698,7 @@ all_there : (a b : Files) (later : List ℕ) → ((t : ℕ) → IsSome (b (Commi
 all_there a b [] only there = tt
 all_there a b (t ∷ ts) only there = (only t there.0, all_there a b ts only there.1)
 
-given_before : (keep : ℕ) (a b : Files) (s : ℕ) → ((t : ℕ) → IsSome (b (Commit t)) → IsSome (a (Commit t))) → IsGivenUp keep b s → IsGivenUp keep a s
+pub given_before : (keep : ℕ) (a b : Files) (s : ℕ) → ((t : ℕ) → IsSome (b (Commit t)) → IsSome (a (Commit t))) → IsGivenUp keep b s → IsGivenUp keep a s
 given_before keep a b s only given = record {
   later = given.later;
   count = given.count;

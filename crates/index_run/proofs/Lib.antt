@@ -30,10 +30,12 @@ pub mod Ended
 pub mod OutcomeLaws
 pub mod RepliedLaws
 pub mod LeftCommits
+pub mod OneLeft
 pub mod DiskLeft
 pub mod DiskBy
 pub mod DiskPruned
 pub mod GivingUp
 pub mod LatestLeft
 pub mod KeepingEnds
+pub mod RunPruned
 pub mod Beside

@@ -56,7 +56,7 @@ written_by files s e lists =
 -- ---- the commits that were there
 
 -- a run doesn't write their files, where it could go on from the files that had them
-file_before : (first : State) (files : Files) (t : ℕ) (name : FileName) → GoesOn files first → IsSome (files (Commit t))
+pub file_before : (first : State) (files : Files) (t : ℕ) (name : FileName) → GoesOn files first → IsSome (files (Commit t))
     → IsFileOf files t name → IsBefore first.last first.since name
 file_before first files t name goes there of_t = by of_t
   where
@@ -317,7 +317,7 @@ pub record ComesNext (first : State) (log : List Line) (numbers : List ℕ) (w :
   pub below : AllBelow w.published.upto numbers
   pub low : first.published.next_id ≤ w.since
 
-before_next : (first : State) (log : List Line) (numbers : List ℕ) (w : State) (old mid new : Files)
+pub before_next : (first : State) (log : List Line) (numbers : List ℕ) (w : State) (old mid new : Files)
     → ComesNext first log numbers w → SameBelow w.published.upto w.since mid new → SameBefore first old mid
     → SameBefore first old new
 before_next first log numbers w old mid new next same before =

@@ -1,41 +1,39 @@
--- A run over a store of which old commits are given up once it is done.
-use Rattle.std.proofs.Common.{◌≡◌, ◌≢◌, ◌⊎◌, inl, inr, ◌∙◌, ℕ, suc, ◌+◌, ◌≤◌, Bool, true, false, List, [], ◌∷◌, length, take, Some, None, refl, sym, ap}
+-- A run that keeps all commits, as one of which so many are kept, and what is left where old ones are given up.
+use Rattle.std.proofs.Common.{◌≡◌, ◌≢◌, ◌⊎◌, inl, inr, ◌∙◌, ℕ, suc, ◌≤◌, Bool, false, List, [], ◌∷◌, take, Some, None, refl, sym, ap}
 use Rattle.std.proofs.Common.{subst, arith, Vec}
-use Rattle.std.specs.Prelude.{Result, Ok, Err, Option, IfErr, IfOk, IsSome, IsSomeAnd, Contains}
+use Rattle.std.specs.Prelude.{Result, Ok, Err, Option, IfErr, IfOk, IsSome, Contains}
 use Rattle.std.specs.declared.alloc.Global.{Global}
 use Rattle.std.specs.List.{AllByRecursion}
 use Rattle.ix_base.specs.declared.damaged.Damaged.{Damaged}
 use Rattle.ix_base.specs.declared.document.Row.{Row}
 use Rattle.ix_base.specs.declared.file_name.FileName.{FileName}
 use Rattle.ix_base.specs.declared.file_name.FileName.TheVariants.{Commit, Rows, Posts, Live, Values}
-use Rattle.ix_outside.proofs.CallLaws.{leaves_less, leaves_now, leaves_then}
+use Rattle.ix_outside.proofs.CallLaws.{leaves_less}
 use Rattle.ix_outside.specs.Calls.{LeavesOnly}
-use Rattle.ix_outside.specs.Crash.{MayHold}
 use Rattle.ix_outside.specs.Disk.{Disk, Told, files as read_files, told_files}
 use Rattle.ix_outside.specs.Files.{Files}
 use Rattle.segment_core.specs.LiveRows.{Lived}
 use Rattle.commit_point.proofs.KeptLaws.{lists_there, there_by}
-use Rattle.commit_point.specs.Holds.{AreKept, HasHead, HasSegments, HaveSegments, HoldsInverted, IsAmong, IsLawful, Lists, head_of, names_of}
+use Rattle.commit_point.specs.Holds.{HasHead, HasSegments, HaveSegments, HoldsInverted, IsAmong, IsLawful, Lists, head_of, names_of}
 use Rattle.commit_point.specs.declared.heads.Head.{Head}
 use Rattle.commit_point.specs.declared.heads.HeadSegment.{HeadSegment}
 use Rattle.commit_point.proofs.RowsKept.{rows_kept}
 use Rattle.commit_pruning.specs.declared.fault.PruningFault.{PruningFault}
 use Rattle.commit_pruning.specs.declared.fault.PruningFault.TheVariants as pruning
-use Rattle.commit_pruning.specs.Pruning.{AreWhole, IsOutside, IsPruned, IsWholeAs, MayBePruned, OnlyDeletes, Stays}
+use Rattle.commit_pruning.specs.Pruning.{AreWhole, IsOutside, IsWholeAs, MayBePruned, Stays}
 use Rattle.op_script.specs.declared.script.Line.{Line}
 use Rattle.report_text.specs.declared.fault.Fault.TheVariants as fault
-use Rattle.run_log.proofs.OnlyLaws.{none_of}
-use Rattle.run_log.specs.Headline.{CanRun, CanRunOn, Given, GivesBack, HasAll, HasFirst, HasNoCommit, HasSome, IsKept, IsLast, IsNewCommit, Preserves, Runs, Stops}
-use Rattle.run_log.specs.Headline.{commit_numbers}
-use Rattle.index_run.proofs.DiskAfter.{some_onto, the_files}
-use Rattle.index_run.proofs.Finish.{keeps_none, stops_none}
+use Rattle.run_log.proofs.OnlyLaws.{none_of, only_itself}
+use Rattle.run_log.specs.Headline.{CanRun, CanRunOn, Given, HasAll, HasFirst, HasNoCommit, HasSome, IsLast, IsNewCommit, Preserves, Runs, Stops}
+use Rattle.run_log.specs.Headline.{IsSettled, KeepsCommit, commit_numbers}
+use Rattle.index_run.proofs.DiskAfter.{some_onto}
+use Rattle.index_run.proofs.Finish.{keeps_none, none_first, stops_none}
 use Rattle.index_run.proofs.Listed.{listed_onto}
 use Rattle.index_run.specs.Causes.{IsOneOf, LeavesStore, LeavesStoreBy, stop_by_pruning, stop_status}
 use Rattle.index_run.specs.declared.stop.Stop.{Stop}
 use Rattle.index_run.specs.declared.stop.Stop.TheVariants as stop
-use Rattle.index_run.proofs.LatestLeft.{latest_left, none_higher}
-use Rattle.index_run.proofs.LeftCommits.{latest_stays, left_then}
-use Rattle.index_run.specs.Keeping.{AreSpelled, HasLatest, HasSomeLog, IsLeft, Left, PreservesBy, PreservesKeeping, RunsBy, RunsKeeping, RunsLeaving, StopsBy, StopsKeeping, has_commit}
+use Rattle.index_run.proofs.LeftCommits.{latest_stays}
+use Rattle.index_run.specs.Keeping.{AreSpelled, HasLatest, HasSomeLog, IsLeft, LeavesEach, Left, LeftOf, PreservesBy, PreservesKeeping, RunsBy, RunsKeeping, StopsBy, StopsKeeping, has_commit}
 use Rattle.index_run.specs.Promises.{CanKeep}
 
 -- ---- nothing was given up
@@ -50,9 +48,25 @@ may_same keep f = record {
 left_same : (keep : ℕ) (P : Files → Type 0) (f : Files) → P f → Left keep P f
 left_same keep P f p = (f, p, may_same keep f)
 
+-- the files have none of a log's commits yet
+pub has_none : (g : Given) (log : List Line) → HasSome g log g.files
+has_none g log = none_first g log g.files (only_itself g.files)
+
+-- what a run leaves that keeps all commits of each that is settled by itself
+abbrev pub KeepsEach : Given → Option Disk → Option Disk → Type 0
+KeepsEach g old new =
+    (t : ℕ) → IsSome (g.files (Commit t)) → IsSettled t g.files old → LeavesOnly old new (KeepsCommit t g.files)
+
+each_less : (keep : ℕ) (g : Given) (log : List Line) (old new : Option Disk) → KeepsEach g old new
+    → LeavesEach keep g (HasSome g log) old new
+each_less keep g log old new each t there settled =
+    leaves_less old new (KeepsCommit t g.files) (LeftOf keep t (HasSome g log)) (each t there settled)
+    (λ c kept. (g.files, has_none g log, inl kept))
+
 -- a run that stopped keeps what it would keep
-pub stops_less : (keep : ℕ) (g : Given) (old new : Option Disk) → Stops g old new → StopsKeeping keep g old new
-stops_less keep g old new stops = record {
+pub stops_less : (keep : ℕ) (g : Given) (old new : Option Disk) → KeepsEach g old new → Stops g old new
+    → StopsKeeping keep g old new
+stops_less keep g old new each stops = record {
   log = stops.log;
   numbering = stops.numbering;
   files = some_onto (told_files new) (HasSome g stops.log) (Left keep (HasSome g stops.log))
@@ -60,18 +74,20 @@ stops_less keep g old new stops = record {
   crash = λ are.
       leaves_less old new (HasSome g stops.log) (Left keep (HasSome g stops.log)) (stops.crash are)
       (λ c some. left_same keep (HasSome g stops.log) c some);
+  each = each_less keep g stops.log old new each;
   again = stops.again;
   restarts = stops.restarts;
 }
 
-pub stops_by : (keep : Option ℕ) (g : Given) (old new : Option Disk) → Stops g old new → StopsBy keep g old new
-stops_by None g old new stops = stops
-stops_by (Some keep) g old new stops = stops_less keep g old new stops
+pub stops_by : (keep : Option ℕ) (g : Given) (old new : Option Disk) → KeepsEach g old new → Stops g old new
+    → StopsBy keep g old new
+stops_by None g old new each stops = stops
+stops_by (Some keep) g old new each stops = stops_less keep g old new each stops
 
 -- without a commit line all commits are left
 pub runs_less : (keep : ℕ) (g : Given) (text : List Line → List ℕ) (wrote : List ℕ → Type 0) (old new : Option Disk)
-    → has_commit g.lines ≡ false → Runs g text wrote old new → RunsKeeping keep g text wrote old new
-runs_less keep g text wrote old new none runs = record {
+    → has_commit g.lines ≡ false → KeepsEach g old new → Runs g text wrote old new → RunsKeeping keep g text wrote old new
+runs_less keep g text wrote old new none each runs = record {
   log = runs.log;
   numbering = runs.numbering;
   written = runs.written;
@@ -81,6 +97,7 @@ runs_less keep g text wrote old new none runs = record {
   crash = λ are.
       leaves_less old new (HasSome g runs.log) (Left keep (HasSome g runs.log)) (runs.crash are)
       (λ c some. left_same keep (HasSome g runs.log) c some);
+  each = each_less keep g runs.log old new each;
   again = runs.again;
 }
 
@@ -90,6 +107,9 @@ preserves_less keep g old new stops = record {
   kept = some_onto (told_files new) (Left keep (HasSome g stops.log)) (Left keep (HasSomeLog g)) with_log stops.files;
   crash = λ are.
       leaves_less old new (Left keep (HasSome g stops.log)) (Left keep (HasSomeLog g)) (stops.crash are) with_log;
+  each = λ t there settled.
+      leaves_less old new (LeftOf keep t (HasSome g stops.log)) (LeftOf keep t (HasSomeLog g)) (stops.each t there settled)
+      (λ c left. (left.0, (stops.log, left.1), left.2));
 }
   where
     with_log : (f : Files) → Left keep (HasSome g stops.log) f → Left keep (HasSomeLog g) f
@@ -100,7 +120,8 @@ pub keeps_by : (keep : Option ℕ) (g : Given) (disk now : Option Disk) → now 
     → CanRun g → PreservesBy keep g disk now
 keeps_by None g disk now same told can = keeps_none g disk now same told
 keeps_by (Some keep) g disk now same told can =
-    preserves_less keep g disk now (stops_less keep g disk now (stops_none g disk now same told can))
+    preserves_less keep g disk now
+    (stops_less keep g disk now (keeps_none g disk now same told).each (stops_none g disk now same told can))
 
 -- ---- a commit that stays
 
@@ -213,15 +234,7 @@ can_run_left keep f left some may can =
           },
         )
 
--- ---- pruning
-
--- What pruning did to a store.
-pub record Prunes (keep : ℕ) (mid new : Option Disk) : Type 0 where
-  pub some : 1 ≤ keep
-  pub left : (f now : Files) → told_files mid ≡ Some f → told_files new ≡ Some now → MayBePruned keep f now
-  pub only : Told OnlyDeletes mid new
-  pub crash : (f : Files) → told_files mid ≡ Some f → AreKept f (MayHold mid)
-      → LeavesOnly mid new (MayBePruned keep f)
+-- ---- files that are told
 
 pub told_on : (P : Disk → Disk → Type 0) (a b : Option Disk) (f : Files) → Told P a b → told_files a ≡ Some f
     → (now : Files) × (told_files b ≡ Some now)
@@ -229,121 +242,7 @@ told_on P None b f told is = absurd cc
 told_on P (Some x) None f told is = absurd told
 told_on P (Some x) (Some y) f told is = (read_files y, refl)
 
-some_told : (P : Files → Type 0) (o : Option Files) (x : Files) → o ≡ Some x → P x → IsSomeAnd o P
-some_told P o x told h = subst (λ (y : Option Files). IsSomeAnd y P) (sym told) h
-
--- what is left of files of which this holds
-left_of : (keep : ℕ) (mid new : Option Disk) (P Q : Files → Type 0) → Prunes keep mid new
-    → ((f now : Files) → P f → MayBePruned keep f now → Q now) → IsSomeAnd (told_files mid) P → IsSomeAnd (told_files new) Q
-left_of keep mid new P Q prunes onto has =
-    let found = the_files (told_files mid) P has in
-    let now = told_on OnlyDeletes mid new found.0 prunes.only found.1 in
-    some_told Q (told_files new) now.0 now.1 (onto found.0 now.0 found.2 (prunes.left found.0 now.0 found.1 now.1))
-
--- what a crash leaves, of all calls
-crash_of : (keep : ℕ) (start mid new : Option Disk) (P Q R : Files → Type 0) (f : Files) → Prunes keep mid new
-    → told_files mid ≡ Some f → AreKept f (MayHold mid) → LeavesOnly start mid P → ((c : Files) → P c → R c)
-    → ((c : Files) → MayBePruned keep f c → R c) → LeavesOnly start new R
-crash_of keep start mid new P Q R f prunes told are first before after =
-    leaves_then start mid new P (MayBePruned keep f) R first (prunes.crash f told are) before after
-
--- ---- the run, and then pruning
-
--- where each commit was kept at the beginning, each is kept once the lines were done
-abbrev pub Settles : Given → Option Disk → Option Disk → Type 0
-Settles g start mid = IsKept g start → (f : Files) → told_files mid ≡ Some f → AreKept f (MayHold mid)
-
--- what is left of such files of which more may have been given up
-left_more : (keep : ℕ) (P : Files → Type 0) (f now : Files) → Left keep P f → MayBePruned keep f now → Left keep P now
-left_more keep P f now left may = (left.0, left.1, left_then keep left.0 f now left.2 may)
-
-pub stops_pruned : (keep : ℕ) (g : Given) (start mid new : Option Disk) → Prunes keep mid new → Settles g start mid
-    → StopsKeeping keep g start mid → StopsKeeping keep g start new
-stops_pruned keep g start mid new prunes settles stops = record {
-  log = stops.log;
-  numbering = stops.numbering;
-  files = left_of keep mid new Some_of Some_of prunes (λ f now some may. left_more keep (HasSome g stops.log) f now some may) stops.files;
-  crash = λ are.
-      crash_of keep start mid new Some_of Some_of Some_of found.0 prunes found.1 (settles are found.0 found.1) (stops.crash are)
-      (λ c some. some) (λ c may. left_more keep (HasSome g stops.log) found.0 c found.2 may);
-  again = λ room.
-      left_of keep mid new CanRunOn CanRunOn prunes (λ f now can may. can_run_left keep f now prunes.some may can)
-      (stops.again room);
-  restarts = λ are room.
-      let can = the_files (told_files mid) CanRunOn (stops.again room) in
-      crash_of keep start mid new CanRunOn CanRunOn CanRunOn can.0 prunes can.1 (settles are can.0 can.1)
-      (stops.restarts are room) (λ c here. here) (λ c may. can_run_left keep can.0 c prunes.some may can.2);
-}
-  where
-    Some_of : Files → Type 0
-    Some_of = Left keep (HasSome g stops.log)
-
-    found : (f : Files) × (told_files mid ≡ Some f) × Some_of f
-    found = the_files (told_files mid) Some_of stops.files
-
-pub runs_pruned : (keep : ℕ) (g : Given) (text : List Line → List ℕ) (wrote : List ℕ → Type 0)
-    (start mid new : Option Disk) (count : ℕ) → has_commit g.lines ≡ true → CanRun g → Prunes keep mid new
-    → Settles g start mid
-    → ((f now : Files) → told_files mid ≡ Some f → told_files new ≡ Some now → IsPruned keep count f now)
-    → ((f now : Files) → told_files mid ≡ Some f → told_files new ≡ Some now → AreKept f (MayHold mid)
-    → AreKept now (MayHold new))
-    → RunsLeaving keep g text wrote start mid → RunsKeeping keep g text wrote start new
-runs_pruned keep g text wrote start mid new count some can prunes settles pruned kept runs = record {
-  log = runs.log;
-  numbering = runs.numbering;
-  written = runs.written;
-  files = some_told (HasLatest keep g runs.log) (told_files new) now.0 now.1 (
-    found.2.0,
-    found.2.1,
-    subst (λ (b : Bool). IsLeft keep b found.2.0 now.0) (sym some)
-        (latest_left keep count (g.base + length runs.log) found.2.0 found.0 now.0
-        (none_higher g runs.log found.2.0 can.0 found.2.1) found.2.2 (prunes.left found.0 now.0 found.1 now.1)
-        (pruned found.0 now.0 found.1 now.1)),
-  );
-  images = λ are c image.
-      left_more keep (HasAll g runs.log) found.0 c found.2
-      (leaves_now mid new (MayBePruned keep found.0) (prunes.crash found.0 found.1 (settles are found.0 found.1)) c image);
-  crash = λ are.
-      crash_of keep start mid new (Left keep (HasSome g runs.log)) (Left keep (HasSome g runs.log)) (Left keep (HasSome g runs.log)) found.0 prunes
-      found.1 (settles are found.0 found.1) (runs.crash are) (λ c first. first)
-      (λ c may.
-      left_more keep (HasSome g runs.log) found.0 c (found.2.0, (length runs.log, found.2.1), found.2.2) may);
-  again = λ are room. back (runs.again are room);
-}
-  where
-    All_of : Files → Type 0
-    All_of = Left keep (HasAll g runs.log)
-
-    found : (f : Files) × (told_files mid ≡ Some f) × All_of f
-    found = the_files (told_files mid) All_of runs.files
-
-    now : (f : Files) × (told_files new ≡ Some f)
-    now = told_on OnlyDeletes mid new found.0 prunes.only found.1
-
-    back : GivesBack mid → GivesBack new
-    back gives =
-        let can : CanRunOn gives.0.files = (gives.0, refl, gives.2) in
-        let left = can_run_left keep gives.0.files now.0 prunes.some (prunes.left gives.0.files now.0 gives.1 now.1) can in (
-          left.0,
-          now.1 ∙ ap Some (sym left.1),
-          left.2,
-          subst (λ (f : Files). AreKept f (MayHold new)) (sym left.1) (kept gives.0.files now.0 gives.1 now.1 gives.3),
-        )
-
--- a run that gave nothing up
-pub runs_leaving : (keep : ℕ) (g : Given) (text : List Line → List ℕ) (wrote : List ℕ → Type 0) (old new : Option Disk)
-    → Runs g text wrote old new → RunsLeaving keep g text wrote old new
-runs_leaving keep g text wrote old new runs = record {
-  log = runs.log;
-  numbering = runs.numbering;
-  written = runs.written;
-  files = some_onto (told_files new) (HasAll g runs.log) (Left keep (HasAll g runs.log))
-      (λ f all. left_same keep (HasAll g runs.log) f all) runs.files;
-  crash = λ are.
-      leaves_less old new (HasSome g runs.log) (Left keep (HasSome g runs.log)) (runs.crash are)
-      (λ c some. left_same keep (HasSome g runs.log) c some);
-  again = runs.again;
-}
+-- ---- where the store is left as it was
 
 pub leaves_all : (keep : Option ℕ) (status : ℕ) → LeavesStoreBy keep status → LeavesStore status
 leaves_all None status leaves = leaves
@@ -353,12 +252,6 @@ leaves_all (Some keep) status leaves =
 
 abbrev Bytes : Type 0
 Bytes = Vec ℕ Global
-
-pub all_leaving : (keep : ℕ) (g : Given) (text : List Line → List ℕ) (result : Result Bytes Stop) (old new : Option Disk)
-    → IfOk result (λ bytes. Runs g text (λ said. bytes.items ≡ said) old new)
-    → IfOk result (λ bytes. RunsLeaving keep g text (λ said. bytes.items ≡ said) old new)
-all_leaving keep g text (Ok bytes) old new runs = runs_leaving keep g text (λ said. bytes.items ≡ said) old new runs
-all_leaving keep g text (Err s) old new runs = tt
 
 -- a status at which a run that keeps only so many leaves the store as it was is one at which each run does
 pub all_leave : (keep : Option ℕ) (result : Result Bytes Stop) (old new : Option Disk)
@@ -384,10 +277,11 @@ runs_by_none : (keep : Option ℕ) (g : Given) (text : List Line → List ℕ) (
 runs_by_none keep g text wrote old new is runs = subst (λ (k : Option ℕ). RunsBy k g text wrote old new) (sym is) runs
 
 pub runs_all : (keep : Option ℕ) (g : Given) (text : List Line → List ℕ) (wrote : List ℕ → Type 0) (old new : Option Disk)
-    → (keep ≡ None) ⊎ (has_commit g.lines ≡ false) → Runs g text wrote old new → RunsBy keep g text wrote old new
-runs_all keep g text wrote old new (inl is) runs = runs_by_none keep g text wrote old new is runs
-runs_all None g text wrote old new (inr none) runs = runs
-runs_all (Some keep) g text wrote old new (inr none) runs = runs_less keep g text wrote old new none runs
+    → (keep ≡ None) ⊎ (has_commit g.lines ≡ false) → KeepsEach g old new → Runs g text wrote old new
+    → RunsBy keep g text wrote old new
+runs_all keep g text wrote old new (inl is) each runs = runs_by_none keep g text wrote old new is runs
+runs_all None g text wrote old new (inr none) each runs = runs
+runs_all (Some keep) g text wrote old new (inr none) each runs = runs_less keep g text wrote old new none each runs
 
 -- what is said of the first of a log's commits is said whatever the script's lines are
 first_of : (g : Given) (lines log : List Line) (count : ℕ) (f : Files) → HasFirst (record g { lines = lines }) log count f
@@ -415,13 +309,12 @@ first_of g lines log count f first = record {
       each_of ns each.1,
     )
 
+some_lines : (g : Given) (lines : List Line) (f : Files) → HasSomeLog (record g { lines = lines }) f → HasSomeLog g f
+some_lines g lines f some = (some.0, (some.1.0, first_of g lines some.0 some.1.0 f some.1.1))
+
 left_lines : (keep : ℕ) (g : Given) (lines : List Line) (f : Files) → Left keep (HasSomeLog (record g { lines = lines })) f
     → Left keep (HasSomeLog g) f
-left_lines keep g lines f left = (
-  left.0,
-  (left.1.0, (left.1.1.0, first_of g lines left.1.0 left.1.1.0 left.0 left.1.1.1)),
-  left.2,
-)
+left_lines keep g lines f left = (left.0, some_lines g lines left.0 left.1, left.2)
 
 preserves_lines : (keep : ℕ) (g : Given) (lines : List Line) (old new : Option Disk)
     → PreservesKeeping keep (record g { lines = lines }) old new → PreservesKeeping keep g old new
@@ -431,13 +324,17 @@ preserves_lines keep g lines old new keeps = record {
   crash = λ are.
       leaves_less old new (Left keep (HasSomeLog (record g { lines = lines }))) (Left keep (HasSomeLog g)) (keeps.crash are)
       (left_lines keep g lines);
+  each = λ t there settled.
+      leaves_less old new (LeftOf keep t (HasSomeLog (record g { lines = lines }))) (LeftOf keep t (HasSomeLog g))
+      (keeps.each t there settled) (λ c left. (left.0, some_lines g lines left.0 left.1, left.2));
 }
 
 pub all_runs : (keep : Option ℕ) (g : Given) (text : List Line → List ℕ) (result : Result Bytes Stop) (old new : Option Disk)
-    → (keep ≡ None) ⊎ (has_commit g.lines ≡ false) → IfOk result (λ bytes. Runs g text (λ said. bytes.items ≡ said) old new)
+    → (keep ≡ None) ⊎ (has_commit g.lines ≡ false) → KeepsEach g old new
+    → IfOk result (λ bytes. Runs g text (λ said. bytes.items ≡ said) old new)
     → IfOk result (λ bytes. RunsBy keep g text (λ said. bytes.items ≡ said) old new)
-all_runs keep g text (Ok bytes) old new why runs = runs_all keep g text (λ said. bytes.items ≡ said) old new why runs
-all_runs keep g text (Err s) old new why runs = tt
+all_runs keep g text (Ok bytes) old new why each runs = runs_all keep g text (λ said. bytes.items ≡ said) old new why each runs
+all_runs keep g text (Err s) old new why each runs = tt
 
 pub preserves_pruned : (keep : ℕ) (g : Given) (lines : List Line) (old new : Option Disk)
     → StopsKeeping keep (record g { lines = lines }) old new → PreservesKeeping keep g old new
@@ -448,7 +345,7 @@ pub preserves_all : (keep : Option ℕ) (g : Given) (lines : List Line) (old new
     → Stops (record g { lines = lines }) old new → PreservesBy keep g old new
 preserves_all None g lines old new keeps stops = keeps
 preserves_all (Some keep) g lines old new keeps stops =
-    preserves_pruned keep g lines old new (stops_less keep (record g { lines = lines }) old new stops)
+    preserves_pruned keep g lines old new (stops_less keep (record g { lines = lines }) old new keeps.each stops)
 
 -- ---- why pruning stopped
 

@@ -1,11 +1,12 @@
 -- A run under way: between two rounds, and at the end of one.
-use Rattle.std.specs.Prelude.{◌≡◌, ℕ, ◌+◌, ◌≤◌, List, [], ◌∷◌, ◌++◌, length, map, Option, Some, None, IsSomeAnd, true, false}
+use Rattle.std.specs.Prelude.{◌≡◌, ℕ, ◌+◌, ◌≤◌, List, [], ◌∷◌, ◌++◌, length, map, Option, Some, None, IsSome, IsSomeAnd, true, false}
 use Rattle.std.specs.Prelude.{IfErr, IfOk, IfSome, OnOk}
 use Rattle.std.specs.Global.{Vec}
 use Rattle.std.specs.List.{AllByRecursion, AllZip}
 use Rattle.ix_base.specs.Counts.{doc_count}
 use Rattle.ix_base.specs.declared.damaged.Damaged.{Damaged}
 use Rattle.ix_base.specs.declared.document.Row.{Row}
+use Rattle.ix_base.specs.declared.file_name.FileName.TheVariants.{Commit}
 use Rattle.ix_outside.specs.Calls.{LeavesOnly}
 use Rattle.ix_outside.specs.Crash.{MayHold}
 use Rattle.ix_outside.specs.Disk.{Disk, Told, told_files}
@@ -13,6 +14,7 @@ use Rattle.ix_outside.specs.Files.{Files}
 use Rattle.ix_outside.specs.Images.{Reaches}
 use Rattle.commit_point.specs.Holds.{AreKept}
 use Rattle.commit_point.specs.Steps.{KeepsMade, OnlyCommits}
+use Rattle.commit_pruning.specs.Pruning.{IsKeptIn}
 use Rattle.op_script.specs.Shape.{LinesRise}
 use Rattle.op_script.specs.declared.script.Line.{Line}
 use Rattle.worker_tasks.specs.declared.share.Share.{Share}
@@ -34,7 +36,7 @@ use Rattle.run_log.specs.Headline.{Given, HasSome, Interleaves, commit_numbers, 
 use Rattle.run_log.specs.Numbering.{HasLine}
 use Rattle.index_run.specs.Answered.{AreAnswered, IsFound}
 use Rattle.index_run.specs.Doing.{CanBegin, IsOnGiven, IsWriterOn}
-use Rattle.index_run.specs.Keeping.{FindsStaying}
+use Rattle.index_run.specs.Keeping.{FindsStaying, LeftOf}
 use Rattle.index_run.specs.Promises.{CanKeep}
 use Rattle.index_run.specs.KeptDisk.{BeginsOnLast, IsDiskBy, LeftSome}
 use Rattle.index_run.specs.Leaving.{HasSomeFront, IsNextCommit, first_numbers}
@@ -173,10 +175,12 @@ pub record IsStopped (first : State) (log : List Line) (start now : Option Disk)
   pub standing : (was : Files) → told_files start ≡ Some was → WriterGoesOn was first → Told KeepsMade start now
 
 -- Where one stopped that keeps so many, the files are what is left of files that have the first of the log's commits,
--- and so is what a crash left.
+-- and so is what a crash left, and of a commit that was kept by itself, whatever became of the others.
 pub record IsStoppedLeft (keep : ℕ) (first : State) (log : List Line) (old : Files) (start now : Option Disk) : Type 0 where
   pub files : IsSomeAnd (told_files now) (LeftSome keep first log old)
   pub crash : AreKept old (MayHold start) → LeavesOnly start now (LeftSome keep first log old)
+  pub each : (t : ℕ) → IsSome (old (Commit t)) → IsKeptIn t old (MayHold start)
+      → LeavesOnly start now (LeftOf keep t (HasSomeFront first log old))
 
 abbrev pub IsStoppedBy : Option ℕ → State → List Line → Option Disk → Option Disk → Type 0
 IsStoppedBy None first log start now = IsStopped first log start now

@@ -11,9 +11,10 @@ use Rattle.ix_outside.specs.Files.{Files}
 use Rattle.commit_point.specs.Holds.{HasHead, IsFileOf}
 use Rattle.commit_point.specs.Steps.{OnlyCommits}
 use Rattle.commit_point.specs.declared.heads.Head.{Head}
-use Rattle.commit_pruning.specs.Pruning.{BreaksStaying, IsBrokenCommit, IsWholeAs, MayBePruned, Stays}
+use Rattle.commit_pruning.specs.Pruning.{BreaksStaying, IsBrokenCommit, IsGivenUp, IsGoneFrom, IsKeptIn, IsWholeAs, IsWholeOrGivenUp}
+use Rattle.commit_pruning.specs.Pruning.{MayBePruned, Stays}
 use Rattle.op_script.specs.declared.script.Line.{Line}
-use Rattle.run_log.specs.Headline.{CanRunOn, Given, GivesBack, HasAll, HasRoom, HasSome, Interleaves, IsKept, Preserves}
+use Rattle.run_log.specs.Headline.{CanRunOn, Given, GivesBack, HasAll, HasRoom, HasSome, Interleaves, IsKept, IsSettled, Preserves}
 use Rattle.run_log.specs.Headline.{Runs, Stops, is_commit}
 use Rattle.index_run.specs.declared.telling.Form.{Form}
 use Rattle.index_run.specs.declared.telling.Form.TheVariants.{Report}
@@ -23,6 +24,27 @@ use Rattle.index_run.specs.declared.telling.Form.TheVariants.{Report}
 -- The files are what is left of such files, where all commits but so many of the latest may have been given up.
 abbrev pub Left : ℕ → (Files → Type 0) → Files → Type 0
 Left keep P files = (was : Files) × P was × MayBePruned keep was files
+
+-- The same as far as the commit t goes: it is as such files have it, or it is given up there and has no commit file.
+abbrev pub LeftOf : ℕ → ℕ → (Files → Type 0) → Files → Type 0
+LeftOf keep t P files = (was : Files) × P was × IsWholeOrGivenUp keep t was files
+
+-- What a crash leaves of each commit that was there and is settled by itself, whatever became of the others.
+abbrev pub LeavesEach : ℕ → Given → (Files → Type 0) → Option Disk → Option Disk → Type 0
+LeavesEach keep g P old new =
+    (t : ℕ) → IsSome (g.files (Commit t)) → IsSettled t g.files old → LeavesOnly old new (LeftOf keep t P)
+
+-- The commit t of the old files is as it was in each image, one of which is what reads give; or it is given up in such
+-- files, and no image has it.
+abbrev pub StaysOrGone : ℕ → ℕ → (Files → Type 0) → Files → Option Disk → Type 0
+StaysOrGone keep t P old disk =
+    IsKeptIn t old (MayHold disk)
+    ⊎ (((was : Files) × P was × IsGivenUp keep was t) × IsGoneFrom t (MayHold disk))
+
+-- what has become, once the call has ended, of each commit that was there and is settled by itself
+abbrev pub EndsEach : ℕ → Given → (Files → Type 0) → Option Disk → Option Disk → Type 0
+EndsEach keep g P old new =
+    (t : ℕ) → IsSome (g.files (Commit t)) → IsSettled t g.files old → StaysOrGone keep t P g.files new
 
 -- Of the commits of some files only so many of the latest are left, each as it was. Each file that is there is one of a
 -- commit that is there.
@@ -60,10 +82,11 @@ pub record RunsKeeping (keep : ℕ) (g : Given) (text : List Line → List ℕ) 
   pub files : IsSomeAnd (told_files new) (HasLatest keep g log)
   pub images : IsKept g old → (c : Files) → MayHold new c → Left keep (HasAll g log) c
   pub crash : IsKept g old → LeavesOnly old new (Left keep (HasSome g log))
+  pub each : LeavesEach keep g (HasSome g log) old new
   pub again : IsKept g old → HasRoom g → GivesBack new
 
 -- The same before old commits are given up behind the last one: the files are what may be left of all of the log's
--- commits and of those that were there, and so is what a crash leaves.
+-- commits and of those that were there, and so is what a crash leaves. Each commit by itself is settled still, or gone.
 pub record RunsLeaving (keep : ℕ) (g : Given) (text : List Line → List ℕ) (wrote : List ℕ → Type 0) (old new : Option Disk)
     : Type 0 where
   pub log : List Line
@@ -71,6 +94,8 @@ pub record RunsLeaving (keep : ℕ) (g : Given) (text : List Line → List ℕ) 
   pub written : wrote (text log)
   pub files : IsSomeAnd (told_files new) (Left keep (HasAll g log))
   pub crash : IsKept g old → LeavesOnly old new (Left keep (HasSome g log))
+  pub each : LeavesEach keep g (HasSome g log) old new
+  pub ends : EndsEach keep g (HasSome g log) old new
   pub again : IsKept g old → HasRoom g → GivesBack new
 
 -- A run that stopped, or was done: the files, and what a crash leaves, are what may be left of the first ones of its
@@ -80,6 +105,7 @@ pub record StopsKeeping (keep : ℕ) (g : Given) (old new : Option Disk) : Type 
   pub numbering : Interleaves g.lines log
   pub files : IsSomeAnd (told_files new) (Left keep (HasSome g log))
   pub crash : IsKept g old → LeavesOnly old new (Left keep (HasSome g log))
+  pub each : LeavesEach keep g (HasSome g log) old new
   pub again : HasRoom g → IsSomeAnd (told_files new) CanRunOn
   pub restarts : IsKept g old → HasRoom g → LeavesOnly old new CanRunOn
 
@@ -92,6 +118,7 @@ HasSomeLog g files = (log : List Line) × HasSome g log files
 pub record PreservesKeeping (keep : ℕ) (g : Given) (old new : Option Disk) : Type 0 where
   pub kept : IsSomeAnd (told_files new) (Left keep (HasSomeLog g))
   pub crash : IsKept g old → LeavesOnly old new (Left keep (HasSomeLog g))
+  pub each : LeavesEach keep g (HasSomeLog g) old new
 
 -- ---- the same of a run that keeps all commits, or so many
 

@@ -1,16 +1,17 @@
 -- What a run leaves on the disk that gives up old commits as it goes on.
-use Rattle.std.specs.Prelude.{◌≡◌, ℕ, ◌+◌, ◌*◌, ◌≤◌, List, length, Option, Some, None, IsSomeAnd}
+use Rattle.std.specs.Prelude.{◌≡◌, ℕ, ◌+◌, ◌*◌, ◌≤◌, List, length, Option, Some, None, IsSome, IsSomeAnd}
+use Rattle.ix_base.specs.declared.file_name.FileName.TheVariants.{Commit}
 use Rattle.ix_outside.specs.Calls.{LeavesOnly}
 use Rattle.ix_outside.specs.Crash.{MayHold}
 use Rattle.ix_outside.specs.Disk.{Disk, told_files}
 use Rattle.ix_outside.specs.Files.{Files}
 use Rattle.commit_point.specs.Holds.{AreKept}
-use Rattle.commit_pruning.specs.Pruning.{MayBePruned}
+use Rattle.commit_pruning.specs.Pruning.{IsKeptIn, MayBePruned}
 use Rattle.op_script.specs.declared.script.Line.{Line}
 use Rattle.index_writer.specs.declared.state.State.{State}
 use Rattle.index_writer.specs.Standing.{CommitsStand, PrunedGoOn, StandingStays, StandsOnLast}
 use Rattle.index_writer.specs.Storing.{GoesOn}
-use Rattle.index_run.specs.Keeping.{AreSpelled}
+use Rattle.index_run.specs.Keeping.{AreSpelled, LeftOf, StaysOrGone}
 use Rattle.index_run.specs.Leaving.{HasSomeFront, IsDiskAfter, Stands, first_numbers}
 
 -- The laws of a writer of whose store old commits are given up.
@@ -38,6 +39,12 @@ pub record BeginsOnLast (first : State) (old : Files) (start : Option Disk) : Ty
   pub goes_on : GoesOn old first
   pub on_last : StandsOnLast old first
 
+-- What has become of a commit t that was there and was kept, whatever became of the others, and what a crash left of it:
+-- it is given up in such files, or it is as it was.
+pub record IsOneLeft (keep t : ℕ) (P : Files → Type 0) (old : Files) (start now : Option Disk) : Type 0 where
+  pub here : StaysOrGone keep t P old now
+  pub crash : LeavesOnly start now (LeftOf keep t P)
+
 -- What a run has left on the disk that began on these files: of its log the commits of the first `count` lines were
 -- written, and all but so many of the latest commits may have been given up.
 pub record IsDiskLeft (keep : ℕ) (first : State) (log : List Line) (count : ℕ) (w : State) (old : Files) (start now : Option Disk)
@@ -45,6 +52,8 @@ pub record IsDiskLeft (keep : ℕ) (first : State) (log : List Line) (count : �
   pub files : IsSomeAnd (told_files now) (StandsLeft keep first log (first_numbers first log count) w old)
   pub kept : AreKept old (MayHold start) → (n : Files) → told_files now ≡ Some n → AreKept n (MayHold now)
   pub crash : AreKept old (MayHold start) → LeavesOnly start now (LeftSome keep first log old)
+  pub each : (t : ℕ) → IsSome (old (Commit t)) → IsKeptIn t old (MayHold start)
+      → IsOneLeft keep t (HasSomeFront first log old) old start now
 
 -- The same of whatever the store told when the run began. Each commit file is as it was then, or in the grammar.
 pub record IsDiskKeeping (keep : ℕ) (first : State) (log : List Line) (count : ℕ) (w : State) (start now : Option Disk) : Type 0 where

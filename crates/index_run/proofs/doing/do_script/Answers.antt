@@ -18,7 +18,8 @@ use Rattle.index_run.specs.declared.stop.Stop.{Stop}
 use Rattle.index_run.specs.declared.stop.Stop.TheVariants as stop
 use Rattle.index_run.proofs.Beside.{is_report, read_alone}
 use Rattle.index_run.proofs.DiskAfter.{the_files}
-use Rattle.index_run.proofs.Pruning.{Prunes, Settles, all_leave, all_runs, are_whole, preserves_all, preserves_pruned, pruning_damaged, pruning_outside, runs_pruned, stops_by, stops_pruned}
+use Rattle.index_run.proofs.Pruning.{all_leave, all_runs, are_whole, preserves_all, preserves_pruned, pruning_damaged, pruning_outside, stops_by}
+use Rattle.index_run.proofs.RunPruned.{Prunes, Settles, runs_pruned, stops_pruned}
 use Rattle.index_run.proofs.doing.do_script.Goals as goal
 
 pub tell_script-told-requires-clause-beside : goal.tell_script-told-requires-clause-beside
@@ -32,11 +33,12 @@ tell_script-told-requires-clause-beside g c κs within = (
 pub returns-in_default-clause-done : goal.returns-in_default-clause-done
 returns-in_default-clause-done g c = λ run same told can.
     all_runs c.args.options.keep run (form_text c.args.form run) c.tell_script.result.text _ _ (inl c.in_default.is)
-    (c.tell_script.ensures.done run same told can)
+    (c.tell_script.ensures.kept run told can).each (c.tell_script.ensures.done run same told can)
 
 pub returns-in_default-clause-stops : goal.returns-in_default-clause-stops
 returns-in_default-clause-stops g c = λ run same told can.
-    stops_by c.args.options.keep run _ _ (c.tell_script.ensures.stops run same told can)
+    stops_by c.args.options.keep run _ _ (c.tell_script.ensures.kept run told can).each
+    (c.tell_script.ensures.stops run same told can)
 
 pub returns-in_default-clause-kept : goal.returns-in_default-clause-kept
 returns-in_default-clause-kept g c = λ run told can.
@@ -62,11 +64,12 @@ returns-then-not-commits-clause-done g c = λ run same told can.
     let none : has_commit run.lines ≡ false =
     ap has_commit (same ∙ sym c.as_slice.ensures) ∙ sym c.has_commit-commits.ensures ∙ c.if-not-commits.true in
     all_runs c.args.options.keep run (form_text c.args.form run) c.tell_script-then-not-commits.result.text _ _ (inr none)
-    (c.tell_script-then-not-commits.ensures.done run same told can)
+    (c.tell_script-then-not-commits.ensures.kept run told can).each (c.tell_script-then-not-commits.ensures.done run same told can)
 
 pub returns-then-not-commits-clause-stops : goal.returns-then-not-commits-clause-stops
 returns-then-not-commits-clause-stops g c = λ run same told can.
-    stops_by c.args.options.keep run _ _ (c.tell_script-then-not-commits.ensures.stops run same told can)
+    stops_by c.args.options.keep run _ _ (c.tell_script-then-not-commits.ensures.kept run told can).each
+    (c.tell_script-then-not-commits.ensures.stops run same told can)
 
 pub returns-then-not-commits-clause-kept : goal.returns-then-not-commits-clause-kept
 returns-then-not-commits-clause-kept g c = λ run told can.
@@ -133,6 +136,7 @@ returns-in-Ok-prune-clause-done g c = λ run same told can.
       left = c.prune.ensures.left;
       only = c.prune.ensures.only;
       crash = c.prune.ensures.crash;
+      each = record { each = c.prune.ensures.each; none = c.prune.ensures.none };
     } in
     let settles : Settles run start mid = λ are f told_mid.
     subst (λ (r : Result (Vec ℕ) Stop). OnOk r (AreKept f (MayHold mid))) c.in-Ok.is
@@ -157,13 +161,15 @@ returns-in-Ok-prune-clause-stops g c = λ run same told can.
       left = c.prune.ensures.left;
       only = c.prune.ensures.only;
       crash = c.prune.ensures.crash;
+      each = record { each = c.prune.ensures.each; none = c.prune.ensures.none };
     } in
     let settles : Settles run start mid = λ are f told_mid.
     subst (λ (r : Result (Vec ℕ) Stop). OnOk r (AreKept f (MayHold mid))) c.in-Ok.is
     (c.tell_script-told.ensures.settled run f told can are told_mid) in
     subst (λ (k : Option ℕ). StopsBy k run start new) (sym c.in-Some.is)
-    (stops_pruned keep run start mid new prunes settles
-    (c.tell_script-told.ensures.stops run same told can))
+    (stops_pruned keep run (form_text c.args.form run) (λ said. c.in-Ok.text.items ≡ said) start mid new can prunes settles
+    (subst (λ (r : Result (Vec ℕ) Stop). IfOk r (λ made. RunsLeaving keep run (form_text c.args.form run) (λ said. made.items ≡ said) start mid))
+    c.in-Ok.is (c.tell_script-told.ensures.done run same told can)))
 
 pub returns-in-Ok-prune-clause-kept : goal.returns-in-Ok-prune-clause-kept
 returns-in-Ok-prune-clause-kept g c = λ run told can.
@@ -176,6 +182,7 @@ returns-in-Ok-prune-clause-kept g c = λ run told can.
       left = c.prune.ensures.left;
       only = c.prune.ensures.only;
       crash = c.prune.ensures.crash;
+      each = record { each = c.prune.ensures.each; none = c.prune.ensures.none };
     } in
     let own : Given = record run { lines = c.args.lines } in
     let settles : Settles own start mid = λ are f told_mid.
@@ -183,8 +190,9 @@ returns-in-Ok-prune-clause-kept g c = λ run told can.
     (c.tell_script-told.ensures.settled own f told can are told_mid) in
     subst (λ (k : Option ℕ). PreservesBy k run start new) (sym c.in-Some.is)
     (preserves_pruned keep run c.args.lines start new
-    (stops_pruned keep own start mid new prunes settles
-    (c.tell_script-told.ensures.stops own refl told can)))
+    (stops_pruned keep own (form_text c.args.form own) (λ said. c.in-Ok.text.items ≡ said) start mid new can prunes settles
+    (subst (λ (r : Result (Vec ℕ) Stop). IfOk r (λ made. RunsLeaving keep own (form_text c.args.form own) (λ said. made.items ≡ said) start mid))
+    c.in-Ok.is (c.tell_script-told.ensures.done own refl told can))))
 
 pub returns-in-Ok-prune-clause-unbegun : goal.returns-in-Ok-prune-clause-unbegun
 returns-in-Ok-prune-clause-unbegun g c = λ files told not.
@@ -202,13 +210,15 @@ returns-in-Err-prune-clause-stops g c = λ run same told can.
       left = c.prune.ensures.left;
       only = c.prune.ensures.only;
       crash = c.prune.ensures.crash;
+      each = record { each = c.prune.ensures.each; none = c.prune.ensures.none };
     } in
     let settles : Settles run start mid = λ are f told_mid.
     subst (λ (r : Result (Vec ℕ) Stop). OnOk r (AreKept f (MayHold mid))) c.in-Ok.is
     (c.tell_script-told.ensures.settled run f told can are told_mid) in
     subst (λ (k : Option ℕ). StopsBy k run start new) (sym c.in-Some.is)
-    (stops_pruned keep run start mid new prunes settles
-    (c.tell_script-told.ensures.stops run same told can))
+    (stops_pruned keep run (form_text c.args.form run) (λ said. c.in-Ok.text.items ≡ said) start mid new can prunes settles
+    (subst (λ (r : Result (Vec ℕ) Stop). IfOk r (λ made. RunsLeaving keep run (form_text c.args.form run) (λ said. made.items ≡ said) start mid))
+    c.in-Ok.is (c.tell_script-told.ensures.done run same told can)))
 
 pub returns-in-Err-prune-clause-kept : goal.returns-in-Err-prune-clause-kept
 returns-in-Err-prune-clause-kept g c = λ run told can.
@@ -221,6 +231,7 @@ returns-in-Err-prune-clause-kept g c = λ run told can.
       left = c.prune.ensures.left;
       only = c.prune.ensures.only;
       crash = c.prune.ensures.crash;
+      each = record { each = c.prune.ensures.each; none = c.prune.ensures.none };
     } in
     let own : Given = record run { lines = c.args.lines } in
     let settles : Settles own start mid = λ are f told_mid.
@@ -228,8 +239,9 @@ returns-in-Err-prune-clause-kept g c = λ run told can.
     (c.tell_script-told.ensures.settled own f told can are told_mid) in
     subst (λ (k : Option ℕ). PreservesBy k run start new) (sym c.in-Some.is)
     (preserves_pruned keep run c.args.lines start new
-    (stops_pruned keep own start mid new prunes settles
-    (c.tell_script-told.ensures.stops own refl told can)))
+    (stops_pruned keep own (form_text c.args.form own) (λ said. c.in-Ok.text.items ≡ said) start mid new can prunes settles
+    (subst (λ (r : Result (Vec ℕ) Stop). IfOk r (λ made. RunsLeaving keep own (form_text c.args.form own) (λ said. made.items ≡ said) start mid))
+    c.in-Ok.is (c.tell_script-told.ensures.done own refl told can))))
 
 pub returns-in-Err-prune-clause-unbegun : goal.returns-in-Err-prune-clause-unbegun
 returns-in-Err-prune-clause-unbegun g c = λ files told not.

@@ -12,9 +12,10 @@ use Rattle.index_run.specs.Keeping.{AreSpelled, FindsStaying, PreservesBy, RunsL
 use Rattle.index_run.specs.declared.stop.Stop.TheVariants as stop
 use Rattle.index_run.proofs.Beside.{cut_damaged_by, cut_keeps_by, cut_leaves_by, cut_steps_by, cut_stops_by, cut_whole_by, many_beside}
 use Rattle.index_run.proofs.Beside.{over_keeps_by, over_settled_by, over_spelled_by, over_steps_by, over_stops_by, steps_none, texts_by, untold_by, whole_by}
-use Rattle.index_run.proofs.Finish.{damaged_in, over_same, same_disks, same_told, stops_none, told_still}
+use Rattle.index_run.proofs.Finish.{damaged_in, keeps_none, over_same, same_disks, same_told, stops_none, told_still}
 use Rattle.index_run.proofs.Listed.{ok_always}
-use Rattle.index_run.proofs.Pruning.{Settles, all_leave, keeps_by, stops_by}
+use Rattle.index_run.proofs.Pruning.{all_leave, keeps_by, stops_by}
+use Rattle.index_run.proofs.RunPruned.{Settles}
 use Rattle.index_run.proofs.Rounding.{on_fault, on_ok}
 use Rattle.index_run.proofs.doing.tell_script.Given as given
 use Rattle.index_run.proofs.doing.tell_script.Goals as goal
@@ -24,6 +25,7 @@ use Rattle.index_run.proofs.doing.tell_script.Goals as goal
 pub returns-in-Err-clause-stops : goal.returns-in-Err-clause-stops
 returns-in-Err-clause-stops g c = λ run same told can.
     stops_by c.args.beside run _ _
+    (keeps_none run (g.S.Store.disk c.args.store) (g.S.Store.disk c.in-Err.unbegun.store) c.in-Err.ensures.left told).each
     (stops_none run (g.S.Store.disk c.args.store) (g.S.Store.disk c.in-Err.unbegun.store) c.in-Err.ensures.left told can)
 
 pub returns-in-Err-clause-kept : goal.returns-in-Err-clause-kept

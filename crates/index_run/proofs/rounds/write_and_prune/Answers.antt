@@ -11,6 +11,7 @@ use Rattle.index_run.specs.declared.rounds.RanFault.TheVariants as halt
 use Rattle.index_run.proofs.DiskAfter.{same_stored}
 use Rattle.index_run.proofs.DiskPruned.{GivesUp}
 use Rattle.index_run.proofs.GivingUp.{come_pruned, cut_pruned, finds_broken, open_still, pruned_closed, pruned_failed, same_open}
+use Rattle.index_run.proofs.OneLeft.{EndsPrune}
 use Rattle.index_run.proofs.Rounding.{on_fault, on_ok}
 use Rattle.index_run.proofs.rounds.write_and_prune.Given as given
 use Rattle.index_run.proofs.rounds.write_and_prune.Goals as goal
@@ -63,12 +64,18 @@ returns-in-Ok-prune-clause-pending g c =
       left = p.left;
       only = p.only;
       crash = p.crash;
+      each = record { each = p.each; none = p.none };
       goes_on = p.goes_on;
+    } in
+    let ends : EndsPrune c.in-Some.keep (g.S.Store.disk w.store) (g.S.Store.disk v.store) = record {
+      found = p.found;
+      gone = c.in-Ok-prune.ensures.gone;
+      only = λ m n t told told_n there. (c.in-Ok-prune.ensures.pruned m n told told_n).only t there;
     } in
     record {
       come = λ r lines shares log commits keeps come.
           come_pruned c.in-Some.keep r lines shares log _ c.args.due.now w.state v.state (g.S.Store.disk w.store) (g.S.Store.disk v.store)
-          (subst (λ (k : Option ℕ). KeepsBy k r) c.in-Some.is keeps) same gives c.in-Ok-prune.ensures.kept
+          (subst (λ (k : Option ℕ). KeepsBy k r) c.in-Some.is keeps) same gives c.in-Ok-prune.ensures.kept ends
           (on_ok _ _ _ c.in-Ok.is (wrote.come r lines shares log commits tt come));
       cut = λ r lines shares log commits keeps come. tt;
       written = ap (λ (s : State). s.pending) same ∙ on_ok _ _ _ c.in-Ok.is wrote.written;
@@ -99,6 +106,7 @@ returns-in-Err-prune-clause-pending g c =
       left = p.left;
       only = p.only;
       crash = p.crash;
+      each = record { each = p.each; none = p.none };
       goes_on = p.goes_on;
     } in
     subst (WritesPending g.S.Store.disk c.args.keep c.args.due.now c.args.writer) (sym c.halted-in-Err-prune.ensures) (record {
