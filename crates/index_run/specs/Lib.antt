@@ -2,6 +2,7 @@ pub mod Keeping
 pub mod Commands
 pub mod Causes
 pub mod Answered
+pub mod Looked
 pub mod Outcomes
 pub mod Replied
 pub mod Leaving
