@@ -1,10 +1,11 @@
 //! Look lines, answered by a worker between its tasks, from what it is shown on the board of the round.
-use commit_board::{BoardLaw, Watcher};
+use commit_board::{BoardLaw, Commit, Watcher};
 use ix_base::{List, NoMemory};
 use line_shares::Look;
 use report_text::search_text;
 use round_work::Companion;
 use std::alloc::Global;
+use std::sync::Arc;
 
 /// What a look line was shown: the number of the commit, and the line's text.
 #[derive(Drop)]
@@ -13,52 +14,90 @@ pub struct Looked {
     pub text: List<u8>,
 }
 
-/// What goes along with a worker: its look lines, of which the first ones are answered, and a watcher of the
-/// round's board, where one of them isn't.
+/// The look lines of a run that is under way.
 #[derive(Drop)]
-pub struct Looker<L: BoardLaw> {
-    alloc: Global,
-    watcher: Option<Watcher<L>>,
-    looks: List<Look>,
-    looked: List<Looked>,
-    /// Memory ran out at a look that was due.
-    short: bool,
+pub struct Looking {
+    /// Those of each worker.
+    pub looks: Vec<Vec<Look>>,
+    /// What the first ones of each were shown.
+    pub looked: Vec<Vec<Looked>>,
+    /// The newest commit that was written, or the one on which the run began, where there is one. It is
+    /// there only while a look line is left.
+    pub newest: Option<Arc<Commit, Global>>,
 }
 
-impl<L: BoardLaw> Companion for Looker<L> {
-    // ghost hears: the looks are the same; more of them are answered, each by a lawful commit of the board (`IsAnswer L.lawful`), of numbers that never
-    // fall and aren't below what the watcher was shown before; and memory ran out, or each look before which at most so many tasks stand is answered.
-
-    fn come_to(&mut self, told: usize) {
-        if self.answer_due(told).is_err() {
-            self.short = true;
-        }
+impl Looking {
+    /// Whether each look line was shown a commit.
+    pub fn is_over(&self) -> bool {
+        self.looks
+            .iter()
+            .zip(self.looked.iter())
+            .all(|(looks, looked)| looked.len() == looks.len())
     }
 }
 
-impl<L: BoardLaw> Looker<L> {
-    /// Answers the next looks, as far as at most so many tasks stand before them. The only error is out of memory.
-    fn answer_due(&mut self, told: usize) -> Result<(), NoMemory> {
-        let Some(watcher) = &mut self.watcher else {
+/// Nothing that was looked at, of so many workers. The only error is out of memory.
+pub fn nothing_looked(alloc: Global, workers: usize) -> Result<Vec<Vec<Looked>>, NoMemory> {
+    let mut looked = Vec::with_capacity(alloc, workers)?;
+    for _ in 0..workers {
+        looked.push(Vec::new(alloc))?;
+    }
+    Ok(looked)
+}
+
+/// What this look line is shown now. The only error is out of memory.
+fn look<L: BoardLaw>(
+    alloc: Global,
+    watcher: &mut Watcher<L>,
+    look: &Look,
+) -> Result<Looked, NoMemory> {
+    let shown = watcher.hits(alloc, &look.query)?;
+    let text = search_text(alloc, shown.number, shown.hits.as_slice(), look.line)?;
+    Ok(Looked {
+        number: shown.number,
+        text: List::from_vec(text),
+    })
+}
+
+/// Answers the next look lines of a worker, as far as at most so many of its tasks stand before them. The
+/// only error is out of memory.
+pub fn look_on<L: BoardLaw>(
+    alloc: Global,
+    watcher: &mut Watcher<L>,
+    looks: &[Look],
+    looked: &mut Vec<Looked>,
+    told: usize,
+) -> Result<(), NoMemory> {
+    for at in looked.len()..looks.len() {
+        let next = &looks[at];
+        if next.after > told {
             return Ok(());
-        };
-        for at in self.looked.len()..self.looks.len() {
-            let look = &self.looks[at];
-            if look.after > told {
-                return Ok(());
-            }
-            let shown = watcher.hits(self.alloc, &look.query)?;
-            let text = search_text(
-                self.alloc,
-                shown.number,
-                shown.hits.as_slice(),
-                look.line,
-            )?;
-            self.looked.push(Looked {
-                number: shown.number,
-                text: List::from_vec(text),
-            })?;
         }
-        Ok(())
+        let shown = look(alloc, watcher, next)?;
+        looked.push(shown)?;
+    }
+    Ok(())
+}
+
+/// What goes along with a worker: its look lines, and what the first ones were shown.
+#[derive(Drop)]
+pub struct Looker<L: BoardLaw> {
+    pub(crate) alloc: Global,
+    /// A watcher of the round's board, where the round has one.
+    pub(crate) watcher: Option<Watcher<L>>,
+    pub(crate) looks: Vec<Look>,
+    pub(crate) looked: Vec<Looked>,
+    /// Memory ran out at a look that was due.
+    pub(crate) short: bool,
+}
+
+impl<L: BoardLaw> Companion for Looker<L> {
+    fn come_to(&mut self, told: usize) {
+        if let Some(watcher) = &mut self.watcher {
+            let looks = self.looks.as_slice();
+            if look_on(self.alloc, watcher, looks, &mut self.looked, told).is_err() {
+                self.short = true;
+            }
+        }
     }
 }
