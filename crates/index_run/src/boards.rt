@@ -59,22 +59,33 @@ pub fn begin_looking<S: Store>(
     Ok(looking)
 }
 
-/// Shows the commit of this number, which was just written, on the board of the round, where there is one.
+/// Shows the commit of this number, which was just written, on the board of the round, where there is one, and
+/// returns it.
 pub fn show<L: BoardLaw, R: Wait, S: Store>(
     rt: &R,
     alloc: Global,
     writer: &mut IndexWriter<S>,
     poster: &mut Option<Poster<L>>,
     number: u64,
-) -> Result<(), RanFault> {
+) -> Result<Option<Arc<Commit, Global>>, RanFault> {
     let Some(poster) = poster else {
-        return Ok(());
+        return Ok(None);
     };
     let commit = written_commit(alloc, writer, number)?;
-    match poster.post(rt, commit) {
-        Ok(()) => Ok(()),
+    match post(rt, poster, commit) {
+        Ok(newest) => Ok(newest),
         Err(NoMemory) => Err(RanFault::Writer(WriterFault::NoMemory)),
     }
+}
+
+/// Posts a commit, and returns it. The only error is out of memory.
+fn post<L: BoardLaw, R: Wait>(
+    rt: &R,
+    poster: &mut Poster<L>,
+    commit: Arc<Commit, Global>,
+) -> Result<Option<Arc<Commit, Global>>, NoMemory> {
+    poster.post(rt, commit)?;
+    poster.newest()
 }
 
 /// The look lines of each worker of a round without a board.
@@ -103,13 +114,23 @@ fn hand_out<L: BoardLaw>(lookers: &mut [Looker<L>], watchers: Vec<Watcher<L>>) {
     }
 }
 
-/// The board of a round, and what goes along with each of its workers. Where each look line was shown a commit the
-/// round has no board. The only error is out of memory.
+/// The board of a round. It is not `Drop`: end it by `end_board`.
+pub struct RoundBoard<L: BoardLaw> {
+    /// Its poster, where the round has a board.
+    pub poster: Option<Poster<L>>,
+    /// What goes along with each of the round's workers.
+    pub lookers: Vec<Looker<L>>,
+    /// The commit that it shows at first, if it shows one.
+    pub newest: Option<Arc<Commit, Global>>,
+}
+
+/// Begins the board of a round. Where each look line was shown a commit the round has none. The only error is out of
+/// memory.
 pub fn begin_board<L: BoardLaw, R: Wait>(
     rt: &R,
     alloc: Global,
     looking: Looking,
-) -> Result<(Option<Poster<L>>, Vec<Looker<L>>), NoMemory> {
+) -> Result<RoundBoard<L>, NoMemory> {
     let is_over = looking.is_over();
     let Looking {
         looks,
@@ -118,25 +139,32 @@ pub fn begin_board<L: BoardLaw, R: Wait>(
     } = looking;
     let mut lookers = line_up::<L>(alloc, looks, looked)?;
     if is_over {
-        return Ok((None, lookers));
+        return Ok(RoundBoard {
+            poster: None,
+            lookers,
+            newest: None,
+        });
     }
     let (poster, watchers) = Board::make::<L, R>(rt, alloc, lookers.len(), newest)?;
     hand_out(lookers.as_mut_slice(), watchers);
-    Ok((Some(poster), lookers))
+    match poster.newest() {
+        Ok(newest) => Ok(RoundBoard {
+            poster: Some(poster),
+            lookers,
+            newest,
+        }),
+        Err(NoMemory) => {
+            poster.end(rt);
+            Err(NoMemory)
+        }
+    }
 }
 
-/// Ends the board of a round, where there is one, and returns the newest commit that it shows, if any. The only
-/// error is out of memory.
-pub fn end_board<L: BoardLaw, R: Wait>(
-    rt: &R,
-    poster: Option<Poster<L>>,
-) -> Result<Option<Arc<Commit, Global>>, NoMemory> {
-    let Some(poster) = poster else {
-        return Ok(None);
-    };
-    let newest = poster.newest();
-    poster.end(rt);
-    newest
+/// Ends the board of a round, where there is one.
+pub fn end_board<L: BoardLaw, R: Wait>(rt: &R, poster: Option<Poster<L>>) {
+    if let Some(poster) = poster {
+        poster.end(rt);
+    }
 }
 
 /// Answers the look lines that are left once no round is begun any more: those of a script in which no line writes

@@ -91,7 +91,11 @@ pub struct Looker<L: BoardLaw> {
     pub(crate) short: bool,
 }
 
-impl<L: BoardLaw> Companion for Looker<L> {
+impl<L: BoardLaw + Send> Companion for Looker<L> {
+    ghost use Rattle.index_run.specs.Looks.{Hears};
+
+    ghost hears = { Hears L.lawful };
+
     fn come_to(&mut self, told: usize) {
         if let Some(watcher) = &mut self.watcher {
             let looks = self.looks.as_slice();

@@ -16,7 +16,7 @@ ghost use Rattle.index_run.specs.declared.rounds.RanFault.TheVariants as halt;
 ghost use Rattle.index_run.specs.Merged.{EndsMerged};
 ghost use Rattle.index_run.specs.Rounds.{AllCame, gave_of, given, pieces_of, share_of, writers_of};
 
-use crate::boards::{begin_board, end_board, show};
+use crate::boards::{RoundBoard, begin_board, end_board, show};
 use crate::looks::{Looker, Looking};
 use commit_board::{BoardLaw, Commit, Poster};
 use delete_queue::DeleteQueue;
@@ -344,10 +344,20 @@ fn prune_behind<S: Store>(
     }
 }
 
-/// What was done beside a round, and the poster of its board, if it has one.
-struct Beside<S, L: BoardLaw> {
+/// What was done beside a round, and the commit that was shown on its board, if one was.
+#[derive(Drop)]
+struct Beside<S> {
     ran: Ran<S, Option<CommitInfo>>,
-    poster: Option<Poster<L>>,
+    newest: Option<Arc<Commit, Global>>,
+}
+
+impl<S> Beside<S> {
+    /// Nothing was shown.
+    fn unshown(ran: Ran<S, Option<CommitInfo>>) -> Beside<S>
+        ensures { result ≡ record { ran = ran; newest = None } }
+    {
+        Beside { ran, newest: None }
+    }
 }
 
 /// Writes the commit with which the last round ended, as `write_pending` does, shows it on the round's board, where there
@@ -359,8 +369,8 @@ fn write_and_prune<L: BoardLaw, R: Wait, S: Store>(
     writer: IndexWriter<S>,
     keep: Option<u32>,
     due: &CommitLine,
-    poster: Option<Poster<L>>,
-) -> Beside<S, L>
+    poster: &mut Option<Poster<L>>,
+) -> Beside<S>
     requires sound { IsSound writer.state }
     requires open { writer.state.closed ≡ false }
     requires some { IfSome keep (λ keep. 1 ≤ keep) }
@@ -370,27 +380,24 @@ fn write_and_prune<L: BoardLaw, R: Wait, S: Store>(
     ensures failed { result.ran.came ≡ Err (RanFault.Writer WriterFault.Store)
         → Rose (S.fault_count writer.store) (S.fault_count result.ran.writer.store) }
 {
-    let mut poster = poster;
     let Ran { mut writer, came } = write_pending(writer, due);
-    let commit = match came {
-        Ok(commit) => commit,
-        Err(fault) => {
-            let ran = Ran::halted(writer, fault);
-            return Beside { ran, poster };
+    let info = match came {
+        Ok(Some(info)) => info,
+        Ok(None) => {
+            return Beside::unshown(Ran {
+                writer,
+                came: Ok(None),
+            });
         }
+        Err(fault) => return Beside::unshown(Ran::halted(writer, fault)),
     };
-    let Some(info) = commit else {
-        let ran = Ran {
-            writer,
-            came: Ok(None),
-        };
-        return Beside { ran, poster };
-    };
-    let ran = match show(rt, alloc, &mut writer, &mut poster, info.number) {
-        Ok(()) => prune_behind(writer, keep, info),
-        Err(fault) => Ran::halted(writer, fault),
-    };
-    Beside { ran, poster }
+    match show(rt, alloc, &mut writer, poster, info.number) {
+        Ok(newest) => Beside {
+            ran: prune_behind(writer, keep, info),
+            newest,
+        },
+        Err(fault) => Beside::unshown(Ran::halted(writer, fault)),
+    }
 }
 
 /// Lets a round go whose commit before it couldn't be written. Where the store failed the writer is
@@ -423,7 +430,7 @@ struct Begun {
 /// Lets the workers of a round go on with their shares and look lines, while the commit with which the round before
 /// ended is written, by its line, if it ended with one. Returns what was done beside them, and what came back of
 /// them.
-fn work<L: BoardLaw, R: Threads + Wait + Sync, S: Store, G: Gate>(
+fn work<L: BoardLaw + Send, R: Threads + Wait + Sync, S: Store, G: Gate>(
     rt: &R,
     alloc: Global,
     gate: &G,
@@ -438,11 +445,16 @@ fn work<L: BoardLaw, R: Threads + Wait + Sync, S: Store, G: Gate>(
         writers,
         shares,
     } = begun;
-    let (poster, lookers) = match begin_board::<L, R>(rt, alloc, looking) {
+    let RoundBoard {
+        mut poster,
+        lookers,
+        newest,
+    } = match begin_board::<L, R>(rt, alloc, looking) {
         Ok(board) => board,
         Err(NoMemory) => return (Ran::stopped(writer, WriterFault::NoMemory), Err(NoMemory)),
     };
-    let (Beside { ran, poster }, back) = run_round(
+    let board = &mut poster;
+    let (Beside { ran, newest: shown }, back) = run_round(
         rt,
         alloc,
         &queue,
@@ -450,7 +462,7 @@ fn work<L: BoardLaw, R: Threads + Wait + Sync, S: Store, G: Gate>(
         shares,
         lookers,
         gate,
-        move || -> Beside<S, L>
+        move || -> Beside<S>
             requires sound { IsSound writer.state }
             requires open { writer.state.closed ≡ false }
             requires some { IfSome keep (λ keep. 1 ≤ keep) }
@@ -459,21 +471,21 @@ fn work<L: BoardLaw, R: Threads + Wait + Sync, S: Store, G: Gate>(
             ensures later { S.fault_count writer.store ≤ S.fault_count result.ran.writer.store }
             ensures failed { result.ran.came ≡ Err (RanFault.Writer WriterFault.Store)
                 → Rose (S.fault_count writer.store) (S.fault_count result.ran.writer.store) }
-        { write_and_prune(rt, alloc, writer, keep, &due, poster) },
+        { write_and_prune(rt, alloc, writer, keep, &due, board) },
     );
-    let newest = end_board(rt, poster);
-    (ran, came_back(alloc, queue, newest, back))
+    end_board(rt, poster);
+    (ran, came_back(alloc, queue, shown.or(newest), back))
 }
 
 /// What came back of a round's workers, where there was memory for all.
 fn came_back<L: BoardLaw>(
     alloc: Global,
     queue: DeleteQueue,
-    newest: Result<Option<Arc<Commit, Global>>, NoMemory>,
+    newest: Option<Arc<Commit, Global>>,
     back: Result<Vec<Worked<Looker<L>>>, NoMemory>,
 ) -> Result<Came, NoMemory> {
     let worked = back?;
-    part(alloc, queue, newest?, worked)
+    part(alloc, queue, newest, worked)
 }
 
 /// What a round leaves.
