@@ -4,6 +4,7 @@ pub mod Causes
 pub mod Answered
 pub mod Looked
 pub mod Looks
+pub mod Boards
 pub mod Outcomes
 pub mod Replied
 pub mod Leaving

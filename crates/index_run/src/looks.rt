@@ -1,4 +1,11 @@
 //! Look lines, answered by a worker between its tasks, from what it is shown on the board of the round.
+ghost use Rattle.std.specs.Prelude.{◌≡◌, ◌≤◌, ◌↔◌, [], length, IfOk, IsTrue, OnOk};
+ghost use Rattle.std.specs.List.{AllByRecursion};
+ghost use Rattle.commit_board.specs.Board.{seen_by};
+ghost use Rattle.commit_board.specs.Commits.{top_of};
+ghost use Rattle.index_run.specs.Looked.{AllLooked};
+ghost use Rattle.index_run.specs.Looks.{IsLookedBy, LooksOn, NoneIsDue};
+
 use commit_board::{BoardLaw, Commit, Watcher};
 use ix_base::{List, NoMemory};
 use line_shares::Look;
@@ -28,7 +35,10 @@ pub struct Looking {
 
 impl Looking {
     /// Whether each look line was shown a commit.
-    pub fn is_over(&self) -> bool {
+    pub fn is_over(&self) -> bool
+        requires { length self.now.looked.items ≡ length self.now.looks.items }
+        ensures { IsTrue result ↔ AllLooked self.now.looks.items self.now.looked.items }
+    {
         self.looks
             .iter()
             .zip(self.looked.iter())
@@ -37,7 +47,10 @@ impl Looking {
 }
 
 /// Nothing that was looked at, of so many workers. The only error is out of memory.
-pub fn nothing_looked(alloc: Global, workers: usize) -> Result<Vec<Vec<Looked>>, NoMemory> {
+pub fn nothing_looked(alloc: Global, workers: usize) -> Result<Vec<Vec<Looked>>, NoMemory>
+    ensures count { IfOk result (λ all. length all.items ≡ workers) }
+    ensures none { IfOk result (λ all. AllByRecursion (λ own. own.items ≡ []) all.items) }
+{
     let mut looked = Vec::with_capacity(alloc, workers)?;
     for _ in 0..workers {
         looked.push(Vec::new(alloc))?;
@@ -50,7 +63,11 @@ fn look<L: BoardLaw>(
     alloc: Global,
     watcher: &mut Watcher<L>,
     look: &Look,
-) -> Result<Looked, NoMemory> {
+) -> Result<Looked, NoMemory>
+    ensures looked { IfOk result (λ x. IsLookedBy L.lawful look.now x) }
+    ensures number { IfOk result (λ x. x.number ≡ top_of (seen_by watcher.new)) }
+    ensures rises { top_of (seen_by watcher.old) ≤ top_of (seen_by watcher.new) }
+{
     let shown = watcher.hits(alloc, &look.query)?;
     let text = search_text(alloc, shown.number, shown.hits.as_slice(), look.line)?;
     Ok(Looked {
@@ -67,7 +84,11 @@ pub fn look_on<L: BoardLaw>(
     looks: &[Look],
     looked: &mut Vec<Looked>,
     told: usize,
-) -> Result<(), NoMemory> {
+) -> Result<(), NoMemory>
+    ensures on { LooksOn L.lawful told looks.now looked.old.items looked.new.items
+        (top_of (seen_by watcher.old)) (top_of (seen_by watcher.new)) }
+    ensures all { OnOk result (NoneIsDue told looks.now looked.new.items) }
+{
     for at in looked.len()..looks.len() {
         let next = &looks[at];
         if next.after > told {
