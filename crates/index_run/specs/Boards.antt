@@ -1,5 +1,5 @@
 -- How the board of a round is begun, and what its watchers are handed out to.
-use Rattle.std.specs.Prelude.{◌≡◌, ◌⊎◌, ℕ, ◌≤◌, List, [], ◌∷◌, length, map, Option, Some, None, IfSome, option_map}
+use Rattle.std.specs.Prelude.{◌≡◌, ◌⊎◌, ℕ, ◌≤◌, List, [], ◌∷◌, length, map, Option, Some, None, IfErr, IfOk, IfSome, IsSomeAnd, OnOk, option_map, false}
 use Rattle.std.specs.Arc.{arc_value}
 use Rattle.std.specs.declared.sync.Arc.{Arc}
 use Rattle.std.specs.declared.alloc.Global.{Global}
@@ -8,15 +8,27 @@ use Rattle.std.specs.List.{AllByRecursion}
 use Rattle.ix_outside.specs.Disk.{Disk}
 use Rattle.commit_board.specs.Board.{seen_by}
 use Rattle.commit_board.specs.Commits.{top_of}
-use Rattle.commit_board.specs.Posting.{begun_with, posted_on, waiting_on}
+use Rattle.commit_board.specs.Posting.{Posting, begun_with, posted_on, waiting_on}
 use Rattle.commit_board.specs.declared.commit.Commit.{Commit}
-use Rattle.commit_board.specs.declared.poster.Poster.{Poster}
 use Rattle.commit_board.specs.declared.watcher.Watcher.{Watcher}
 use Rattle.index_writer.specs.declared.state.State.{State}
 use Rattle.line_shares.specs.declared.looks.Look.{Look}
 use Rattle.worker_tasks.specs.declared.share.Share.{Share}
 use Rattle.index_run.specs.Looked.{AllLooked}
-use Rattle.index_run.specs.Looks.{IsRead, LooksOn, shown_by}
+use Rattle.delete_queue.specs.declared.queue.DeleteQueue.{DeleteQueue}
+use Rattle.index_writer.specs.Ready.{IsSound}
+use Rattle.index_writer.specs.declared.round.CommitInfo.{CommitInfo}
+use Rattle.index_writer.specs.declared.round.RoundParts.{RoundParts}
+use Rattle.index_writer.specs.declared.writer.IndexWriter.{IndexWriter}
+use Rattle.line_shares.specs.declared.round_commit.CommitLine.{CommitLine}
+use Rattle.op_script.specs.declared.script.Line.{Line}
+use Rattle.round_work.specs.Working.{AreWorked}
+use Rattle.round_work.specs.declared.worked.Worked.{Worked}
+use Rattle.thread_writer.specs.declared.writer.ThreadWriter.{ThreadWriter}
+use Rattle.index_run.specs.Driving.{HasCome, IsCut, KeepsBy, Run}
+use Rattle.index_run.specs.Looks.{IsOfPending, IsRead, LooksOn, shown_by}
+use Rattle.index_run.specs.Rounds.{AllCame, gave_of, pieces_of, share_of, writers_of}
+use Rattle.index_run.specs.declared.rounds.Ran.{Ran}
 use Rattle.index_run.specs.declared.looks.Looked.{Looked}
 use Rattle.index_run.specs.declared.looks.Looker.{Looker}
 use Rattle.index_run.specs.declared.looks.Looking.{Looking}
@@ -52,7 +64,7 @@ HaveWatchers ws olds news = ⊥
 
 -- The board of a round shows the newest commit that was written, and so each watcher was shown that number. Or each look
 -- line was shown a commit, and there is no board.
-abbrev pub IsBegun : {L : Type 0} → Looking → Option (Poster L) → List (Looker L) → Option (Arc Commit Global) → Type 0
+abbrev pub IsBegun : {L : Type 0} → Looking → Option Posting → List (Looker L) → Option (Arc Commit Global) → Type 0
 IsBegun {L} looking None lookers newest =
     AllLooked looking.looks.items looking.looked.items × HaveNoWatcher lookers × (newest ≡ None)
 IsBegun {L} looking (Some p) lookers newest = (posted_on p ≡ begun_with looking.newest) × (waiting_on p ≡ [])
@@ -66,6 +78,51 @@ AreLookedOn lawful low [] [] [] [] = Unit {0}
 AreLookedOn lawful low (s ∷ ss) (v ∷ vs) (o ∷ olds) (n ∷ news) =
     ((high : ℕ) × LooksOn lawful (length s.replies) v.items o.items n.items low high) × AreLookedOn lawful low ss vs olds news
 AreLookedOn lawful low ss vs olds news = ⊥
+
+-- The poster can show the pending commit of this writer, once it was written: nothing waits, what was posted isn't above
+-- it, and it may stand on the board.
+abbrev pub CanShow : (Commit → Type 0) → State → Option Disk → Posting → Type 0
+CanShow lawful w now p = (waiting_on p ≡ []) × IfSome w.pending (λ (s : ℕ). top_of (posted_on p) ≤ s)
+    × ((c : Commit) → IsOfPending w now c → lawful c)
+
+-- the commit that was shown beside a round: the one that was pending, if one was written
+abbrev pub IsShownBeside : State → Option Disk → Option CommitInfo → Option Commit → Type 0
+IsShownBeside w now None newest = newest ≡ None
+IsShownBeside w now (Some info) newest =
+    IsSomeAnd newest (λ (c : Commit). (c.number ≡ info.number) × IsOfPending w now c)
+
+-- the newest commit behind a round: the one that was written beside it, or else the one before
+abbrev pub IsNewestBeside : State → Option Disk → Option CommitInfo → Option Commit → Option Commit → Type 0
+IsNewestBeside w now None before newest = newest ≡ before
+IsNewestBeside w now (Some info) before newest =
+    IsSomeAnd newest (λ (c : Commit). (c.number ≡ info.number) × IsOfPending w now c)
+
+-- What came back of a round's workers: its parts, and their shares. What went along with them is left out here.
+pub record ComesBack (q : DeleteQueue) (writers : List ThreadWriter) (shares : List Share) (parts : RoundParts) (news : List Share)
+    : Type 0 where
+  pub worked : List (Worked (Unit {0}))
+  pub works : AreWorked q writers shares worked
+  pub came : AllCame worked
+  pub queue : parts.queue ≡ q
+  pub writers_are : parts.writers.items ≡ writers_of worked
+  pub pieces_are : pieces_of parts.pieces.items ≡ gave_of worked
+  pub shares_are : news ≡ map share_of worked
+
+-- Old commits were given up behind one that was written, where only so many are kept: whatever a run had come to, it has
+-- come to the same. Or it stopped.
+pub record Prunes {S : Type 0} (disk : S → Option Disk) (keep : Option ℕ) (commit : CommitInfo) (old : IndexWriter S)
+    (ran : Ran S (Option CommitInfo))
+    : Type 0 where
+  pub come : (r : Run) (lines : List Line) (shares : List Share) (log : List Line) (commits : List (ℕ × ℕ)) (due : CommitLine)
+      → KeepsBy keep r → HasCome r lines shares log commits due old.state (disk old.store)
+      → IfOk ran.came (λ c. HasCome r lines shares log commits due ran.writer.state (disk ran.writer.store))
+  pub cut : (r : Run) (lines : List Line) (shares : List Share) (log : List Line) (commits : List (ℕ × ℕ)) (due : CommitLine)
+      → KeepsBy keep r → HasCome r lines shares log commits due old.state (disk old.store)
+      → IfErr ran.came (λ fault. IsCut r lines fault (disk ran.writer.store))
+  pub commit_is : IfOk ran.came (λ c. c ≡ Some commit)
+  pub state : OnOk ran.came (ran.writer.state ≡ old.state)
+  pub same : (ran.writer.state.out ≡ old.state.out) × (ran.writer.state.buffer ≡ old.state.buffer)
+  pub sound : IsSound ran.writer.state
 
 -- ---- where no round is begun any more
 

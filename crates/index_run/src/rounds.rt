@@ -1,5 +1,6 @@
 //! The rounds of a run: each is begun, done by its workers, ended and committed.
-ghost use Rattle.std.specs.Prelude.{◌≡◌, ◌+◌, ◌≤◌, ◌<◌, ℕ, List, length, map, IfErr, IfOk, IfSome, OnOk, IsTrue, Err, None, true, false};
+ghost use Rattle.std.specs.Prelude.{◌≡◌, ◌⊎◌, ◌+◌, ◌++◌, ◌≤◌, ◌<◌, ℕ, List, length, map, IfErr, IfOk, IfSome, IsOk, OnOk, IsTrue, Err, None, true, false, option_map};
+ghost use Rattle.std.specs.Arc.{arc_value};
 ghost use Rattle.std.specs.List.{AllByRecursion};
 ghost use Rattle.ix_outside.specs.Causes.{Rose};
 ghost use Rattle.op_script.specs.declared.script.Line.{Line};
@@ -11,10 +12,18 @@ ghost use Rattle.index_writer.specs.Ready.{IsSound};
 ghost use Rattle.index_writer.specs.Rounds.{ArePartsOf, IsBegun};
 ghost use Rattle.index_writer.specs.Working.{IsStuck};
 ghost use Rattle.index_run.specs.Driving.{EndsRound, GoesOnBy, HasCome, IsCut, IsRound, IsRunBy, Run, WritesPending};
+ghost use Rattle.commit_board.specs.declared.commit.Commit.{Commit};
 ghost use Rattle.index_run.specs.Causes.{ran_by_pruning};
 ghost use Rattle.index_run.specs.declared.rounds.RanFault.TheVariants as halt;
 ghost use Rattle.index_run.specs.Merged.{EndsMerged};
-ghost use Rattle.index_run.specs.Rounds.{AllCame, gave_of, given, pieces_of, share_of, writers_of};
+ghost use Rattle.round_work.specs.Working.{AreAtWork};
+ghost use Rattle.commit_board.specs.Commits.{top_of};
+ghost use Rattle.commit_board.specs.Posting.{begun_with};
+ghost use Rattle.line_shares.specs.Looks.{AreLooks};
+ghost use Rattle.index_run.specs.Boards.{AreLinedUp, AreLookedOn, CanShow, ComesBack, IsNewestBeside, IsShownBeside, Prunes};
+ghost use Rattle.index_run.specs.Looked.{AllLooked};
+ghost use Rattle.index_run.specs.Looks.{IsLooking, IsOfRound};
+ghost use Rattle.index_run.specs.Rounds.{AllCame, companions_of, gave_of, given, pieces_of, share_of, writers_of};
 
 use crate::boards::{RoundBoard, begin_board, end_board, show};
 use crate::looks::{Looker, Looking};
@@ -139,6 +148,9 @@ fn part<L: BoardLaw>(
     ensures pieces { IfOk result (λ x. pieces_of x.parts.pieces.items ≡ gave_of worked.items) }
     ensures shares { IfOk result (λ x. x.shares.items ≡ map share_of worked.items) }
     ensures came { OnOk result (AllCame worked.items) }
+    ensures looking { IfOk result (λ x.
+        AreLinedUp x.looking.looks.items x.looking.looked.items (companions_of worked.items)) }
+    ensures newest { IfOk result (λ x. x.looking.newest ≡ newest) }
 {
     let mut writers = Vec::new(alloc);
     let mut pieces = Vec::new(alloc);
@@ -327,7 +339,16 @@ fn prune_behind<S: Store>(
     writer: IndexWriter<S>,
     keep: Option<u32>,
     commit: CommitInfo,
-) -> Ran<S, Option<CommitInfo>> {
+) -> Ran<S, Option<CommitInfo>>
+    requires sound { IsSound writer.state }
+    requires open { writer.state.closed ≡ false }
+    requires some { IfSome keep (λ keep. 1 ≤ keep) }
+    ensures pruned { Prunes S.disk keep commit writer result }
+    ensures closed { result.came ≡ Err (RanFault.Writer WriterFault.Closed) → ⊥ }
+    ensures later { S.fault_count writer.store ≤ S.fault_count result.writer.store }
+    ensures failed { result.came ≡ Err (RanFault.Writer WriterFault.Store)
+        → Rose (S.fault_count writer.store) (S.fault_count result.writer.store) }
+{
     let mut writer = writer;
     let Some(keep) = keep else {
         return Ran {
@@ -374,6 +395,10 @@ fn write_and_prune<L: BoardLaw, R: Wait, S: Store>(
     requires sound { IsSound writer.state }
     requires open { writer.state.closed ≡ false }
     requires some { IfSome keep (λ keep. 1 ≤ keep) }
+    requires board { IfSome poster.old (CanShow L.lawful writer.state (S.disk writer.store)) }
+    ensures shown { poster.old ≡ None → result.newest ≡ None }
+    ensures newest { IfSome poster.old (λ _. IfOk result.ran.came (λ commit.
+        IsShownBeside writer.state (S.disk writer.store) commit (option_map arc_value result.newest))) }
     ensures pending { WritesPending S.disk keep due.now writer result.ran }
     ensures closed { result.ran.came ≡ Err (RanFault.Writer WriterFault.Closed) → ⊥ }
     ensures later { S.fault_count writer.store ≤ S.fault_count result.ran.writer.store }
@@ -439,7 +464,33 @@ fn work<L: BoardLaw + Send, R: Threads + Wait + Sync, S: Store, G: Gate>(
     begun: Begun,
     looking: Looking,
     due: CommitLine,
-) -> (Ran<S, Option<CommitInfo>>, Result<Came, NoMemory>) {
+) -> (Ran<S, Option<CommitInfo>>, Result<Came, NoMemory>)
+    requires workers { AreAtWork begun.queue 0 begun.writers.items begun.shares.items }
+    requires count { (1 ≤ length begun.writers.items) × (length begun.writers.items ≤ 16) }
+    requires looks { (length looking.looks.items ≡ length begun.writers.items)
+        × (length looking.looked.items ≡ length begun.writers.items) }
+    requires sound { IsSound writer.state }
+    requires open { writer.state.closed ≡ false }
+    requires some { IfSome keep (λ keep. 1 ≤ keep) }
+    requires top { IfSome writer.state.pending (λ s. top_of (begun_with looking.newest) ≤ s) }
+    requires lawful { (c : Commit) → IsOfRound (option_map arc_value looking.newest) writer.state
+        (S.disk writer.store) c → L.lawful c }
+    ensures pending { WritesPending S.disk keep due writer result.0 }
+    ensures back { IfOk result.1 (λ came. ComesBack begun.queue begun.writers.items begun.shares.items
+        came.parts came.shares.items) }
+    ensures looking { IfOk result.1 (λ came. (came.looking.looks ≡ looking.looks)
+        × AreLookedOn L.lawful (top_of (begun_with looking.newest)) came.shares.items
+        looking.looks.items looking.looked.items came.looking.looked.items) }
+    // Where a look line is left, the newest commit that was written is at hand.
+    ensures newest { IfOk result.1 (λ came. IfOk result.0.came (λ commit.
+        AllLooked looking.looks.items looking.looked.items
+        ⊎ IsNewestBeside writer.state (S.disk writer.store) commit
+        (option_map arc_value looking.newest) (option_map arc_value came.looking.newest))) }
+    ensures closed { result.0.came ≡ Err (RanFault.Writer WriterFault.Closed) → ⊥ }
+    ensures later { S.fault_count writer.store ≤ S.fault_count result.0.writer.store }
+    ensures failed { result.0.came ≡ Err (RanFault.Writer WriterFault.Store)
+        → Rose (S.fault_count writer.store) (S.fault_count result.0.writer.store) }
+{
     let Begun {
         queue,
         writers,
@@ -466,7 +517,12 @@ fn work<L: BoardLaw + Send, R: Threads + Wait + Sync, S: Store, G: Gate>(
             requires sound { IsSound writer.state }
             requires open { writer.state.closed ≡ false }
             requires some { IfSome keep (λ keep. 1 ≤ keep) }
+            requires board { IfSome board.now (CanShow L.lawful writer.state (S.disk writer.store)) }
             ensures pending { WritesPending S.disk keep due writer result.ran }
+            ensures shown { board.entry.now ≡ None → result.newest ≡ None }
+            ensures newest { IfSome board.entry.now (λ _. IfOk result.ran.came (λ commit.
+                IsShownBeside writer.state (S.disk writer.store) commit
+                (option_map arc_value result.newest))) }
             ensures closed { result.ran.came ≡ Err (RanFault.Writer WriterFault.Closed) → ⊥ }
             ensures later { S.fault_count writer.store ≤ S.fault_count result.ran.writer.store }
             ensures failed { result.ran.came ≡ Err (RanFault.Writer WriterFault.Store)
@@ -483,7 +539,15 @@ fn came_back<L: BoardLaw>(
     queue: DeleteQueue,
     newest: Option<Arc<Commit, Global>>,
     back: Result<Vec<Worked<Looker<L>>>, NoMemory>,
-) -> Result<Came, NoMemory> {
+) -> Result<Came, NoMemory>
+    ensures back { IfOk result (λ came. IfOk back (λ worked. (came.parts.queue ≡ queue)
+        × (came.parts.writers.items ≡ writers_of worked.items)
+        × (pieces_of came.parts.pieces.items ≡ gave_of worked.items)
+        × (came.shares.items ≡ map share_of worked.items) × AllCame worked.items
+        × AreLinedUp came.looking.looks.items came.looking.looked.items
+        (companions_of worked.items) × (came.looking.newest ≡ newest))) }
+    ensures all { OnOk result (IsOk back) }
+{
     let worked = back?;
     part(alloc, queue, newest, worked)
 }
@@ -524,11 +588,21 @@ pub fn do_round<R: Threads + Wait + Sync, S: Store, G: Gate>(
     requires out { writer.state.out ≡ false }
     requires come { (r : Run) × (lines : List Line) × (log : List Line) × (commits : List (ℕ × ℕ))
         × IsRunBy threads keep r
-        × HasCome r lines shares.items log commits due writer.state (S.disk writer.store) }
+        × HasCome r lines shares.items log commits due writer.state (S.disk writer.store)
+        × IsLooking r.first r.start lines shares.items log commits looking.looks.items looking }
     ensures come { (r : Run) (lines log : List Line) (commits : List (ℕ × ℕ)) → IsRunBy threads keep r
         → HasCome r lines shares.items log commits due writer.state (S.disk writer.store)
         → IfOk result.came (λ x. GoesOnBy r lines x.shares.items log (given commits x.commit) x.due
         result.writer.state (S.disk result.writer.store)) }
+    // The look lines have come as far by the log with the round's lines.
+    ensures looking { (r : Run) (lines log : List Line) (commits : List (ℕ × ℕ)) → IsRunBy threads keep r
+        → AreLooks threads lines looking.looks.items
+        → HasCome r lines shares.items log commits due writer.state (S.disk writer.store)
+        → IsLooking r.first r.start lines shares.items log commits looking.looks.items looking
+        → IfOk result.came (λ x. (on : GoesOnBy r lines x.shares.items log (given commits x.commit)
+        x.due result.writer.state (S.disk result.writer.store))
+        → IsLooking r.first r.start lines x.shares.items (log ++ on.more) (given commits x.commit)
+        looking.looks.items x.looking) }
     ensures cut { (r : Run) (lines log : List Line) (commits : List (ℕ × ℕ)) → IsRunBy threads keep r
         → HasCome r lines shares.items log commits due writer.state (S.disk writer.store)
         → IfErr result.came (λ fault. IsCut r lines fault (S.disk result.writer.store)) }
