@@ -56,8 +56,8 @@ $ run --threads 2
 = 0
 $ run --threads 2
 < {"c":0,"op":"look","query":"all"}
-< {"c":1,"op":"look","query":{"key":"a2"}}
-< {"c":1,"op":"look","query":{"key":"a3"}}
+< {"c":1,"op":"look","query":{"term":["key","a2"]}}
+< {"c":1,"op":"look","query":{"term":["key","a3"]}}
 > {"commit":3,"hits":[{"key":"a1","num":{}},{"key":"a2","num":{}}],"line":1}
 > {"commit":3,"hits":[{"key":"a2","num":{}}],"line":2}
 > {"commit":3,"hits":[],"line":3}
