@@ -3,6 +3,7 @@ pub mod Commands
 pub mod Causes
 pub mod Answered
 pub mod Looked
+pub mod Shown
 pub mod Outcomes
 pub mod Replied
 pub mod Leaving
