@@ -18,7 +18,7 @@ use Rattle.run_log.specs.Headline.{is_look}
 use Rattle.index_run.specs.Answered.{IsFound}
 use Rattle.index_run.specs.Shown.{AreSeen, AreSeenFrom, AreSeenIn, AreSeenLeft, AreSeenOf, CountsSeen, IsSeenAs, IsSeenBy, Seen, shown_by}
 use Rattle.index_run.specs.declared.looks.Looked.{Looked}
-use Rattle.index_run.proofs.Shown.{AreAllSeen, IsSeen, all_seen}
+use Rattle.index_run.proofs.Shown.{AreAllSeen, IsSeen, all_seen, the_look}
 
 -- ---- a line is passed
 
@@ -46,8 +46,7 @@ module _ (n : ℕ) (first : State) (log : List Line) (shown : ℕ → ℕ) (l : 
   record HasNextSeen (worker : ℕ) (query : Query) (own : Seen) : Type 0 where
     pub after : ℕ
     pub items : AllZip (IsSeenAs first log shown)
-        ((record { line = l.line; caller = l.caller; after = after; query = query })
-        ∷ looks_from n worker (after_past n worker after l) rest) (into_iter_items own)
+        (the_look l after query ∷ looks_from n worker (after_past n worker after l) rest) (into_iter_items own)
     pub counts : CountsSeen own
 
   -- so it is of the worker whose caller looks in it
@@ -109,7 +108,7 @@ module _ (first : State) (log : List Line) (shown : ℕ → ℕ) (l : Line) (res
   next = seen_some (length seen) first log shown l rest 0 seen at own query at looks (sym is) (omega arith) inside same are.each
 
   abbrev own_look : Look
-  own_look = record { line = l.line; caller = l.caller; after = next.after; query = query }
+  own_look = the_look l next.after query
 
   abbrev others : List Look
   others = looks_from (length seen) at (after_past (length seen) at next.after l) rest
@@ -119,7 +118,7 @@ module _ (first : State) (log : List Line) (shown : ℕ → ℕ) (l : Line) (res
   no_seen none = by (into_iter_items own) next.items (sym next.counts ∙ none)
     where
       by : (these : List Looked) → AllZip (IsSeenAs first log shown) (own_look ∷ others) these → length these ≡ 0 → ⊥
-      by [] zip none = zip
+      by [] zip none = absurd zip
       by (x ∷ these) zip none = omega (arith, none)
 
   taken : (new : Seen) (x : Looked) → IsNextSeen own new x
@@ -153,8 +152,8 @@ module _ (first : State) (log : List Line) (shown : ℕ → ℕ) (l : Line) (res
 seen_as : (first : State) (lines log : List Line) (shown : ℕ → ℕ) (looks : List Look) (looked : List Looked)
     → AllZip (IsSeen first lines log shown) looks looked → AllZip (IsSeenAs first log shown) looks looked
 seen_as first lines log shown [] [] seen = tt
-seen_as first lines log shown [] (x ∷ looked) seen = seen
-seen_as first lines log shown (k ∷ looks) [] seen = seen
+seen_as first lines log shown [] (x ∷ looked) seen = absurd seen
+seen_as first lines log shown (k ∷ looks) [] seen = absurd seen
 seen_as first lines log shown (k ∷ looks) (x ∷ looked) seen = (
   subst (λ (s : ℕ). IsFound first log s k.query k.line x.text) seen.0.number seen.0.looked.text,
   seen_as first lines log shown looks looked seen.1,

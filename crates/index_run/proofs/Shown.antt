@@ -22,11 +22,15 @@ use Rattle.index_run.specs.declared.looks.Looked.{Looked}
 
 -- ---- the lines of a worker's looks
 
+-- the look of a look line, before which so many tasks of its worker stand
+abbrev pub the_look : Line → ℕ → Query → Look
+the_look l after query = record { line = l.line; caller = l.caller; after = after; query = query }
+
 -- what is true of nothing, and of a look in the line by one of the worker's callers, is true of what the line gives
 look_cases : (n worker after : ℕ) (l : Line) (P : List Look → Type 0)
     → ((l.caller % n ≡ worker → is_look l.act ≡ true → ⊥) → P [])
     → ((query : Query) → l.caller % n ≡ worker → l.act ≡ act.Look query
-    → P ((record { line = l.line; caller = l.caller; after = after; query = query }) ∷ []))
+    → P (the_look l after query ∷ []))
     → P (look_in n worker after l)
 look_cases n worker after l P none one = by (eqb (l.caller % n) worker) refl l.act refl
   where
@@ -57,7 +61,7 @@ looks_rise n worker after low (l ∷ ls) rise =
     (λ query own is. (rise.0, rest))
 
 -- the worker of the line at this place, or n where none stands there
-worker_at : ℕ → List Line → ℕ → ℕ
+abbrev worker_at : ℕ → List Line → ℕ → ℕ
 worker_at n [] line = n
 worker_at n (l ∷ lines) line = cond (eqb l.line line) (l.caller % n) (worker_at n lines line)
 
@@ -66,8 +70,11 @@ looks_own : (n worker after low : ℕ) (lines : List Line) (who : ℕ → ℕ) �
     → AllByRecursion (λ (k : Look). who k.line ≡ worker) (looks_from n worker after lines)
 looks_own n worker after low [] who rise is = tt
 looks_own n worker after low (l ∷ ls) who rise is =
+    let next = after_past n worker after l in
+    let rest : AllByRecursion (λ (k : Look). who k.line ≡ worker) (looks_from n worker next ls) =
+    looks_own n worker next (l.line + 1) ls who rise.1 past in
     look_cases n worker after l
-    (λ (these : List Look). AllByRecursion (λ (k : Look). who k.line ≡ worker) (these ++ looks_from n worker (after_past n worker after l) ls))
+    (λ (these : List Look). AllByRecursion (λ (k : Look). who k.line ≡ worker) (these ++ looks_from n worker next ls))
     (λ none. rest) (λ query own looks. (here own, rest))
   where
     past : (line : ℕ) → l.line + 1 ≤ line → who line ≡ worker_at n ls line
@@ -80,9 +87,6 @@ looks_own n worker after low (l ∷ ls) who rise is =
     here own =
         is l.line rise.0
         ∙ ap (λ (b : Bool). cond b (l.caller % n) (worker_at n ls l.line)) (eq-eqb l.line l.line refl) ∙ own
-
-    rest : AllByRecursion (λ (k : Look). who k.line ≡ worker) (looks_from n worker (after_past n worker after l) ls)
-    rest = looks_own n worker (after_past n worker after l) (l.line + 1) ls who rise.1 past
 
 -- ---- the number that stands for a line
 
@@ -159,8 +163,8 @@ module _ (first : State) (lines log : List Line) (shown : ℕ → ℕ) where
   seen_zip : (looks : List Look) (looked : List Looked) → AllZip (IsLooked first lines log) looks looked
       → AllZip (IsNumbered shown) looks looked → AllZip (IsSeen first lines log shown) looks looked
   seen_zip [] [] are numbers = tt
-  seen_zip [] (x ∷ looked) are numbers = are
-  seen_zip (k ∷ looks) [] are numbers = are
+  seen_zip [] (x ∷ looked) are numbers = absurd are
+  seen_zip (k ∷ looks) [] are numbers = absurd are
   seen_zip (k ∷ looks) (x ∷ looked) are numbers =
       (record { looked = are.0; number = numbers.0 }, seen_zip looks looked are.1 numbers.1)
 
@@ -176,8 +180,8 @@ module _ (first : State) (lines log : List Line) (shown : ℕ → ℕ) where
       → AllZip (λ (v : Vec Look) (w : Vec Looked). AllZip (IsNumbered shown) v.items w.items) looks looked
       → AllZip (AreAllSeen first lines log shown) looks looked
   seen_each [] [] are all numbers = tt
-  seen_each [] (w ∷ looked) are all numbers = are
-  seen_each (v ∷ looks) [] are all numbers = are
+  seen_each [] (w ∷ looked) are all numbers = absurd are
+  seen_each (v ∷ looks) [] are all numbers = absurd are
   seen_each (v ∷ looks) (w ∷ looked) are all numbers =
       ((seen_of v.items w.items are.0 all.0 numbers.0, are.0.rise), seen_each looks looked are.1 all.1 numbers.1)
 
@@ -223,7 +227,7 @@ module _ (n i : ℕ) (first : State) (lines log : List Line) (shown : ℕ → �
   base = first.published.upto
 
   -- each look line of the worker's callers among these was shown such a commit
-  AreShownOf : List Line → List Line → Type 0
+  abbrev AreShownOf : List Line → List Line → Type 0
   AreShownOf before [] = Unit {0}
   AreShownOf before (l ∷ ls) =
       (l.caller % n ≡ i → is_look l.act ≡ true → IsShown base log shown before l) × AreShownOf (before ++ l ∷ []) ls
@@ -264,45 +268,51 @@ module _ (n i : ℕ) (first : State) (lines log : List Line) (shown : ℕ → �
         ap (λ (m : ℕ). lines_before m lines) line ∙ ap (λ (xs : List Line). lines_before l.line xs) is
         ∙ before_is 1 before ls l (subst (LinesRise 1) is rise) in
         let same : third_last base (commits_of base log k.caller (lines_before k.line lines))
-            ≡ third_last base (commits_of base log l.caller before) =
+        ≡ third_last base (commits_of base log l.caller before) =
         ap (λ (c : ℕ). third_last base (commits_of base log c (lines_before k.line lines))) caller
         ∙ ap (λ (xs : List Line). third_last base (commits_of base log l.caller xs)) these in
-        let least = seen.looked.at_least in
-        omega (arith, least, same, number);
+        subst (λ (m : ℕ). third_last base (commits_of base log l.caller before) ≤ m) number
+        (subst (λ (m : ℕ). m ≤ x.number) same seen.looked.at_least);
   }
     where
       number : x.number ≡ shown l.line
       number = seen.number ∙ ap shown line
+
+  -- one look line, and those behind it
+  look_shown : (low after : ℕ) (before ls : List Line) (l : Line) (query : Query) (looked : List Looked)
+      → lines ≡ before ++ l ∷ ls → l.caller % n ≡ i → AreBelow low before
+      → AllZip (IsSeen first lines log shown) (the_look l after query ∷ looks_from n i (after_past n i after l) ls) looked
+      → DontFall low (map number_of_looked looked)
+      → ((high : ℕ) (others : List Looked)
+      → AllZip (IsSeen first lines log shown) (looks_from n i (after_past n i after l) ls) others
+      → DontFall high (map number_of_looked others) → AreBelow high (before ++ l ∷ []) → AreShownOf (before ++ l ∷ []) ls)
+      → AreShownOf before (l ∷ ls)
+  look_shown low after before ls l query [] is mine below seen rises rest = absurd seen
+  look_shown low after before ls l query (x ∷ looked) is mine below seen rises rest = (
+    (λ own looks.
+        shown_here low before ls l (the_look l after query) x is refl refl mine seen.0 rises.0 below),
+    rest x.number looked seen.1 rises.1 (below_shown low x.number before l rises.0 (sym seen.0.number) below),
+  )
 
   worker_shown : (low after : ℕ) (before ls : List Line) (looked : List Looked) → lines ≡ before ++ ls
       → AllZip (IsSeen first lines log shown) (looks_from n i after ls) looked → DontFall low (map number_of_looked looked)
       → AreBelow low before → AreShownOf before ls
   worker_shown low after before [] looked is seen rises below = tt
   worker_shown low after before (l ∷ ls) looked is seen rises below =
+      let next = after_past n i after l in
+      let on : lines ≡ (before ++ l ∷ []) ++ ls = is ∙ sym (append_assoc before (l ∷ []) ls) in
+      let by : AllZip (IsSeen first lines log shown) (looks_from n i after (l ∷ ls)) looked → AreShownOf before (l ∷ ls) =
       look_cases n i after l
       (λ (these : List Look).
-      AllZip (IsSeen first lines log shown) (these ++ looks_from n i (after_past n i after l) ls) looked → AreShownOf before (l ∷ ls))
+      AllZip (IsSeen first lines log shown) (these ++ looks_from n i next ls) looked → AreShownOf before (l ∷ ls))
       (λ none zip. (
         (λ mine looks. absurd (none mine looks)),
-        worker_shown low (after_past n i after l) (before ++ l ∷ []) ls looked on zip rises (below_passed low before l none below),
+        worker_shown low next (before ++ l ∷ []) ls looked on zip rises (below_passed low before l none below),
       ))
-      (λ query mine looks zip. one query mine looked zip rises) seen
-    where
-      on : lines ≡ (before ++ l ∷ []) ++ ls
-      on = is ∙ sym (append_assoc before (l ∷ []) ls)
-
-      one : (query : Query) → l.caller % n ≡ i → (these : List Looked)
-          → AllZip (IsSeen first lines log shown)
-          ((record { line = l.line; caller = l.caller; after = after; query = query }) ∷ looks_from n i (after_past n i after l) ls) these
-          → DontFall low (map number_of_looked these) → AreShownOf before (l ∷ ls)
-      one query mine [] zip falls = absurd zip
-      one query mine (x ∷ these) zip falls = (
-        (λ own looks.
-        shown_here low before ls l (record { line = l.line; caller = l.caller; after = after; query = query }) x is refl refl mine
-        zip.0 falls.0 below),
-        worker_shown x.number (after_past n i after l) (before ++ l ∷ []) ls these on zip.1 falls.1
-            (below_shown low x.number before l falls.0 (sym zip.0.number) below),
-      )
+      (λ query mine looks zip.
+      look_shown low after before ls l query looked is mine below zip rises
+      (λ high others zips falls under. worker_shown high next (before ++ l ∷ []) ls others on zips falls under)) in
+      by seen
 
 -- ---- what all workers' looks were shown
 
@@ -342,16 +352,17 @@ pub looks_shown : (n : ℕ) (first : State) (lines log : List Line) (looks : Lis
     → 0 < n → LinesRise 1 lines → AreSeen n first lines log looks looked
     → AreShown first.published.upto log (shown_by looks looked) lines
 looks_shown n first lines log looks looked some rise are =
-    all_shown n first lines log shown rise [] lines some each
+    all_shown n first lines log (shown_by looks looked) rise [] lines some each
   where
-    shown : ℕ → ℕ
-    shown = shown_by looks looked
-
-    each : (i : ℕ) → i < n → AreShownOf n i first lines log shown rise [] lines
+    each : (i : ℕ) → i < n → AreShownOf n i first lines log (shown_by looks looked) rise [] lines
     each i less =
+        let shown = shown_by looks looked in
         let count = are.looks_are.count in
         let found =
         one_worker n 0 first lines log shown looks looked i (omega (arith, less, count)) are.looks_are.each
         (all_seen n first lines log looks looked rise are) in
-        worker_shown n i first lines log shown rise first.published.upto 0 [] lines found.0 refl found.1 found.2
-        (λ c mine. omega arith)
+        let e : 0 + i ≡ i = omega arith in
+        let low : first.published.upto ≤ first.published.upto = omega arith in
+        worker_shown n i first lines log shown rise first.published.upto 0 [] lines found.0 refl
+        (subst (λ (worker : ℕ). AllZip (IsSeen first lines log shown) (looks_of n worker lines) found.0) e found.1)
+        found.2 (λ c mine. low)

@@ -5,7 +5,7 @@ use Rattle.std.specs.List.{AllZip}
 use Rattle.std.specs.Vec.Iter.{into_iter_items, into_iter_len}
 use Rattle.std.specs.declared.vec.IntoIter.{IntoIter}
 use Rattle.ix_base.specs.declared.query.Query.{Query}
-use Rattle.op_script.specs.declared.script.Act.TheVariants.{Look as look}
+use Rattle.op_script.specs.declared.script.Act.TheVariants as act
 use Rattle.op_script.specs.declared.script.Line.{Line}
 use Rattle.index_writer.specs.declared.state.State.{State}
 use Rattle.line_shares.specs.Looks.{AreLooks, looks_from}
@@ -71,7 +71,7 @@ pub record AreSeenLeft (first : State) (log : List Line) (shown : ℕ → ℕ) (
 
 -- the text answers this look line, in the commit that it was shown
 abbrev pub IsSeenBy : State → List Line → (ℕ → ℕ) → Line → List ℕ → Type 0
-IsSeenBy first log shown l text = (query : Query) → l.act ≡ look query
+IsSeenBy first log shown l text = (query : Query) → l.act ≡ act.Look query
     → IsFound first log (shown l.line) query l.line text
 
 -- this is what the workers' looks were shown

@@ -42,18 +42,16 @@ pub fn outcomes_of(
     ensures outcomes { (first : State) (lines log : ListOf Line) (looks : ListOf (Vec Look))
         → CanTell first.published.upto lines log places.items shares.items commits.now
         → AreFound first lines log texts.items
-        → AreSeen (length shares.items) first lines log looks looked.items → IfOk result (λ outcomes.
-        AreOutcomes (IsCounted commits.now) (IsFound first log) (shown_by looks looked.items)
-        first.published.upto log [] lines outcomes.items) }
+        → AreSeen (length shares.items) first lines log looks looked.items
+        → IfOk result (λ outcomes. AreOutcomes (IsCounted commits.now) (IsFound first log)
+        (shown_by looks looked.items) first.published.upto log [] lines outcomes.items) }
 {
     let mut told = replies_of(alloc, shares)?;
     let mut found = texts_of(alloc, texts)?;
     let mut seen = seen_of(alloc, looked)?;
     let mut outcomes = Vec::with_capacity(alloc, places.len())?;
     for place in places {
-        outcomes.push(outcome_of(
-            place, &mut told, &mut found, &mut seen, commits,
-        ))?;
+        outcomes.push(outcome_of(place, &mut told, &mut found, &mut seen, commits))?;
     }
     Ok(outcomes)
 }
@@ -84,10 +82,7 @@ fn texts_of(
 }
 
 /// What each worker's look lines were shown.
-fn seen_of(
-    alloc: Global,
-    looked: Vec<Vec<Looked>>,
-) -> Result<Vec<vec::IntoIter<Looked>>, NoMemory>
+fn seen_of(alloc: Global, looked: Vec<Vec<Looked>>) -> Result<Vec<vec::IntoIter<Looked>>, NoMemory>
     ensures { IfOk result (λ seen. AreSeenOf looked.items seen.items) }
 {
     let mut seen = Vec::new(alloc);
@@ -97,7 +92,8 @@ fn seen_of(
     Ok(seen)
 }
 
-/// What became of the next line. It takes its reply or what it was shown from its worker's, or its text from its caller's.
+/// What became of the next line. It takes its reply, or what it was shown, from its worker's, or its text from its
+/// caller's.
 fn outcome_of(
     place: Place,
     told: &mut Vec<vec::IntoIter<Reply>>,
@@ -105,16 +101,18 @@ fn outcome_of(
     seen: &mut Vec<vec::IntoIter<Looked>>,
     commits: &[(u64, u64)],
 ) -> Outcome
-    requires far { (first : State) × (log : ListOf Line) × (shown : ℕ → ℕ) × (done : ListOf Line) × (l : Line)
-        × (rest : ListOf Line) × (place ≡ place_of l) × AreCommits first.published.upto log commits.now
+    requires far { (first : State) × (log : ListOf Line) × (shown : ℕ → ℕ) × (done : ListOf Line)
+        × (l : Line) × (rest : ListOf Line) × (place ≡ place_of l)
+        × AreCommits first.published.upto log commits.now
         × IsSoFar first log shown done (l ∷ rest) told.old.items found.old.items seen.old.items }
-    ensures outcome { (first : State) (log : ListOf Line) (shown : ℕ → ℕ) (done : ListOf Line) (l : Line)
-        (rest : ListOf Line)
+    ensures outcome { (first : State) (log : ListOf Line) (shown : ℕ → ℕ) (done : ListOf Line)
+        (l : Line) (rest : ListOf Line)
         → place ≡ place_of l → AreCommits first.published.upto log commits.now
         → IsSoFar first log shown done (l ∷ rest) told.old.items found.old.items seen.old.items
-        → IsOutcome (IsCounted commits.now) (IsFound first log) shown first.published.upto log done l result }
-    ensures far { (first : State) (log : ListOf Line) (shown : ℕ → ℕ) (done : ListOf Line) (l : Line)
-        (rest : ListOf Line)
+        → IsOutcome (IsCounted commits.now) (IsFound first log) shown first.published.upto log done l
+        result }
+    ensures far { (first : State) (log : ListOf Line) (shown : ℕ → ℕ) (done : ListOf Line)
+        (l : Line) (rest : ListOf Line)
         → place ≡ place_of l → AreCommits first.published.upto log commits.now
         → IsSoFar first log shown done (l ∷ rest) told.old.items found.old.items seen.old.items
         → IsSoFar first log shown (done ++ l ∷ []) rest told.new.items found.new.items seen.new.items }
@@ -131,15 +129,15 @@ fn outcome_of(
 
 /// The text of the next search line of this caller.
 fn next_text(found: &mut Vec<vec::IntoIter<List<u8>>>, caller: u8) -> List<u8>
-    requires left { (first : State) × (log done : ListOf Line) × (l : Line) × (rest : ListOf Line) × (query : Query)
-        × (l.caller ≡ caller) × (l.act ≡ act.Search query)
+    requires left { (first : State) × (log done : ListOf Line) × (l : Line) × (rest : ListOf Line)
+        × (query : Query) × (l.caller ≡ caller) × (l.act ≡ act.Search query)
         × AreTextsLeft first log done (l ∷ rest) found.old.items }
-    ensures text { (first : State) (log done : ListOf Line) (l : Line) (rest : ListOf Line) (query : Query)
-        → l.caller ≡ caller → l.act ≡ act.Search query
+    ensures text { (first : State) (log done : ListOf Line) (l : Line) (rest : ListOf Line)
+        (query : Query) → l.caller ≡ caller → l.act ≡ act.Search query
         → AreTextsLeft first log done (l ∷ rest) found.old.items
         → IsAnsweredBy first log done l result }
-    ensures left { (first : State) (log done : ListOf Line) (l : Line) (rest : ListOf Line) (query : Query)
-        → l.caller ≡ caller → l.act ≡ act.Search query
+    ensures left { (first : State) (log done : ListOf Line) (l : Line) (rest : ListOf Line)
+        (query : Query) → l.caller ≡ caller → l.act ≡ act.Search query
         → AreTextsLeft first log done (l ∷ rest) found.old.items
         → AreTextsLeft first log (done ++ l ∷ []) rest found.new.items }
 {
@@ -151,21 +149,21 @@ fn next_text(found: &mut Vec<vec::IntoIter<List<u8>>>, caller: u8) -> List<u8>
 
 /// The text of the next look line of this caller.
 fn next_seen(seen: &mut Vec<vec::IntoIter<Looked>>, caller: u8) -> List<u8>
-    requires left { (first : State) × (log : ListOf Line) × (shown : ℕ → ℕ) × (l : Line) × (rest : ListOf Line)
-        × (query : Query) × (l.caller ≡ caller) × (l.act ≡ act.Look query)
+    requires left { (first : State) × (log : ListOf Line) × (shown : ℕ → ℕ) × (l : Line)
+        × (rest : ListOf Line) × (query : Query) × (l.caller ≡ caller) × (l.act ≡ act.Look query)
         × AreSeenLeft first log shown (l ∷ rest) seen.old.items }
-    ensures text { (first : State) (log : ListOf Line) (shown : ℕ → ℕ) (l : Line) (rest : ListOf Line)
-        (query : Query) → l.caller ≡ caller → l.act ≡ act.Look query
+    ensures text { (first : State) (log : ListOf Line) (shown : ℕ → ℕ) (l : Line)
+        (rest : ListOf Line) (query : Query) → l.caller ≡ caller → l.act ≡ act.Look query
         → AreSeenLeft first log shown (l ∷ rest) seen.old.items
         → IsSeenBy first log shown l result }
-    ensures left { (first : State) (log : ListOf Line) (shown : ℕ → ℕ) (l : Line) (rest : ListOf Line)
-        (query : Query) → l.caller ≡ caller → l.act ≡ act.Look query
+    ensures left { (first : State) (log : ListOf Line) (shown : ℕ → ℕ) (l : Line)
+        (rest : ListOf Line) (query : Query) → l.caller ≡ caller → l.act ≡ act.Look query
         → AreSeenLeft first log shown (l ∷ rest) seen.old.items
         → AreSeenLeft first log shown rest seen.new.items }
 {
     let worker = caller as usize % seen.len();
     match seen[worker].next() {
-        Some(Looked { text, .. }) => text,
+        Some(looked) => looked.text,
         None => unreachable!(),
     }
 }

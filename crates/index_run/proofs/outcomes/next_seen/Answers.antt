@@ -25,7 +25,7 @@ returns-clause-text c = λ first log shown l rest query of looks are.
     let some = are.some in
     let inside : c.args.caller % n < length seen = omega (arith, many, some) in
     seen_is first log shown l rest seen (c.args.caller % n) c.index_mut.result.now query looks at
-    (sym c.index_mut.ensures.value) are inside c.next.new.self _
+    (sym c.index_mut.ensures.value) are inside c.next.new.self c.in-Some.looked
     (record { items = c.in-Some.ensures.cases.0; count = c.in-Some.ensures.cases.1 })
 
 pub returns-clause-left : goal.returns-clause-left
@@ -38,5 +38,5 @@ returns-clause-left c = λ first log shown l rest query of looks are.
     let some = are.some in
     let inside : c.args.caller % n < length seen = omega (arith, many, some) in
     seen_left first log shown l rest seen (c.args.caller % n) c.index_mut.result.now query looks at
-    (sym c.index_mut.ensures.value) are inside c.next.new.self _
+    (sym c.index_mut.ensures.value) are inside c.next.new.self c.in-Some.looked
     (record { items = c.in-Some.ensures.cases.0; count = c.in-Some.ensures.cases.1 })
