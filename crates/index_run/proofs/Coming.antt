@@ -42,7 +42,8 @@ use Rattle.run_log.specs.Numbering.{HasLine}
 use Rattle.run_log.proofs.Lists.{each_behind, each_in_both, each_pair}
 use Rattle.run_log.proofs.NumberLaws.{commits_append, commits_within, rows_at_all, rows_at_front}
 use Rattle.index_run.specs.Doing.{CanBegin, IsWriterOn}
-use Rattle.index_run.specs.Answered.{AllAnswerBehind, AreAnswered, IsFound, IsNone}
+use Rattle.index_run.specs.Answered.{AllAnswerBehind, AreAnswered, IsNone}
+use Rattle.index_run.specs.Looked.{IsFoundRead}
 use Rattle.index_run.specs.Driving.{Begins, EndsRound, GoesOnBy, HasCome, HasDone, IsAt, IsCut, IsDocs, IsDue, IsDueCommit}
 use Rattle.index_run.specs.Driving.{IsOver, IsRound, IsUnderWay, Run, base_of, number_in}
 use Rattle.index_run.specs.Leaving.{CommitLaws, IsNextCommit, due_pairs, first_numbers}
@@ -344,7 +345,7 @@ can_tell r lines places shares log commits due w now callers places_are done non
 pub over_of : (r : Run) (lines : List Line) (shares : List Share) (log : List Line) (commits : List Pair) (due : CommitLine)
     (shown : ℕ → ℕ) (became : List Outcome) (w : State) (now : Option Disk) → AreDone shares → w.pending ≡ None
     → HasCome r lines shares log commits due w now → AreShown (base_of r) log shown lines
-    → AreOutcomes (IsCounted commits) (IsFound r.first log) shown (base_of r) log [] lines became
+    → AreOutcomes (IsCounted commits) (IsFoundRead r.first r.start log) shown (base_of r) log [] lines became
     → IsOver r lines became w now
 over_of r lines shares log commits due shown became w now done none h looks are =
     let at = h.done.at in
@@ -360,7 +361,7 @@ over_of r lines shares log commits due shown became w now done none h looks are 
       shown = shown;
       looks = looks;
       outcomes =
-          outcomes_counted (IsDocs r.first log) (IsFound r.first log) shown commits (base_of r) log lines became h.docs are;
+          outcomes_counted (IsDocs r.first log) (IsFoundRead r.first r.start log) shown commits (base_of r) log lines became h.docs are;
     }
 
 -- ---- the search lines

@@ -45,7 +45,7 @@ use Rattle.index_run.specs.Damage.{ReadsDamaged}
 use Rattle.index_run.specs.Doing.{IsOnGiven}
 use Rattle.index_run.specs.Driving.{IsCut, IsDocs, IsOver, Run, base_of}
 use Rattle.index_run.proofs.OutcomeLaws.{HasCount, HasFound, outcomes_weaker, texts_found}
-use Rattle.index_run.specs.Answered.{IsFound}
+use Rattle.index_run.specs.Looked.{IsFoundRead}
 use Rattle.index_run.specs.Outcomes.{AreOutcomes}
 use Rattle.index_run.specs.Telling.{CanTell, ReadsCommit, is_committed}
 use Rattle.searcher.specs.Searching.{IsDamagedIn}
@@ -206,21 +206,22 @@ over_settled g r lines outcomes w now told on o are f told_now =
 
 -- what became of the lines, by what was given
 pub outcomes_given : (g : Given) (r : Run) (log lines : List Line) (shown : ℕ → ℕ) (outcomes : List Outcome)
-    → IsOnGiven g r.first
-    → AreOutcomes (IsDocs r.first log) (IsFound r.first log) shown (base_of r) log [] lines outcomes
+    → CanRun g → told_files r.start ≡ Some g.files → IsOnGiven g r.first
+    → AreOutcomes (IsDocs r.first log) (IsFoundRead r.first r.start log) shown (base_of r) log [] lines outcomes
     → AreOutcomes (HasCount g.base g.rows log) (HasFound g.base g.rows log) shown g.base log [] lines outcomes
-outcomes_given g r log lines shown outcomes on are =
+outcomes_given g r log lines shown outcomes can told on are =
     subst (λ (n : ℕ). AreOutcomes (HasCount n g.rows log) (HasFound n g.rows log) shown n log [] lines outcomes) on.number
-    (outcomes_weaker (IsDocs r.first log) (HasCount (base_of r) g.rows log) (IsFound r.first log) (HasFound (base_of r) g.rows log)
-    (λ s docs is. is g.rows on.rows) (λ s query line text is. is g.rows on.rows) shown (base_of r) log [] lines outcomes are)
+    (outcomes_weaker (IsDocs r.first log) (HasCount (base_of r) g.rows log) (IsFoundRead r.first r.start log) (HasFound (base_of r) g.rows log)
+    (λ s docs is. is g.rows on.rows) (λ s query line text is. is g told can on) shown (base_of r) log [] lines outcomes are)
 
 -- the text is the report
 pub over_report : (g : Given) (r : Run) (lines : List Line) (outcomes : List Outcome) (w : State) (now : Option Disk)
-    (text : List ℕ) → g.lines ≡ lines → IsOnGiven g r.first → (o : IsOver r lines outcomes w now) → text ≡ texts outcomes
-    → text ≡ report g.base g.rows g.lines o.log o.shown
-over_report g r lines outcomes w now text same on o told =
-    told
-    ∙ texts_found g.base g.rows o.log lines o.shown outcomes (outcomes_given g r o.log lines o.shown outcomes on o.outcomes)
+    (text : List ℕ) → g.lines ≡ lines → CanRun g → told_files r.start ≡ Some g.files → IsOnGiven g r.first
+    → (o : IsOver r lines outcomes w now) → text ≡ texts outcomes → text ≡ report g.base g.rows g.lines o.log o.shown
+over_report g r lines outcomes w now text same can told on o said =
+    said
+    ∙ texts_found g.base g.rows o.log lines o.shown outcomes
+    (outcomes_given g r o.log lines o.shown outcomes can told on o.outcomes)
     ∙ ap (λ (ls : List Line). report g.base g.rows ls o.log o.shown) (sym same)
 
 -- and the look lines were shown such commits
@@ -274,7 +275,7 @@ pub runs_of : (g : Given) (r : Run) (lines : List Line) (outcomes : List Outcome
 runs_of g r lines outcomes w now (Err s) same can told on o text = tt
 runs_of g r lines outcomes w now (Ok bytes) same can told on o text =
     over_runs g r lines outcomes w now (form_text Report g) (λ (said : List ℕ). bytes.items ≡ said) same can told on o
-    (over_report g (all r) lines outcomes w now bytes.items same on o text)
+    (over_report g (all r) lines outcomes w now bytes.items same can told on o text)
 
 -- the lines of a made script were done, and then their summary was made
 pub sums_of : MadeRuns → (g : Given) (r : Run) (lines : List Line) (outcomes : List Outcome) (w : State)
@@ -295,7 +296,7 @@ sums_of law g r lines outcomes w now base upto result same made can told on o fr
     last = let end = o.writer.upto in let number = on.number in omega (arith, last_is, end, number)
 
     count : count_by is_committed outcomes ≡ count_by (λ (l : Line). is_commit l.act) lines
-    count = commits_counted (IsDocs r.first o.log) (IsFound r.first o.log) o.shown (base_of r) o.log [] lines outcomes o.outcomes
+    count = commits_counted (IsDocs r.first o.log) (IsFoundRead r.first r.start o.log) o.shown (base_of r) o.log [] lines outcomes o.outcomes
 
     by : (result : Result Bytes Stop) (f : Files) → HasAll g o.log f
         → ((next : ℕ) (rows : List Row) → HoldsInverted f upto next rows

@@ -180,4 +180,4 @@ pub report_runs : (keep : ℕ) (g : Given) (r : Run) (lines : List Line) (outcom
 report_runs keep g r lines outcomes w now (Err s) same can told on o text = tt
 report_runs keep g r lines outcomes w now (Ok bytes) same can told on o text =
     over_runs_on keep g r lines outcomes w now told on o same can (form_text Report g) (λ (said : List ℕ). bytes.items ≡ said)
-    (over_report g (some keep r) lines outcomes w now bytes.items same on o text)
+    (over_report g (some keep r) lines outcomes w now bytes.items same can told on o text)

@@ -1,7 +1,7 @@
 -- What became of one line more, by what it was told.
 use Rattle.std.proofs.Common.{◌≡◌, ◌∙◌, ℕ, suc, ◌+◌, true, false, List, [], ◌∷◌, ◌++◌, length}
 use Rattle.std.proofs.Common.{map, refl, sym, ap, subst, arith, append-nil, append_assoc}
-use Rattle.std.specs.Prelude.{Some, None}
+use Rattle.std.specs.Prelude.{Option, Some, None}
 use Rattle.std.specs.Global.{Vec}
 use Rattle.std.specs.List.{AllByRecursion}
 use Rattle.ix_base.specs.Refusals.{refusal}
@@ -9,6 +9,7 @@ use Rattle.ix_base.specs.declared.document.Operation.{Operation}
 use Rattle.ix_base.specs.declared.document.Operation.TheVariants.{Add, AddBlock, Update, UpdateBlock, DeleteTerm, DeleteQuery, SetNumber}
 use Rattle.ix_base.specs.declared.document.Operation.TheVariants.{Commit}
 use Rattle.ix_base.specs.declared.query.Query.{Query}
+use Rattle.ix_outside.specs.Disk.{Disk}
 use Rattle.op_script.specs.declared.script.Act.{Act}
 use Rattle.op_script.specs.declared.script.Act.TheVariants.{Do, Look, Search}
 use Rattle.op_script.specs.declared.script.Line.{Line}
@@ -24,7 +25,7 @@ use Rattle.line_shares.specs.Shares.{AreDone, AreSharesFrom, is_doing, kind_of, 
 use Rattle.line_shares.specs.Shares.{task_of}
 use Rattle.line_shares.specs.Tells.{IsTold, replies_at, tells_in}
 use Rattle.run_log.proofs.CommitLaws.{commits_rise}
-use Rattle.run_log.specs.Headline.{is_commit, is_look, number_of}
+use Rattle.run_log.specs.Headline.{is_commit, is_look, last_commit, number_of}
 use Rattle.run_log.proofs.LogLaws.{each_committed}
 use Rattle.run_log.specs.Numbering.{Rises}
 use Rattle.run_report.specs.declared.outcome.Answer.{Answer}
@@ -32,6 +33,7 @@ use Rattle.run_report.specs.declared.outcome.Answer.TheVariants.{Numbered, Commi
 use Rattle.run_report.specs.declared.outcome.Outcome.{Outcome}
 use Rattle.index_writer.specs.declared.state.State.{State}
 use Rattle.index_run.specs.Answered.{IsFound}
+use Rattle.index_run.specs.Looked.{IsFoundRead}
 use Rattle.index_run.specs.Replied.{AreCommits, AreFound, AreLeft, AreLeftFrom, AreRepliesFor, AreRepliesOf, AreTextsLeft, AreTextsOf, CanTell}
 use Rattle.index_run.specs.Replied.{IsAnsweredBy, IsCommitAnswer, IsCounted, IsReplyFor, IsSoFar, Replies, Texts, answer_for}
 use Rattle.index_run.proofs.OutcomeLaws.{outcome_next}
@@ -115,21 +117,30 @@ answered Docs Finds shown base log done l o a line act is = record {
   answer = subst (λ (x : Act). IsAnswer Docs Finds shown base log done l x o.answer) (sym act) is;
 }
 
+-- what is found in the rows that the writer had is so where the run began on what it was given
+found_read : (first : State) (start : Option Disk) (log : List Line) (s : ℕ) (query : Query) (line : ℕ) (text : List ℕ)
+    → IsFound first log s query line text → IsFoundRead first start log s query line text
+found_read first start log s query line text found = λ g told can on. found g.rows on.rows
+
 -- a search line is told what it found in its caller's last commit
-pub searched : (Docs : ℕ → ℕ → Type 0) (first : State) (log : List Line) (shown : ℕ → ℕ) (done : List Line) (l : Line)
+pub searched : (Docs : ℕ → ℕ → Type 0) (first : State) (start : Option Disk) (log : List Line) (shown : ℕ → ℕ) (done : List Line) (l : Line)
     (o : Outcome) (query : Query) (text : List ℕ) → l.act ≡ Search query → o.line ≡ l.line
     → IsAnsweredBy first log done l text → o.answer ≡ Found text
-    → IsOutcome Docs (IsFound first log) shown first.published.upto log done l o
-searched Docs first log shown done l o query text act line is answer =
-    answered Docs (IsFound first log) shown first.published.upto log done l o (Search query) line act (text, is query act, answer)
+    → IsOutcome Docs (IsFoundRead first start log) shown first.published.upto log done l o
+searched Docs first start log shown done l o query text act line is answer =
+    answered Docs (IsFoundRead first start log) shown first.published.upto log done l o (Search query) line act (
+      text,
+      found_read first start log (last_commit first.published.upto log l.caller first.published.upto done) query l.line text (is query act),
+      answer,
+    )
 
 -- and a look line what it found in the commit that it was shown
-pub looked : (Docs : ℕ → ℕ → Type 0) (first : State) (log : List Line) (shown : ℕ → ℕ) (done : List Line) (l : Line)
+pub looked : (Docs : ℕ → ℕ → Type 0) (first : State) (start : Option Disk) (log : List Line) (shown : ℕ → ℕ) (done : List Line) (l : Line)
     (o : Outcome) (query : Query) (text : List ℕ) → l.act ≡ Look query → o.line ≡ l.line
-    → IsSeenBy first log shown l text → o.answer ≡ Found text
-    → IsOutcome Docs (IsFound first log) shown first.published.upto log done l o
-looked Docs first log shown done l o query text act line is answer =
-    answered Docs (IsFound first log) shown first.published.upto log done l o (Look query) line act (text, is query act, answer)
+    → IsSeenBy first start log shown l text → o.answer ≡ Found text
+    → IsOutcome Docs (IsFoundRead first start log) shown first.published.upto log done l o
+looked Docs first start log shown done l o query text act line is answer =
+    answered Docs (IsFoundRead first start log) shown first.published.upto log done l o (Look query) line act (text, is query act, answer)
 
 told_number : (Docs : ℕ → ℕ → Type 0) (s n : ℕ) (op : Operation) (answer : Answer) → is_commit (Do op) ≡ false → n ≡ s
     → answer ≡ Numbered n → IsDone Docs s op answer
@@ -183,12 +194,12 @@ committed_is Docs Finds shown base log done l o r pairs act told line answer =
 
 -- ---- how far it has come, with one line more
 
-pub far_next : (first : State) (log : List Line) (shown : ℕ → ℕ) (done rest : List Line) (l : Line)
+pub far_next : (first : State) (start : Option Disk) (log : List Line) (shown : ℕ → ℕ) (done rest : List Line) (l : Line)
     (told new : List Replies) (found next : List Texts) (seen more : List Seen)
-    → IsSoFar first log shown done (l ∷ rest) told found seen → AreLeft first.published.upto log rest new
-    → AreTextsLeft first log (done ++ l ∷ []) rest next → AreSeenLeft first log shown rest more
-    → IsSoFar first log shown (done ++ l ∷ []) rest new next more
-far_next first log shown done rest l told new found next seen more far left texts_left seen_left = record {
+    → IsSoFar first start log shown done (l ∷ rest) told found seen → AreLeft first.published.upto log rest new
+    → AreTextsLeft first log (done ++ l ∷ []) rest next → AreSeenLeft first start log shown rest more
+    → IsSoFar first start log shown (done ++ l ∷ []) rest new next more
+far_next first start log shown done rest l told new found next seen more far left texts_left seen_left = record {
   left = left;
   texts_left = texts_left;
   seen_left = seen_left;
@@ -237,18 +248,18 @@ zip_count (s ∷ ss) [] zip = absurd zip
 zip_count (s ∷ ss) (own ∷ told) zip = ap suc (zip_count ss told zip.1)
 
 -- Nothing is done, and all replies and texts are left, and what the looks were shown.
-pub far_first : (first : State) (lines log : List Line) (looks : List (Vec LookOf)) (places : List Place)
+pub far_first : (first : State) (start : Option Disk) (lines log : List Line) (looks : List (Vec LookOf)) (places : List Place)
     (shares : List Share) (commits : List (ℕ × ℕ)) (texts : List (Vec (List ℕ))) (looked : List (Vec Looked))
     (told : List Replies) (found : List Texts) (seen : List Seen)
     → CanTell first.published.upto lines log places shares commits → AreFound first lines log texts
-    → AreSeen (length shares) first lines log looks looked → AreRepliesOf shares told → AreTextsOf texts found
-    → AreSeenOf looked seen → IsSoFar first log (shown_by looks looked) [] lines told found seen
-far_first first lines log looks places shares commits texts looked told found seen can answered saw zip of sees =
+    → AreSeen (length shares) first start lines log looks looked → AreRepliesOf shares told → AreTextsOf texts found
+    → AreSeenOf looked seen → IsSoFar first start log (shown_by looks looked) [] lines told found seen
+far_first first start lines log looks places shares commits texts looked told found seen can answered saw zip of sees =
     let base = first.published.upto in
     let n = length shares in
     let count : length told ≡ n = zip_count shares told zip in
     record {
-      seen_left = all_seen_left n first lines log looks looked seen can.shares_are.some can.rise saw sees;
+      seen_left = all_seen_left n first start lines log looks looked seen can.shares_are.some can.rise saw sees;
       texts_left = all_texts_left first lines log texts found can.rise can.numbering answered of;
       left = record {
         some = let some = can.shares_are.some in omega (arith, some, count);
@@ -273,33 +284,33 @@ commits_are base lines log places shares commits can = record {
 -- ---- on the way
 
 -- The lines done have their outcomes, and the places left are those of the lines left.
-pub record IsOnWay (first : State) (lines log : List Line) (shown : ℕ → ℕ) (left : List Place) (commits : List (ℕ × ℕ))
+pub record IsOnWay (first : State) (start : Option Disk) (lines log : List Line) (shown : ℕ → ℕ) (left : List Place) (commits : List (ℕ × ℕ))
     (told : List Replies) (found : List Texts) (seen : List Seen) (outcomes : List Outcome)
     : Type 0 where
   pub done : List Line
   pub rest : List Line
   pub lines_are : lines ≡ done ++ rest
   pub left_are : left ≡ map place_of rest
-  pub far : IsSoFar first log shown done rest told found seen
-  pub outcomes_are : AreOutcomes (IsCounted commits) (IsFound first log) shown first.published.upto log [] done outcomes
+  pub far : IsSoFar first start log shown done rest told found seen
+  pub outcomes_are : AreOutcomes (IsCounted commits) (IsFoundRead first start log) shown first.published.upto log [] done outcomes
 
-pub way_first : (first : State) (lines log : List Line) (looks : List (Vec LookOf)) (places : List Place)
+pub way_first : (first : State) (start : Option Disk) (lines log : List Line) (looks : List (Vec LookOf)) (places : List Place)
     (shares : List Share) (commits : List (ℕ × ℕ)) (texts : List (Vec (List ℕ))) (looked : List (Vec Looked))
     (told : List Replies) (found : List Texts) (seen : List Seen)
     → CanTell first.published.upto lines log places shares commits → AreFound first lines log texts
-    → AreSeen (length shares) first lines log looks looked → AreRepliesOf shares told → AreTextsOf texts found
-    → AreSeenOf looked seen → IsOnWay first lines log (shown_by looks looked) places commits told found seen []
-way_first first lines log looks places shares commits texts looked told found seen can answered saw zip of sees = record {
+    → AreSeen (length shares) first start lines log looks looked → AreRepliesOf shares told → AreTextsOf texts found
+    → AreSeenOf looked seen → IsOnWay first start lines log (shown_by looks looked) places commits told found seen []
+way_first first start lines log looks places shares commits texts looked told found seen can answered saw zip of sees = record {
   done = [];
   rest = lines;
   lines_are = refl;
   left_are = can.places_are;
-  far = far_first first lines log looks places shares commits texts looked told found seen can answered saw zip of sees;
+  far = far_first first start lines log looks places shares commits texts looked told found seen can answered saw zip of sees;
   outcomes_are = tt;
 }
 
 -- The next line, by its place.
-pub record HasNext (first : State) (lines log : List Line) (shown : ℕ → ℕ) (p : Place) (more : List Place)
+pub record HasNext (first : State) (start : Option Disk) (lines log : List Line) (shown : ℕ → ℕ) (p : Place) (more : List Place)
     (commits : List (ℕ × ℕ)) (told : List Replies) (found : List Texts) (seen : List Seen) (outcomes : List Outcome)
     : Type 0 where
   pub done : List Line
@@ -308,19 +319,19 @@ pub record HasNext (first : State) (lines log : List Line) (shown : ℕ → ℕ)
   pub lines_are : lines ≡ done ++ line ∷ rest
   pub place : p ≡ place_of line
   pub more_are : more ≡ map place_of rest
-  pub far : IsSoFar first log shown done (line ∷ rest) told found seen
-  pub outcomes_are : AreOutcomes (IsCounted commits) (IsFound first log) shown first.published.upto log [] done outcomes
+  pub far : IsSoFar first start log shown done (line ∷ rest) told found seen
+  pub outcomes_are : AreOutcomes (IsCounted commits) (IsFoundRead first start log) shown first.published.upto log [] done outcomes
 
-pub next_line : (first : State) (lines log : List Line) (shown : ℕ → ℕ) (left more : List Place) (p : Place)
+pub next_line : (first : State) (start : Option Disk) (lines log : List Line) (shown : ℕ → ℕ) (left more : List Place) (p : Place)
     (commits : List (ℕ × ℕ)) (told : List Replies) (found : List Texts) (seen : List Seen) (outcomes : List Outcome)
-    → IsOnWay first lines log shown left commits told found seen outcomes → left ≡ p ∷ more
-    → HasNext first lines log shown p more commits told found seen outcomes
-next_line first lines log shown left more p commits told found seen outcomes way is =
+    → IsOnWay first start lines log shown left commits told found seen outcomes → left ≡ p ∷ more
+    → HasNext first start lines log shown p more commits told found seen outcomes
+next_line first start lines log shown left more p commits told found seen outcomes way is =
     by way.rest way.lines_are (sym is ∙ way.left_are) way.far
   where
     by : (rest : List Line) → lines ≡ way.done ++ rest → p ∷ more ≡ map place_of rest
-        → IsSoFar first log shown way.done rest told found seen
-        → HasNext first lines log shown p more commits told found seen outcomes
+        → IsSoFar first start log shown way.done rest told found seen
+        → HasNext first start lines log shown p more commits told found seen outcomes
     by [] lines_are places far = absurd (let none = ap length places in omega (arith, none))
     by (l ∷ rest) lines_are places far = record {
       done = way.done;
@@ -333,31 +344,31 @@ next_line first lines log shown left more p commits told found seen outcomes way
       outcomes_are = way.outcomes_are;
     }
 
-pub way_next : (first : State) (lines log : List Line) (shown : ℕ → ℕ) (p : Place) (more : List Place)
+pub way_next : (first : State) (start : Option Disk) (lines log : List Line) (shown : ℕ → ℕ) (p : Place) (more : List Place)
     (commits : List (ℕ × ℕ)) (told new : List Replies) (found left : List Texts) (seen others : List Seen)
     (outcomes : List Outcome) (o : Outcome)
-    → (next : HasNext first lines log shown p more commits told found seen outcomes)
-    → IsOutcome (IsCounted commits) (IsFound first log) shown first.published.upto log next.done next.line o
-    → IsSoFar first log shown (next.done ++ next.line ∷ []) next.rest new left others
-    → IsOnWay first lines log shown more commits new left others (outcomes ++ o ∷ [])
-way_next first lines log shown p more commits told new found left seen others outcomes o next is far = record {
+    → (next : HasNext first start lines log shown p more commits told found seen outcomes)
+    → IsOutcome (IsCounted commits) (IsFoundRead first start log) shown first.published.upto log next.done next.line o
+    → IsSoFar first start log shown (next.done ++ next.line ∷ []) next.rest new left others
+    → IsOnWay first start lines log shown more commits new left others (outcomes ++ o ∷ [])
+way_next first start lines log shown p more commits told new found left seen others outcomes o next is far = record {
   done = next.done ++ next.line ∷ [];
   rest = next.rest;
   lines_are = next.lines_are ∙ sym (append_assoc next.done (next.line ∷ []) next.rest);
   left_are = next.more_are;
   far = far;
   outcomes_are =
-      outcome_next (IsCounted commits) (IsFound first log) shown first.published.upto log next.done outcomes next.line o
+      outcome_next (IsCounted commits) (IsFoundRead first start log) shown first.published.upto log next.done outcomes next.line o
       next.outcomes_are is;
 }
 
 -- no place is left
-pub way_ended : (first : State) (lines log : List Line) (shown : ℕ → ℕ) (left : List Place) (commits : List (ℕ × ℕ))
+pub way_ended : (first : State) (start : Option Disk) (lines log : List Line) (shown : ℕ → ℕ) (left : List Place) (commits : List (ℕ × ℕ))
     (told : List Replies) (found : List Texts) (seen : List Seen) (outcomes : List Outcome)
-    → IsOnWay first lines log shown left commits told found seen outcomes → length left ≡ 0
-    → AreOutcomes (IsCounted commits) (IsFound first log) shown first.published.upto log [] lines outcomes
-way_ended first lines log shown left commits told found seen outcomes way none =
-    subst (λ (ls : List Line). AreOutcomes (IsCounted commits) (IsFound first log) shown first.published.upto log [] ls outcomes)
+    → IsOnWay first start lines log shown left commits told found seen outcomes → length left ≡ 0
+    → AreOutcomes (IsCounted commits) (IsFoundRead first start log) shown first.published.upto log [] lines outcomes
+way_ended first start lines log shown left commits told found seen outcomes way none =
+    subst (λ (ls : List Line). AreOutcomes (IsCounted commits) (IsFoundRead first start log) shown first.published.upto log [] ls outcomes)
     (sym (way.lines_are ∙ by way.rest (sym (ap length way.left_are) ∙ none))) way.outcomes_are
   where
     by : (rest : List Line) → length (map place_of rest) ≡ 0 → way.done ++ rest ≡ way.done

@@ -1,12 +1,13 @@
 -- The commits that look lines were shown are such as a run promises.
 use Rattle.std.proofs.Common.{◌≡◌, ◌≢◌, ◌⊎◌, ◌∙◌, ℕ, zero, suc, ◌+◌, ◌<◌, ◌≤◌, ◌%◌, ◌&&◌, Bool, true, false, cond, eqb, eqb-true, eq-eqb, ne_eqb}
 use Rattle.std.proofs.Common.{List, [], ◌∷◌, ◌++◌, length, map, refl, sym, ap, subst, arith, append_assoc}
-use Rattle.std.specs.Prelude.{nat_lt, take}
+use Rattle.std.specs.Prelude.{Option, nat_lt, take}
 use Rattle.std.specs.Global.{Vec}
 use Rattle.std.specs.List.{AllByRecursion, AllZip, filter}
 use Rattle.std.proofs.Math.Seq.{take-length}
 use Rattle.std.proofs.lemmas.Bool.{le-ltb, lt-ltb}
 use Rattle.ix_base.specs.declared.query.Query.{Query}
+use Rattle.ix_outside.specs.Disk.{Disk}
 use Rattle.op_script.specs.Shape.{LinesRise}
 use Rattle.op_script.specs.declared.script.Act.{Act}
 use Rattle.op_script.specs.declared.script.Act.TheVariants as act
@@ -150,35 +151,35 @@ numbers_by n i lines shown (v ∷ looks) (w ∷ looked) rise are all is = (
 -- ---- what is known of each look
 
 -- The look was shown a commit, whose number stands for its line.
-pub record IsSeen (first : State) (lines log : List Line) (shown : ℕ → ℕ) (k : Look) (x : Looked) : Type 0 where
-  pub looked : IsLooked first lines log k x
+pub record IsSeen (first : State) (start : Option Disk) (lines log : List Line) (shown : ℕ → ℕ) (k : Look) (x : Looked) : Type 0 where
+  pub looked : IsLooked first start lines log k x
   pub number : x.number ≡ shown k.line
 
 -- so was each look of a worker, and the numbers don't fall
-abbrev pub AreAllSeen : State → List Line → List Line → (ℕ → ℕ) → Vec Look → Vec Looked → Type 0
-AreAllSeen first lines log shown v w =
-    AllZip (IsSeen first lines log shown) v.items w.items × DontFall first.published.upto (map number_of_looked w.items)
+abbrev pub AreAllSeen : State → Option Disk → List Line → List Line → (ℕ → ℕ) → Vec Look → Vec Looked → Type 0
+AreAllSeen first start lines log shown v w =
+    AllZip (IsSeen first start lines log shown) v.items w.items × DontFall first.published.upto (map number_of_looked w.items)
 
-module _ (first : State) (lines log : List Line) (shown : ℕ → ℕ) where
-  seen_zip : (looks : List Look) (looked : List Looked) → AllZip (IsLooked first lines log) looks looked
-      → AllZip (IsNumbered shown) looks looked → AllZip (IsSeen first lines log shown) looks looked
+module _ (first : State) (start : Option Disk) (lines log : List Line) (shown : ℕ → ℕ) where
+  seen_zip : (looks : List Look) (looked : List Looked) → AllZip (IsLooked first start lines log) looks looked
+      → AllZip (IsNumbered shown) looks looked → AllZip (IsSeen first start lines log shown) looks looked
   seen_zip [] [] are numbers = tt
   seen_zip [] (x ∷ looked) are numbers = absurd are
   seen_zip (k ∷ looks) [] are numbers = absurd are
   seen_zip (k ∷ looks) (x ∷ looked) are numbers =
       (record { looked = are.0; number = numbers.0 }, seen_zip looks looked are.1 numbers.1)
 
-  seen_of : (looks : List Look) (looked : List Looked) → AreLookedOf first lines log looks looked
-      → length looked ≡ length looks → AllZip (IsNumbered shown) looks looked → AllZip (IsSeen first lines log shown) looks looked
+  seen_of : (looks : List Look) (looked : List Looked) → AreLookedOf first start lines log looks looked
+      → length looked ≡ length looks → AllZip (IsNumbered shown) looks looked → AllZip (IsSeen first start lines log shown) looks looked
   seen_of looks looked are all numbers =
       let whole : take (length looked) looks ≡ looks = ap (λ (m : ℕ). take m looks) all ∙ take-length looks in
       seen_zip looks looked
-      (subst (λ (these : List Look). AllZip (IsLooked first lines log) these looked) whole are.each) numbers
+      (subst (λ (these : List Look). AllZip (IsLooked first start lines log) these looked) whole are.each) numbers
 
-  seen_each : (looks : List (Vec Look)) (looked : List (Vec Looked)) → AreLooked first lines log looks looked
+  seen_each : (looks : List (Vec Look)) (looked : List (Vec Looked)) → AreLooked first start lines log looks looked
       → AllLooked looks looked
       → AllZip (λ (v : Vec Look) (w : Vec Looked). AllZip (IsNumbered shown) v.items w.items) looks looked
-      → AllZip (AreAllSeen first lines log shown) looks looked
+      → AllZip (AreAllSeen first start lines log shown) looks looked
   seen_each [] [] are all numbers = tt
   seen_each [] (w ∷ looked) are all numbers = absurd are
   seen_each (v ∷ looks) [] are all numbers = absurd are
@@ -186,11 +187,11 @@ module _ (first : State) (lines log : List Line) (shown : ℕ → ℕ) where
       ((seen_of v.items w.items are.0 all.0 numbers.0, are.0.rise), seen_each looks looked are.1 all.1 numbers.1)
 
 -- what is known of all looks
-pub all_seen : (n : ℕ) (first : State) (lines log : List Line) (looks : List (Vec Look)) (looked : List (Vec Looked))
-    → LinesRise 1 lines → AreSeen n first lines log looks looked
-    → AllZip (AreAllSeen first lines log (shown_by looks looked)) looks looked
-all_seen n first lines log looks looked rise are =
-    seen_each first lines log (shown_by looks looked) looks looked are.looked_are are.all
+pub all_seen : (n : ℕ) (first : State) (start : Option Disk) (lines log : List Line) (looks : List (Vec Look)) (looked : List (Vec Looked))
+    → LinesRise 1 lines → AreSeen n first start lines log looks looked
+    → AllZip (AreAllSeen first start lines log (shown_by looks looked)) looks looked
+all_seen n first start lines log looks looked rise are =
+    seen_each first start lines log (shown_by looks looked) looks looked are.looked_are are.all
     (numbers_by n 0 lines (shown_by looks looked) looks looked rise are.looks_are.each are.all (λ line le. refl))
 
 -- ---- the lines before a line
@@ -222,7 +223,7 @@ before_is low (x ∷ before) ls l rise =
 
 -- ---- what a worker's looks were shown
 
-module _ (n i : ℕ) (first : State) (lines log : List Line) (shown : ℕ → ℕ) (rise : LinesRise 1 lines) where
+module _ (n i : ℕ) (first : State) (start : Option Disk) (lines log : List Line) (shown : ℕ → ℕ) (rise : LinesRise 1 lines) where
   abbrev base : ℕ
   base = first.published.upto
 
@@ -258,7 +259,7 @@ module _ (n i : ℕ) (first : State) (lines log : List Line) (shown : ℕ → �
       by false = let was = below c mine in omega (arith, was, le)
 
   shown_here : (low : ℕ) (before ls : List Line) (l : Line) (k : Look) (x : Looked) → lines ≡ before ++ l ∷ ls
-      → k.line ≡ l.line → k.caller ≡ l.caller → l.caller % n ≡ i → IsSeen first lines log shown k x → low ≤ x.number
+      → k.line ≡ l.line → k.caller ≡ l.caller → l.caller % n ≡ i → IsSeen first start lines log shown k x → low ≤ x.number
       → AreBelow low before → IsShown base log shown before l
   shown_here low before ls l k x is line caller mine seen le below = record {
     one_of = subst (λ (m : ℕ). (m ≡ base) ⊎ IsIn (commit_numbers base log) m) number seen.looked.one_of;
@@ -281,10 +282,10 @@ module _ (n i : ℕ) (first : State) (lines log : List Line) (shown : ℕ → �
   -- one look line, and those behind it
   look_shown : (low after : ℕ) (before ls : List Line) (l : Line) (query : Query) (looked : List Looked)
       → lines ≡ before ++ l ∷ ls → l.caller % n ≡ i → AreBelow low before
-      → AllZip (IsSeen first lines log shown) (the_look l after query ∷ looks_from n i (after_past n i after l) ls) looked
+      → AllZip (IsSeen first start lines log shown) (the_look l after query ∷ looks_from n i (after_past n i after l) ls) looked
       → DontFall low (map number_of_looked looked)
       → ((high : ℕ) (others : List Looked)
-      → AllZip (IsSeen first lines log shown) (looks_from n i (after_past n i after l) ls) others
+      → AllZip (IsSeen first start lines log shown) (looks_from n i (after_past n i after l) ls) others
       → DontFall high (map number_of_looked others) → AreBelow high (before ++ l ∷ []) → AreShownOf (before ++ l ∷ []) ls)
       → AreShownOf before (l ∷ ls)
   look_shown low after before ls l query [] is mine below seen rises rest = absurd seen
@@ -295,16 +296,16 @@ module _ (n i : ℕ) (first : State) (lines log : List Line) (shown : ℕ → �
   )
 
   worker_shown : (low after : ℕ) (before ls : List Line) (looked : List Looked) → lines ≡ before ++ ls
-      → AllZip (IsSeen first lines log shown) (looks_from n i after ls) looked → DontFall low (map number_of_looked looked)
+      → AllZip (IsSeen first start lines log shown) (looks_from n i after ls) looked → DontFall low (map number_of_looked looked)
       → AreBelow low before → AreShownOf before ls
   worker_shown low after before [] looked is seen rises below = tt
   worker_shown low after before (l ∷ ls) looked is seen rises below =
       let next = after_past n i after l in
       let on : lines ≡ (before ++ l ∷ []) ++ ls = is ∙ sym (append_assoc before (l ∷ []) ls) in
-      let by : AllZip (IsSeen first lines log shown) (looks_from n i after (l ∷ ls)) looked → AreShownOf before (l ∷ ls) =
+      let by : AllZip (IsSeen first start lines log shown) (looks_from n i after (l ∷ ls)) looked → AreShownOf before (l ∷ ls) =
       look_cases n i after l
       (λ (these : List Look).
-      AllZip (IsSeen first lines log shown) (these ++ looks_from n i next ls) looked → AreShownOf before (l ∷ ls))
+      AllZip (IsSeen first start lines log shown) (these ++ looks_from n i next ls) looked → AreShownOf before (l ∷ ls))
       (λ none zip. (
         (λ mine looks. absurd (none mine looks)),
         worker_shown low next (before ++ l ∷ []) ls looked on zip rises (below_passed low before l none below),
@@ -316,53 +317,53 @@ module _ (n i : ℕ) (first : State) (lines log : List Line) (shown : ℕ → �
 
 -- ---- what all workers' looks were shown
 
-all_shown : (n : ℕ) (first : State) (lines log : List Line) (shown : ℕ → ℕ) (rise : LinesRise 1 lines)
-    (before ls : List Line) → 0 < n → ((i : ℕ) → i < n → AreShownOf n i first lines log shown rise before ls)
+all_shown : (n : ℕ) (first : State) (start : Option Disk) (lines log : List Line) (shown : ℕ → ℕ) (rise : LinesRise 1 lines)
+    (before ls : List Line) → 0 < n → ((i : ℕ) → i < n → AreShownOf n i first start lines log shown rise before ls)
     → AreShownFrom first.published.upto log shown before ls
-all_shown n first lines log shown rise before [] some each = tt
-all_shown n first lines log shown rise before (l ∷ ls) some each = (
+all_shown n first start lines log shown rise before [] some each = tt
+all_shown n first start lines log shown rise before (l ∷ ls) some each = (
   (λ looks. (each (l.caller % n) (omega (arith, some))).0 refl looks),
-  all_shown n first lines log shown rise (before ++ l ∷ []) ls some (λ i less. (each i less).1),
+  all_shown n first start lines log shown rise (before ++ l ∷ []) ls some (λ i less. (each i less).1),
 )
 
-one_worker : (n i : ℕ) (first : State) (lines log : List Line) (shown : ℕ → ℕ) (looks : List (Vec Look))
+one_worker : (n i : ℕ) (first : State) (start : Option Disk) (lines log : List Line) (shown : ℕ → ℕ) (looks : List (Vec Look))
     (looked : List (Vec Looked)) (at : ℕ) → at < length looks → AreLooksFrom n i lines looks
-    → AllZip (AreAllSeen first lines log shown) looks looked
-    → (these : List Looked) × AllZip (IsSeen first lines log shown) (looks_of n (i + at) lines) these
+    → AllZip (AreAllSeen first start lines log shown) looks looked
+    → (these : List Looked) × AllZip (IsSeen first start lines log shown) (looks_of n (i + at) lines) these
     × DontFall first.published.upto (map number_of_looked these)
-one_worker n i first lines log shown [] looked at inside are seen = absurd (omega (arith, inside))
-one_worker n i first lines log shown (v ∷ looks) [] at inside are seen = absurd seen
-one_worker n i first lines log shown (v ∷ looks) (w ∷ looked) zero inside are seen =
+one_worker n i first start lines log shown [] looked at inside are seen = absurd (omega (arith, inside))
+one_worker n i first start lines log shown (v ∷ looks) [] at inside are seen = absurd seen
+one_worker n i first start lines log shown (v ∷ looks) (w ∷ looked) zero inside are seen =
     let same : looks_of n i lines ≡ looks_of n (i + 0) lines =
     ap (λ (worker : ℕ). looks_of n worker lines) (let e : i ≡ i + 0 = omega arith in e) in (
       w.items,
-      subst (λ (these : List Look). AllZip (IsSeen first lines log shown) these w.items) (are.0 ∙ same) seen.0.0,
+      subst (λ (these : List Look). AllZip (IsSeen first start lines log shown) these w.items) (are.0 ∙ same) seen.0.0,
       seen.0.1,
     )
-one_worker n i first lines log shown (v ∷ looks) (w ∷ looked) (suc at) inside are seen =
-    let found = one_worker n (i + 1) first lines log shown looks looked at (omega (arith, inside)) are.1 seen.1 in
+one_worker n i first start lines log shown (v ∷ looks) (w ∷ looked) (suc at) inside are seen =
+    let found = one_worker n (i + 1) first start lines log shown looks looked at (omega (arith, inside)) are.1 seen.1 in
     let e : i + 1 + at ≡ i + suc at = omega arith in (
       found.0,
-      subst (λ (worker : ℕ). AllZip (IsSeen first lines log shown) (looks_of n worker lines) found.0) e found.1,
+      subst (λ (worker : ℕ). AllZip (IsSeen first start lines log shown) (looks_of n worker lines) found.0) e found.1,
       found.2,
     )
 
 -- Each look line was shown a commit as it is promised.
-pub looks_shown : (n : ℕ) (first : State) (lines log : List Line) (looks : List (Vec Look)) (looked : List (Vec Looked))
-    → 0 < n → LinesRise 1 lines → AreSeen n first lines log looks looked
+pub looks_shown : (n : ℕ) (first : State) (start : Option Disk) (lines log : List Line) (looks : List (Vec Look)) (looked : List (Vec Looked))
+    → 0 < n → LinesRise 1 lines → AreSeen n first start lines log looks looked
     → AreShown first.published.upto log (shown_by looks looked) lines
-looks_shown n first lines log looks looked some rise are =
-    all_shown n first lines log (shown_by looks looked) rise [] lines some each
+looks_shown n first start lines log looks looked some rise are =
+    all_shown n first start lines log (shown_by looks looked) rise [] lines some each
   where
-    each : (i : ℕ) → i < n → AreShownOf n i first lines log (shown_by looks looked) rise [] lines
+    each : (i : ℕ) → i < n → AreShownOf n i first start lines log (shown_by looks looked) rise [] lines
     each i less =
         let shown = shown_by looks looked in
         let count = are.looks_are.count in
         let found =
-        one_worker n 0 first lines log shown looks looked i (omega (arith, less, count)) are.looks_are.each
-        (all_seen n first lines log looks looked rise are) in
+        one_worker n 0 first start lines log shown looks looked i (omega (arith, less, count)) are.looks_are.each
+        (all_seen n first start lines log looks looked rise are) in
         let e : 0 + i ≡ i = omega arith in
         let low : first.published.upto ≤ first.published.upto = omega arith in
-        worker_shown n i first lines log shown rise first.published.upto 0 [] lines found.0 refl
-        (subst (λ (worker : ℕ). AllZip (IsSeen first lines log shown) (looks_of n worker lines) found.0) e found.1)
+        worker_shown n i first start lines log shown rise first.published.upto 0 [] lines found.0 refl
+        (subst (λ (worker : ℕ). AllZip (IsSeen first start lines log shown) (looks_of n worker lines) found.0) e found.1)
         found.2 (λ c mine. low)

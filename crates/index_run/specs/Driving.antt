@@ -34,7 +34,8 @@ use Rattle.index_writer.specs.Rounds.{ArePartsOf}
 use Rattle.index_writer.specs.Storing.{GoesOn as WriterGoesOn}
 use Rattle.run_log.specs.Headline.{AreShown, Given, HasSome, Interleaves, commit_numbers, number_of, pairs_at, rows_at}
 use Rattle.run_log.specs.Numbering.{HasLine}
-use Rattle.index_run.specs.Answered.{AreAnswered, IsFound}
+use Rattle.index_run.specs.Answered.{AreAnswered}
+use Rattle.index_run.specs.Looked.{IsFoundRead}
 use Rattle.index_run.specs.Doing.{CanBegin, IsOnGiven, IsWriterOn}
 use Rattle.index_run.specs.Keeping.{FindsStaying, LeftOf}
 use Rattle.index_run.specs.Promises.{CanKeep}
@@ -165,7 +166,7 @@ pub record IsOver (r : Run) (lines : List Line) (became : List Outcome) (w : Sta
   pub numbering : Interleaves lines log
   pub shown : ℕ → ℕ
   pub looks : AreShown (base_of r) log shown lines
-  pub outcomes : AreOutcomes (IsDocs r.first log) (IsFound r.first log) shown (base_of r) log [] lines became
+  pub outcomes : AreOutcomes (IsDocs r.first log) (IsFoundRead r.first r.start log) shown (base_of r) log [] lines became
 
 -- Where a run stopped that keeps all commits, a crash left the first of the log's commits, made over an image of the
 -- beginning, and the files have the first of them. Each step was one by which commits are made, and no commit that stood

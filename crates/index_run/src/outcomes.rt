@@ -1,5 +1,5 @@
 //! What became of each line, by what the workers were told.
-ghost use Rattle.std.specs.Prelude.{◌≡◌, ◌++◌, [], ◌∷◌, ℕ, List as ListOf, length, IfOk, true, false};
+ghost use Rattle.std.specs.Prelude.{◌≡◌, ◌++◌, [], ◌∷◌, ℕ, List as ListOf, length, IfOk, Option, true, false};
 ghost use Rattle.std.specs.Global.{Vec};
 ghost use Rattle.ix_base.specs.declared.query.Query.{Query};
 ghost use Rattle.op_script.specs.declared.script.Act.TheVariants as act;
@@ -8,7 +8,8 @@ ghost use Rattle.worker_tasks.specs.declared.task.Reply.TheVariants as said;
 ghost use Rattle.line_shares.specs.Shares.{is_doing, place_of};
 ghost use Rattle.line_shares.specs.declared.looks.Look.{Look};
 ghost use Rattle.index_writer.specs.declared.state.State.{State};
-ghost use Rattle.index_run.specs.Answered.{IsFound};
+ghost use Rattle.ix_outside.specs.Disk.{Disk};
+ghost use Rattle.index_run.specs.Looked.{IsFoundRead};
 ghost use Rattle.run_log.specs.Headline.{IsIn};
 ghost use Rattle.run_log.specs.Numbering.{Rises};
 ghost use Rattle.index_run.specs.Outcomes.{AreOutcomes, IsOutcome};
@@ -35,15 +36,17 @@ pub fn outcomes_of(
     texts: Vec<Vec<List<u8>>>,
     looked: Vec<Vec<Looked>>,
 ) -> Result<Vec<Outcome>, NoMemory>
-    requires told { (first : State) × (lines log : ListOf Line) × (looks : ListOf (Vec Look))
+    requires told { (first : State) × (start : Option Disk) × (lines log : ListOf Line)
+        × (looks : ListOf (Vec Look))
         × CanTell first.published.upto lines log places.items shares.items commits.now
         × AreFound first lines log texts.items
-        × AreSeen (length shares.items) first lines log looks looked.items }
-    ensures outcomes { (first : State) (lines log : ListOf Line) (looks : ListOf (Vec Look))
+        × AreSeen (length shares.items) first start lines log looks looked.items }
+    ensures outcomes { (first : State) (start : Option Disk) (lines log : ListOf Line)
+        (looks : ListOf (Vec Look))
         → CanTell first.published.upto lines log places.items shares.items commits.now
         → AreFound first lines log texts.items
-        → AreSeen (length shares.items) first lines log looks looked.items
-        → IfOk result (λ outcomes. AreOutcomes (IsCounted commits.now) (IsFound first log)
+        → AreSeen (length shares.items) first start lines log looks looked.items
+        → IfOk result (λ outcomes. AreOutcomes (IsCounted commits.now) (IsFoundRead first start log)
         (shown_by looks looked.items) first.published.upto log [] lines outcomes.items) }
 {
     let mut told = replies_of(alloc, shares)?;
@@ -101,21 +104,21 @@ fn outcome_of(
     seen: &mut Vec<vec::IntoIter<Looked>>,
     commits: &[(u64, u64)],
 ) -> Outcome
-    requires far { (first : State) × (log : ListOf Line) × (shown : ℕ → ℕ) × (done : ListOf Line)
-        × (l : Line) × (rest : ListOf Line) × (place ≡ place_of l)
+    requires far { (first : State) × (start : Option Disk) × (log : ListOf Line) × (shown : ℕ → ℕ)
+        × (done : ListOf Line) × (l : Line) × (rest : ListOf Line) × (place ≡ place_of l)
         × AreCommits first.published.upto log commits.now
-        × IsSoFar first log shown done (l ∷ rest) told.old.items found.old.items seen.old.items }
-    ensures outcome { (first : State) (log : ListOf Line) (shown : ℕ → ℕ) (done : ListOf Line)
-        (l : Line) (rest : ListOf Line)
+        × IsSoFar first start log shown done (l ∷ rest) told.old.items found.old.items seen.old.items }
+    ensures outcome { (first : State) (start : Option Disk) (log : ListOf Line) (shown : ℕ → ℕ)
+        (done : ListOf Line) (l : Line) (rest : ListOf Line)
         → place ≡ place_of l → AreCommits first.published.upto log commits.now
-        → IsSoFar first log shown done (l ∷ rest) told.old.items found.old.items seen.old.items
-        → IsOutcome (IsCounted commits.now) (IsFound first log) shown first.published.upto log done l
-        result }
-    ensures far { (first : State) (log : ListOf Line) (shown : ℕ → ℕ) (done : ListOf Line)
-        (l : Line) (rest : ListOf Line)
+        → IsSoFar first start log shown done (l ∷ rest) told.old.items found.old.items seen.old.items
+        → IsOutcome (IsCounted commits.now) (IsFoundRead first start log) shown
+        first.published.upto log done l result }
+    ensures far { (first : State) (start : Option Disk) (log : ListOf Line) (shown : ℕ → ℕ)
+        (done : ListOf Line) (l : Line) (rest : ListOf Line)
         → place ≡ place_of l → AreCommits first.published.upto log commits.now
-        → IsSoFar first log shown done (l ∷ rest) told.old.items found.old.items seen.old.items
-        → IsSoFar first log shown (done ++ l ∷ []) rest told.new.items found.new.items seen.new.items }
+        → IsSoFar first start log shown done (l ∷ rest) told.old.items found.old.items seen.old.items
+        → IsSoFar first start log shown (done ++ l ∷ []) rest told.new.items found.new.items seen.new.items }
 {
     let Place { line, caller, kind } = place;
     let answer = match kind {
@@ -149,17 +152,18 @@ fn next_text(found: &mut Vec<vec::IntoIter<List<u8>>>, caller: u8) -> List<u8>
 
 /// The text of the next look line of this caller.
 fn next_seen(seen: &mut Vec<vec::IntoIter<Looked>>, caller: u8) -> List<u8>
-    requires left { (first : State) × (log : ListOf Line) × (shown : ℕ → ℕ) × (l : Line)
-        × (rest : ListOf Line) × (query : Query) × (l.caller ≡ caller) × (l.act ≡ act.Look query)
-        × AreSeenLeft first log shown (l ∷ rest) seen.old.items }
-    ensures text { (first : State) (log : ListOf Line) (shown : ℕ → ℕ) (l : Line)
-        (rest : ListOf Line) (query : Query) → l.caller ≡ caller → l.act ≡ act.Look query
-        → AreSeenLeft first log shown (l ∷ rest) seen.old.items
-        → IsSeenBy first log shown l result }
-    ensures left { (first : State) (log : ListOf Line) (shown : ℕ → ℕ) (l : Line)
-        (rest : ListOf Line) (query : Query) → l.caller ≡ caller → l.act ≡ act.Look query
-        → AreSeenLeft first log shown (l ∷ rest) seen.old.items
-        → AreSeenLeft first log shown rest seen.new.items }
+    requires left { (first : State) × (start : Option Disk) × (log : ListOf Line) × (shown : ℕ → ℕ)
+        × (l : Line) × (rest : ListOf Line) × (query : Query) × (l.caller ≡ caller)
+        × (l.act ≡ act.Look query)
+        × AreSeenLeft first start log shown (l ∷ rest) seen.old.items }
+    ensures text { (first : State) (start : Option Disk) (log : ListOf Line) (shown : ℕ → ℕ)
+        (l : Line) (rest : ListOf Line) (query : Query) → l.caller ≡ caller → l.act ≡ act.Look query
+        → AreSeenLeft first start log shown (l ∷ rest) seen.old.items
+        → IsSeenBy first start log shown l result }
+    ensures left { (first : State) (start : Option Disk) (log : ListOf Line) (shown : ℕ → ℕ)
+        (l : Line) (rest : ListOf Line) (query : Query) → l.caller ≡ caller → l.act ≡ act.Look query
+        → AreSeenLeft first start log shown (l ∷ rest) seen.old.items
+        → AreSeenLeft first start log shown rest seen.new.items }
 {
     let worker = caller as usize % seen.len();
     match seen[worker].next() {
