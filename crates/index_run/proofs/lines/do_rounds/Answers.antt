@@ -42,10 +42,10 @@ do_round-round-requires-clause-come g c κs within =
     let at = c.loop-alloc in
     let q = c.requires.begins in
     let way = at.invariant.come q.0 q.1 q.2 q.3 in
-    (q.0, q.1, way.log, at.commits.items, run_behind c.args.threads c.args.keep _ q.0 c.kept_behind-kept.ensures q.2, way.come)
+    (q.0, q.1, way.log, at.commits.items, run_behind c.args.threads c.args.keep _ q.0 c.kept_behind-kept.ensures.same q.2, way.come)
 
 pub do_round-round-requires-clause-some : goal.do_round-round-requires-clause-some
-do_round-round-requires-clause-some g c κs within = some_behind c.args.keep _ c.kept_behind-kept.ensures c.requires.some
+do_round-round-requires-clause-some g c κs within = some_behind c.args.keep _ c.kept_behind-kept.ensures.same c.requires.some
 
 pub returns-in-Err-came-clause-cut : goal.returns-in-Err-came-clause-cut
 returns-in-Err-came-clause-cut g c = λ r lines size begins.
@@ -53,7 +53,7 @@ returns-in-Err-came-clause-cut g c = λ r lines size begins.
     let way = at.invariant.come r lines size begins in
     halted_cut g.S.Store.disk r lines _ _ _ c.halted.ensures
     (on_fault _ _ _ c.in-Err-came.is (c.do_round-round.ensures.cut r lines way.log at.commits.items
-    (run_behind c.args.threads c.args.keep _ r c.kept_behind-kept.ensures size) way.come))
+    (run_behind c.args.threads c.args.keep _ r c.kept_behind-kept.ensures.same size) way.come))
 
 pub loop-alloc-preserved : goal.loop-alloc-preserved
 loop-alloc-preserved g c =
@@ -69,7 +69,7 @@ loop-alloc-preserved g c =
           let way = at.invariant.come r lines size begins in
           let on =
           on_ok _ _ _ c.in-Ok-came.is (c.do_round-round.ensures.come r lines way.log at.commits.items
-          (run_behind c.args.threads c.args.keep _ r c.kept_behind-kept.ensures size) way.come) in
+          (run_behind c.args.threads c.args.keep _ r c.kept_behind-kept.ensures.same size) way.come) in
           rw c.in-Ok-came.is
           (subst (λ (x : State). IsUnderWay r lines left.shares.items asks commits left.due texts x (g.S.Store.disk v.store)) (sym c.settle.ensures.state)
           (subst (λ (d : Option Disk). IsUnderWay r lines left.shares.items asks commits left.due texts w.state d) (sym (ap (λ s. g.S.Store.disk s) c.settle.ensures.store))
@@ -89,7 +89,7 @@ returns-in-Err-settle-clause-cut g c = λ r lines size begins.
     let way = at.invariant.come r lines size begins in
     let on =
     on_ok _ _ _ c.in-Ok-came.is (c.do_round-round.ensures.come r lines way.log at.commits.items
-          (run_behind c.args.threads c.args.keep _ r c.kept_behind-kept.ensures size) way.come) in
+          (run_behind c.args.threads c.args.keep _ r c.kept_behind-kept.ensures.same size) way.come) in
     stopped_same g.S.Store.disk r lines _ _ _ _ c.stopped-in-Err-settle.ensures
     (ap (λ s. g.S.Store.disk s) c.settle.ensures.store) (cut_done r lines _ _ _ _ on.come.done)
 
