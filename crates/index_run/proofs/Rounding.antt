@@ -1,6 +1,6 @@
 -- The end of a round.
-use Rattle.std.proofs.Common.{◌≡◌, ◌∙◌, ℕ, ◌+◌, List, [], ◌∷◌, ◌++◌, length, sym, ap, subst, arith}
-use Rattle.std.specs.Prelude.{Bool, true, false, not, is_some, Option, Some, None, Result, Ok, Err, IfErr, IfOk}
+use Rattle.std.proofs.Common.{◌≡◌, ◌⊎◌, inl, inr, ◌∙◌, ℕ, ◌+◌, ◌≤◌, List, [], ◌∷◌, ◌++◌, length, sym, ap, subst, arith}
+use Rattle.std.specs.Prelude.{Bool, true, false, not, is_some, Option, Some, None, Result, Ok, Err, IfErr, IfOk, IfSome}
 use Rattle.std.specs.List.{AllByRecursion}
 use Rattle.std.proofs.lemmas.List.{append-nil, length-append}
 use Rattle.ix_base.specs.declared.document.Operation.{Operation}
@@ -43,7 +43,7 @@ use Rattle.run_log.proofs.PlaceLaws.{filter_rises}
 use Rattle.run_log.specs.Telling.{AreTells, IsOrder, Tell}
 use Rattle.run_log.proofs.TellingLaws.{order_of}
 use Rattle.index_run.specs.Doing.{IsWriterOn}
-use Rattle.index_run.specs.Driving.{EndsRound, HasDone, IsCut, KeepsBy, IsDue, IsDueCommit, IsRound, Run, base_of, number_in}
+use Rattle.index_run.specs.Driving.{EndsRound, HasDone, IsCut, IsRunBy, KeepsBy, IsDue, IsDueCommit, IsRound, Run, base_of, number_in}
 use Rattle.index_run.specs.KeptDisk.{IsDiskBy}
 use Rattle.index_run.specs.Leaving.{CommitLaws, IsNextCommit, due_pairs, first_numbers}
 use Rattle.index_run.specs.Merged.{EndsMerged}
@@ -312,3 +312,14 @@ module _ (r : Run) (lines : List Line) (olds news : List Share) (log : List Line
     commit_is = is_pending.2;
     is_due = due_by end e.by_end counts due found;
   }
+
+-- ---- where old commits are given up behind some commits alone
+
+-- a run of which so many commits are kept is one that gives up none behind a commit
+pub run_behind : (workers : ℕ) (keep now : Option ℕ) (r : Run) → (now ≡ keep) ⊎ (now ≡ None) → IsRunBy workers keep r → IsRunBy workers now r
+run_behind workers keep now r (inl same) by = subst (λ (k : Option ℕ). IsRunBy workers k r) (sym same) by
+run_behind workers keep now r (inr none) by = subst (λ (k : Option ℕ). IsRunBy workers k r) (sym none) (by.0, tt)
+
+pub some_behind : (keep now : Option ℕ) → (now ≡ keep) ⊎ (now ≡ None) → IfSome keep (λ many. 1 ≤ many) → IfSome now (λ many. 1 ≤ many)
+some_behind keep now (inl same) some = subst (λ (k : Option ℕ). IfSome k (λ many. 1 ≤ many)) (sym same) some
+some_behind keep now (inr none) some = subst (λ (k : Option ℕ). IfSome k (λ many. 1 ≤ many)) (sym none) tt

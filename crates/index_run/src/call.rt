@@ -61,7 +61,7 @@ pub struct Ended<S> {
 /// | 3 | exactly where the input has a bad line, which the line that is written names |
 /// | 4 | where memory ran out, at any point; nothing is written |
 /// | 5, 6, 7 | only where the source, the sink or the store failed in this call |
-/// | 8 | only where a file that the command reads is not in the grammar or absent; of a run where that is one of the commit on which it begins, unless the store tells none of its files |
+/// | 8 | only where a file that the command reads is not in the grammar or absent; of a run where that is one of the commit on which it begins, or with `--keep` the commit file of one that stays, unless the store tells none of its files |
 /// | 9 | exactly where `ask` asks for a commit that isn't there |
 /// | 10 | exactly where `run` or `make` meet a last commit whose number is above 2^61 |
 /// | 11 | exactly where `check` meets a commit that is in the grammar and not as it has to be, before any that is not in the grammar; the line that is written names the first place |

@@ -1,5 +1,5 @@
 //! The lines of a script, done in rounds by workers that run at the same time.
-ghost use Rattle.std.specs.Prelude.{◌≡◌, ◌≤◌, ℕ, List as ListOf, [], length, IfErr, IfOk, IfSome, IsSome, OnOk, Err, None, false};
+ghost use Rattle.std.specs.Prelude.{◌≡◌, ◌⊎◌, ◌≤◌, ℕ, List as ListOf, [], length, IfErr, IfOk, IfSome, IsSome, OnOk, Err, None, false};
 ghost use Rattle.std.specs.Global.{Vec};
 ghost use Rattle.std.specs.List.{AllByRecursion};
 ghost use Rattle.index_run.specs.Answered.{AllAnswerBehind, IsNone};
@@ -42,8 +42,8 @@ struct Rounds {
 /// Does the lines, and returns what became of each, beside the writer. The lines of caller c are done
 /// by worker c mod `threads`, in their order; the workers run at the same time. A commit ends the round
 /// of all, and so does a worker whose part of the queue is full: what is left is done in later rounds.
-/// A round's commit is written while the workers of the next one run, and that of the last round at once. Behind each
-/// commit that is written beside a round all but so many of the latest are given up, where only so many are kept. A search
+/// A round's commit is written while the workers of the next one run, and that of the last round at once. Where only so many
+/// commits are kept, all but so many of the latest are given up behind each so many commits that are written beside rounds. A search
 /// line is answered from memory, where the round has ended that its commit line ended, and before that commit is written.
 pub fn do_lines<R: Threads + Wait + Sync, S: Store, G: Gate>(
     rt: &R,
@@ -144,8 +144,9 @@ fn do_rounds<R: Threads + Wait + Sync, S: Store, G: Gate>(
         Err(error) => return Ran::stopped(writer, WriterFault::from(error)),
     };
     while !all_done(shares.as_slice()) {
+        let kept = kept_behind(keep, commits.len());
         let round = do_round(
-            rt, alloc, gate, writer, threads, keep, shares, due, &mut count,
+            rt, alloc, gate, writer, threads, kept, shares, due, &mut count,
         );
         writer = round.writer;
         let left = match round.came {
@@ -176,6 +177,21 @@ fn do_rounds<R: Threads + Wait + Sync, S: Store, G: Gate>(
         count,
     };
     write_last(writer, rounds, &due)
+}
+
+/// How many commits are kept behind the next one that is written beside a round, where so many were written before it:
+/// old ones are given up behind every `keep`th commit, since the commit file of each that stays is read for it. So each
+/// commit pays for one such file, and up to twice as many commits are there meanwhile.
+fn kept_behind(keep: Option<u32>, written: usize) -> Option<u32>
+    requires some { IfSome keep (λ keep. 1 ≤ keep) }
+    ensures same { (result ≡ keep) ⊎ (result ≡ None) }
+{
+    let many = keep? as usize;
+    if written % many == many - 1 {
+        keep
+    } else {
+        None
+    }
 }
 
 /// The texts of the search lines that stand behind no commit line. The only error is out of memory.

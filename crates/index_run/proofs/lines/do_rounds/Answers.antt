@@ -8,7 +8,7 @@ use Rattle.index_run.specs.Rounds.{doing_lines, given}
 use Rattle.index_run.proofs.CallerAnswers.{behind_count}
 use Rattle.index_run.proofs.Coming.{under_way, way_on}
 use Rattle.index_run.proofs.RoundCount.{few_last, few_open, over_last}
-use Rattle.index_run.proofs.Rounding.{cut_done, halted_cut, on_fault, on_ok, stopped_same}
+use Rattle.index_run.proofs.Rounding.{cut_done, halted_cut, on_fault, on_ok, run_behind, some_behind, stopped_same}
 use Rattle.index_run.proofs.lines.do_rounds.Goals as goal
 
 pub returns-in-Err-clause-cut : goal.returns-in-Err-clause-cut
@@ -41,14 +41,19 @@ pub do_round-round-requires-clause-come : goal.do_round-round-requires-clause-co
 do_round-round-requires-clause-come g c κs within =
     let at = c.loop-alloc in
     let q = c.requires.begins in
-    let way = at.invariant.come q.0 q.1 q.2 q.3 in (q.0, q.1, way.log, at.commits.items, q.2, way.come)
+    let way = at.invariant.come q.0 q.1 q.2 q.3 in
+    (q.0, q.1, way.log, at.commits.items, run_behind c.args.threads c.args.keep _ q.0 c.kept_behind-kept.ensures.same q.2, way.come)
+
+pub do_round-round-requires-clause-some : goal.do_round-round-requires-clause-some
+do_round-round-requires-clause-some g c κs within = some_behind c.args.keep _ c.kept_behind-kept.ensures.same c.requires.some
 
 pub returns-in-Err-came-clause-cut : goal.returns-in-Err-came-clause-cut
 returns-in-Err-came-clause-cut g c = λ r lines size begins.
     let at = c.loop-alloc in
     let way = at.invariant.come r lines size begins in
     halted_cut g.S.Store.disk r lines _ _ _ c.halted.ensures
-    (on_fault _ _ _ c.in-Err-came.is (c.do_round-round.ensures.cut r lines way.log at.commits.items size way.come))
+    (on_fault _ _ _ c.in-Err-came.is (c.do_round-round.ensures.cut r lines way.log at.commits.items
+    (run_behind c.args.threads c.args.keep _ r c.kept_behind-kept.ensures.same size) way.come))
 
 pub loop-alloc-preserved : goal.loop-alloc-preserved
 loop-alloc-preserved g c =
@@ -63,7 +68,8 @@ loop-alloc-preserved g c =
       come = λ r lines size begins.
           let way = at.invariant.come r lines size begins in
           let on =
-          on_ok _ _ _ c.in-Ok-came.is (c.do_round-round.ensures.come r lines way.log at.commits.items size way.come) in
+          on_ok _ _ _ c.in-Ok-came.is (c.do_round-round.ensures.come r lines way.log at.commits.items
+          (run_behind c.args.threads c.args.keep _ r c.kept_behind-kept.ensures.same size) way.come) in
           rw c.in-Ok-came.is
           (subst (λ (x : State). IsUnderWay r lines left.shares.items asks commits left.due texts x (g.S.Store.disk v.store)) (sym c.settle.ensures.state)
           (subst (λ (d : Option Disk). IsUnderWay r lines left.shares.items asks commits left.due texts w.state d) (sym (ap (λ s. g.S.Store.disk s) c.settle.ensures.store))
@@ -82,7 +88,8 @@ returns-in-Err-settle-clause-cut g c = λ r lines size begins.
     let at = c.loop-alloc in
     let way = at.invariant.come r lines size begins in
     let on =
-    on_ok _ _ _ c.in-Ok-came.is (c.do_round-round.ensures.come r lines way.log at.commits.items size way.come) in
+    on_ok _ _ _ c.in-Ok-came.is (c.do_round-round.ensures.come r lines way.log at.commits.items
+    (run_behind c.args.threads c.args.keep _ r c.kept_behind-kept.ensures.same size) way.come) in
     stopped_same g.S.Store.disk r lines _ _ _ _ c.stopped-in-Err-settle.ensures
     (ap (λ s. g.S.Store.disk s) c.settle.ensures.store) (cut_done r lines _ _ _ _ on.come.done)
 
