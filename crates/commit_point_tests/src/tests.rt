@@ -55,10 +55,8 @@ fn commit_files_are_read_and_spelled(rt: HostRuntime) -> Result<(), Fail> {
     Ok(())
 }
 
-/// A commit file of 300 segments, read back.
-#[test]
-fn reads_many_segments(rt: HostRuntime) -> Result<(), Fail> {
-    let alloc = rt.alloc();
+/// A commit file of 300 segments.
+fn many_segments(alloc: Global) -> Result<Head, Fail> {
     let mut segments = Vec::new(alloc);
     for id in 1..301u64 {
         segments.push(HeadSegment {
@@ -67,18 +65,29 @@ fn reads_many_segments(rt: HostRuntime) -> Result<(), Fail> {
             written: 2,
         })?;
     }
-    let head = Head {
+    Ok(Head {
         number: 2,
         docs: 2100,
         next_id: 301,
         segments: List::from_vec(segments),
         format: CommitFormat::Second,
         pairs: Fields::none(alloc),
-    };
-    let bytes = encode_commit(alloc, &head)?;
+    })
+}
+
+/// Whether a commit file that is read of these bytes has the same segments.
+fn has_segments(alloc: Global, bytes: &[u8], head: &Head) -> Result<bool, Fail> {
+    let read = decode_commit(alloc, bytes, 2)?;
+    Ok(read.segments.as_slice() == head.segments.as_slice())
+}
+
+/// A commit file of 300 segments, read back.
+#[test]
+fn reads_many_segments(rt: HostRuntime) -> Result<(), Fail> {
+    let head = many_segments(rt.alloc())?;
+    let bytes = encode_commit(rt.alloc(), &head)?;
     assert!(rt; bytes.len() == 44 + 300 * 20);
-    let read = decode_commit(alloc, &bytes, 2)?;
-    assert!(rt; read.segments.as_slice() == head.segments.as_slice());
+    assert!(rt; has_segments(rt.alloc(), &bytes, &head)?);
     Ok(())
 }
 

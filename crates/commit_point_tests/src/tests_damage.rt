@@ -36,12 +36,23 @@ fn wrong_cut(alloc: Global, files: [&str; 2], file: &str) -> Result<Option<usize
     let (name, fields) = file.split_once(' ').ok_or("no file")?;
     let whole = bytes_of(alloc, fields)?;
     for length in 0..whole.len() {
-        let want = format!(in alloc; "{name} {}", field_at(fields, length))?;
-        if told_with(alloc, files, name, &whole[..length])?.as_str() != want.as_str() {
+        if !is_told_cut(alloc, files, (name, fields), &whole[..length])? {
             return Ok(Some(length));
         }
     }
     Ok(None)
+}
+
+/// Whether a file of a commit, of which only this part is there, is told to be broken in the field that the
+/// part ends in.
+fn is_told_cut(
+    alloc: Global,
+    files: [&str; 2],
+    (name, fields): (&str, &str),
+    part: &[u8],
+) -> Result<bool, Fail> {
+    let want = format!(in alloc; "{name} {}", field_at(fields, part.len()))?;
+    Ok(told_with(alloc, files, name, part)?.as_str() == want.as_str())
 }
 
 /// The first of some files of a commit of which some cut is told otherwise.
@@ -205,11 +216,16 @@ fn told_changed(
     at: usize,
     to: u8,
 ) -> Result<String, Fail> {
-    let mut store = store_of(alloc, files)?;
-    let file = FileName::parse(name).ok_or("no name")?;
-    let mut bytes = store.read(alloc, file)?.ok_or("no such file")?;
+    let mut bytes = bytes_in(alloc, files, name)?;
     change_byte(&mut bytes, at, to)?;
     told_with(alloc, files, name, &bytes)
+}
+
+/// The bytes of the file of this name.
+fn bytes_in(alloc: Global, files: [&str; 2], name: &str) -> Result<Vec<u8>, Fail> {
+    let mut store = store_of(alloc, files)?;
+    let file = FileName::parse(name).ok_or("no name")?;
+    Ok(store.read(alloc, file)?.ok_or("no such file")?)
 }
 
 /// Whether the change of a file of a commit is told as the line says.

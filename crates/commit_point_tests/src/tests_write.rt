@@ -22,16 +22,21 @@ use std::fmt::Write;
 use std::slice;
 use std::test::Fail;
 
+/// The term of the key `a1`.
+fn key_term(alloc: Global) -> Result<Term, Fail> {
+    let field = Name::new(Text::copy_of(alloc, "key")?).ok_or("no name")?;
+    let bytes = Text::copy_of(alloc, "a1")?;
+    Ok(Term { field, bytes })
+}
+
 /// The postings of one row, whose key is `a1`.
 fn key_postings(alloc: Global) -> Result<Postings, Fail>
     ensures ordered { IfOk result (λ postings. IsPostings postings.terms) }
     ensures below { IfOk result (λ postings. RowsBelow 1 postings) }
 {
-    let field = Name::new(Text::copy_of(alloc, "key")?).ok_or("no name")?;
-    let bytes = Text::copy_of(alloc, "a1")?;
+    let term = key_term(alloc)?;
     let mut rows = Spots::new(alloc);
     rows.push(0, 0)?;
-    let term = Term { field, bytes };
     Ok(Postings {
         terms: List::from_vec(vec![in alloc; TermPostings { term, rows }]?),
     })
@@ -298,6 +303,17 @@ fn pairs_are_read_back(rt: HostRuntime) -> Result<(), Fail> {
     Ok(())
 }
 
+/// Whether the store has a file of this name that begins with these bytes.
+fn begins_so<S: Store>(
+    alloc: Global,
+    store: &mut S,
+    name: FileName,
+    bytes: &[u8],
+) -> Result<bool, Fail> {
+    let found = store.read(alloc, name)?.ok_or("no such file")?;
+    Ok(found.starts_with(bytes))
+}
+
 /// A commit on a store that was written before there were places: a segment that stays keeps its file of rows
 /// in the first form, and the new one has the second form. Both are read back.
 #[test]
@@ -307,8 +323,7 @@ fn a_store_of_the_first_forms_is_written_on(rt: HostRuntime) -> Result<(), Fail>
     put_file(alloc, &mut store, OLD_ROWS)?;
     write_named(alloc, &mut store, "second", &Fields::none(alloc))?.ok_or("memory")?;
     assert!(rt; has(alloc, &mut store, OLD_ROWS)?);
-    let rows = store.read(alloc, FileName::Rows(2))?.ok_or("no rows")?;
-    assert!(rt; rows.starts_with(b"IXROW002"));
+    assert!(rt; begins_so(alloc, &mut store, FileName::Rows(2), b"IXROW002")?);
     let read = told(alloc, open_commit(alloc, &mut store, 4))?;
     assert!(rt;
         read.as_str()

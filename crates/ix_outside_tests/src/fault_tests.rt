@@ -1,8 +1,9 @@
 //! What no clause says: which entries are files of the index, which errors of the system are faults, and
 //! that no size is given up at.
-use crate::script::told;
+use crate::opened::store_at;
+use crate::script::compare;
 use ix_base::FileName;
-use ix_outside::{DirStore, Store};
+use ix_outside::Store;
 use std::fs;
 use std::test::Fail;
 
@@ -89,13 +90,7 @@ look nothing: absent
 
 #[test]
 fn entries_that_are_no_files(rt: HostRuntime) -> Result<(), Fail> {
-    for case in ENTRIES.split("\n\n") {
-        assert!(rt;
-            told(&rt, "ix_outside_kinds", case)?.as_str().trim_end() == case.trim_end(),
-            "{case}"
-        );
-    }
-    Ok(())
+    compare(&rt, "ix_outside_kinds", ENTRIES)
 }
 
 /// Calls of the system that fail, and what a store makes of them.
@@ -268,13 +263,7 @@ faults: 2
 
 #[test]
 fn errors_of_the_system_that_are_faults(rt: HostRuntime) -> Result<(), Fail> {
-    for case in FAULTS.split("\n\n") {
-        assert!(rt;
-            told(&rt, "ix_outside_faults", case)?.as_str().trim_end() == case.trim_end(),
-            "{case}"
-        );
-    }
-    Ok(())
+    compare(&rt, "ix_outside_faults", FAULTS)
 }
 
 /// Makes 5,000 empty files of the index in the directory.
@@ -300,8 +289,7 @@ fn are_5000(names: &[FileName]) -> bool {
 
 /// Whether a store lists the 5,000 files.
 fn lists_5000(rt: &HostRuntime, path: &str) -> Result<bool, Fail> {
-    let path = String::from_str(rt.alloc(), path)?;
-    let mut store = DirStore::new(rt.clone()?, path);
+    let mut store = store_at(rt, path)?;
     let mut names = store.list(rt.alloc())?;
     names.sort_unstable();
     Ok(are_5000(names.as_slice()))

@@ -1,10 +1,10 @@
 //! What no clause says: what the store of a directory asks of the system, in which order, who may use a
 //! directory beside whom, and how large files are written and read.
-use crate::opened::{reader_at, recorded_at};
+use crate::opened::{reader_at, recorded_at, store_at};
 use crate::recorded_system::Journal;
-use crate::script::told;
+use crate::script::compare;
 use ix_base::FileName;
-use ix_outside::{DirStore, Store};
+use ix_outside::Store;
 use std::alloc::Global;
 use std::fs;
 use std::test::Fail;
@@ -163,13 +163,7 @@ list:
 
 #[test]
 fn calls_in_their_order_and_beside_another_store(rt: HostRuntime) -> Result<(), Fail> {
-    for case in ORDER.split("\n\n") {
-        assert!(rt;
-            told(&rt, "ix_outside_order", case)?.as_str().trim_end() == case.trim_end(),
-            "{case}"
-        );
-    }
-    Ok(())
+    compare(&rt, "ix_outside_order", ORDER)
 }
 
 /// The bytes of a file of three megabytes.
@@ -205,8 +199,7 @@ fn writes_in_short_steps(rt: &HostRuntime, journal: &Journal, bytes: &[u8]) -> R
 /// Whether a store whose steps are not short writes the second large file, and reads both, and the files of
 /// the store are these two.
 fn writes_in_long_steps(rt: &HostRuntime, bytes: &[u8]) -> Result<bool, Fail> {
-    let path = String::from_str(rt.alloc(), LARGE)?;
-    let mut store = DirStore::new(rt.clone()?, path);
+    let mut store = store_at(rt, LARGE)?;
     store.write(FileName::Pending(2), bytes)?;
     store.sync(FileName::Pending(2))?;
     Ok(has_both(rt.alloc(), &mut store, bytes) && lists_both(rt.alloc(), &mut store))

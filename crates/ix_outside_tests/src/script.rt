@@ -39,8 +39,19 @@ struct Case<'a> {
     told: String,
 }
 
+/// Fails where the calls of a case, made in this directory, come to something else than what it says, and
+/// names the case.
+pub fn compare(rt: &HostRuntime, path: &'static str, script: &'static str) -> Result<(), Fail> {
+    for case in script.split("\n\n") {
+        if told(rt, path, case)?.as_str().trim_end() != case.trim_end() {
+            return Err(Fail::new(format_args!("{case}")));
+        }
+    }
+    Ok(())
+}
+
 /// The lines of the case, with what comes of its calls now, in this directory.
-pub fn told(rt: &HostRuntime, path: &'static str, case: &'static str) -> Result<String, Fail> {
+fn told(rt: &HostRuntime, path: &'static str, case: &'static str) -> Result<String, Fail> {
     let _ = fs::remove_dir_all(rt, path);
     fs::create_dir(rt, path)?;
     let journal = Journal::new(rt.alloc());
@@ -98,17 +109,11 @@ impl<'a> Case<'a> {
     fn prepares(&mut self, verb: &str, words: &'static str) -> Result<bool, Fail> {
         let rt = self.rt;
         let (name, rest) = words.split_once(' ').unwrap_or((words, ""));
-        let path = format!(in rt.alloc(); "{}/{name}", self.path)?;
         match verb {
             "store" => self.stores.push(recorded_at(rt, self.path, self.journal)?)?,
             "reader" => self.stores.push(reader_at(rt, self.path, self.journal)?)?,
             "other" => self.stores.reverse(),
             "close" => drop(self.stores.pop()),
-            "directory" => fs::create_dir(rt, path.as_str())?,
-            "file" => fs::write(rt, path.as_str(), rest.as_bytes())?,
-            "link" => symlink(rt, rest, path.as_str())?,
-            "long" => fs::create(rt, path.as_str())?.set_len(2_147_483_649)?,
-            "look" => put_entry(rt, &mut self.told, path.as_str())?,
             "remove" => fs::remove_dir_all(rt, self.path)?,
             "length" => self.journal.length.set(u64::from_str_radix(name, 10)?),
             "watch" => self.watched = name,
@@ -116,10 +121,35 @@ impl<'a> Case<'a> {
                 self.journal.failing.set(rest);
                 self.journal.kind.set(kind_of(name));
             }
-            _ => return Ok(false),
+            _ => return self.prepares_entry(verb, name, rest),
         }
         Ok(true)
     }
+
+    /// The same of a call that prepares an entry of the directory.
+    fn prepares_entry(&mut self, verb: &str, name: &str, rest: &str) -> Result<bool, Fail> {
+        let path = format!(in self.rt.alloc(); "{}/{name}", self.path)?;
+        prepares_at(self.rt, &mut self.told, path.as_str(), verb, rest)
+    }
+}
+
+/// The same of the entry at this path.
+fn prepares_at(
+    rt: &HostRuntime,
+    out: &mut String,
+    path: &str,
+    verb: &str,
+    rest: &str,
+) -> Result<bool, Fail> {
+    match verb {
+        "directory" => fs::create_dir(rt, path)?,
+        "file" => fs::write(rt, path, rest.as_bytes())?,
+        "link" => symlink(rt, rest, path)?,
+        "long" => fs::create(rt, path)?.set_len(2_147_483_649)?,
+        "look" => put_entry(rt, out, path)?,
+        _ => return Ok(false),
+    }
+    Ok(true)
 }
 
 /// The error of this name.
@@ -159,8 +189,7 @@ fn put_answer<S: Store>(
             Err(fault) => Err(fault),
         },
         "read" => match store.read(alloc, FileName::parse(words).ok_or("no name")?) {
-            Ok(Some(bytes)) => return Ok(write!(out, " = {}", str::from_utf8(&bytes)?)?),
-            Ok(None) => return Ok(out.push_str(" absent")?),
+            Ok(bytes) => return put_bytes(out, bytes),
             Err(fault) => Err(fault),
         },
         "sync_all" => store.sync_all(),
@@ -172,6 +201,15 @@ fn put_answer<S: Store>(
         Err(StoreFault::Failed) => " failed",
         Err(StoreFault::NoMemory) => " no memory",
     })?;
+    Ok(())
+}
+
+/// Puts the bytes of a file, if there is one.
+fn put_bytes(out: &mut String, bytes: Option<Vec<u8>>) -> Result<(), Fail> {
+    match bytes {
+        Some(bytes) => write!(out, " = {}", str::from_utf8(&bytes)?)?,
+        None => out.push_str(" absent")?,
+    }
     Ok(())
 }
 

@@ -2,7 +2,7 @@
 //! what the program is made of. The numbers of the lines are read off the run's own report, since they
 //! may differ from run to run; all else in the report follows from them.
 use crate::script::{
-    Act, Block, Document, Leaf, Line, Query, Term, documents_of, numbers_text, phrase_sought,
+    Act, Block, Document, Leaf, Line, Query, Term, next_document, phrase_sought, put_numbers,
     word_sought, words_of,
 };
 use ix_base::NoMemory;
@@ -81,10 +81,40 @@ fn is_hit(document: &Document, query: Query) -> bool {
 
 /// Adds the documents of a block.
 fn add_all(documents: &mut Vec<Document>, block: Block) -> Result<(), NoMemory> {
-    for document in documents_of(*documents.allocator(), block)?.iter() {
-        documents.push(*document)?;
+    let mut next = block.first;
+    for _ in 0..block.count {
+        documents.push(next)?;
+        next = next_document(next);
     }
     Ok(())
+}
+
+/// Removes the documents that have the term.
+fn remove(documents: &mut Vec<Document>, term: Term) {
+    documents.retain(|one| !has_term(one, term));
+}
+
+/// Removes the documents that match.
+fn remove_hits(documents: &mut Vec<Document>, query: Query) {
+    documents.retain(|one| !is_hit(one, query));
+}
+
+/// Sets the price of the documents that have the term.
+fn set_price(documents: &mut Vec<Document>, term: Term, value: i64) {
+    for one in documents.iter_mut() {
+        if has_term(one, term) {
+            one.price = Some(value);
+        }
+    }
+}
+
+/// The same of the rank.
+fn set_rank(documents: &mut Vec<Document>, term: Term, value: i64) {
+    for one in documents.iter_mut() {
+        if has_term(one, term) {
+            one.rank = Some(value);
+        }
+    }
 }
 
 /// Does what a line asks for.
@@ -93,29 +123,17 @@ fn do_act(documents: &mut Vec<Document>, act: Act) -> Result<(), NoMemory> {
         Act::Add(document) => documents.push(document)?,
         Act::AddBlock(block) => add_all(documents, block)?,
         Act::Update(term, document) => {
-            documents.retain(|one| !has_term(one, term));
+            remove(documents, term);
             documents.push(document)?;
         }
         Act::UpdateBlock(term, block) => {
-            documents.retain(|one| !has_term(one, term));
+            remove(documents, term);
             add_all(documents, block)?;
         }
-        Act::Delete(term) => documents.retain(|one| !has_term(one, term)),
-        Act::DeleteQuery(query) => documents.retain(|one| !is_hit(one, query)),
-        Act::SetPrice(term, value) => {
-            for one in documents.iter_mut() {
-                if has_term(one, term) {
-                    one.price = Some(value);
-                }
-            }
-        }
-        Act::SetRank(term, value) => {
-            for one in documents.iter_mut() {
-                if has_term(one, term) {
-                    one.rank = Some(value);
-                }
-            }
-        }
+        Act::Delete(term) => remove(documents, term),
+        Act::DeleteQuery(query) => remove_hits(documents, query),
+        Act::SetPrice(term, value) => set_price(documents, term, value),
+        Act::SetRank(term, value) => set_rank(documents, term, value),
         Act::Commit | Act::Search(_) => {}
     }
     Ok(())
@@ -222,18 +240,28 @@ fn commit_seen(begun: &Kept, lines: &[Line], numbers: &[u64], place: usize, call
     seen
 }
 
-/// The documents that match, as a report lists them.
-fn hits_text(alloc: Global, documents: &[Document], query: Query) -> Result<String, NoMemory> {
-    let mut text = String::new(alloc);
+/// Appends the documents that match, as a report lists them.
+fn put_hits(out: &mut String, documents: &[Document], query: Query) -> Result<(), NoMemory> {
+    let mut comma = "";
     for document in documents {
         if is_hit(document, query) {
-            let comma = if text.is_empty() { "" } else { "," };
             let key = document.key;
-            let num = numbers_text(alloc, document)?;
-            write!(text, "{comma}{{\"key\":\"k{key}\",\"num\":{num}}}")?;
+            write!(out, "{comma}{{\"key\":\"k{key}\",\"num\":")?;
+            put_numbers(out, document)?;
+            out.push_str("}")?;
+            comma = ",";
         }
     }
-    Ok(text)
+    Ok(())
+}
+
+/// Appends what a search of this commit shows, at this line.
+fn put_answer(out: &mut String, commit: &Kept, query: Query, at: u64) -> Result<(), NoMemory> {
+    let number = commit.number;
+    write!(out, "{{\"commit\":{number},\"hits\":[")?;
+    put_hits(out, commit.documents.as_slice(), query)?;
+    writeln!(out, "],\"line\":{at}}}")?;
+    Ok(())
 }
 
 /// What a search of this commit shows, at this line.
@@ -243,9 +271,8 @@ pub fn answer_text(
     query: Query,
     at: u64,
 ) -> Result<String, NoMemory> {
-    let number = commit.number;
-    let hits = hits_text(alloc, commit.documents.as_slice(), query)?;
-    let text = format!(in alloc; "{{\"commit\":{number},\"hits\":[{hits}],\"line\":{at}}}\n")?;
+    let mut text = String::new(alloc);
+    put_answer(&mut text, commit, query, at)?;
     Ok(text)
 }
 
@@ -269,7 +296,7 @@ pub fn report_of(
                 let number = commit_seen(begun, lines, numbers, place, line.caller);
                 let documents = documents_at(alloc, begun, lines, numbers, number)?;
                 let commit = Kept { number, documents };
-                report.push_str(answer_text(alloc, &commit, query, at)?.as_str())?;
+                put_answer(&mut report, &commit, query, at)?;
             }
             _ => writeln!(report, "{{\"line\":{at},\"seq\":{seq}}}")?,
         }

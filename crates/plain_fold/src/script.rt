@@ -126,17 +126,22 @@ pub fn document_of(key: u64) -> Document {
     }
 }
 
-/// The documents of a block, in order.
-pub(crate) fn documents_of(alloc: Global, block: Block) -> Result<Vec<Document>, NoMemory> {
-    let mut documents = Vec::new(alloc);
-    let mut next = block.first;
-    for _ in 0..block.count {
-        documents.push(next)?;
-        next.key = next.key.wrapping_add(1);
-        next.tag = next.tag.map(|tag| tag.wrapping_add(1));
-        next.body = next.body.map(|body| body.wrapping_add(1));
+/// The document of a block that stands behind this one.
+pub(crate) fn next_document(document: Document) -> Document {
+    Document {
+        key: document.key.wrapping_add(1),
+        tag: one_more(document.tag),
+        body: one_more(document.body),
+        price: document.price,
+        rank: document.rank,
     }
-    Ok(documents)
+}
+
+fn one_more(number: Option<u64>) -> Option<u64> {
+    match number {
+        Some(number) => Some(number.wrapping_add(1)),
+        None => None,
+    }
 }
 
 /// The words of the document's text, each between spaces.
@@ -157,152 +162,175 @@ pub(crate) fn phrase_sought(phrase: u64) -> &'static str {
     PHRASES[(phrase % 8) as usize].1
 }
 
-/// The numbers of a document, as a member `num` has them.
-pub(crate) fn numbers_text(alloc: Global, document: &Document) -> Result<String, NoMemory> {
-    let text = match (document.price, document.rank) {
-        (None, None) => String::from_str(alloc, "{}")?,
-        (Some(price), None) => format!(in alloc; "{{\"price\":{price}}}")?,
-        (None, Some(rank)) => format!(in alloc; "{{\"rank\":{rank}}}")?,
-        (Some(price), Some(rank)) => { format!(in alloc; "{{\"price\":{price},\"rank\":{rank}}}")? }
-    };
-    Ok(text)
+/// Appends the numbers of a document, as a member `num` has them.
+pub(crate) fn put_numbers(out: &mut String, document: &Document) -> Result<(), NoMemory> {
+    match (document.price, document.rank) {
+        (None, None) => out.push_str("{}")?,
+        (Some(price), None) => write!(out, "{{\"price\":{price}}}")?,
+        (None, Some(rank)) => write!(out, "{{\"rank\":{rank}}}")?,
+        (Some(price), Some(rank)) => write!(out, "{{\"price\":{price},\"rank\":{rank}}}")?,
+    }
+    Ok(())
 }
 
-fn document_text(alloc: Global, document: &Document) -> Result<String, NoMemory> {
+fn put_document(out: &mut String, document: &Document) -> Result<(), NoMemory> {
     let key = document.key;
-    let num = numbers_text(alloc, document)?;
-    let mut text = format!(in alloc; "{{\"key\":\"k{key}\",\"num\":{num}")?;
+    write!(out, "{{\"key\":\"k{key}\",\"num\":")?;
+    put_numbers(out, document)?;
     if let Some(tag) = document.tag {
-        write!(text, ",\"exact\":{{\"tag\":\"t{tag}\"}}")?;
+        write!(out, ",\"exact\":{{\"tag\":\"t{tag}\"}}")?;
     }
     if let Some(body) = document.body {
         let shown = BODIES[(body % 12) as usize].0;
-        write!(text, ",\"text\":{{\"body\":\"{shown}\"}}")?;
+        write!(out, ",\"text\":{{\"body\":\"{shown}\"}}")?;
     }
-    text.push_str("}")?;
-    Ok(text)
+    out.push_str("}")?;
+    Ok(())
 }
 
-/// The member `docs` of a block.
-fn block_text(alloc: Global, block: Block) -> Result<String, NoMemory> {
-    let mut text = String::from_str(alloc, "\"docs\":[")?;
-    for (place, document) in documents_of(alloc, block)?.iter().enumerate() {
+/// Appends the member `docs` of a block.
+fn put_block(out: &mut String, block: Block) -> Result<(), NoMemory> {
+    out.push_str("\"docs\":[")?;
+    let mut next = block.first;
+    for place in 0..block.count {
         if place > 0 {
-            text.push_str(",")?;
+            out.push_str(",")?;
         }
-        text.push_str(&document_text(alloc, document)?)?;
+        put_document(out, &next)?;
+        next = next_document(next);
     }
-    text.push_str("]")?;
-    Ok(text)
+    out.push_str("]")?;
+    Ok(())
 }
 
-/// The field of a term, and its text.
-fn term_parts(alloc: Global, term: Term) -> Result<(&'static str, String), NoMemory> {
-    let parts = match term {
-        Term::Key(key) => ("key", format!(in alloc; "k{key}")?),
-        Term::Tag(tag) => ("tag", format!(in alloc; "t{tag}")?),
-        Term::Word(word) => (
-            "body",
-            String::from_str(alloc, WORDS[(word % 6) as usize].0)?,
-        ),
-    };
-    Ok(parts)
+/// The field of a term.
+fn field_of(term: Term) -> &'static str {
+    match term {
+        Term::Key(_) => "key",
+        Term::Tag(_) => "tag",
+        Term::Word(_) => "body",
+    }
 }
 
-fn leaf_text(alloc: Global, leaf: Leaf) -> Result<String, NoMemory> {
-    let text = match leaf {
-        Leaf::All => String::from_str(alloc, "\"all\"")?,
+/// Appends the text of a term.
+fn put_text(out: &mut String, term: Term) -> Result<(), NoMemory> {
+    match term {
+        Term::Key(key) => write!(out, "k{key}")?,
+        Term::Tag(tag) => write!(out, "t{tag}")?,
+        Term::Word(word) => out.push_str(WORDS[(word % 6) as usize].0)?,
+    }
+    Ok(())
+}
+
+fn put_leaf(out: &mut String, leaf: Leaf) -> Result<(), NoMemory> {
+    match leaf {
+        Leaf::All => out.push_str("\"all\"")?,
         Leaf::Term(term) => {
-            let (field, text) = term_parts(alloc, term)?;
-            format!(in alloc; "{{\"term\":[\"{field}\",\"{text}\"]}}")?
+            let field = field_of(term);
+            write!(out, "{{\"term\":[\"{field}\",\"")?;
+            put_text(out, term)?;
+            out.push_str("\"]}")?;
         }
         Leaf::Phrase(phrase) => {
             let shown = PHRASES[(phrase % 8) as usize].0;
-            format!(in alloc; "{{\"phrase\":[\"body\",\"{shown}\"]}}")?
+            write!(out, "{{\"phrase\":[\"body\",\"{shown}\"]}}")?;
         }
-        Leaf::Price(low, high) => { format!(in alloc; "{{\"range\":[\"price\",{low},{high}]}}")? }
-        Leaf::Rank(low, high) => { format!(in alloc; "{{\"range\":[\"rank\",{low},{high}]}}")? }
-    };
-    Ok(text)
+        Leaf::Price(low, high) => write!(out, "{{\"range\":[\"price\",{low},{high}]}}")?,
+        Leaf::Rank(low, high) => write!(out, "{{\"range\":[\"rank\",{low},{high}]}}")?,
+    }
+    Ok(())
 }
 
-fn pair_text(alloc: Global, pair: Option<(Leaf, Leaf)>) -> Result<String, NoMemory> {
-    let text = match pair {
-        Some((first, second)) => {
-            let first = leaf_text(alloc, first)?;
-            let second = leaf_text(alloc, second)?;
-            format!(in alloc; "[{first},{second}]")?
-        }
-        None => String::from_str(alloc, "[]")?,
-    };
-    Ok(text)
+fn put_pair(out: &mut String, pair: Option<(Leaf, Leaf)>) -> Result<(), NoMemory> {
+    out.push_str("[")?;
+    if let Some((first, second)) = pair {
+        put_leaf(out, first)?;
+        out.push_str(",")?;
+        put_leaf(out, second)?;
+    }
+    out.push_str("]")?;
+    Ok(())
 }
 
-fn query_text(alloc: Global, query: Query) -> Result<String, NoMemory> {
-    let text = match query {
-        Query::One(leaf) => leaf_text(alloc, leaf)?,
+fn put_query(out: &mut String, query: Query) -> Result<(), NoMemory> {
+    match query {
+        Query::One(leaf) => put_leaf(out, leaf)?,
         Query::Bool { must, should, not } => {
-            let must = pair_text(alloc, must)?;
-            let should = pair_text(alloc, should)?;
-            let not = pair_text(alloc, not)?;
-            format!(in alloc; "{{\"bool\":{{\"must\":{must},\"should\":{should},\"not\":{not}}}}}")?
+            out.push_str("{\"bool\":{\"must\":")?;
+            put_pair(out, must)?;
+            out.push_str(",\"should\":")?;
+            put_pair(out, should)?;
+            out.push_str(",\"not\":")?;
+            put_pair(out, not)?;
+            out.push_str("}}")?;
         }
-    };
-    Ok(text)
+    }
+    Ok(())
 }
 
-/// The members `field` and `term`.
-fn term_text(alloc: Global, term: Term) -> Result<String, NoMemory> {
-    let (field, text) = term_parts(alloc, term)?;
-    let text = format!(in alloc; "\"field\":\"{field}\",\"term\":\"{text}\"")?;
-    Ok(text)
+/// Appends the members `field` and `term`.
+fn put_term(out: &mut String, term: Term) -> Result<(), NoMemory> {
+    let field = field_of(term);
+    write!(out, "\"field\":\"{field}\",\"term\":\"")?;
+    put_text(out, term)?;
+    out.push_str("\"")?;
+    Ok(())
 }
 
-/// The members of a line but its caller.
-fn act_text(alloc: Global, act: Act) -> Result<String, NoMemory> {
-    let text = match act {
+/// Appends the members of a line but its caller.
+fn put_act(out: &mut String, act: Act) -> Result<(), NoMemory> {
+    match act {
         Act::Add(document) => {
-            let document = document_text(alloc, &document)?;
-            format!(in alloc; "\"op\":\"add\",\"doc\":{document}")?
+            out.push_str("\"op\":\"add\",\"doc\":")?;
+            put_document(out, &document)?;
         }
         Act::AddBlock(block) => {
-            let docs = block_text(alloc, block)?;
-            format!(in alloc; "\"op\":\"add_block\",{docs}")?
+            out.push_str("\"op\":\"add_block\",")?;
+            put_block(out, block)?;
         }
-        Act::Update(term, document) => {
-            let term = term_text(alloc, term)?;
-            let document = document_text(alloc, &document)?;
-            format!(in alloc; "\"op\":\"update\",{term},\"doc\":{document}")?
-        }
-        Act::UpdateBlock(term, block) => {
-            let term = term_text(alloc, term)?;
-            let docs = block_text(alloc, block)?;
-            format!(in alloc; "\"op\":\"update_block\",{term},{docs}")?
-        }
+        Act::Update(term, document) => put_update(out, term, &document)?,
+        Act::UpdateBlock(term, block) => put_update_block(out, term, block)?,
         Act::Delete(term) => {
-            let term = term_text(alloc, term)?;
-            format!(in alloc; "\"op\":\"delete\",{term}")?
+            out.push_str("\"op\":\"delete\",")?;
+            put_term(out, term)?;
         }
         Act::DeleteQuery(query) => {
-            let query = query_text(alloc, query)?;
-            format!(in alloc; "\"op\":\"delete_query\",\"query\":{query}")?
+            out.push_str("\"op\":\"delete_query\",\"query\":")?;
+            put_query(out, query)?;
         }
-        Act::SetPrice(term, value) => set_text(alloc, term, "price", value)?,
-        Act::SetRank(term, value) => set_text(alloc, term, "rank", value)?,
-        Act::Commit => String::from_str(alloc, "\"op\":\"commit\"")?,
+        Act::SetPrice(term, value) => put_set(out, term, "price", value)?,
+        Act::SetRank(term, value) => put_set(out, term, "rank", value)?,
+        Act::Commit => out.push_str("\"op\":\"commit\"")?,
         Act::Search(query) => {
-            let query = query_text(alloc, query)?;
-            format!(in alloc; "\"op\":\"search\",\"query\":{query}")?
+            out.push_str("\"op\":\"search\",\"query\":")?;
+            put_query(out, query)?;
         }
-    };
-    Ok(text)
+    }
+    Ok(())
 }
 
-/// The members of a `set`.
-fn set_text(alloc: Global, term: Term, name: &str, value: i64) -> Result<String, NoMemory> {
-    let term = term_text(alloc, term)?;
-    let text = format!(in alloc; "\"op\":\"set\",{term},\"num\":\"{name}\",\"value\":{value}")?;
-    Ok(text)
+/// Appends the members of an `update`.
+fn put_update(out: &mut String, term: Term, document: &Document) -> Result<(), NoMemory> {
+    out.push_str("\"op\":\"update\",")?;
+    put_term(out, term)?;
+    out.push_str(",\"doc\":")?;
+    put_document(out, document)
+}
+
+/// Appends the members of an `update_block`.
+fn put_update_block(out: &mut String, term: Term, block: Block) -> Result<(), NoMemory> {
+    out.push_str("\"op\":\"update_block\",")?;
+    put_term(out, term)?;
+    out.push_str(",")?;
+    put_block(out, block)
+}
+
+/// Appends the members of a `set`.
+fn put_set(out: &mut String, term: Term, name: &str, value: i64) -> Result<(), NoMemory> {
+    out.push_str("\"op\":\"set\",")?;
+    put_term(out, term)?;
+    write!(out, ",\"num\":\"{name}\",\"value\":{value}")?;
+    Ok(())
 }
 
 /// The script of these lines.
@@ -310,8 +338,9 @@ pub fn script_of(alloc: Global, lines: &[Line]) -> Result<String, NoMemory> {
     let mut script = String::new(alloc);
     for line in lines {
         let caller = line.caller;
-        let members = act_text(alloc, line.act)?;
-        writeln!(script, "{{\"c\":{caller},{members}}}")?;
+        write!(script, "{{\"c\":{caller},")?;
+        put_act(&mut script, line.act)?;
+        script.push_str("}\n")?;
     }
     Ok(script)
 }

@@ -74,36 +74,70 @@ impl Writing {
             report,
             line: _,
         } = self;
-        let (add, last) = (commit.wrapping_add(1), commit.wrapping_add(2));
-        let docs = docs.wrapping_add(1);
-        let all = format!(in alloc;
-            "{{\"commit\":{last},\"hits\":[{hits},{{\"key\":\"a1\",\"num\":{{}}}}],\"line\":"
-        )?;
-        let second = format!(in alloc;
-            "{{\"line\":1,\"seq\":{add}}}\n{{\"docs\":{docs},\"line\":2,\"seq\":{last}}}\n{all}3}}\n"
-        )?;
+        let second = second_report(alloc, commit, docs, hits)?;
         Ok(TwoRuns {
             script,
             first: report,
             second,
-            answer: format!(in alloc; "{all}1}}\n")?,
+            answer: last_answer(alloc, commit, hits)?,
         })
     }
 }
 
-/// 300 documents of a key alone, and a commit.
-pub fn three_hundred(alloc: Global) -> Result<TwoRuns, Fail> {
-    let mut writing = Writing::new(alloc);
+/// Appends what a search for everything shows in the second run, at this line, where the commit of this
+/// number is the first run's last, and these are the hits of its documents.
+fn put_all(out: &mut String, commit: u32, hits: &str, line: u32) -> Result<(), Fail> {
+    let last = commit.wrapping_add(2);
+    writeln!(
+        out,
+        "{{\"commit\":{last},\"hits\":[{hits},{{\"key\":\"a1\",\"num\":{{}}}}],\"line\":{line}}}"
+    )?;
+    Ok(())
+}
+
+/// The report of the second run.
+fn second_report(alloc: Global, commit: u32, docs: u32, hits: &str) -> Result<String, Fail> {
+    let (add, last) = (commit.wrapping_add(1), commit.wrapping_add(2));
+    let docs = docs.wrapping_add(1);
+    let mut report = String::new(alloc);
+    writeln!(report, "{{\"line\":1,\"seq\":{add}}}")?;
+    writeln!(report, "{{\"docs\":{docs},\"line\":2,\"seq\":{last}}}")?;
+    put_all(&mut report, commit, hits, 3)?;
+    Ok(report)
+}
+
+/// The answer to a question for everything after both runs.
+fn last_answer(alloc: Global, commit: u32, hits: &str) -> Result<String, Fail> {
+    let mut answer = String::new(alloc);
+    put_all(&mut answer, commit, hits, 1)?;
+    Ok(answer)
+}
+
+/// The hits of 300 documents of a key alone.
+fn three_hundred_hits(alloc: Global) -> Result<String, Fail> {
     let mut hits = String::new(alloc);
     for number in 0..300 {
-        let add = format!(in alloc; "\"op\":\"add\",\"doc\":{{\"key\":\"k{number}\"}}")?;
-        writing.numbered(&add)?;
         if number > 0 {
             hits.push_str(",")?;
         }
         write!(hits, "{{\"key\":\"k{number}\",\"num\":{{}}}}")?;
     }
-    writing.commit(300)?;
+    Ok(hits)
+}
+
+/// Adds 300 documents of a key alone, and a commit.
+fn add_three_hundred(alloc: Global, writing: &mut Writing) -> Result<(), Fail> {
+    for number in 0..300 {
+        writing.numbered(&format!(in alloc; "\"op\":\"add\",\"doc\":{{\"key\":\"k{number}\"}}")?)?;
+    }
+    writing.commit(300)
+}
+
+/// 300 documents of a key alone, and a commit.
+pub fn three_hundred(alloc: Global) -> Result<TwoRuns, Fail> {
+    let hits = three_hundred_hits(alloc)?;
+    let mut writing = Writing::new(alloc);
+    add_three_hundred(alloc, &mut writing)?;
     writing.into_runs(alloc, 301, 300, &hits)
 }
 
@@ -180,19 +214,49 @@ fn hits_left(alloc: Global) -> Result<String, Fail> {
 /// set in one, and a second commit; and searches of it for everything, for a phrase of 2,900 words, which
 /// are 203,000 bytes, and for one of 200 words that don't stand one after another.
 pub fn ten_thousand(alloc: Global) -> Result<TwoRuns, Fail> {
-    let mut writing = Writing::new(alloc);
-    add_documents(alloc, &mut writing)?;
-    writing.commit(10_002)?;
-    delete_by_queries(alloc, &mut writing)?;
-    set_numbers(alloc, &mut writing)?;
-    writing.commit(7_002)?;
     let hits = hits_left(alloc)?;
+    let mut writing = Writing::new(alloc);
+    write_ten_thousand(alloc, &mut writing)?;
     writing.search("\"all\"", 10_345, &hits)?;
-    let phrase = words(alloc, 1_200, 2_900)?;
-    let query = format!(in alloc; "{{\"phrase\":[\"body\",\"{phrase}\"]}}")?;
-    writing.search(&query, 10_345, "{\"key\":\"long\",\"num\":{}}")?;
-    let (earlier, later) = (words(alloc, 2_000, 100)?, words(alloc, 2_101, 100)?);
-    let query = format!(in alloc; "{{\"phrase\":[\"body\",\"{earlier}{later}\"]}}")?;
-    writing.search(&query, 10_345, "")?;
+    search_long(alloc, &mut writing)?;
+    search_apart(alloc, &mut writing)?;
     writing.into_runs(alloc, 10_345, 7_002, &hits)
+}
+
+/// The documents and both commits.
+fn write_ten_thousand(alloc: Global, writing: &mut Writing) -> Result<(), Fail> {
+    add_documents(alloc, writing)?;
+    writing.commit(10_002)?;
+    delete_by_queries(alloc, writing)?;
+    set_numbers(alloc, writing)?;
+    writing.commit(7_002)
+}
+
+/// The search for a phrase of 2,900 words.
+fn search_long(alloc: Global, writing: &mut Writing) -> Result<(), Fail> {
+    let phrase = words(alloc, 1_200, 2_900)?;
+    search_phrase(
+        alloc,
+        writing,
+        phrase.as_str(),
+        "{\"key\":\"long\",\"num\":{}}",
+    )
+}
+
+/// The search for 200 words that don't stand one after another.
+fn search_apart(alloc: Global, writing: &mut Writing) -> Result<(), Fail> {
+    let mut phrase = words(alloc, 2_000, 100)?;
+    phrase.push_str(words(alloc, 2_101, 100)?.as_str())?;
+    search_phrase(alloc, writing, phrase.as_str(), "")
+}
+
+/// Searches the second commit for a phrase of these words, with these hits.
+fn search_phrase(
+    alloc: Global,
+    writing: &mut Writing,
+    phrase: &str,
+    hits: &str,
+) -> Result<(), Fail> {
+    let query = format!(in alloc; "{{\"phrase\":[\"body\",\"{phrase}\"]}}")?;
+    writing.search(&query, 10_345, hits)
 }

@@ -1,5 +1,5 @@
 use analysis::invert;
-use ix_base::{Birth, Document, Fields, List, Numbers, PhraseText, Queries, Query, Row, Term};
+use ix_base::{Birth, Document, Fields, List, Numbers, PhraseText, Queries, Query, Row};
 use query_core::{Inverted, answer};
 use segment_core::Segment;
 use std::alloc::Global;
@@ -46,12 +46,18 @@ fn index_of_rows(alloc: Global, rows: Vec<Row>) -> Result<Segment, Fail> {
     })
 }
 
+/// The row of a document with this body, whose key is a number.
+fn numbered_row(alloc: Global, number: usize, body: &str) -> Result<Row, Fail> {
+    let key = format!(in alloc; "{number}")?;
+    row_of(alloc, key.as_str(), body, Numbers::none(alloc))
+}
+
 /// The index of documents with these bodies and the keys `0`, `1` and so on.
 fn index_of(alloc: Global, bodies: &[&str]) -> Result<Segment, Fail> {
     let mut rows = Vec::new(alloc);
     for body in bodies {
-        let key = format!(in alloc; "{}", rows.len())?;
-        rows.push(row_of(alloc, key.as_str(), body, Numbers::none(alloc))?)?;
+        let row = numbered_row(alloc, rows.len(), body)?;
+        rows.push(row)?;
     }
     index_of_rows(alloc, rows)
 }
@@ -114,18 +120,19 @@ fn foldings(rt: HostRuntime) -> Result<(), Fail> {
     Ok(())
 }
 
-/// What the search for a term finds from this place on. The place is moved.
-fn found_from(
+/// Appends what the search for a term finds from this place on. The place is moved.
+fn put_found(
     alloc: Global,
+    out: &mut String,
     index: &Segment,
-    term: &Term,
+    (field, bytes): (&str, &str),
     place: &mut usize,
-) -> Result<String, Fail> {
-    let mut shown = String::new(alloc);
-    for row in index.holding_from(alloc, term, place)? {
-        write!(shown, "{row},")?;
+) -> Result<(), Fail> {
+    let term = term_of(alloc, field, bytes)?;
+    for row in index.holding_from(alloc, &term, place)? {
+        write!(out, "{row},")?;
     }
-    Ok(shown)
+    Ok(())
 }
 
 /// What the searches for these terms find, one after another, of which the first begins at `from`.
@@ -137,10 +144,9 @@ fn found_in_turn(
 ) -> Result<String, Fail> {
     let mut place = from;
     let mut all = String::new(alloc);
-    for (field, bytes) in terms {
-        let term = term_of(alloc, field, bytes)?;
-        let found = found_from(alloc, index, &term, &mut place)?;
-        write!(all, "{};", found.as_str())?;
+    for term in terms {
+        put_found(alloc, &mut all, index, *term, &mut place)?;
+        all.push_str(";")?;
     }
     Ok(all)
 }
@@ -210,15 +216,16 @@ fn word_at(alloc: Global, at: u32) -> Result<String, Fail> {
 
 /// The index of that many documents, each with its own word.
 fn index_of_words(alloc: Global, count: u32) -> Result<Segment, Fail> {
-    let mut words = Vec::new(alloc);
+    let mut rows = Vec::new(alloc);
     for at in 0..count {
-        words.push(word_at(alloc, at)?)?;
+        rows.push(row_of_word(alloc, at)?)?;
     }
-    let mut bodies = Vec::new(alloc);
-    for word in &words {
-        bodies.push(word.as_str())?;
-    }
-    index_of(alloc, bodies.as_slice())
+    index_of_rows(alloc, rows)
+}
+
+fn row_of_word(alloc: Global, at: u32) -> Result<Row, Fail> {
+    let word = word_at(alloc, at)?;
+    numbered_row(alloc, at as usize, word.as_str())
 }
 
 /// The first of so many rows that the search for its word, which begins where the one before it
@@ -226,13 +233,25 @@ fn index_of_words(alloc: Global, count: u32) -> Result<Segment, Fail> {
 fn first_lost(alloc: Global, index: &Segment, count: u32) -> Result<Option<u32>, Fail> {
     let mut place = 0;
     for at in 0..count {
-        let term = term_of(alloc, "body", word_at(alloc, at)?.as_str())?;
-        let found = found_from(alloc, index, &term, &mut place)?;
-        if found.as_str() != format!(in alloc; "{at},")?.as_str() {
+        if !finds_alone(alloc, index, at, &mut place)? {
             return Ok(Some(at));
         }
     }
     Ok(None)
+}
+
+/// Whether the search for a row's word, from this place on, finds the row alone.
+fn finds_alone(alloc: Global, index: &Segment, at: u32, place: &mut usize) -> Result<bool, Fail> {
+    let found = found_word(alloc, index, at, place)?;
+    Ok(found.as_str() == format!(in alloc; "{at},")?.as_str())
+}
+
+/// What the search for a row's word finds from this place on.
+fn found_word(alloc: Global, index: &Segment, at: u32, place: &mut usize) -> Result<String, Fail> {
+    let word = word_at(alloc, at)?;
+    let mut found = String::new(alloc);
+    put_found(alloc, &mut found, index, ("body", word.as_str()), place)?;
+    Ok(found)
 }
 
 /// Among some thousand terms each is found, from the place where the search for the one before it
@@ -294,15 +313,17 @@ fn bool_queries(rt: HostRuntime) -> Result<(), Fail> {
 
 /// The index of documents with these texts, each so many times.
 fn index_of_repeated(alloc: Global, given: &[(&str, usize)]) -> Result<Segment, Fail> {
-    let mut texts = Vec::new(alloc);
+    let mut rows = Vec::new(alloc);
     for (text, times) in given {
-        texts.push(text.repeat(alloc, *times)?)?;
+        let row = repeated_row(alloc, rows.len(), text, *times)?;
+        rows.push(row)?;
     }
-    let mut bodies = Vec::new(alloc);
-    for text in &texts {
-        bodies.push(text.as_str())?;
-    }
-    index_of(alloc, bodies.as_slice())
+    index_of_rows(alloc, rows)
+}
+
+fn repeated_row(alloc: Global, number: usize, text: &str, times: usize) -> Result<Row, Fail> {
+    let body = text.repeat(alloc, times)?;
+    numbered_row(alloc, number, body.as_str())
 }
 
 /// Whether the phrase of a text, so many times, finds these rows.
@@ -350,19 +371,28 @@ fn different_words(alloc: Global, from: u32, but: u32, to: u32) -> Result<String
     Ok(words)
 }
 
-/// Whether the phrase of such words is found in a document that has 100 of them, from 0 on.
-fn different_stand(alloc: Global, from: u32, but: u32, to: u32) -> Result<bool, Fail> {
+/// The index of a document that has 100 such words, from 0 on.
+fn index_of_different(alloc: Global) -> Result<Segment, Fail> {
     let body = different_words(alloc, 0, 100, 100)?;
-    let index = index_of(alloc, [body.as_str()].as_slice())?;
+    index_of(alloc, [body.as_str()].as_slice())
+}
+
+/// Whether the phrase of such words is found there.
+fn different_stand(
+    alloc: Global,
+    index: &Segment,
+    (from, but, to): (u32, u32, u32),
+) -> Result<bool, Fail> {
     let text = different_words(alloc, from, but, to)?;
-    phrase_finds(alloc, &index, "body", text.as_str(), "0,")
+    phrase_finds(alloc, index, "body", text.as_str(), "0,")
 }
 
 /// A phrase of 70 different words, and the same with a gap.
 #[test]
 fn phrases_of_many_different_words(rt: HostRuntime) -> Result<(), Fail> {
-    assert!(rt; different_stand(rt.alloc(), 20, 100, 90)?);
-    assert!(rt; !different_stand(rt.alloc(), 20, 60, 90)?);
+    let index = index_of_different(rt.alloc())?;
+    assert!(rt; different_stand(rt.alloc(), &index, (20, 100, 90))?);
+    assert!(rt; !different_stand(rt.alloc(), &index, (20, 60, 90))?);
     Ok(())
 }
 
