@@ -1,10 +1,25 @@
 use Rattle.std.proofs.Common.{◌≡◌, ◌∙◌, ℕ, List, length, get_or, slice_set, ap, subst, sym, arith, rules}
 use Rattle.std.specs.List.{remove}
-use Rattle.merge_postings.specs.Tree.{IsFirst, IsKeyed, IsPlayed, Queued, winner_of}
+use Rattle.std.proofs.lemmas.List.{length-set}
+use Rattle.merge_postings.specs.Tree.{HavePlayed, IsFirst, IsKeyed, Queued}
 use Rattle.merge_postings.specs.Walk.{IsBelow, IsPassed, Waiting, waiting}
 use Rattle.merge_postings.specs.declared.key.Key.{Key}
-use Rattle.merge_postings.proofs.Playing.{keyed_passed, keyed_removed, passed_last, passed_on}
+use Rattle.merge_postings.proofs.FirstOfAll.{passed_last, passed_on}
+use Rattle.merge_postings.proofs.KeysBeside.{keyed_passed, keyed_removed}
+use Rattle.merge_postings.proofs.Losers.{played_over}
 use Rattle.merge_postings.proofs.queue.Queue.pass.Goals as goal
+
+pub play_above-requires-clause-played : goal.play_above-requires-clause-played
+play_above-requires-clause-played c =
+    let heads = c.self.inside.heads.items in
+    let place : c.place-place.result ≡ c.self.inside.place = c.place-place.ensures ∙ ap (λ (q : Queued). q.place) (sym c.self.view_is) in
+    record {
+      old = heads;
+      source = c.pass.new.self;
+      played = subst (λ (k : ℕ). HavePlayed heads c.as_mut_slice.result.now k) (sym place)
+          (subst (λ (l : List ℕ). HavePlayed heads l c.self.inside.place) (sym c.as_mut_slice.ensures.value) c.self.invariant.0);
+      is = c.as_slice-heads.ensures.value;
+    }
 
 pub play_above-requires-clause-keyed : goal.play_above-requires-clause-keyed
 play_above-requires-clause-keyed c =
@@ -13,7 +28,7 @@ play_above-requires-clause-keyed c =
     let field = c.self.inside.field.now in
     let long : c.len.result ≡ length heads = search rules in
     let keyed : IsKeyed field (slice_set heads c.place-place.result c.pass.new.self) (slice_set keys c.place-place.result c.pass.new.key) =
-    keyed_passed field heads keys c.place-place.result c.index_mut.result.now c.pass.new.self c.index.result.now c.pass.new.key c.self.invariant.1
+    keyed_passed field heads keys c.place-place.result c.index_mut.result.now c.pass.new.self c.index.result.now c.pass.new.key c.self.invariant.2
     (omega (arith, c.if-place-len.false, long)) c.index_mut.ensures.value c.index.ensures (c.pass.ensures.key c.if-pass.true field) in (
       field,
       subst (λ (hs : List Waiting). IsKeyed field hs c.as_slice.result.now) (sym c.as_slice-heads.ensures.value)
@@ -26,8 +41,11 @@ invariant_of-self c =
     let keys = c.self.inside.keys.items in
     let field = c.self.inside.field.now in
     let long : c.len.result ≡ length heads = search rules in (
-      subst (λ (hs : List Waiting). IsPlayed hs c.play_above.new.wins.items) c.as_slice-heads.ensures.value c.play_above.ensures,
-      keyed_passed field heads keys c.place-place.result c.index_mut.result.now c.pass.new.self c.index.result.now c.pass.new.key c.self.invariant.1
+      played_over (slice_set heads c.place-place.result c.pass.new.self) c.self.inside.losers.items c.play_above.new.losers c.play_above.result
+          (c.self.invariant.0.all ∙ sym (length-set heads c.place-place.result c.pass.new.self))
+          (subst (λ (hs : List Waiting). HavePlayed hs c.play_above.new.losers c.play_above.result) c.as_slice-heads.ensures.value c.play_above.ensures),
+      c.self.invariant.1 ∙ sym (length-set heads c.place-place.result c.pass.new.self),
+      keyed_passed field heads keys c.place-place.result c.index_mut.result.now c.pass.new.self c.index.result.now c.pass.new.key c.self.invariant.2
           (omega (arith, c.if-place-len.false, long)) c.index_mut.ensures.value c.index.ensures (c.pass.ensures.key c.if-pass.true field),
     )
 
@@ -38,7 +56,7 @@ play_all-requires-clause-keyed c =
     let field = c.self.inside.field.now in
     let long : c.len.result ≡ length heads = search rules in
     let keyed : IsKeyed field (remove (slice_set heads c.place-place.result c.pass.new.self) c.place-place.result) (remove keys c.place-place.result) =
-    keyed_removed field heads keys c.place-place.result c.pass.new.self c.self.invariant.1 (omega (arith, c.if-place-len.false, long)) in (
+    keyed_removed field heads keys c.place-place.result c.pass.new.self c.self.invariant.2 (omega (arith, c.if-place-len.false, long)) in (
       field,
       subst (λ (hs : List Waiting). IsKeyed field hs c.as_slice-else-pass.result.now) (sym (c.as_slice-heads-else-pass.ensures.value ∙ c.remove.ensures.items))
           (subst (λ (ks : List Key). IsKeyed field (remove (slice_set heads c.place-place.result c.pass.new.self) c.place-place.result) ks) (sym (c.as_slice-else-pass.ensures.value ∙ c.remove-else-pass.ensures.items)) keyed),
@@ -51,8 +69,9 @@ invariant_of-self-else-pass c =
     let field = c.self.inside.field.now in
     let long : c.len.result ≡ length heads = search rules in
     let keyed : IsKeyed field (remove (slice_set heads c.place-place.result c.pass.new.self) c.place-place.result) (remove keys c.place-place.result) =
-    keyed_removed field heads keys c.place-place.result c.pass.new.self c.self.invariant.1 (omega (arith, c.if-place-len.false, long)) in (
-      subst (λ (hs : List Waiting). IsPlayed hs c.play_all.new.wins.items) c.as_slice-heads-else-pass.ensures.value c.play_all.ensures,
+    keyed_removed field heads keys c.place-place.result c.pass.new.self c.self.invariant.2 (omega (arith, c.if-place-len.false, long)) in (
+      subst (λ (hs : List Waiting). HavePlayed hs c.play_all.new.losers.items c.play_all.result) c.as_slice-heads-else-pass.ensures.value c.play_all.ensures.played,
+      c.play_all.ensures.wins ∙ ap (λ (hs : List Waiting). length hs) c.as_slice-heads-else-pass.ensures.value,
       subst (λ (hs : List Waiting). IsKeyed field hs c.remove-else-pass.new.self.items) (sym c.remove.ensures.items)
           (subst (λ (ks : List Key). IsKeyed field (remove (slice_set heads c.place-place.result c.pass.new.self) c.place-place.result) ks) (sym c.remove-else-pass.ensures.items) keyed),
     )
@@ -60,9 +79,8 @@ invariant_of-self-else-pass c =
 pub returns-then-pass-clause-passed : goal.returns-then-pass-clause-passed
 returns-then-pass-clause-passed c w first =
     let heads = c.self.inside.heads.items in
-    let wins = c.self.inside.wins.items in
     let long : c.len.result ≡ length heads = search rules in
-    let at : c.place-place.result ≡ winner_of wins (length heads) 1 = c.place-place.ensures ∙ ap (λ (q : Queued). q.place) (sym c.self.view_is) in
+    let at : c.place-place.result ≡ c.self.inside.place = c.place-place.ensures ∙ ap (λ (q : Queued). q.place) (sym c.self.view_is) in
     let f = subst (λ (q : Queued). IsFirst q w) (sym c.self.view_is) first in
     let is : (d : Waiting) → get_or heads c.place-place.result d ≡ w = λ d. ap (λ (k : ℕ). get_or heads k d) at ∙ f.is d in
     let old : c.index_mut.result.now ≡ w = c.index_mut.ensures.value ∙ is c.index_mut.result.now in
@@ -74,9 +92,8 @@ returns-then-pass-clause-passed c w first =
 pub returns-else-pass-clause-passed : goal.returns-else-pass-clause-passed
 returns-else-pass-clause-passed c w first =
     let heads = c.self.inside.heads.items in
-    let wins = c.self.inside.wins.items in
     let long : c.len.result ≡ length heads = search rules in
-    let at : c.place-place.result ≡ winner_of wins (length heads) 1 = c.place-place.ensures ∙ ap (λ (q : Queued). q.place) (sym c.self.view_is) in
+    let at : c.place-place.result ≡ c.self.inside.place = c.place-place.ensures ∙ ap (λ (q : Queued). q.place) (sym c.self.view_is) in
     let f = subst (λ (q : Queued). IsFirst q w) (sym c.self.view_is) first in
     let is : (d : Waiting) → get_or heads c.place-place.result d ≡ w = λ d. ap (λ (k : ℕ). get_or heads k d) at ∙ f.is d in
     let old : c.index_mut.result.now ≡ w = c.index_mut.ensures.value ∙ is c.index_mut.result.now in
