@@ -39,7 +39,7 @@ pub(crate) struct Queue<'a> {
 }
 
 impl<'a> Model for Queue<'a> {
-    ghost use Rattle.std.specs.Prelude.{length};
+    ghost use Rattle.std.specs.Prelude.{◌≡◌, length};
     ghost use Rattle.merge_postings.specs.Tree.{HavePlayed, IsKeyed, Queued};
 
     ghost Value = { Queued };

@@ -9,8 +9,8 @@ use Rattle.merge_postings.proofs.KeysBeside.{keyed_passed, keyed_removed}
 use Rattle.merge_postings.proofs.Losers.{played_over}
 use Rattle.merge_postings.proofs.queue.Queue.pass.Goals as goal
 
-pub play_above-requires-clause-played : goal.play_above-requires-clause-played
-play_above-requires-clause-played c =
+pub play_above-self-inside-requires-clause-played : goal.play_above-self-inside-requires-clause-played
+play_above-self-inside-requires-clause-played c =
     let heads = c.self.inside.heads.items in
     let place : c.place-place.result ≡ c.self.inside.place = c.place-place.ensures ∙ ap (λ (q : Queued). q.place) (sym c.self.view_is) in
     record {
@@ -21,8 +21,8 @@ play_above-requires-clause-played c =
       is = c.as_slice-heads.ensures.value;
     }
 
-pub play_above-requires-clause-keyed : goal.play_above-requires-clause-keyed
-play_above-requires-clause-keyed c =
+pub play_above-self-inside-requires-clause-keyed : goal.play_above-self-inside-requires-clause-keyed
+play_above-self-inside-requires-clause-keyed c =
     let heads = c.self.inside.heads.items in
     let keys = c.self.inside.keys.items in
     let field = c.self.inside.field.now in
@@ -41,16 +41,16 @@ invariant_of-self c =
     let keys = c.self.inside.keys.items in
     let field = c.self.inside.field.now in
     let long : c.len.result ≡ length heads = search rules in (
-      played_over (slice_set heads c.place-place.result c.pass.new.self) c.self.inside.losers.items c.play_above.new.losers c.play_above.result
+      played_over (slice_set heads c.place-place.result c.pass.new.self) c.self.inside.losers.items c.play_above-self-inside.new.losers c.play_above-self-inside.result
           (c.self.invariant.0.all ∙ sym (length-set heads c.place-place.result c.pass.new.self))
-          (subst (λ (hs : List Waiting). HavePlayed hs c.play_above.new.losers c.play_above.result) c.as_slice-heads.ensures.value c.play_above.ensures),
+          (subst (λ (hs : List Waiting). HavePlayed hs c.play_above-self-inside.new.losers c.play_above-self-inside.result) c.as_slice-heads.ensures.value c.play_above-self-inside.ensures),
       c.self.invariant.1 ∙ sym (length-set heads c.place-place.result c.pass.new.self),
       keyed_passed field heads keys c.place-place.result c.index_mut.result.now c.pass.new.self c.index.result.now c.pass.new.key c.self.invariant.2
           (omega (arith, c.if-place-len.false, long)) c.index_mut.ensures.value c.index.ensures (c.pass.ensures.key c.if-pass.true field),
     )
 
-pub play_all-requires-clause-keyed : goal.play_all-requires-clause-keyed
-play_all-requires-clause-keyed c =
+pub play_all-self-inside-requires-clause-keyed : goal.play_all-self-inside-requires-clause-keyed
+play_all-self-inside-requires-clause-keyed c =
     let heads = c.self.inside.heads.items in
     let keys = c.self.inside.keys.items in
     let field = c.self.inside.field.now in
@@ -70,8 +70,8 @@ invariant_of-self-else-pass c =
     let long : c.len.result ≡ length heads = search rules in
     let keyed : IsKeyed field (remove (slice_set heads c.place-place.result c.pass.new.self) c.place-place.result) (remove keys c.place-place.result) =
     keyed_removed field heads keys c.place-place.result c.pass.new.self c.self.invariant.2 (omega (arith, c.if-place-len.false, long)) in (
-      subst (λ (hs : List Waiting). HavePlayed hs c.play_all.new.losers.items c.play_all.result) c.as_slice-heads-else-pass.ensures.value c.play_all.ensures.played,
-      c.play_all.ensures.wins ∙ ap (λ (hs : List Waiting). length hs) c.as_slice-heads-else-pass.ensures.value,
+      subst (λ (hs : List Waiting). HavePlayed hs c.play_all-self-inside.new.losers.items c.play_all-self-inside.result) c.as_slice-heads-else-pass.ensures.value c.play_all-self-inside.ensures.played,
+      c.play_all-self-inside.ensures.wins ∙ ap (λ (hs : List Waiting). length hs) c.as_slice-heads-else-pass.ensures.value,
       subst (λ (hs : List Waiting). IsKeyed field hs c.remove-else-pass.new.self.items) (sym c.remove.ensures.items)
           (subst (λ (ks : List Key). IsKeyed field (remove (slice_set heads c.place-place.result c.pass.new.self) c.place-place.result) ks) (sym c.remove-else-pass.ensures.items) keyed),
     )
