@@ -1,8 +1,8 @@
 -- The sources that lost in a tree in which sources play.
-use Rattle.std.proofs.Common.{◌≡◌, ◌≢◌, ℕ, ◌+◌, ◌-◌, ◌*◌, ◌/◌, ◌<◌, ◌≤◌, List, length, get_or, ◌⊎◌, inl, inr, refl, sym, ap, ◌∙◌, subst, arith, drop, ◌++◌}
+use Rattle.std.proofs.Common.{◌≡◌, ◌≢◌, ℕ, ◌+◌, ◌-◌, ◌*◌, ◌/◌, ◌<◌, ◌≤◌, List, length, get_or, ◌⊎◌, inl, inr, refl, sym, ap, ◌∙◌, subst, arith}
 use Rattle.std.specs.List.{slice_set}
 use Rattle.std.proofs.lemmas.Bool.{cases_lt}
-use Rattle.std.proofs.lemmas.List.{get_or-set_same, get_or-set_other, length-set, set-get_or, drop_all, append-nil}
+use Rattle.std.proofs.lemmas.List.{get_or-set_same, get_or-set_other, length-set, set-get_or}
 use Rattle.merge_postings.specs.Tree.{IsFirstOf, IsOfBelow, Plays, winner_of, HavePlayed, HadPlayed, IsLoser, PutsLoser}
 use Rattle.merge_postings.specs.Walk.{Waiting}
 use Rattle.merge_postings.proofs.Nodes.{at_leaf, winner_within, IsAbove, start, above_half, above_split, above_parent, above_upto, IsBeside, not_above_beside, winner_on_way}
@@ -283,9 +283,3 @@ up_end heads losers node first none h = record {
   each = λ x one lt. h.off x one lt (λ above. absurd (omega (arith, one, above_upto (node / 2) x above, none)));
   first = let root : node ≡ 1 = omega (arith, none, h.some) in h.stands ∙ ap (winner_of h.wins (length heads)) root;
 }
-
--- where the list of all of them was written over the one before
-pub played_over : (heads : List Waiting) (old new : List ℕ) (place : ℕ) → length old ≡ length heads → HavePlayed heads new place → HavePlayed heads (new ++ drop (length new) old) place
-played_over heads old new place long h =
-    subst (λ (l : List ℕ). HavePlayed heads l place)
-    (sym (ap (λ (rest : List ℕ). new ++ rest) (drop_all (length new) old (omega (arith, long, h.all))) ∙ append-nil new)) h

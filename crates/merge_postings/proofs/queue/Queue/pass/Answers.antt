@@ -1,12 +1,11 @@
 use Rattle.std.proofs.Common.{◌≡◌, ◌∙◌, ℕ, List, length, get_or, slice_set, ap, subst, sym, arith, rules}
 use Rattle.std.specs.List.{remove}
-use Rattle.std.proofs.lemmas.List.{length-set}
+use Rattle.std.proofs.lemmas.List.{length-set, with_items_is}
 use Rattle.merge_postings.specs.Tree.{HavePlayed, IsFirst, IsKeyed, Queued}
 use Rattle.merge_postings.specs.Walk.{IsBelow, IsPassed, Waiting, waiting}
 use Rattle.merge_postings.specs.declared.key.Key.{Key}
 use Rattle.merge_postings.proofs.FirstOfAll.{passed_last, passed_on}
 use Rattle.merge_postings.proofs.KeysBeside.{keyed_passed, keyed_removed}
-use Rattle.merge_postings.proofs.Losers.{played_over}
 use Rattle.merge_postings.proofs.queue.Queue.pass.Goals as goal
 
 pub play_above-self-inside-requires-clause-played : goal.play_above-self-inside-requires-clause-played
@@ -40,11 +39,15 @@ invariant_of-self c =
     let heads = c.self.inside.heads.items in
     let keys = c.self.inside.keys.items in
     let field = c.self.inside.field.now in
-    let long : c.len.result ≡ length heads = search rules in (
-      played_over (slice_set heads c.place-place.result c.pass.new.self) c.self.inside.losers.items c.play_above-self-inside.new.losers c.play_above-self-inside.result
-          (c.self.invariant.0.all ∙ sym (length-set heads c.place-place.result c.pass.new.self))
-          (subst (λ (hs : List Waiting). HavePlayed hs c.play_above-self-inside.new.losers c.play_above-self-inside.result) c.as_slice-heads.ensures.value c.play_above-self-inside.ensures),
-      c.self.invariant.1 ∙ sym (length-set heads c.place-place.result c.pass.new.self),
+    let long : c.len.result ≡ length heads = search rules in
+    let passed : List Waiting = slice_set heads c.place-place.result c.pass.new.self in
+    let lost = c.play_above-self-inside.new.losers in
+    let same : length passed ≡ length heads = length-set heads c.place-place.result c.pass.new.self in
+    let played : HavePlayed passed lost c.play_above-self-inside.result =
+    subst (λ (hs : List Waiting). HavePlayed hs lost c.play_above-self-inside.result) c.as_slice-heads.ensures.value c.play_above-self-inside.ensures in
+    let count : length lost ≡ c.self.inside.losers.len = omega (arith, played.all, same, c.self.invariant.0.all, c.self.inside.losers.ok.0) in (
+      subst (λ (l : List ℕ). HavePlayed passed l c.play_above-self-inside.result) (sym (with_items_is c.self.inside.losers lost count)) played,
+      c.self.invariant.1 ∙ sym same,
       keyed_passed field heads keys c.place-place.result c.index_mut.result.now c.pass.new.self c.index.result.now c.pass.new.key c.self.invariant.2
           (omega (arith, c.if-place-len.false, long)) c.index_mut.ensures.value c.index.ensures (c.pass.ensures.key c.if-pass.true field),
     )
