@@ -1,4 +1,4 @@
-use Rattle.std.proofs.Common.{◌≡◌, ◌≤◌, ◌+◌, ◌/◌, ℕ, length, get_or, inl, inr, refl, arith}
+use Rattle.std.proofs.Common.{◌≡◌, ◌≤◌, ◌+◌, ◌/◌, length, get_or, inl, inr, refl, arith}
 use Rattle.merge_postings.proofs.Losers.{up_end, up_other, up_place, up_start, up_turn}
 use Rattle.merge_postings.proofs.tree.play_above.Goals as goal
 use Rattle.merge_postings.proofs.tree.play_above.Goals.{then-taken-first, else-taken-first}
