@@ -1,6 +1,7 @@
 //! A tree in which sources that wait play against one another.
 ghost use Rattle.std.specs.Prelude.{◌≡◌, ◌+◌, ◌*◌, ◌/◌, ◌^◌, ◌<◌, ◌≤◌, List, ℕ, length, IfOk};
-ghost use Rattle.merge_postings.specs.Tree.{HadPlayed, HavePlayed, IsFirstOf, IsKeyed, IsWithin, Plays, PutsLoser, winner_of};
+ghost use Rattle.merge_postings.specs.Tree.{HadPlayed, HavePlayed, IsFirstOf, IsKeyed, IsWithin};
+ghost use Rattle.merge_postings.specs.Tree.{Plays, PutsLoser, winner_of};
 
 use crate::head::Head;
 use crate::key::{Key, order_by_keys};
