@@ -55,18 +55,39 @@ pub record Plays (heads : List Waiting) (old : List ℕ) (node : ℕ) (new : Lis
   pub left : (d : Waiting) → IsBelow (term_of heads (winner_of old (length heads) (2 * node)) d) (term_of heads winner d) → ⊥
   pub right : (d : Waiting) → IsBelow (term_of heads (winner_of old (length heads) (2 * node + 1)) d) (term_of heads winner d) → ⊥
 
+-- one of the two below the node stands there, and this one is the other of them
+abbrev pub IsLoser : List ℕ → ℕ → ℕ → ℕ → Type 0
+IsLoser wins count x loser =
+    ((winner_of wins count x ≡ winner_of wins count (2 * x)) × (loser ≡ winner_of wins count (2 * x + 1)))
+    ⊎ ((winner_of wins count x ≡ winner_of wins count (2 * x + 1)) × (loser ≡ winner_of wins count (2 * x)))
+
+-- the two below the node have played, and the one that isn't taken first was put there
+pub record PutsLoser (count : ℕ) (losers : List ℕ) (node : ℕ) (won lost : List ℕ) : Type 0 where
+  pub loser : ℕ
+  pub set : lost ≡ slice_set losers node loser
+  pub is : IsLoser won count node loser
+
+-- all have played: at each node above others the one stands that isn't taken first, and the place is that of the one
+-- that is taken first of all
+pub record HavePlayed (heads : List Waiting) (losers : List ℕ) (place : ℕ) : Type 0 where
+  pub wins : List ℕ
+  pub played : IsPlayed heads wins
+  pub all : length losers ≡ length heads
+  pub each : (x : ℕ) → 1 ≤ x → x < length heads → IsLoser wins (length heads) x (slice_index losers x)
+  pub first : place ≡ winner_of wins (length heads) 1
+
+-- all had played when the source at the place, which was taken first, was another one
+pub record HadPlayed (heads : List Waiting) (losers : List ℕ) (place : ℕ) : Type 0 where
+  pub old : List Waiting
+  pub source : Waiting
+  pub played : HavePlayed old losers place
+  pub is : heads ≡ slice_set old place source
+
 -- the source is taken first
 pub record IsFirst (q : Queued) (w : Waiting) : Type 0 where
   pub within : q.place < length q.waiting
   pub is : (d : Waiting) → slice_index_or q.waiting q.place d ≡ w
   pub from : StartFrom w.first.term q.waiting
-
--- all had played when the source at the place was another one
-pub record WasPlayed (heads : List Waiting) (wins : List ℕ) (place : ℕ) : Type 0 where
-  pub old : List Waiting
-  pub source : Waiting
-  pub played : IsPlayed old wins
-  pub is : heads ≡ slice_set old place source
 
 -- the keys are those of the sources' next terms, beside the field
 pub record IsKeyed (field : List ℕ) (heads : List Waiting) (keys : List Key) : Type 0 where

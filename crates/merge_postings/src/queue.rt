@@ -12,7 +12,7 @@ use crate::head::Head;
 use crate::key::{Key, highest_key, is_highest, order_by_keys};
 use crate::keyed::{keys_beside, keys_of};
 use crate::source::Source;
-use crate::tree::{first_places, keep_places, play_above, play_all, winner_at};
+use crate::tree::{first_places, keep_places, play_above, play_all};
 use analysis::compare_terms;
 use ix_base::{NoMemory, Term};
 use std::alloc::Global;
@@ -21,30 +21,37 @@ use std::marker::Model;
 
 /// Sources that wait. Each has a place, from 0. The nodes of a tree are numbered from 1: node x stands above
 /// the nodes 2x and 2x + 1, and the nodes from the number of the sources on are these themselves. At each
-/// node above others stands the place of the source that is taken first of those below it.
+/// node above others the two play that are taken first of those below its two, and the place of the one that isn't
+/// taken first stands there.
 #[derive(Drop)]
 pub(crate) struct Queue<'a> {
     heads: Vec<Head<'a>>,
     /// The key of each one's next term, beside the field.
     keys: Vec<Key>,
+    /// Where all play anew, the place of the source that is taken first at each node.
     wins: Vec<usize>,
+    /// At each node above others the place of the source that lost there.
+    losers: Vec<usize>,
+    /// The place of the source that is taken first of all.
+    place: usize,
     /// A field that isn't behind that of any next term.
     field: &'a str,
 }
 
 impl<'a> Model for Queue<'a> {
-    ghost use Rattle.std.specs.Prelude.{length};
-    ghost use Rattle.merge_postings.specs.Tree.{IsKeyed, IsPlayed, Queued, winner_of};
+    ghost use Rattle.std.specs.Prelude.{◌≡◌, length};
+    ghost use Rattle.merge_postings.specs.Tree.{HavePlayed, IsKeyed, Queued};
 
     ghost Value = { Queued };
 
     ghost view = { λ q. record {
       waiting = q.heads.items;
-      place = winner_of q.wins.items (length q.heads.items) 1;
+      place = q.place;
       field = q.field.now;
     } };
 
-    ghost invariant = { λ q. IsPlayed q.heads.items q.wins.items
+    ghost invariant = { λ q. HavePlayed q.heads.items q.losers.items q.place
+        × (length q.wins.items ≡ length q.heads.items)
         × IsKeyed q.field.now q.heads.items q.keys.items };
 }
 
@@ -119,11 +126,14 @@ impl<'a> Queue<'a> {
         let mut keys = vec![in alloc; highest_key(); heads.len()]?;
         let mut wins = first_places(alloc, heads.len())?;
         let field = keys_of(heads.as_slice(), &mut keys);
-        play_all(heads.as_slice(), keys.as_slice(), &mut wins);
+        let mut losers = first_places(alloc, heads.len())?;
+        let place = play_all(heads.as_slice(), keys.as_slice(), &mut wins, &mut losers);
         Ok(Queue {
             heads,
             keys,
             wins,
+            losers,
+            place,
             field,
         })
     }
@@ -143,7 +153,7 @@ impl<'a> Queue<'a> {
     fn place(&self) -> usize
         ensures { result ≡ self.now.place }
     {
-        winner_at(self.wins.as_slice(), self.heads.len(), 1)
+        self.place
     }
 
     /// The source whose next term is the least; `None` where none waits.
@@ -224,14 +234,25 @@ impl<'a> Queue<'a> {
         if self.heads[place].pass(&mut key) {
             self.keys[place] = key;
             let heads = self.heads.as_slice();
-            play_above(heads, self.keys.as_slice(), &mut self.wins, place);
+            self.place = play_above(
+                heads,
+                self.keys.as_slice(),
+                self.losers.as_mut_slice(),
+                place,
+            );
         } else {
             self.heads.remove(place);
             self.keys.remove(place);
             let count = self.heads.len();
             keep_places(&mut self.wins, count);
+            keep_places(&mut self.losers, count);
             let heads = self.heads.as_slice();
-            play_all(heads, self.keys.as_slice(), &mut self.wins);
+            self.place = play_all(
+                heads,
+                self.keys.as_slice(),
+                &mut self.wins,
+                &mut self.losers,
+            );
         }
     }
 }

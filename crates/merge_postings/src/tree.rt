@@ -1,6 +1,7 @@
 //! A tree in which sources that wait play against one another.
 ghost use Rattle.std.specs.Prelude.{◌≡◌, ◌+◌, ◌*◌, ◌/◌, ◌^◌, ◌<◌, ◌≤◌, List, ℕ, length, IfOk};
-ghost use Rattle.merge_postings.specs.Tree.{IsFirstOf, IsKeyed, IsPlayed, IsWithin, Plays, WasPlayed, winner_of};
+ghost use Rattle.merge_postings.specs.Tree.{HadPlayed, HavePlayed, IsFirstOf, IsKeyed, IsWithin};
+ghost use Rattle.merge_postings.specs.Tree.{Plays, PutsLoser, winner_of};
 
 use crate::head::Head;
 use crate::key::{Key, order_by_keys};
@@ -38,7 +39,7 @@ fn first_by_texts(heads: &[Head<'_>], one: usize, other: usize) -> usize
 }
 
 /// The one of two sources that is taken first: of two whose next terms are one, that of the lower place.
-#[inline]
+#[inline(always)]
 fn first_of(heads: &[Head<'_>], keys: &[Key], one: usize, other: usize) -> usize
     requires one { one < length heads.now }
     requires other { other < length heads.now }
@@ -53,57 +54,78 @@ fn first_of(heads: &[Head<'_>], keys: &[Key], one: usize, other: usize) -> usize
     }
 }
 
-/// The two below a node play: the one that is taken first stands there.
-fn play(heads: &[Head<'_>], keys: &[Key], wins: &mut Vec<usize>, node: usize)
+/// The two below a node play: the one that is taken first stands there in the first list, and the other one in the
+/// second.
+fn play(
+    heads: &[Head<'_>],
+    keys: &[Key],
+    wins: &mut Vec<usize>,
+    losers: &mut Vec<usize>,
+    node: usize,
+)
     requires above { 1 ≤ node }
     requires within { node < length heads.now }
     requires wins { IsWithin (length heads.now) wins.old.items }
+    requires losers { length losers.old.items ≡ length heads.now }
     requires keyed { (field : List ℕ) × IsKeyed field heads.now keys.now }
-    ensures { Plays heads.now wins.old.items node wins.new.items }
+    ensures wins { Plays heads.now wins.old.items node wins.new.items }
+    ensures losers { PutsLoser (length heads.now) losers.old.items node wins.new.items losers.new.items }
 {
     let count = heads.len();
     let left = winner_at(wins.as_slice(), count, 2 * node);
     let right = winner_at(wins.as_slice(), count, 2 * node + 1);
-    wins[node] = first_of(heads, keys, left, right);
+    let first = first_of(heads, keys, left, right);
+    let loser = if first == left { right } else { left };
+    wins[node] = first;
+    losers[node] = loser;
 }
 
-/// The node that has the same one above it.
-#[inline]
-fn beside(node: usize) -> usize
-    ensures { result + node ≡ 4 * (node / 2) + 1 }
-{
-    node ^ 1
-}
-
-/// All above the source at this place play once more, which isn't as it was.
-pub(crate) fn play_above(heads: &[Head<'_>], keys: &[Key], wins: &mut Vec<usize>, place: usize)
+/// The source at this place, which isn't as it was, plays against all that lost to it on the way up. The result is the
+/// place of the one that is taken first of all.
+pub(crate) fn play_above(
+    heads: &[Head<'_>],
+    keys: &[Key],
+    losers: &mut [usize],
+    place: usize,
+) -> usize
     requires place { place < length heads.now }
-    requires played { WasPlayed heads.now wins.old.items place }
+    requires played { HadPlayed heads.now losers.old place }
     requires keyed { (field : List ℕ) × IsKeyed field heads.now keys.now }
-    ensures { IsPlayed heads.now wins.new.items }
+    ensures { HavePlayed heads.now losers.new result }
 {
-    let count = heads.len();
-    let mut node = count + place;
+    let mut node = (heads.len() + place) / 2;
     let mut first = place;
-    'nodes: while node > 1 {
-        let other = winner_at(wins.as_slice(), count, beside(node));
-        first = first_of(heads, keys, first, other);
+    'nodes: while node > 0 {
+        let other = losers[node];
+        let taken = first_of(heads, keys, first, other);
+        if taken != first {
+            losers[node] = first;
+            first = taken;
+        }
         node = node / 2;
-        wins[node] = first;
     }
+    first
 }
 
-/// All play.
-pub(crate) fn play_all(heads: &[Head<'_>], keys: &[Key], wins: &mut Vec<usize>)
+/// All play. The result is the place of the one that is taken first of all.
+pub(crate) fn play_all(
+    heads: &[Head<'_>],
+    keys: &[Key],
+    wins: &mut Vec<usize>,
+    losers: &mut Vec<usize>,
+) -> usize
     requires wins { IsWithin (length heads.now) wins.old.items }
+    requires losers { length losers.old.items ≡ length heads.now }
     requires keyed { (field : List ℕ) × IsKeyed field heads.now keys.now }
-    ensures { IsPlayed heads.now wins.new.items }
+    ensures played { HavePlayed heads.now losers.new.items result }
+    ensures wins { length wins.new.items ≡ length heads.now }
 {
     let mut node = heads.len();
     'nodes: while node > 1 {
         node = node - 1;
-        play(heads, keys, wins, node);
+        play(heads, keys, wins, losers, node);
     }
+    winner_at(wins.as_slice(), heads.len(), 1)
 }
 
 /// So many times the place 0.

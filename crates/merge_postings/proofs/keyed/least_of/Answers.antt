@@ -1,5 +1,5 @@
 use Rattle.std.proofs.Common.{inl, inr}
-use Rattle.merge_postings.proofs.Playing.{least_more, order_by_texts}
+use Rattle.merge_postings.proofs.FirstOfTwo.{least_more, order_by_texts}
 use Rattle.merge_postings.proofs.keyed.least_of.Goals as goal
 use Rattle.merge_postings.proofs.keyed.least_of.Goals.{in-Less, in_default}
 

@@ -5,7 +5,7 @@ use Rattle.merge_postings.specs.Tree.{IsFirst, Queued}
 use Rattle.merge_postings.specs.Walk.{IsBelow, IsPassed, Waiting}
 use Rattle.merge_postings.proofs.Listing.{none_listed, part_listed}
 use Rattle.merge_postings.proofs.Taking.{first_taken, less_left, more_taken, none_left, other_left}
-use Rattle.merge_postings.proofs.Playing.{first_among, still_first}
+use Rattle.merge_postings.proofs.FirstOfAll.{first_among, still_first}
 use Rattle.merge_postings.proofs.merged.gather.Goals as goal
 
 pub heads-init : goal.heads-init

@@ -1,6 +1,6 @@
 use Rattle.std.proofs.Common.{◌∙◌, sym}
 use Rattle.std.specs.declared.cmp.Ordering.TheVariants.{Less, Equal, Greater}
-use Rattle.merge_postings.proofs.Playing.{equal_first, greater_first, least_of_two, less_first, order_by_texts}
+use Rattle.merge_postings.proofs.FirstOfTwo.{equal_first, greater_first, least_of_two, less_first, order_by_texts}
 use Rattle.merge_postings.proofs.tree.first_by_texts.Goals as goal
 
 pub returns-in-Less : goal.returns-in-Less

@@ -1,4 +1,4 @@
-use Rattle.merge_postings.proofs.Playing.{equal_first, greater_first, least_of_two, less_first, order_by_keyed}
+use Rattle.merge_postings.proofs.FirstOfTwo.{equal_first, greater_first, least_of_two, less_first, order_by_keyed}
 use Rattle.std.specs.declared.cmp.Ordering.TheVariants.{Less, Equal, Greater}
 use Rattle.merge_postings.proofs.tree.first_of.Goals as goal
 

@@ -1,15 +1,13 @@
-use Rattle.std.proofs.Common.{◌≡◌, ◌*◌, ◌/◌, ◌<◌, ◌≤◌, length}
-use Rattle.merge_postings.specs.Tree.{winner_of}
-use Rattle.merge_postings.proofs.Playing.{IsPlayedBut}
+use Rattle.std.proofs.Common.{◌≡◌, ℕ, ◌/◌, ◌<◌, length}
+use Rattle.merge_postings.proofs.Losers.{PlaysUp}
 use Rattle.merge_postings.proofs.tree.play_above.Given as goal
 
 abbrev pub invariant-nodes : goal.invariant-nodes
 invariant-nodes l = record {
-  some : 1 ≤ l.node;
-  below : l.node < 2 * length l.heads;
+  all : length l.losers ≡ length l.heads;
+  below : l.node < length l.heads;
   place : l.first < length l.heads;
-  first : l.first ≡ winner_of l.wins.items (length l.heads) l.node;
-  played : IsPlayedBut (l.node / 2) l.heads l.wins.items;
+  up : (child : ℕ) × (l.node ≡ child / 2) × PlaysUp l.heads l.losers child l.first;
 }
 
 abbrev pub decreases-nodes : goal.decreases-nodes

@@ -1,4 +1,5 @@
 use Rattle.std.proofs.Common.{◌≤◌, length}
+use Rattle.merge_postings.proofs.Losers.{HaveLostFrom}
 use Rattle.merge_postings.proofs.Playing.{IsPlayedFrom}
 use Rattle.merge_postings.proofs.tree.play_all.Given as goal
 
@@ -6,6 +7,7 @@ abbrev pub invariant-nodes : goal.invariant-nodes
 invariant-nodes l = record {
   upto : l.node ≤ length l.heads;
   played : IsPlayedFrom l.node l.heads l.wins.items;
+  lost : HaveLostFrom l.node (length l.heads) l.wins.items l.losers.items;
 }
 
 abbrev pub decreases-nodes : goal.decreases-nodes
