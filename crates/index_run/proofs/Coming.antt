@@ -248,8 +248,8 @@ begun_on n w v round upto buffer begun = record {
 }
 
 -- what came back of the workers of a round that was begun
-pub round_done : (r : Run) (lines log : List Line) (commits : List Pair) (due : CommitLine) (threads : ℕ) (w v : State) (round : Round)
-    (shares news : List Share) (worked : List Worked) (parts : RoundParts) (now : Option Disk) → r.workers ≡ threads
+pub round_done : {C : Type 0} (r : Run) (lines log : List Line) (commits : List Pair) (due : CommitLine) (threads : ℕ) (w v : State) (round : Round)
+    (shares news : List Share) (worked : List (Worked C)) (parts : RoundParts) (now : Option Disk) → r.workers ≡ threads
     → (come : HasCome r lines shares log commits due v now) → v.pending ≡ None → v.out ≡ true
     → v.published.upto ≡ w.published.upto → v.buffer ≡ w.buffer → IsBegun threads w round
     → AreWorked round.queue round.writers.items shares worked → AllCame worked → parts.queue ≡ round.queue

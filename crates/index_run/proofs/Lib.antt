@@ -22,6 +22,7 @@ pub mod Beginnings
 pub mod Inputs
 pub mod Summarised
 pub mod Listed
+pub mod Looking
 pub mod Finish
 pub mod Pruning
 pub mod Commanded

@@ -2,6 +2,9 @@ pub mod Keeping
 pub mod Commands
 pub mod Causes
 pub mod Answered
+pub mod Looked
+pub mod Looks
+pub mod Boards
 pub mod Outcomes
 pub mod Replied
 pub mod Leaving

@@ -11,6 +11,7 @@ ghost use Rattle.index_run.specs.Outcomes.{AreOutcomes, IsOutcome};
 ghost use Rattle.index_run.specs.Replied.{AreCommits, AreFound, AreLeft, AreRepliesOf, AreTextsLeft, AreTextsOf, CanTell, IfNumbered};
 ghost use Rattle.index_run.specs.Replied.{IsAnsweredBy, IsCommitAnswer, IsCounted, IsReplyFor, IsSoFar, answer_for, numbers_of};
 
+use crate::looks::Looked;
 use ix_base::{List, NoMemory};
 use line_shares::{Kind, Place};
 use run_report::{Answer, Outcome};
@@ -26,6 +27,7 @@ pub fn outcomes_of(
     shares: Vec<Share>,
     commits: &[(u64, u64)],
     texts: Vec<Vec<List<u8>>>,
+    looked: Vec<Vec<Looked>>,
 ) -> Result<Vec<Outcome>, NoMemory>
     requires told { (first : State) × (lines : ListOf Line) × (log : ListOf Line)
         × CanTell first.published.upto lines log places.items shares.items commits.now
@@ -37,9 +39,13 @@ pub fn outcomes_of(
 {
     let mut told = replies_of(alloc, shares)?;
     let mut found = texts_of(alloc, texts)?;
+    let mut shown = Vec::with_capacity(alloc, looked.len())?;
+    for own in looked {
+        shown.push(own.into_iter())?;
+    }
     let mut outcomes = Vec::with_capacity(alloc, places.len())?;
     for place in places {
-        outcomes.push(outcome_of(place, &mut told, &mut found, commits))?;
+        outcomes.push(outcome_of(place, &mut told, &mut found, &mut shown, commits))?;
     }
     Ok(outcomes)
 }
@@ -74,6 +80,7 @@ fn outcome_of(
     place: Place,
     told: &mut Vec<vec::IntoIter<Reply>>,
     found: &mut Vec<vec::IntoIter<List<u8>>>,
+    shown: &mut Vec<vec::IntoIter<Looked>>,
     commits: &[(u64, u64)],
 ) -> Outcome
     requires far { (first : State) × (log done : ListOf Line) × (l : Line)
@@ -91,6 +98,7 @@ fn outcome_of(
     let Place { line, caller, kind } = place;
     let answer = match kind {
         Kind::Search => Answer::Found(next_text(found, caller)),
+        Kind::Look => Answer::Found(next_shown(shown, caller)),
         Kind::Write => written(next_reply(told, caller)),
         Kind::Commit => committed(next_reply(told, caller), commits),
     };
@@ -113,6 +121,15 @@ fn next_text(found: &mut Vec<vec::IntoIter<List<u8>>>, caller: u8) -> List<u8>
 {
     match found[caller as usize].next() {
         Some(text) => text,
+        None => unreachable!(),
+    }
+}
+
+/// The text of the next look line of this caller.
+fn next_shown(shown: &mut Vec<vec::IntoIter<Looked>>, caller: u8) -> List<u8> {
+    let worker = caller as usize % shown.len();
+    match shown[worker].next() {
+        Some(looked) => looked.text,
         None => unreachable!(),
     }
 }

@@ -1,14 +1,16 @@
 use Rattle.std.proofs.Common.{◌∙◌, sym}
-use Rattle.round_work.proofs.Workers.{senders, stopped_many}
+use Rattle.round_work.specs.Rounds.{Stops}
+use Rattle.round_work.proofs.Workers.{senders, zip_many}
 use Rattle.round_work.proofs.round.run_in_scope.Goals as goal
 
 pub gather-requires-clause-made : goal.gather-requires-clause-made
 gather-requires-clause-made g c =
     let done = c.scoped-done.ensures.1.1.1.1 in
     done.0
-    ∙ sym (stopped_many c.args.queue.now c.args.pieces.now 0 c.args.writers.items c.args.shares.items c.scoped-done.result.1.items done.1)
+    ∙ (c.requires.made
+    ∙ sym (zip_many (Stops g.C.Companion.hears c.args.queue.now c.args.pieces.now) c.args.workers.items c.scoped-done.result.1.items done.1))
 
 pub gather-requires-clause-senders : goal.gather-requires-clause-senders
 gather-requires-clause-senders g c =
-    senders c.args.queue.now c.args.pieces.now 0 c.args.writers.items c.args.shares.items c.scoped-done.result.1.items
+    senders g.C.Companion.hears c.args.queue.now c.args.pieces.now c.args.workers.items c.scoped-done.result.1.items
     c.scoped-done.ensures.1.1.1.1.1
