@@ -65,6 +65,7 @@ pub fn has_members_of(verb: Verb, value: &Value) -> bool
         Verb::Commit => {
             has_exactly(value, &["c", "op"]) || has_exactly(value, &["c", "op", "data"])
         }
-        Verb::Search | Verb::Look => has_exactly(value, &["c", "op", "query"]),
+        Verb::Search => has_exactly(value, &["c", "op", "query"]),
+        Verb::Look => has_exactly(value, &["c", "op", "query"]),
     }
 }
