@@ -1,5 +1,5 @@
 -- The workers of a round.
-use Rattle.std.proofs.Common.{◌≡◌, ◌∙◌, ℕ, zero, suc, ◌+◌, List, [], ◌∷◌, ◌++◌, length, map, refl, sym, ap, subst, arith, append_assoc, append-nil}
+use Rattle.std.proofs.Common.{◌≡◌, ◌∙◌, ℕ, zero, suc, ◌+◌, List, [], ◌∷◌, ◌++◌, Result, Ok, Err, IfOk, length, map, refl, sym, ap, subst, arith, append_assoc, append-nil}
 use Rattle.std.proofs.lemmas.List.{map-append}
 use Rattle.std.specs.List.{AllByRecursion, AllZip}
 use Rattle.delete_queue.specs.declared.queue.DeleteQueue.{DeleteQueue}
@@ -74,6 +74,10 @@ moved_over {A} {B} f xs new x all left rest is next before =
 pub none_left : {A B : Type 0} (f : A → B) (xs : List A) (all left : List B) → map f xs ++ left ≡ all → length left ≡ 0 → map f xs ≡ all
 none_left f xs all [] is many = sym (append-nil (map f xs)) ∙ is
 none_left f xs all (y ∷ left) is many = absurd (omega (arith, many))
+
+pub if_ok : {A E : Type 0} (P Q : A → Type 0) (r : Result A E) → ((a : A) → P a → Q a) → IfOk r P → IfOk r Q
+if_ok P Q (Ok a) then holds = then a holds
+if_ok P Q (Err e) then holds = tt
 
 -- ---- before
 

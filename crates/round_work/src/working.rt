@@ -111,11 +111,11 @@ fn do_tasks<R: Wait, G: Gate, C: Companion>(
     ensures turned { (turns_of writer.new ≡ turns_of writer.old)
         ⊎ LacksRoom writer.new (share_of tasks.now replies.new.items outbox.new.held) }
 {
-    companion.come_to(replies.len());
+    tell_along(companion, replies);
     while replies.len() < tasks.len() {
         let task = &tasks[replies.len()];
         match do_task(rt, queue, pieces, writer, task, replies, outbox, gate) {
-            Ok(_) => companion.come_to(replies.len()),
+            Ok(_) => tell_along(companion, replies),
             Err(halt) => return stop_for(halt),
         }
         if is_commit(&task.operation) {
@@ -165,6 +165,13 @@ fn tell<G: Gate>(gate: &G, line: u32, reply: Reply) {
     if let Reply::Numbered(number) = reply {
         gate.told(line, number);
     }
+}
+
+/// Lets what goes along with the worker hear how many tasks have a reply.
+fn tell_along<C: Companion>(companion: &mut C, replies: &Vec<Reply>)
+    ensures { C.hears companion.old (length replies.now.items) companion.new }
+{
+    companion.come_to(replies.len());
 }
 
 /// Whether the operation is a commit.

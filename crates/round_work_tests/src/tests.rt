@@ -7,6 +7,7 @@ ghost use Rattle.round_work.specs.Working.{AreAtWork, IsAtWork};
 ghost use Rattle.round_work.specs.declared.worked.Stop.TheVariants as stop;
 ghost use Rattle.round_work_tests.specs.Shares.{CanGoOn};
 
+use crate::along::{listeners, nothings, show_heard};
 use delete_queue::{DeleteQueue, Reserve, Seat};
 use ix_base::{Birth, Document, Fields, NoMemory, Operation, Refusal, Text};
 use ix_memory::{GroupsGate, MeetingGate, RecordingGate};
@@ -70,59 +71,6 @@ fn four_tasks(alloc: Global) -> Result<Vec<Task>, Fail> {
     tasks.push(Task { line: 3, operation })?;
     tasks.push(adding(alloc, 4, "b1")?)?;
     Ok(tasks)
-}
-
-/// What goes along with a worker, and notes each count that it hears, with how many things the gate had
-/// heard by then. Where memory runs out it notes no more.
-#[derive(Drop)]
-struct Listener<'a> {
-    gate: &'a RecordingGate,
-    heard: Vec<(usize, u64)>,
-}
-
-impl<'a> Companion for Listener<'a> {
-    ghost hears = { λ _ _ _. Unit {0} };
-
-    fn come_to(&mut self, told: usize) {
-        let _ = self.heard.push((told, self.gate.count()));
-    }
-}
-
-/// So many of them.
-fn listeners<'a>(
-    alloc: Global,
-    gate: &'a RecordingGate,
-    count: usize,
-) -> Result<Vec<Listener<'a>>, Fail>
-    ensures { IfOk result (λ all. length all.items ≡ count) }
-{
-    let mut all = Vec::new(alloc);
-    for _ in 0..count {
-        all.push(Listener {
-            gate,
-            heard: Vec::new(alloc),
-        })?;
-    }
-    Ok(all)
-}
-
-/// Nothing to go along, for so many workers.
-fn nothings(alloc: Global, count: usize) -> Result<Vec<()>, Fail>
-    ensures { IfOk result (λ all. length all.items ≡ count) }
-{
-    let mut all = Vec::new(alloc);
-    for _ in 0..count {
-        all.push(())?;
-    }
-    Ok(all)
-}
-
-/// Shows what a worker's companion heard.
-fn show_heard(out: &mut String, heard: &[(usize, u64)]) -> Result<(), Fail> {
-    for (told, things) in heard {
-        write!(out, " {told} at {things},")?;
-    }
-    Ok(())
 }
 
 /// The share of a worker. The only error is that it ran out of memory.
@@ -189,11 +137,9 @@ fn three_rounds<R: Threads + Wait + Sync>(
 fn worker_of_three_rounds(rt: HostRuntime) -> Result<(), Fail> {
     let gate = RecordingGate::new();
     let shown = three_rounds(&rt, rt.alloc(), &gate)?;
-    let expected = concat!(
-        " 0 at 0, 1 at 2, 2 at 3, 3 at 5, 251 term 32767 252 closed 1;",
-        " 3 at 5, 4 at 7, 251 term 32767 252 253 done 0;",
-        " 4 at 7, 251 term 32767 252 253 done 0; 4",
-    );
+    let expected = " 0 at 0, 1 at 2, 2 at 3, 3 at 5, 251 term 32767 252 closed 1; \
+        3 at 5, 4 at 7, 251 term 32767 252 253 done 0; \
+        4 at 7, 251 term 32767 252 253 done 0; 4";
     assert!(rt; shown.as_str() == expected);
     assert!(rt; gate.count() == 7);
     let heard = [

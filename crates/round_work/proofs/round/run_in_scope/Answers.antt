@@ -14,3 +14,6 @@ pub gather-requires-clause-senders : goal.gather-requires-clause-senders
 gather-requires-clause-senders g c =
     senders g.C.Companion.hears c.args.queue.now c.args.pieces.now c.args.workers.items c.scoped-done.result.1.items
     c.scoped-done.ensures.1.1.1.1.1
+
+pub returns-clause-come : goal.returns-clause-come
+returns-clause-come g c = c.gather.ensures c.args.queue.now c.args.workers.items c.requires.numbered c.scoped-done.ensures.1.1.1.1.1

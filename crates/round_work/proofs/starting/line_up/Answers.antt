@@ -1,6 +1,7 @@
 use Rattle.std.proofs.Common.{◌≡◌, ◌∙◌, ◌++◌, ◌∷◌, [], List, length, map, sym, ap, subst, arith, length-append}
 use Rattle.std.proofs.lemmas.List.{length-map}
 use Rattle.std.specs.Vec.Iter.{into_iter_items}
+use Rattle.thread_writer.specs.declared.writer.ThreadWriter.{ThreadWriter}
 use Rattle.round_work.specs.declared.worker.Worker.{Worker}
 use Rattle.round_work.specs.Rounds.{AreFresh, companion_in, sender_in, share_in, writer_in}
 use Rattle.round_work.proofs.Workers.{fresh_more, mapped, moved_over}
@@ -13,11 +14,11 @@ unreachable-requires g c =
     let none = c.in_default.ensures in
     omega (arith, left, one, none)
 
-pub unreachable-requires-in_default-next-2 : goal.unreachable-requires-in_default-next-2
-unreachable-requires-in_default-next-2 g c =
+pub unreachable-requires-in_default-next : goal.unreachable-requires-in_default-next
+unreachable-requires-in_default-next g c =
     let left = c.loop-writer.invariant.companions_left in
     let one = ap length c.in-Some.ensures.steps.0 in
-    let none = c.in_default-next-2.ensures in
+    let none = c.in_default-next.ensures in
     omega (arith, left, one, none)
 
 pub loop-writer-preserved : goal.loop-writer-preserved
@@ -43,7 +44,7 @@ loop-writer-preserved g c =
       receiver = made.receiver;
       made = (let before = at.invariant.made in let now = made.made in omega (arith, before, now, many, pushed));
       ended = made.ended ∙ at.invariant.ended;
-      writers = mapped writer_in old new x items ∙ ap (λ ws. ws ++ x.writer ∷ []) at.invariant.writers;
+      writers = mapped writer_in old new x items ∙ ap (λ (ws : List ThreadWriter). ws ++ x.writer ∷ []) at.invariant.writers;
       shares = moved_over share_in old new x _ _ _ items shares at.invariant.shares;
       companions = moved_over companion_in old new x _ _ _ items companions at.invariant.companions;
       senders = subst (AreFresh c.args.pieces.now 0) (sym (mapped sender_in old new x items))
