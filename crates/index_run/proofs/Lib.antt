@@ -16,6 +16,8 @@ pub mod Workers
 pub mod Counting
 pub mod Left
 pub mod TextsLeft
+pub mod Shown
+pub mod SeenLeft
 pub mod Replying
 pub mod Coming
 pub mod Beginnings

@@ -85,11 +85,13 @@ stops_by None g old new each stops = stops
 stops_by (Some keep) g old new each stops = stops_less keep g old new each stops
 
 -- without a commit line all commits are left
-pub runs_less : (keep : ℕ) (g : Given) (text : List Line → List ℕ) (wrote : List ℕ → Type 0) (old new : Option Disk)
+pub runs_less : (keep : ℕ) (g : Given) (text : List Line → (ℕ → ℕ) → List ℕ) (wrote : List ℕ → Type 0) (old new : Option Disk)
     → has_commit g.lines ≡ false → KeepsEach g old new → Runs g text wrote old new → RunsKeeping keep g text wrote old new
 runs_less keep g text wrote old new none each runs = record {
   log = runs.log;
   numbering = runs.numbering;
+  shown = runs.shown;
+  looks = runs.looks;
   written = runs.written;
   files = some_onto (told_files new) (HasAll g runs.log) (HasLatest keep g runs.log)
       (λ f all. (f, all, subst (λ (b : Bool). IsLeft keep b f f) (sym none) refl)) runs.files;
@@ -272,11 +274,11 @@ are_whole keep g f can spelled s stays = elim (spelled s stays.there) [
 
 -- ---- the same whatever is kept
 
-runs_by_none : (keep : Option ℕ) (g : Given) (text : List Line → List ℕ) (wrote : List ℕ → Type 0) (old new : Option Disk)
+runs_by_none : (keep : Option ℕ) (g : Given) (text : List Line → (ℕ → ℕ) → List ℕ) (wrote : List ℕ → Type 0) (old new : Option Disk)
     → keep ≡ None → Runs g text wrote old new → RunsBy keep g text wrote old new
 runs_by_none keep g text wrote old new is runs = subst (λ (k : Option ℕ). RunsBy k g text wrote old new) (sym is) runs
 
-pub runs_all : (keep : Option ℕ) (g : Given) (text : List Line → List ℕ) (wrote : List ℕ → Type 0) (old new : Option Disk)
+pub runs_all : (keep : Option ℕ) (g : Given) (text : List Line → (ℕ → ℕ) → List ℕ) (wrote : List ℕ → Type 0) (old new : Option Disk)
     → (keep ≡ None) ⊎ (has_commit g.lines ≡ false) → KeepsEach g old new → Runs g text wrote old new
     → RunsBy keep g text wrote old new
 runs_all keep g text wrote old new (inl is) each runs = runs_by_none keep g text wrote old new is runs
@@ -329,7 +331,7 @@ preserves_lines keep g lines old new keeps = record {
       (keeps.each t there settled) (λ c left. (left.0, some_lines g lines left.0 left.1, left.2));
 }
 
-pub all_runs : (keep : Option ℕ) (g : Given) (text : List Line → List ℕ) (result : Result Bytes Stop) (old new : Option Disk)
+pub all_runs : (keep : Option ℕ) (g : Given) (text : List Line → (ℕ → ℕ) → List ℕ) (result : Result Bytes Stop) (old new : Option Disk)
     → (keep ≡ None) ⊎ (has_commit g.lines ≡ false) → KeepsEach g old new
     → IfOk result (λ bytes. Runs g text (λ said. bytes.items ≡ said) old new)
     → IfOk result (λ bytes. RunsBy keep g text (λ said. bytes.items ≡ said) old new)

@@ -35,9 +35,10 @@ use Rattle.index_writer.specs.Ready.{HasRows, IsSound, IsStored}
 use Rattle.index_writer.specs.Rounds.{ArePartsOf}
 use Rattle.index_writer.specs.Storing.{GoesOn as WriterGoesOn}
 use Rattle.searcher.specs.Searching.{IsDamagedIn}
-use Rattle.run_log.specs.Headline.{Given, HasSome, IsIn, Interleaves, commit_numbers, number_of, pairs_at, rows_at}
+use Rattle.run_log.specs.Headline.{AreShown, Given, HasSome, IsIn, Interleaves, commit_numbers, number_of, pairs_at, rows_at}
 use Rattle.run_log.specs.Numbering.{HasLine}
-use Rattle.index_run.specs.Answered.{AreAnswered, IsFound}
+use Rattle.index_run.specs.Answered.{AreAnswered}
+use Rattle.index_run.specs.Looked.{IsFoundRead}
 use Rattle.index_run.specs.Doing.{CanBegin, IsOnGiven, IsWriterOn}
 use Rattle.index_run.specs.Keeping.{FindsStaying, LeftOf}
 use Rattle.index_run.specs.Promises.{CanKeep}
@@ -159,13 +160,16 @@ pub record EndsRound (r : Run) (lines : List Line) (news : List Share) (log : Li
 
 -- ---- ends
 
--- A run that was done: what became of its lines, by the log that it is.
+-- A run that was done: what became of its lines, by the log that it is, and by the commits that its look lines were
+-- shown.
 pub record IsOver (r : Run) (lines : List Line) (became : List Outcome) (w : State) (now : Option Disk) : Type 0 where
   pub log : List Line
   pub writer : IsWriterOn r.first log w
   pub disk : IsDiskBy r.keep r.first log (length log) w r.start now
   pub numbering : Interleaves lines log
-  pub outcomes : AreOutcomes (IsDocs r.first log) (IsFound r.first log) (base_of r) log [] lines became
+  pub shown : ℕ → ℕ
+  pub looks : AreShown (base_of r) log shown lines
+  pub outcomes : AreOutcomes (IsDocs r.first log) (IsFoundRead r.first r.start log) shown (base_of r) log [] lines became
 
 -- Where a run stopped that keeps all commits, a crash left the first of the log's commits, made over an image of the
 -- beginning, and the files have the first of them. Each step was one by which commits are made, and no commit that stood

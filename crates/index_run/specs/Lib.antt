@@ -5,6 +5,7 @@ pub mod Answered
 pub mod Looked
 pub mod Looks
 pub mod Boards
+pub mod Shown
 pub mod Outcomes
 pub mod Replied
 pub mod Leaving

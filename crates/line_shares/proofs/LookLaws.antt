@@ -54,14 +54,14 @@ looks_more n worker after (d ∷ done) l =
 
 -- ---- one line, by what it does
 
-look_of_other : (n worker after : ℕ) (l : Line) → l.caller % n ≢ worker → look_in n worker after l ≡ []
+pub look_of_other : (n worker after : ℕ) (l : Line) → l.caller % n ≢ worker → look_in n worker after l ≡ []
 look_of_other n worker after l other = rw (ne_eqb (l.caller % n) worker other) refl
 
-look_of_own : (n worker after : ℕ) (l : Line) → l.caller % n ≡ worker
+pub look_of_own : (n worker after : ℕ) (l : Line) → l.caller % n ≡ worker
     → look_in n worker after l ≡ look_by after l l.act
 look_of_own n worker after l own = rw (eq-eqb (l.caller % n) worker own) refl
 
-no_look : (n worker after : ℕ) (l : Line) → is_look l.act ≡ false → look_in n worker after l ≡ []
+pub no_look : (n worker after : ℕ) (l : Line) → is_look l.act ≡ false → look_in n worker after l ≡ []
 no_look n worker after l not = by (eqb (l.caller % n) worker) l.act not
   where
     by : (own : Bool) (a : Act) → is_look a ≡ false → cond own (look_by after l a) [] ≡ []
