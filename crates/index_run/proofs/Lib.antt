@@ -25,6 +25,10 @@ pub mod Inputs
 pub mod Summarised
 pub mod Listed
 pub mod Looking
+pub mod Newest
+pub mod RoundLooks
+pub mod RoundBoards
+pub mod LookEnds
 pub mod Finish
 pub mod Pruning
 pub mod Commanded

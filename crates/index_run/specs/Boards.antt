@@ -42,7 +42,8 @@ pub record IsLookingAtFirst (first : State) (start : Option Disk) (looks : List 
   pub count : length x.looked.items ≡ length looks
   pub none : AllByRecursion (λ (w : Vec Looked). w.items ≡ []) x.looked.items
   pub newest : AllLooked looks x.looked.items
-      ⊎ ((top_of (begun_with x.newest) ≡ first.published.upto) × IfSome x.newest (λ (c : Arc Commit Global). IsRead start (arc_value c)))
+      ⊎ ((top_of (begun_with x.newest) ≡ first.published.upto)
+      × IfSome x.newest (λ (c : Arc Commit Global). (1 ≤ (arc_value c).number) × IsRead start (arc_value c)))
 
 -- ---- a round
 

@@ -478,7 +478,7 @@ fn work<L: BoardLaw + Send, R: Threads + Wait + Sync, S: Store, G: Gate>(
     ensures pending { WritesPending S.disk keep due writer result.0 }
     ensures back { IfOk result.1 (λ came. ComesBack begun.queue begun.writers.items begun.shares.items
         came.parts came.shares.items) }
-    ensures looking { IfOk result.1 (λ came. (came.looking.looks ≡ looking.looks)
+    ensures looking { IfOk result.1 (λ came. (came.looking.looks.items ≡ looking.looks.items)
         × AreLookedOn L.lawful (top_of (begun_with looking.newest)) came.shares.items
         looking.looks.items looking.looked.items came.looking.looked.items) }
     // Where a look line is left, the newest commit that was written is at hand.

@@ -9,4 +9,5 @@ pub mod TellLaws
 pub mod CommittedLaws
 pub mod AskLaws
 pub mod LookLaws
+pub mod LooksBehind
 pub mod ToldLaws

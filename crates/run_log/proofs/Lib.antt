@@ -5,6 +5,7 @@ pub mod OnlyLaws
 pub mod CommitLaws
 pub mod LogLaws
 pub mod LookLaws
+pub mod ThirdLaws
 pub mod NumberLaws
 pub mod TellingLaws
 pub mod PlaceLaws
