@@ -29,6 +29,7 @@ pub mod Newest
 pub mod RoundLooks
 pub mod RoundBoards
 pub mod LookEnds
+pub mod LookUnread
 pub mod Finish
 pub mod Pruning
 pub mod Commanded

@@ -154,34 +154,36 @@ segments_whole files d t (e ∷ es) (g ∷ gs) same have = (
     first : Contains (e ∷ es) e
     first = (0, omega arith, refl)
 
+-- a commit that is whole as it was spells what it spelled
+pub spelled_whole : (files d : Files) (s next : ℕ) (entries : List HeadSegment) (segments : List Lived) → IsWholeAs s files d
+    → HasSegments files s next entries segments → HasSegments d s next entries segments
+spelled_whole files d s next entries segments whole was = record {
+  tail = was.tail;
+  head = record {
+    file = whole (Commit s) (inl refl) ∙ was.head.file;
+    number = was.head.number;
+    fits = was.head.fits;
+  };
+  each = segments_whole files d s entries segments
+      (λ e listed name among.
+      let lists : Lists files s e =
+      record { head = head_of s next was.tail entries segments; has_head = was.head; listed = listed } in
+      whole name (inr (e, lists, among)))
+      was.each;
+  apart = was.apart;
+}
+
 inverted_whole : (files d : Files) (s next : ℕ) (rows : List Row) → IsWholeAs s files d
     → HoldsInverted files s next rows → HoldsInverted d s next rows
 inverted_whole files d s next rows whole h = record {
   holds = record {
     entries = h.holds.entries;
     segments = h.holds.segments;
-    spelled = record {
-      tail = was.tail;
-      head = record {
-        file = whole (Commit s) (inl refl) ∙ was.head.file;
-        number = was.head.number;
-        fits = was.head.fits;
-      };
-      each = segments_whole files d s h.holds.entries h.holds.segments
-          (λ e listed name among.
-          let lists : Lists files s e =
-          record { head = head_of s next was.tail h.holds.entries h.holds.segments; has_head = was.head; listed = listed } in
-          whole name (inr (e, lists, among)))
-          was.each;
-      apart = was.apart;
-    };
+    spelled = spelled_whole files d s next h.holds.entries h.holds.segments whole h.holds.spelled;
     rows_are = h.holds.rows_are;
   };
   inverted = h.inverted;
 }
-  where
-    was : HasSegments files s next h.holds.entries h.holds.segments
-    was = h.holds.spelled
 
 -- the last commit stays
 last_stays : (keep base : ℕ) (f : Files) → 1 ≤ keep → IsLast f base → base ≢ 0 → Stays keep f base
