@@ -1,6 +1,7 @@
 -- The looks of each worker, with one line more, and how many tasks stand before them.
-use Rattle.std.proofs.Common.{◌≡◌, ◌≢◌, ◌∙◌, ℕ, zero, suc, ◌+◌, ◌<◌, ◌≤◌, ◌%◌, ◌&&◌, Bool, true, false, cond, eqb, eq-eqb, ne_eqb}
+use Rattle.std.proofs.Common.{◌≡◌, ◌≢◌, ◌∙◌, ℕ, zero, suc, ◌+◌, ◌<◌, ◌≤◌, ◌%◌, ◌&&◌, Bool, true, false, cond, eqb}
 use Rattle.std.proofs.Common.{List, [], ◌∷◌, ◌++◌, length, map, refl, sym, ap, subst, arith, append_assoc, append-nil}
+use Rattle.std.proofs.Common.{eq-eqb, ne_eqb}
 use Rattle.std.specs.Prelude.{slice_index_or, slice_set}
 use Rattle.std.specs.Global.{Vec}
 use Rattle.std.specs.List.{AllByRecursion, filter}
@@ -14,7 +15,8 @@ use Rattle.run_log.specs.Headline.{is_look}
 use Rattle.worker_tasks.specs.declared.task.Task.{Task}
 use Rattle.line_shares.specs.declared.looks.Look.{Look}
 use Rattle.line_shares.specs.Dealing.{AreTasksFrom}
-use Rattle.line_shares.specs.Looks.{AftersRise, AreLooks, AreLooksFrom, after_past, look_by, look_in, looks_from, looks_of}
+use Rattle.line_shares.specs.Looks.{AftersRise, AreLooks, AreLooksFrom}
+use Rattle.line_shares.specs.Looks.{after_past, look_by, look_in, looks_from, looks_of}
 use Rattle.line_shares.specs.Shares.{is_doing, own_lines, task_of}
 
 -- ---- the tasks before a line

@@ -1,8 +1,10 @@
 -- Laws of look lines: lines without any, what one line more changes, and the third last of some numbers.
-use Rattle.std.proofs.Common.{◌≡◌, ◌∙◌, ℕ, Bool, true, false, cond, eqb, ◌&&◌, List, [], ◌∷◌, ◌++◌, map, refl, sym, ap, subst, append-nil, append_assoc}
+use Rattle.std.proofs.Common.{◌≡◌, ◌∙◌, ℕ, Bool, true, false, cond, eqb, ◌&&◌, List, [], ◌∷◌, ◌++◌, map}
+use Rattle.std.proofs.Common.{refl, sym, ap, subst, append-nil, append_assoc}
 use Rattle.std.specs.List.{AllByRecursion, filter}
 use Rattle.op_script.specs.declared.script.Line.{Line}
-use Rattle.run_log.specs.Headline.{AreShownFrom, IsShown, commits_of, is_commit, is_look, last_shown, number_of, third_last}
+use Rattle.run_log.specs.Headline.{AreShownFrom, IsShown, commits_of, is_commit, is_look}
+use Rattle.run_log.specs.Headline.{last_shown, number_of, third_last}
 
 -- of lines without a look line nothing is asked
 pub none_shown : (base : ℕ) (log : List Line) (shown : ℕ → ℕ) (before ls : List Line)

@@ -1,4 +1,4 @@
-use Rattle.std.proofs.Common.{◌≡◌, refl, ℕ, ◌+◌, ◌<◌, ◌%◌, ◌∙◌, ◌++◌, [], ◌∷◌, length, sym, ap, arith}
+use Rattle.std.proofs.Common.{◌≡◌, refl, ℕ, ◌+◌, ◌<◌, ◌%◌, ◌∙◌, ◌++◌, [], ◌∷◌, length, vec_len, sym, ap, arith, rules}
 use Rattle.ix_base.specs.declared.document.Operation.{Operation}
 use Rattle.op_script.specs.declared.script.Act.{Act}
 use Rattle.run_log.specs.Headline.{is_look}
@@ -38,12 +38,18 @@ returns-in_ok-push-in-Look-2-clause-looks c = λ done tasks are.
     let at = c.from.result % n in
     let same : l.caller % n ≡ at = ap (λ (k : ℕ). k % n) (sym c.from.ensures) in
     let own : l.caller % n ≡ 0 + at = omega arith in
-    let in_tasks : at < length ts = let count = c.requires.threads.1 in let some = c.requires.threads.0 in omega arith in
-    let inside : at < length vs = let count = c.requires.workers in let some = c.requires.threads.0 in omega arith in
-    looks_looked n done l ts vs at c.index.result.now c.index_mut-in-Look.result.now c.push-in-Look-2.new.self
-    c.in-Look.query c.in-Look.is own in_tasks inside (sym c.index.ensures) (sym c.index_mut-in-Look.ensures.value)
+    let some = c.requires.threads.0 in
+    let in_tasks : at < length ts = let count = c.requires.threads.1 in omega arith in
+    let inside : at < length vs = let count = c.requires.workers in omega arith in
+    let tasks_now = c.index.result.now in
+    let len : vec_len tasks_now ≡ length tasks_now.items = search rules in
+    let count : c.len-after.result ≡ length tasks_now.items = c.len-after.ensures ∙ len in
+    let v = c.index_mut.result.now in
+    let query = c.in-Look.query in
+    looks_looked n done l ts vs at tasks_now v c.push-in-Look-2.new.self query c.in-Look.is own in_tasks inside
+    (sym c.index.ensures) (sym c.index_mut.ensures.value)
     (c.in_ok-push-in-Look-2.ensures.items
-    ∙ ap (λ (k : ℕ). c.index_mut-in-Look.result.now.items ++ (record { line = l.line; caller = l.caller; after = k; query = c.in-Look.query }) ∷ []) c.len.ensures)
+    ∙ ap (λ (k : ℕ). v.items ++ (record { line = l.line; caller = l.caller; after = k; query = query }) ∷ []) count)
     tasks are
 
 pub returns-in_ok-push-in-Do-2-clause-tasks : goal.returns-in_ok-push-in-Do-2-clause-tasks
