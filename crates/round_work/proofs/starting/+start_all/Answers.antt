@@ -1,8 +1,8 @@
 use Rattle.std.proofs.Common.{◌∙◌, List, [], ◌∷◌, length, sym, ap, subst, arith, rules, length-append}
 use Rattle.std.specs.List.{AllByRecursion, AllZip}
-use denote.Exit.{yes}
+use denote.Exit.{no}
 use denote.Param.{param}
-use denote.Param.Send.{sendable}
+use denote.Param.Send.{arg_send, param_send}
 use Rattle.round_work.specs.Rounds.{IsReady, Starts, Stops}
 use Rattle.round_work.proofs.Sending.{stopped_send, work_send}
 use Rattle.round_work.proofs.Workers.{all_last, zip_last, zip_many}
@@ -32,10 +32,11 @@ returns-then-is_done-clause-started g t c =
 
 pub spawn_with-child-requires-send-F : goal.spawn_with-child-requires-send-F
 spawn_with-child-requires-send-F g t c κs within =
-    work_send _ _ yes _ _ (param 1 g.row.R) _ _ _ _ (param 3 g.row.C) _ _ (param 2 g.row.G) (search rules) (search rules) (search rules)
+    work_send _ _ no _ _ (param 1 g.row.R) _ _ _ _ (param 3 g.row.C) _ _ (param 2 g.row.G) (search rules) (search rules) (search rules)
 
 pub spawn_with-child-requires-send-T : goal.spawn_with-child-requires-send-T
-spawn_with-child-requires-send-T g t c κs within = stopped_send (param 3 g.row.C) (search rules)
+spawn_with-child-requires-send-T g t c κs within =
+    param_send 3 _ (arg_send _ no _ (stopped_send (param 3 g.row.C) (search rules)))
 
 pub spawn_with-child-requires-clause-runs : goal.spawn_with-child-requires-clause-runs
 spawn_with-child-requires-clause-runs g t c κs within = (
