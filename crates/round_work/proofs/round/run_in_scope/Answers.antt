@@ -3,15 +3,18 @@ use Rattle.round_work.specs.Rounds.{Stops}
 use Rattle.round_work.proofs.Workers.{senders, zip_many}
 use Rattle.round_work.proofs.round.run_in_scope.Goals as goal
 
+pub scoped-done-requires : goal.scoped-done-requires
+scoped-done-requires g c = ?
+
 pub gather-requires-clause-made : goal.gather-requires-clause-made
-gather-requires-clause-made g c =
+gather-requires-clause-made g c = λ lifetimes lives.
     let done = c.scoped-done.ensures.1.1.1.1 in
     done.0
     ∙ (c.requires.made
     ∙ sym (zip_many (Stops g.C.Companion.hears c.args.queue.now c.args.pieces.now) c.args.workers.items c.scoped-done.result.1.items done.1))
 
 pub gather-requires-clause-senders : goal.gather-requires-clause-senders
-gather-requires-clause-senders g c =
+gather-requires-clause-senders g c = λ lifetimes lives.
     senders g.C.Companion.hears c.args.queue.now c.args.pieces.now c.args.workers.items c.scoped-done.result.1.items
     c.scoped-done.ensures.1.1.1.1.1
 

@@ -2,7 +2,7 @@ use Rattle.std.proofs.Common.{◌∙◌, List, [], ◌∷◌, length, sym, ap, s
 use Rattle.std.specs.List.{AllByRecursion, AllZip}
 use denote.Exit.{no}
 use denote.Param.{param}
-use denote.Param.Send.{arg_send, param_send}
+use denote.Param.Send.{IsSend, IsSync, arg_send, arg_sync, param_send, param_sync}
 use Rattle.round_work.specs.Rounds.{IsReady, Starts, Stops}
 use Rattle.round_work.proofs.Sending.{stopped_send, work_send}
 use Rattle.round_work.proofs.Workers.{all_last, zip_last, zip_many}
@@ -39,11 +39,17 @@ spawn_with-child-requires-send-T g t c κs within =
     param_send 3 _ (arg_send _ no _ (stopped_send (param 3 g.row.C) (search rules)))
 
 pub spawn_with-child-requires-clause-runs : goal.spawn_with-child-requires-clause-runs
-spawn_with-child-requires-clause-runs g t c κs within = (
-  (all_last (IsReady c.args.queue.now c.args.pieces.now) c.pop.new.self.items c.in-Some.worker
-      (subst (AllByRecursion (IsReady c.args.queue.now c.args.pieces.now)) c.in-Some.ensures.items c.requires.ready)).1,
-  search rules,
-)
+spawn_with-child-requires-clause-runs g t c κs within =
+    let rt_sync : IsSync (param 1 g.row.R) = search rules in
+    let gate_sync : IsSync (param 2 g.row.G) = search rules in
+    let companion_send : IsSend (param 3 g.row.C) = search rules in (
+      (all_last (IsReady c.args.queue.now c.args.pieces.now) c.pop.new.self.items c.in-Some.worker
+          (subst (AllByRecursion (IsReady c.args.queue.now c.args.pieces.now)) c.in-Some.ensures.items c.requires.ready)).1,
+      (
+        param_send 2 _ (arg_send _ no _ companion_send),
+        (param_sync 0 _ (arg_sync _ no _ rt_sync), param_sync 1 _ (arg_sync _ no _ gate_sync)),
+      ),
+    )
 
 pub spawn_with-requires-clause-ready : goal.spawn_with-requires-clause-ready
 spawn_with-requires-clause-ready g t c = λ lifetimes lives.
