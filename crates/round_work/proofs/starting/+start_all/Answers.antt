@@ -47,7 +47,8 @@ spawn_with-child-requires-clause-runs g t c κs within =
           (subst (AllByRecursion (IsReady c.args.queue.now c.args.pieces.now)) c.in-Some.ensures.items c.requires.ready)).1,
       (
         param_send 2 _ (arg_send _ no _ companion_send),
-        (param_sync 0 _ (arg_sync _ no _ rt_sync), param_sync 1 _ (arg_sync _ no _ gate_sync)),
+        param_sync 0 _ (arg_sync _ no _ rt_sync),
+        param_sync 1 _ (arg_sync _ no _ gate_sync),
       ),
     )
 
