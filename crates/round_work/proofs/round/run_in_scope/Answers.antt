@@ -1,5 +1,5 @@
 use Rattle.std.proofs.Common.{◌∙◌, sym}
-use denote.Exit.{yes}
+use denote.Exit.{no}
 use denote.Param.Send.{arg_send, arg_sync, param_send, param_sync}
 use Rattle.round_work.specs.Rounds.{Stops}
 use Rattle.round_work.proofs.Workers.{senders, zip_many}
@@ -22,9 +22,9 @@ scoped-done-requires g c =
                 (
                   c.requires.stopped,
                   (
-                    param_send 2 _ (arg_send _ yes _ bounds.send-C),
-                    param_sync 0 _ (arg_sync _ yes _ bounds.sync-R),
-                    param_sync 1 _ (arg_sync _ yes _ bounds.sync-G),
+                    param_send 2 _ (arg_send _ no _ bounds.send-C),
+                    param_sync 0 _ (arg_sync _ no _ bounds.sync-R),
+                    param_sync 1 _ (arg_sync _ no _ bounds.sync-G),
                   ),
                 ),
               ),
