@@ -8,16 +8,17 @@ use Rattle.round_work.proofs.Workers.{all_along, all_numbered, all_ready, all_wo
 use Rattle.round_work.proofs.round.run_round.Goals as goal
 
 pub line_up-workers-requires-clause-shares : goal.line_up-workers-requires-clause-shares
-line_up-workers-requires-clause-shares g c = at_work_many c.args.queue.now 0 c.args.writers.items c.args.shares.items c.requires.workers
+line_up-workers-requires-clause-shares g c = λ lifetimes lives.
+    at_work_many c.args.queue.now 0 c.args.writers.items c.args.shares.items c.requires.workers
 
 pub run_in_scope-requires-clause-ready : goal.run_in_scope-requires-clause-ready
-run_in_scope-requires-clause-ready g c =
+run_in_scope-requires-clause-ready g c = λ lifetimes lives.
     let up = c.line_up-workers.ensures in
     all_ready c.args.queue.now c.in-Ok.prepared.0 c.args.writers.items c.args.shares.items c.line_up-workers.result.items c.requires.workers
     up.writers up.shares up.senders
 
 pub run_in_scope-requires-clause-numbered : goal.run_in_scope-requires-clause-numbered
-run_in_scope-requires-clause-numbered g c =
+run_in_scope-requires-clause-numbered g c = λ lifetimes lives.
     all_numbered c.in-Ok.prepared.0 0 c.line_up-workers.result.items c.line_up-workers.ensures.senders
 
 pub returns-clause-works : goal.returns-clause-works

@@ -1,8 +1,8 @@
 use Rattle.std.proofs.Common.{◌∙◌, List, [], ◌∷◌, length, sym, ap, subst, arith, rules, length-append}
 use Rattle.std.specs.List.{AllByRecursion, AllZip}
-use denote.Exit.{yes}
+use denote.Exit.{no}
 use denote.Param.{param}
-use denote.Param.Send.{sendable}
+use denote.Param.Send.{IsSend, IsSync, arg_send, arg_sync, param_send, param_sync}
 use Rattle.round_work.specs.Rounds.{IsReady, Starts, Stops}
 use Rattle.round_work.proofs.Sending.{stopped_send, work_send}
 use Rattle.round_work.proofs.Workers.{all_last, zip_last, zip_many}
@@ -32,17 +32,25 @@ returns-then-is_done-clause-started g t c =
 
 pub spawn_with-child-requires-send-F : goal.spawn_with-child-requires-send-F
 spawn_with-child-requires-send-F g t c κs within =
-    work_send _ _ yes _ _ (param 1 g.row.R) _ _ _ _ (param 3 g.row.C) _ _ (param 2 g.row.G) (search rules) (search rules) (search rules)
+    work_send _ _ no _ _ (param 1 g.row.R) _ _ _ _ (param 3 g.row.C) _ _ (param 2 g.row.G) (search rules) (search rules) (search rules)
 
 pub spawn_with-child-requires-send-T : goal.spawn_with-child-requires-send-T
-spawn_with-child-requires-send-T g t c κs within = stopped_send (param 3 g.row.C) (search rules)
+spawn_with-child-requires-send-T g t c κs within =
+    param_send 3 _ (arg_send _ no _ (stopped_send (param 3 g.row.C) (search rules)))
 
 pub spawn_with-child-requires-clause-runs : goal.spawn_with-child-requires-clause-runs
-spawn_with-child-requires-clause-runs g t c κs within = (
-  (all_last (IsReady c.args.queue.now c.args.pieces.now) c.pop.new.self.items c.in-Some.worker
-      (subst (AllByRecursion (IsReady c.args.queue.now c.args.pieces.now)) c.in-Some.ensures.items c.requires.ready)).1,
-  search rules,
-)
+spawn_with-child-requires-clause-runs g t c κs within =
+    let rt_sync : IsSync (param 1 g.row.R) = search rules in
+    let gate_sync : IsSync (param 2 g.row.G) = search rules in
+    let companion_send : IsSend (param 3 g.row.C) = search rules in (
+      (all_last (IsReady c.args.queue.now c.args.pieces.now) c.pop.new.self.items c.in-Some.worker
+          (subst (AllByRecursion (IsReady c.args.queue.now c.args.pieces.now)) c.in-Some.ensures.items c.requires.ready)).1,
+      (
+        param_send 2 _ (arg_send _ no _ companion_send),
+        param_sync 0 _ (arg_sync _ no _ rt_sync),
+        param_sync 1 _ (arg_sync _ no _ gate_sync),
+      ),
+    )
 
 pub spawn_with-requires-clause-ready : goal.spawn_with-requires-clause-ready
 spawn_with-requires-clause-ready g t c = λ lifetimes lives.

@@ -1,4 +1,7 @@
-use Rattle.std.proofs.Common.{◌∙◌, arith}
+use Rattle.std.proofs.Common.{◌∙◌, arith, rules}
+use denote.Exit.{yes}
+use denote.Param.{param}
+use denote.Param.Send.{IsSend, arg_send, param_send}
 use Rattle.round_work.specs.Rounds.{ComesBack, Starts, Stops}
 use Rattle.round_work.proofs.Workers.{zip_many, zip_through}
 use Rattle.round_work.proofs.round.fn.run_in_scope.scope.Goals as goal
@@ -7,15 +10,18 @@ pub come_all-stopped-requires : goal.come_all-stopped-requires
 come_all-stopped-requires g c =
     let q = c.captures.queue.now in
     let started = c.start_all-started in
-    record {
-      receiver = c.requires.receiver;
-      room = (
-        c.requires.stopped.0,
-        (let many = zip_many (Starts g.C.Companion.hears q c.captures.pieces.now) c.captures.workers.items started.result.items started.ensures.started in
-            let room = c.requires.stopped.1 in
-            omega (arith, many, room)),
-      );
-    }
+    let companion_send : IsSend (param 2 g.row.C) = search rules in (
+      param_send 1 _ (arg_send _ yes _ companion_send),
+      (
+        c.requires.receiver,
+        (
+          c.requires.stopped.0,
+          (let many = zip_many (Starts g.C.Companion.hears q c.captures.pieces.now) c.captures.workers.items started.result.items started.ensures.started in
+              let room = c.requires.stopped.1 in
+              omega (arith, many, room)),
+        ),
+      ),
+    )
 
 pub returns : goal.returns
 returns g c =
