@@ -1,14 +1,15 @@
 -- A worker's look lines, shown one by one.
-use Rattle.std.proofs.Common.{◌≡◌, ◌∙◌, ℕ, zero, suc, ◌+◌, ◌<◌, ◌≤◌, List, [], ◌∷◌, ◌++◌, length, map, take, drop, refl, sym, ap, subst, arith}
-use Rattle.std.proofs.Common.{append-nil, append_assoc, map-append}
+use Rattle.std.proofs.Common.{◌≡◌, ◌≢◌, ◌∙◌, ℕ, zero, suc, ◌+◌, ◌<◌, ◌≤◌, List, [], ◌∷◌, ◌++◌, length, map, take, drop, refl, sym, ap, subst, arith}
+use Rattle.std.proofs.Common.{append-nil, append_assoc}
 use Rattle.std.proofs.Math.ListN.{drop_of_length-le, get_or}
 use Rattle.std.proofs.Math.Seq.{drop-cons, take-add}
-use Rattle.std.proofs.lemmas.List.{drop-drop, length-append}
+use Rattle.std.proofs.lemmas.List.{drop-drop, length-append, map-append}
+use Rattle.std.specs.Global.{Vec}
 use Rattle.std.specs.List.{AllZip}
 use Rattle.commit_board.specs.declared.commit.Commit.{Commit}
 use Rattle.line_shares.proofs.LineLaws.{zip_more}
 use Rattle.line_shares.specs.declared.looks.Look.{Look}
-use Rattle.index_run.specs.Looked.{number_of_looked}
+use Rattle.index_run.specs.Looked.{AllLooked, number_of_looked}
 use Rattle.index_run.specs.Looks.{IsLookedBy, IsLookedDue, LooksOn, NoneIsDue, RiseBetween}
 use Rattle.index_run.specs.declared.looks.Looked.{Looked}
 
@@ -76,3 +77,60 @@ looks_next lawful told looks old mid from last at k x on at_is inside is shown d
 pub none_left : (told : ℕ) (looks : List Look) (looked : List Looked) → length looks ≤ length looked → NoneIsDue told looks looked
 none_left told looks looked most = λ k rest at.
     absurd (let none : [] ≡ k ∷ rest = sym (drop_of_length-le looks most) ∙ at in cc)
+
+-- ---- whether all are over
+
+-- all were shown a commit where those from this place on were
+abbrev pub IsOverFrom : List (Vec Look) → List (Vec Looked) → ℕ → Type 0
+IsOverFrom looks looked at =
+    (AllLooked looks looked → AllLooked (drop at looks) (drop at looked))
+    × (AllLooked (drop at looks) (drop at looked) → AllLooked looks looked)
+
+-- what stands from one place on
+from_here : {X : Type 0} (xs : List X) (at : ℕ) (x : X) → at < length xs → get_or xs at x ≡ x → drop at xs ≡ x ∷ drop (suc at) xs
+from_here {X} xs at x inside is = drop-cons xs at x inside ∙ ap (λ (y : X). y ∷ drop (suc at) xs) is
+
+pub over_next : (looks : List (Vec Look)) (looked : List (Vec Looked)) (at : ℕ) (v : Vec Look) (w : Vec Looked)
+    → at < length looks → length looked ≡ length looks → get_or looks at v ≡ v → get_or looked at w ≡ w
+    → length w.items ≡ length v.items → IsOverFrom looks looked at → IsOverFrom looks looked (suc at)
+over_next looks looked at v w inside same v_is w_is over from = (
+  λ all. (together (from.0 all)).1,
+  λ rest. from.1 (apart (over, rest)),
+)
+  where
+    vs : drop at looks ≡ v ∷ drop (suc at) looks
+    vs = from_here looks at v inside v_is
+
+    ws : drop at looked ≡ w ∷ drop (suc at) looked
+    ws = from_here looked at w (omega (arith, inside, same)) w_is
+
+    together : AllLooked (drop at looks) (drop at looked) → AllLooked (v ∷ drop (suc at) looks) (w ∷ drop (suc at) looked)
+    together h =
+        subst (λ (ys : List (Vec Looked)). AllLooked (v ∷ drop (suc at) looks) ys) ws
+        (subst (λ (xs : List (Vec Look)). AllLooked xs (drop at looked)) vs h)
+
+    apart : AllLooked (v ∷ drop (suc at) looks) (w ∷ drop (suc at) looked) → AllLooked (drop at looks) (drop at looked)
+    apart h =
+        subst (λ (xs : List (Vec Look)). AllLooked xs (drop at looked)) (sym vs)
+        (subst (λ (ys : List (Vec Looked)). AllLooked (v ∷ drop (suc at) looks) ys) (sym ws) h)
+
+-- where one was shown too few, not all are over
+pub not_over : (looks : List (Vec Look)) (looked : List (Vec Looked)) (at : ℕ) (v : Vec Look) (w : Vec Looked)
+    → at < length looks → length looked ≡ length looks → get_or looks at v ≡ v → get_or looked at w ≡ w
+    → length w.items ≢ length v.items → IsOverFrom looks looked at → AllLooked looks looked → ⊥
+not_over looks looked at v w inside same v_is w_is differ from all =
+    differ (here (from.0 all)).0
+  where
+    here : AllLooked (drop at looks) (drop at looked) → AllLooked (v ∷ drop (suc at) looks) (w ∷ drop (suc at) looked)
+    here h =
+        subst (λ (ys : List (Vec Looked)). AllLooked (v ∷ drop (suc at) looks) ys)
+        (from_here looked at w (omega (arith, inside, same)) w_is)
+        (subst (λ (xs : List (Vec Look)). AllLooked xs (drop at looked)) (from_here looks at v inside v_is) h)
+
+pub over_end : (looks : List (Vec Look)) (looked : List (Vec Looked)) (at : ℕ) → length looks ≤ at → length looked ≡ length looks
+    → IsOverFrom looks looked at → AllLooked looks looked
+over_end looks looked at most same from =
+    from.1
+    (subst (λ (ys : List (Vec Looked)). AllLooked (drop at looks) ys)
+    (sym (drop_of_length-le looked (omega (arith, most, same))))
+    (subst (λ (xs : List (Vec Look)). AllLooked xs []) (sym (drop_of_length-le looks most)) tt))

@@ -39,10 +39,12 @@ impl Looking {
         requires { length self.now.looked.items ≡ length self.now.looks.items }
         ensures { IsTrue result ↔ AllLooked self.now.looks.items self.now.looked.items }
     {
-        self.looks
-            .iter()
-            .zip(self.looked.iter())
-            .all(|(looks, looked)| looked.len() == looks.len())
+        for at in 0..self.looks.len() {
+            if self.looked[at].len() != self.looks[at].len() {
+                return false;
+            }
+        }
+        true
     }
 }
 
