@@ -32,8 +32,8 @@ use Rattle.index_run.specs.Looked.{AllLooked, AreLooked, AreLookedOf}
 use Rattle.index_run.specs.Looks.{AreBehind, HasLogRows, IsLookedDue, IsLooking, IsNewest, IsOfRound, IsRead, LooksOn, newest_number}
 use Rattle.index_run.specs.declared.looks.Looked.{Looked}
 use Rattle.index_run.specs.declared.looks.Looking.{Looking}
-use Rattle.index_run.proofs.Newest.{IsKnown, Pair, known, numbers_of}
-use Rattle.index_run.proofs.RoundLooks.{all_on, calm, each_taken, each_left, low_newest, zip_where}
+use Rattle.index_run.proofs.Newest.{IsKnown, Pair, known, low_newest, numbers_of}
+use Rattle.index_run.proofs.RoundLooks.{all_on, calm, each_taken, each_left, zip_where}
 
 -- ---- before the first round
 

@@ -1,13 +1,18 @@
 -- The newest commit of a run, and the commits that stand on the board of a round.
 use Rattle.std.proofs.Common.{◌≡◌, ◌⊎◌, ◌∙◌, inl, inr, ℕ, ◌+◌, ◌<◌, ◌≤◌, List, [], ◌∷◌, ◌++◌, length, map, refl, sym, ap, subst, arith, append-nil, append_assoc}
-use Rattle.std.specs.Prelude.{IfSome, Option, Some, None}
+use Rattle.std.proofs.lemmas.List.{map-append}
+use Rattle.std.specs.Prelude.{IfSome, Option, Some, None, option_map}
+use Rattle.std.specs.Arc.{arc_value}
+use Rattle.std.specs.declared.sync.Arc.{Arc}
+use Rattle.std.specs.declared.alloc.Global.{Global}
 use Rattle.std.specs.List.{AllByRecursion}
 use Rattle.ix_base.specs.Steps.{after}
 use Rattle.ix_base.specs.declared.document.Row.{Row}
 use Rattle.ix_outside.specs.Disk.{Disk, told_files}
 use Rattle.ix_outside.specs.Files.{Files}
 use Rattle.searcher.specs.Searching.{Searches}
-use Rattle.commit_board.specs.Commits.{number_of}
+use Rattle.commit_board.specs.Commits.{number_of, top_of}
+use Rattle.commit_board.specs.Posting.{begun_with}
 use Rattle.commit_board.specs.declared.commit.Commit.{Commit}
 use Rattle.op_script.specs.declared.script.Line.{Line}
 use Rattle.worker_tasks.specs.declared.share.Share.{Share}
@@ -242,6 +247,13 @@ module _ (r : Run) (lines : List Line) (shares : List Share) (log : List Line) (
   }
   known newest is c (inr of) = record { number = inr of.number_is; rows = pending_rows c of }
 
+-- the board begins with the newest commit
+pub low_newest : (base : ℕ) (commits : List Pair) (newest : Option (Arc Commit Global))
+    → number_of (option_map arc_value newest) ≡ newest_number base commits
+    → top_of (begun_with newest) ≡ newest_number base commits
+low_newest base commits None is = is
+low_newest base commits (Some c) is = is
+
 -- ---- the newest commit behind a round
 
 rows_longer : (first : State) (start : Option Disk) (log more : List Line) (c : Commit)
@@ -277,3 +289,19 @@ module _ (r : Run) (lines : List Line) (shares : List Share) (log more : List Li
         rows_longer r.first r.start log more c (within c.number (inr some.1.number_is))
         (pending_rows r lines shares log commits due w now come c some.1);
   }
+
+-- ---- the commit that is pending is above the newest that was written
+
+pub below_pending : (base : ℕ) (log : List Line) (commits : List Pair) (pending : Option ℕ) (newest : Option (Arc Commit Global))
+    → numbers_of commits ++ number_in pending ≡ commit_numbers base log
+    → number_of (option_map arc_value newest) ≡ newest_number base commits
+    → IfSome pending (λ (s : ℕ). top_of (begun_with newest) ≤ s)
+below_pending base log commits None newest numbers is = tt
+below_pending base log commits (Some s) newest numbers is =
+    let last = newest_noted base commits (s, 0) in
+    let up =
+    newest_up base log commits (commits ++ (s, 0) ∷ []) (Some s) numbers
+    (map-append (λ (c : Pair). c.0) commits ((s, 0) ∷ [])) in
+    let le = up.0 in
+    let low = low_newest base commits newest is in
+    omega (arith, le, last, low)

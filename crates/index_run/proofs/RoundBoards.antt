@@ -175,17 +175,19 @@ module _ {L : Type 0} (lawful : Commit → Type 0) where
         )
     looked_back (Some p) ss worked us xs begun lined along back =
         lined_on (top_of (begun_with looking.newest)) lookers ss worked looking.looks.items looking.looked.items us xs lined
-        along back begun.2
+        along back begun.3
 
     -- what may be posted beside the round
     pub can_show : (poster : Option Posting) (w : State) (now : Option Disk) → IsBegun looking poster lookers newest
-        → IfSome w.pending (λ (s : ℕ). top_of (begun_with looking.newest) ≤ s)
+        → AllLooked looking.looks.items looking.looked.items
+        ⊎ IfSome w.pending (λ (s : ℕ). top_of (begun_with looking.newest) ≤ s)
         → ((c : Commit) → IsOfRound (option_map arc_value looking.newest) w now c → lawful c)
         → IfSome poster (CanShow lawful w now)
     can_show None w now begun top law = tt
-    can_show (Some p) w now begun top law = (
-      begun.1,
-      subst (λ (cs : List Commit). IfSome w.pending (λ (s : ℕ). top_of cs ≤ s)) (sym begun.0) top,
+    can_show (Some p) w now begun (inl all) law = absurd (begun.0 all)
+    can_show (Some p) w now begun (inr top) law = (
+      begun.2,
+      subst (λ (cs : List Commit). IfSome w.pending (λ (s : ℕ). top_of cs ≤ s)) (sym begun.1) top,
       λ c of. law c (inr of),
     )
 
@@ -198,7 +200,7 @@ module _ {L : Type 0} (lawful : Commit → Type 0) where
         ⊎ IsNewestBeside w now commit (option_map arc_value looking.newest) (option_map arc_value left)
     newest_left None w now commit shown left begun beside none some = inl begun.0
     newest_left (Some p) w now None None left begun beside none some =
-        inr (ap (option_map arc_value) (none refl) ∙ begun.3)
+        inr (ap (option_map arc_value) (none refl) ∙ begun.4)
     newest_left (Some p) w now None (Some c) left begun beside none some = absurd cc
     newest_left (Some p) w now (Some info) None left begun beside none some = absurd beside
     newest_left (Some p) w now (Some info) (Some c) left begun beside none some =

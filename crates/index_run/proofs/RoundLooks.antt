@@ -4,7 +4,7 @@ use Rattle.std.proofs.Common.{length, map, take, drop, refl, sym, ap, subst, ari
 use Rattle.std.proofs.Math.ListN.{drop_of_length-le}
 use Rattle.std.proofs.Math.Seq.{take-add}
 use Rattle.std.proofs.lemmas.List.{length-append, length-drop, map-append, take-append-drop}
-use Rattle.std.specs.Prelude.{Option, Some, None, option_map}
+use Rattle.std.specs.Prelude.{IfSome, Option, Some, None, option_map}
 use Rattle.std.specs.Arc.{arc_value}
 use Rattle.std.specs.declared.sync.Arc.{Arc}
 use Rattle.std.specs.declared.alloc.Global.{Global}
@@ -46,7 +46,7 @@ use Rattle.index_run.specs.declared.looks.Looking.{Looking}
 use Rattle.index_run.proofs.CommitLines.{zip_both}
 use Rattle.index_run.proofs.Looking.{looks_none}
 use Rattle.index_run.proofs.Newest.{IsKnown, Pair, above_first, below_newest, few_numbers, known_in, number_within}
-use Rattle.index_run.proofs.Newest.{known, newest_behind, newest_up, numbers_behind, numbers_of}
+use Rattle.index_run.proofs.Newest.{below_pending, known, low_newest, newest_behind, newest_up, numbers_behind, numbers_of}
 
 -- ---- lists that go together
 
@@ -428,13 +428,6 @@ calm lawful other low least (s ∷ ss) (v ∷ vs) (w ∷ ws) (x ∷ xs) on all =
       (ap length same ∙ all.0, rest.1),
     )
 
--- the board begins with the newest commit
-pub low_newest : (base : ℕ) (commits : List Pair) (newest : Option (Arc Commit Global))
-    → number_of (option_map arc_value newest) ≡ newest_number base commits
-    → top_of (begun_with newest) ≡ newest_number base commits
-low_newest base commits None is = is
-low_newest base commits (Some c) is = is
-
 -- ---- what a round leaves of the look lines
 
 module _ (r : Run) (n : ℕ) (lines : List Line) (olds news : List Share) (log : List Line) (commits : List Pair) (commit : Option CommitInfo)
@@ -529,3 +522,27 @@ module _ (r : Run) (n : ℕ) (lines : List Line) (olds news : List Share) (log :
           shown)
           (inr (newest_behind r lines olds log on.more commits old_due w now come commit (option_map arc_value x.newest)
           (option_map arc_value y.newest) old new))
+
+-- ---- how many look lines' lists there are
+
+pub behind_count : (ss : List Share) (vs : List (Vec Look)) (ws : List (Vec Looked)) → AreBehind ss vs ws
+    → (length vs ≡ length ss) × (length ws ≡ length ss)
+behind_count [] [] [] are = (refl, refl)
+behind_count [] [] (w ∷ ws) are = absurd are
+behind_count [] (v ∷ vs) ws are = absurd are
+behind_count (s ∷ ss) [] ws are = absurd are
+behind_count (s ∷ ss) (v ∷ vs) [] are = absurd are
+behind_count (s ∷ ss) (v ∷ vs) (w ∷ ws) are =
+    let rest = behind_count ss vs ws are.1 in (ap suc rest.0, ap suc rest.1)
+
+-- ---- before a round
+
+-- the commit that is pending isn't below the one that the board shows at first
+pub top_first : (first : State) (start : Option Disk) (log : List Line) (commits : List Pair) (pending same : Option ℕ) (x : Looking) → same ≡ pending
+    → numbers_of commits ++ number_in pending ≡ commit_numbers first.published.upto log
+    → AllLooked x.looks.items x.looked.items ⊎ IsNewest first start log commits (option_map arc_value x.newest)
+    → AllLooked x.looks.items x.looked.items ⊎ IfSome same (λ (s : ℕ). top_of (begun_with x.newest) ≤ s)
+top_first first start log commits pending same x is numbers (inl all) = inl all
+top_first first start log commits pending same x is numbers (inr newest) =
+    inr (subst (λ (p : Option ℕ). IfSome p (λ (s : ℕ). top_of (begun_with x.newest) ≤ s)) (sym is)
+    (below_pending first.published.upto log commits pending x.newest numbers newest.number_is))

@@ -63,12 +63,13 @@ HaveWatchers (w ∷ ws) (o ∷ olds) (n ∷ news) =
     (n.watcher ≡ Some w) × (n.looks ≡ o.looks) × (n.looked ≡ o.looked) × HaveWatchers ws olds news
 HaveWatchers ws olds news = ⊥
 
--- The board of a round shows the newest commit that was written, and so each watcher was shown that number. Or each look
--- line was shown a commit, and there is no board.
+-- The board of a round shows the newest commit that was written, and so each watcher was shown that number: where a look
+-- line is left. Or each was shown a commit, and there is no board.
 abbrev pub IsBegun : {L : Type 0} → Looking → Option Posting → List (Looker L) → Option (Arc Commit Global) → Type 0
 IsBegun {L} looking None lookers newest =
     AllLooked looking.looks.items looking.looked.items × HaveNoWatcher lookers × (newest ≡ None)
-IsBegun {L} looking (Some p) lookers newest = (posted_on p ≡ begun_with looking.newest) × (waiting_on p ≡ [])
+IsBegun {L} looking (Some p) lookers newest = (AllLooked looking.looks.items looking.looked.items → ⊥)
+    × (posted_on p ≡ begun_with looking.newest) × (waiting_on p ≡ [])
     × AllByRecursion (λ (x : Looker L). shown_by x ≡ top_of (begun_with looking.newest)) lookers
     × (option_map arc_value newest ≡ option_map arc_value looking.newest)
 

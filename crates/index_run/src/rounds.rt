@@ -472,7 +472,8 @@ fn work<L: BoardLaw + Send, R: Threads + Wait + Sync, S: Store, G: Gate>(
     requires sound { IsSound writer.state }
     requires open { writer.state.closed ≡ false }
     requires some { IfSome keep (λ keep. 1 ≤ keep) }
-    requires top { IfSome writer.state.pending (λ s. top_of (begun_with looking.newest) ≤ s) }
+    requires top { AllLooked looking.looks.items looking.looked.items
+        ⊎ IfSome writer.state.pending (λ s. top_of (begun_with looking.newest) ≤ s) }
     requires lawful { (c : Commit) → IsOfRound (option_map arc_value looking.newest) writer.state
         (S.disk writer.store) c → L.lawful c }
     ensures pending { WritesPending S.disk keep due writer result.0 }
