@@ -29,7 +29,7 @@ use Rattle.run_log.specs.Headline.{Given, HasNoCommit, rows_at}
 use Rattle.index_run.specs.Boards.{AreLookedAt, AreLookedOn, IsLookingAtFirst}
 use Rattle.index_run.specs.Driving.{HasCome, Run, base_of, number_in}
 use Rattle.index_run.specs.Looked.{AllLooked, AreLooked, AreLookedOf}
-use Rattle.index_run.specs.Looks.{AreBehind, HasLogRows, IsLookedDue, IsLooking, IsNewest, IsOfRound, IsRead, LooksOn, newest_number}
+use Rattle.index_run.specs.Looks.{AreBehind, HasLogRows, IsLookedDue, IsLooking, IsNewest, IsRead, LooksOn, newest_number}
 use Rattle.index_run.specs.declared.looks.Looked.{Looked}
 use Rattle.index_run.specs.declared.looks.Looking.{Looking}
 use Rattle.index_run.proofs.Newest.{IsKnown, Pair, known, low_newest, numbers_of}
@@ -221,12 +221,12 @@ module _ (r : Run) (n : ℕ) (lines : List Line) (shares : List Share) (log : Li
 
   -- The look lines that were left are shown commits by the log, too.
   pub looked_last : (xs : List (Vec Looked))
-      → AreLookedAt (IsOfRound (option_map arc_value x.newest) w now) (top_of (begun_with x.newest)) looks x.looked.items xs
+      → AreLookedAt (λ (c : Commit). option_map arc_value x.newest ≡ Some c) (top_of (begun_with x.newest)) looks x.looked.items xs
       → AreLooked r.first r.start lines log looks xs
   looked_last xs at = by looking.newest
     where
       lawful : Commit → Type 0
-      lawful = IsOfRound (option_map arc_value x.newest) w now
+      lawful c = option_map arc_value x.newest ≡ Some c
 
       low : ℕ
       low = top_of (begun_with x.newest)
@@ -242,6 +242,7 @@ module _ (r : Run) (n : ℕ) (lines : List Line) (shares : List Share) (log : Li
           last xs Nothing (λ c none. absurd none)
           (calm lawful Nothing low (newest_number (base_of r) commits) shares looks x.looked.items xs on all).0
       by (inr newest) =
-          last xs lawful (known r lines shares log commits due w now come (option_map arc_value x.newest) newest)
+          last xs lawful
+          (λ c is. known r lines shares log commits due w now come (option_map arc_value x.newest) newest c (inl is))
           (subst (λ (m : ℕ). AreLookedOn lawful m shares looks x.looked.items xs)
           (low_newest (base_of r) commits x.newest newest.number_is) on)

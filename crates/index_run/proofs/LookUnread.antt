@@ -28,12 +28,14 @@ use Rattle.index_run.specs.Driving.{AreSpelling, HasCome, HasDone, IsCut, IsDue,
 use Rattle.index_run.specs.KeptDisk.{BeginsOnLast, IsDiskBy, StandsLeft}
 use Rattle.index_run.specs.Leaving.{AreMade, IsMade, Stands, first_numbers}
 use Rattle.index_run.specs.Looks.{newest_number}
+use Rattle.index_run.specs.declared.rounds.RanFault.{RanFault}
 use Rattle.index_run.specs.declared.rounds.RanFault.TheVariants as halt
 use Rattle.index_run.proofs.DiskAfter.{changed, the_files}
 use Rattle.index_run.proofs.DiskBy.{stopped_done}
 use Rattle.index_run.proofs.LeftCommits.{latest_stays}
 use Rattle.index_run.proofs.Newest.{Pair, below_newest, newest_noted, numbers_of}
 use Rattle.index_run.proofs.Pruning.{spelled_whole}
+use Rattle.index_run.proofs.Rounding.{cut_done}
 
 -- these files spell some commit of this number
 abbrev pub IsSpelledIn : Files → ℕ → Type 0
@@ -177,3 +179,25 @@ module _ (r : Run) (lines : List Line) (shares : List Share) (log : List Line) (
   cut_shown damaged broken whole =
       cut_unread r lines shares log w now come.done damaged s
       (let above = above_base (base_of r) log s among in omega (arith, above)) (inr among) broken (never_broken whole)
+
+-- ---- before the first round
+
+-- A run whose first commit is broken stops, or it stops by its writer.
+pub cut_begun : (r : Run) (lines : List Line) (shares : List Share) (w : State) (now : Option Disk) → HasDone r lines shares [] w now
+    → r.start ≡ now → (fault : RanFault)
+    → ((damaged : Damaged) → fault ≡ halt.Damaged damaged → ⊥)
+    → ((damaged : Damaged) → fault ≡ halt.Unread damaged → (1 ≤ base_of r) × IsDamagedIn (told_files now) (base_of r) damaged)
+    → ((files : Files) (next : ℕ) (entries : List HeadSegment) (segments : List Lived) → told_files now ≡ Some files
+    → HasSegments files (base_of r) next entries segments → (damaged : Damaged) → fault ≡ halt.Unread damaged → ⊥)
+    → IsCut r lines fault now
+cut_begun r lines shares w now h same (halt.Writer fault) pruned unread whole = cut_done r lines shares [] w now h
+cut_begun r lines shares w now h same (halt.Damaged damaged) pruned unread whole = absurd (pruned damaged refl)
+cut_begun r lines shares w now h same (halt.Unread damaged) pruned unread whole =
+    let broken = unread damaged refl in
+    cut_unread r lines shares [] w now h damaged (base_of r) broken.0 (inl refl) broken.1
+    (λ files begins stored spelling. by broken.0 files begins spelling)
+  where
+    by : 1 ≤ base_of r → (files : Files) → BeginsOnLast r.first files r.start → AreSpelling files (base_of r) → ⊥
+    by some files begins (inl zero) = absurd (omega (arith, some, zero))
+    by some files begins (inr there) =
+        whole files there.0 there.1 there.2 (sym (ap told_files same) ∙ begins.told) there.3 damaged refl

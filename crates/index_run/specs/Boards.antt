@@ -12,6 +12,8 @@ use Rattle.commit_board.specs.Posting.{Posting, begun_with, posted_on, waiting_o
 use Rattle.commit_board.specs.declared.commit.Commit.{Commit}
 use Rattle.commit_board.specs.declared.watcher.Watcher.{Watcher}
 use Rattle.index_writer.specs.declared.state.State.{State}
+use Rattle.line_shares.specs.Looks.{AreLooks}
+use Rattle.line_shares.specs.declared.asks.Ask.{Ask}
 use Rattle.line_shares.specs.declared.looks.Look.{Look}
 use Rattle.worker_tasks.specs.declared.share.Share.{Share}
 use Rattle.index_run.specs.Looked.{AllLooked}
@@ -25,7 +27,7 @@ use Rattle.op_script.specs.declared.script.Line.{Line}
 use Rattle.round_work.specs.Working.{AreWorked}
 use Rattle.round_work.specs.declared.worked.Worked.{Worked}
 use Rattle.thread_writer.specs.declared.writer.ThreadWriter.{ThreadWriter}
-use Rattle.index_run.specs.Driving.{HasCome, IsCut, KeepsBy, Run}
+use Rattle.index_run.specs.Driving.{Begins, HasCome, IsCut, KeepsBy, Run}
 use Rattle.index_run.specs.Looks.{IsOfPending, IsRead, LooksOn, shown_by}
 use Rattle.index_run.specs.Rounds.{AllCame, gave_of, pieces_of, share_of, writers_of}
 use Rattle.index_run.specs.declared.rounds.Ran.{Ran}
@@ -34,6 +36,16 @@ use Rattle.index_run.specs.declared.looks.Looker.{Looker}
 use Rattle.index_run.specs.declared.looks.Looking.{Looking}
 
 -- ---- before the first round
+
+-- A run begins here, with this writer and disk: nothing was told, the asks of each caller are its search lines, and the
+-- looks of each worker its callers' look lines.
+pub record BeginsHere (r : Run) (lines : List Line) (shares : List Share) (asks : List (Vec Ask)) (looks : List (Vec Look)) (w : State)
+    (now : Option Disk)
+    : Type 0 where
+  pub begins : Begins r lines shares asks w now
+  pub looks_are : AreLooks r.workers lines looks
+  pub first_is : r.first ≡ w
+  pub start_is : r.start ≡ now
 
 -- No look line of any worker was shown a commit, and the commit on which the run began was read, where there is one and a
 -- look line.

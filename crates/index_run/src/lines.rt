@@ -9,8 +9,8 @@ ghost use Rattle.op_script.specs.Shape.{AreScriptLines};
 ghost use Rattle.index_run.specs.Doing.{CanBegin};
 ghost use Rattle.op_script.specs.declared.script.Line.{Line};
 ghost use Rattle.line_shares.specs.Shares.{AreDone, AreShares};
-ghost use Rattle.index_run.specs.Driving.{Begins, HasCome, IsCut, IsOver, IsRunBy, IsUnderWay, Run};
-ghost use Rattle.line_shares.specs.Looks.{AreLooks};
+ghost use Rattle.index_run.specs.Boards.{BeginsHere};
+ghost use Rattle.index_run.specs.Driving.{HasCome, IsCut, IsOver, IsRunBy, IsUnderWay, Run};
 ghost use Rattle.index_run.specs.Looked.{AllLooked, AreLooked};
 ghost use Rattle.index_run.specs.Rounds.{doing_lines, given};
 
@@ -131,17 +131,15 @@ fn do_rounds<R: Threads + Wait + Sync, S: Store, G: Gate>(
     requires some { IfSome keep (λ keep. 1 ≤ keep) }
     requires out { writer.state.out ≡ false }
     requires begins { (r : Run) × (lines : ListOf Line) × IsRunBy threads keep r
-        × Begins r lines shares.items asks.now writer.state (S.disk writer.store)
-        × AreLooks threads lines looks.items }
+        × BeginsHere r lines shares.items asks.now looks.items writer.state (S.disk writer.store) }
     ensures over { (r : Run) (lines : ListOf Line) → IsRunBy threads keep r
-        → Begins r lines shares.items asks.now writer.state (S.disk writer.store)
-        → AreLooks threads lines looks.items
+        → BeginsHere r lines shares.items asks.now looks.items writer.state (S.disk writer.store)
         → IfOk result.came (λ x. (due : CommitLine) × (way : IsUnderWay r lines x.shares.items asks.now
         x.commits.items due x.texts.items result.writer.state (S.disk result.writer.store))
         × AreLooked r.first r.start lines way.log looks.items x.looked.items) }
     ensures looked { IfOk result.came (λ x. AllLooked looks.items x.looked.items) }
     ensures cut { (r : Run) (lines : ListOf Line) → IsRunBy threads keep r
-        → Begins r lines shares.items asks.now writer.state (S.disk writer.store)
+        → BeginsHere r lines shares.items asks.now looks.items writer.state (S.disk writer.store)
         → IfErr result.came (λ fault. IsCut r lines fault (S.disk result.writer.store)) }
     ensures written { OnOk result.came (result.writer.state.pending ≡ None) }
     ensures done { IfOk result.came (λ x. AreDone x.shares.items) }
