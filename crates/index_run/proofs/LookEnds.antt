@@ -21,13 +21,14 @@ use Rattle.line_shares.proofs.LookLaws.{afters_within}
 use Rattle.line_shares.specs.Looks.{AreLooks, AreLooksFrom, looks_of}
 use Rattle.line_shares.specs.Shares.{AreDone, AreShares, AreSharesFrom, GoesOn, IsDone, IsShare, own_lines, task_of}
 use Rattle.line_shares.specs.Tells.{IsLogOf, replies_at}
+use Rattle.line_shares.specs.declared.asks.Ask.{Ask}
 use Rattle.line_shares.specs.declared.looks.Look.{Look}
 use Rattle.line_shares.specs.declared.round_commit.CommitLine.{CommitLine}
 use Rattle.index_writer.specs.declared.state.State.{State}
 use Rattle.run_log.proofs.NumberLaws.{rows_at_all}
 use Rattle.run_log.specs.Headline.{Given, HasNoCommit, rows_at}
 use Rattle.index_run.specs.Boards.{AreLookedAt, AreLookedOn, IsLookingAtFirst}
-use Rattle.index_run.specs.Driving.{HasCome, Run, base_of, number_in}
+use Rattle.index_run.specs.Driving.{HasCome, IsUnderWay, Run, base_of, number_in}
 use Rattle.index_run.specs.Looked.{AllLooked, AreLooked, AreLookedOf}
 use Rattle.index_run.specs.Looks.{AreBehind, HasLogRows, IsLookedDue, IsLooking, IsNewest, IsRead, LooksOn, newest_number}
 use Rattle.index_run.specs.declared.looks.Looked.{Looked}
@@ -246,3 +247,18 @@ module _ (r : Run) (n : ℕ) (lines : List Line) (shares : List Share) (log : Li
           (λ c is. known r lines shares log commits due w now come (option_map arc_value x.newest) newest c (inl is))
           (subst (λ (m : ℕ). AreLookedOn lawful m shares looks x.looked.items xs)
           (low_newest (base_of r) commits x.newest newest.number_is) on)
+
+-- ---- both kinds of lines that are answered
+
+-- How far a run has come by its search lines, and by its look lines, by the same log.
+abbrev pub ComesBoth : Run → List Line → List Share → List (Vec Ask) → List (Vec Look) → List Pair → CommitLine → List (Vec (List ℕ))
+    → Looking → State → Option Disk → Type 0
+ComesBoth r lines shares asks looks commits due texts x w now =
+    (way : IsUnderWay r lines shares asks commits due texts w now)
+    × IsLooking r.first r.start lines shares way.log commits looks x
+
+-- the commit with which a board begins is the newest
+pub law_newest : (newest : Option (Arc Commit Global))
+    → IfSome newest (λ (c : Arc Commit Global). option_map arc_value newest ≡ Some (arc_value c))
+law_newest None = tt
+law_newest (Some c) = refl
