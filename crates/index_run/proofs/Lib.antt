@@ -30,6 +30,7 @@ pub mod RoundLooks
 pub mod RoundBoards
 pub mod LookEnds
 pub mod LookUnread
+pub mod Posted
 pub mod Finish
 pub mod Pruning
 pub mod Commanded

@@ -70,7 +70,7 @@ module _ (first : State) (start : Option Disk) (lines : List Line) where
   none_above most (w ∷ ws) none =
       (subst (λ (xs : List Looked). AllByRecursion (λ (x : Looked). x.number ≤ most) xs) (sym none.0) tt, none_above most ws none.1)
 
-  base : ℕ
+  abbrev pub base : ℕ
   base = first.published.upto
 
   -- the commit on which the run began has the rows that it was given

@@ -37,7 +37,7 @@ use Rattle.index_run.specs.Looks.{HasLogRows, IsNewest, IsOfPending, IsOfRound, 
 use Rattle.index_run.proofs.Coming.{next_commit}
 use Rattle.index_run.proofs.DiskAfter.{changed, the_files}
 
-abbrev Pair : Type 0
+abbrev pub Pair : Type 0
 Pair = ℕ × ℕ
 
 abbrev pub numbers_of : List Pair → List ℕ
@@ -45,7 +45,7 @@ numbers_of commits = map (λ (c : Pair). c.0) commits
 
 -- ---- the newest of some numbers
 
-newest_of : ℕ → List ℕ → ℕ
+abbrev pub newest_of : ℕ → List ℕ → ℕ
 newest_of base [] = base
 newest_of base (s ∷ ns) = newest_of s ns
 

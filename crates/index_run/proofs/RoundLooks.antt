@@ -129,10 +129,10 @@ module _ (n : ℕ) (first : State) (start : Option Disk) (lines : List Line) (ol
     (behind_is : commit_numbers (first.published.upto + length log) more ≡ number_in later)
     (known : (c : Commit) → lawful c → IsKnown first start log commits pending c)
     (noted : numbers_of after_it ≡ numbers_of commits ++ number_in pending) where
-  base : ℕ
+  abbrev pub base : ℕ
   base = first.published.upto
 
-  newest : ℕ
+  abbrev pub newest : ℕ
   newest = newest_number base commits
 
   up : (newest ≤ newest_number base after_it) × ((s : ℕ) → pending ≡ Some s → s ≤ newest_number base after_it)
