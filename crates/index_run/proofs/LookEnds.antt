@@ -85,7 +85,7 @@ module _ (first : State) (start : Option Disk) (lines : List Line) where
 
       by : HasNoCommit g ⊎ ((1 ≤ g.base) × IsLawful g.files g.base g.next g.rows)
           → Searches c.searcher.segments (rows_at base g.rows [] c.number)
-      by (inl none) = absurd (let zero = none.0 in omega (arith, some, given_is, zero))
+      by (inl none) = absurd (let nought = none.0 in omega (arith, some, given_is, nought))
       by (inr there) =
           subst (λ (rows : List Row). Searches c.searcher.segments rows) (sym (rows_at_all base g.rows [] c.number at_first))
           (read g.files g.next g.rows told
@@ -203,7 +203,7 @@ module _ (r : Run) (n : ℕ) (lines : List Line) (shares : List Share) (log : Li
   log_is : IsLogOf n lines shares log
   log_is = subst (λ (m : ℕ). IsLogOf m lines shares log) size come.done.log_is
 
-  Nothing : Commit → Type 0
+  abbrev Nothing : Commit → Type 0
   Nothing c = ⊥
 
   last : (xs : List (Vec Looked)) (lawful : Commit → Type 0)

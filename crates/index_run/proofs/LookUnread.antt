@@ -198,6 +198,6 @@ cut_begun r lines shares w now h same (halt.Unread damaged) pruned unread whole 
     (λ files begins stored spelling. by broken.0 files begins spelling)
   where
     by : 1 ≤ base_of r → (files : Files) → BeginsOnLast r.first files r.start → AreSpelling files (base_of r) → ⊥
-    by some files begins (inl zero) = absurd (omega (arith, some, zero))
+    by some files begins (inl nought) = absurd (omega (arith, some, nought))
     by some files begins (inr there) =
         whole files there.0 there.1 there.2 (sym (ap told_files same) ∙ begins.told) there.3 damaged refl

@@ -207,6 +207,25 @@ module _ {L : Type 0} (lawful : Commit → Type 0) where
         inr (subst (λ (o : Option (Arc Commit Global)). IsSomeAnd (option_map arc_value o)
         (λ (d : Commit). (d.number ≡ info.number) × IsOfPending w now d)) (sym (some c refl)) beside)
 
+-- one worker more that came back
+lined_pushed : {L : Type 0} (vs : List (Vec Look)) (ws : List (Vec Looked)) (xs : List (Looker L)) (x : Looker L)
+    → AreLinedUp vs ws xs → AreLinedUp (vs ++ x.looks ∷ []) (ws ++ x.looked ∷ []) (xs ++ x ∷ [])
+lined_pushed {L} [] [] [] x are = (refl, refl, tt)
+lined_pushed {L} [] [] (y ∷ xs) x are = absurd are
+lined_pushed {L} [] (w ∷ ws) xs x are = absurd are
+lined_pushed {L} (v ∷ vs) [] xs x are = absurd are
+lined_pushed {L} (v ∷ vs) (w ∷ ws) [] x are = absurd are
+lined_pushed {L} (v ∷ vs) (w ∷ ws) (y ∷ xs) x are = (are.0, are.1, lined_pushed vs ws xs x are.2)
+
+pub lined_more : {L : Type 0} (vs us : List (Vec Look)) (ws zs : List (Vec Looked)) (xs : List (Worked (Looker L))) (one : Worked (Looker L))
+    → AreLinedUp vs ws (companions_of xs) → us ≡ vs ++ one.companion.looks ∷ [] → zs ≡ ws ++ one.companion.looked ∷ []
+    → AreLinedUp us zs (companions_of (xs ++ one ∷ []))
+lined_more {L} vs us ws zs xs one are looks looked =
+    subst (λ (ls : List (Looker L)). AreLinedUp us zs ls) (sym (map-append (λ (w : Worked (Looker L)). w.companion) xs (one ∷ [])))
+    (subst (λ (ls : List (Vec Look)). AreLinedUp ls zs (companions_of xs ++ one.companion ∷ [])) (sym looks)
+    (subst (λ (ls : List (Vec Looked)). AreLinedUp (vs ++ one.companion.looks ∷ []) ls (companions_of xs ++ one.companion ∷ [])) (sym looked)
+    (lined_pushed vs ws (companions_of xs) one.companion are)))
+
 -- the commit with which a board begins may stand on it
 pub law_first : (lawful : Commit → Type 0) (newest : Option (Arc Commit Global)) (w : State) (now : Option Disk)
     → ((c : Commit) → IsOfRound (option_map arc_value newest) w now c → lawful c)

@@ -169,7 +169,7 @@ module _ (n : ℕ) (first : State) (start : Option Disk) (lines : List Line) (ol
   none_found : (k : Look) (x : Looked) (found : List Hit) → x.number ≡ 0 → found ≡ [] → newest ≤ x.number
       → x.text ≡ text_line (search_value x.number found k.line)
       → IsFoundRead first start (log ++ more) x.number k.query k.line x.text
-  none_found k x found zero none least text g told can on =
+  none_found k x found nought none least text g told can on =
       text
       ∙ ap (λ (hs : List Hit). text_line (search_value x.number hs k.line)) (none ∙ sym nothing)
     where
@@ -177,17 +177,17 @@ module _ (n : ℕ) (first : State) (start : Option Disk) (lines : List Line) (ol
       first_low = above_first base log commits pending numbers
 
       is_zero : g.base ≡ 0
-      is_zero = (let same = on.number in omega (arith, zero, least, first_low, same))
+      is_zero = (let same = on.number in omega (arith, nought, least, first_low, same))
 
       no_rows : HasNoCommit g ⊎ ((1 ≤ g.base) × _) → g.rows ≡ []
       no_rows (inl nothing_there) = nothing_there.2
       no_rows (inr some) = absurd (let one = some.0 in omega (arith, one, is_zero))
 
       low : x.number ≤ base + 0
-      low = omega (arith, zero)
+      low = omega (arith, nought)
 
       at_first : x.number ≡ base + 0
-      at_first = (let same = on.number in omega (arith, zero, is_zero, same))
+      at_first = (let same = on.number in omega (arith, nought, is_zero, same))
 
       rows_none : rows_at base g.rows (log ++ more) x.number ≡ []
       rows_none =
@@ -201,7 +201,8 @@ module _ (n : ℕ) (first : State) (start : Option Disk) (lines : List Line) (ol
   looked_text : (k : Look) (x : Looked) (found : List Hit) → IsAnswer lawful k.query x.number found → newest ≤ x.number
       → x.text ≡ text_line (search_value x.number found k.line)
       → IsFoundRead first start (log ++ more) x.number k.query k.line x.text
-  looked_text k x found (inl none) least text = none_found k x found none.0 none.1 least text
+  looked_text k x found (inl none) least text g told can on =
+      none_found k x found none.0 none.1 least text g told can on
   looked_text k x found (inr by) least text g told can on =
       let c = by.commit in
       let is = known c by.law in
@@ -219,8 +220,8 @@ module _ (n : ℕ) (first : State) (start : Option Disk) (lines : List Line) (ol
       → (s ≡ base) ⊎ IsIn (commit_numbers base (log ++ more)) s
   looked_one query s found (inl none) least =
       let low = above_first base log commits pending numbers in
-      let zero = none.0 in
-      inl (omega (arith, least, low, zero))
+      let nought = none.0 in
+      inl (omega (arith, least, low, nought))
   looked_one query s found (inr by) least =
       in_more s
       (subst (λ (t : ℕ). (t ≡ base) ⊎ IsIn (commit_numbers base log) t) (sym by.number_is)
@@ -228,7 +229,7 @@ module _ (n : ℕ) (first : State) (start : Option Disk) (lines : List Line) (ol
 
   looked_below : (query : _) (s : ℕ) (found : List Hit) → IsAnswer lawful query s found
       → s ≤ newest_number base after_it
-  looked_below query s found (inl none) = (let zero = none.0 in omega (arith, zero))
+  looked_below query s found (inl none) = (let nought = none.0 in omega (arith, nought))
   looked_below query s found (inr by) = at by.commit.number by.number_is (known by.commit by.law).number
     where
       at : (t : ℕ) → s ≡ t → (t ≡ newest) ⊎ (pending ≡ Some t) → s ≤ newest_number base after_it
@@ -269,13 +270,13 @@ module _ (n : ℕ) (first : State) (start : Option Disk) (lines : List Line) (ol
     stand : AllByRecursion (StandsIn n worker lines) v.items
     stand = subst (AllByRecursion (StandsIn n worker lines)) (sym looks_are) (looks_of_stand n worker lines)
 
-    many : ℕ
+    abbrev many : ℕ
     many = length w.items
 
-    extra : ℕ
+    abbrev extra : ℕ
     extra = length on.more
 
-    these : List Look
+    abbrev these : List Look
     these = take extra (drop many v.items)
 
     least : AllByRecursion (λ (y : Looked). newest ≤ y.number) on.more
@@ -438,7 +439,7 @@ module _ (r : Run) (n : ℕ) (lines : List Line) (olds news : List Share) (log :
     (on : GoesOnBy r lines news log (given commits commit) new_due v end)
     (are : AreLooks n lines looks) (looking : IsLooking r.first r.start lines olds log commits looks x) where
   -- no commit at all
-  Nothing : Commit → Type 0
+  abbrev Nothing : Commit → Type 0
   Nothing c = ⊥
 
   first_place : (j : ℕ) → 0 + j ≡ j

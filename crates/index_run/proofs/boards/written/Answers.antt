@@ -1,6 +1,6 @@
 use Rattle.std.proofs.Common.{◌≡◌, ◌⊎◌, inl, inr, sym, subst}
 use Rattle.commit_point.specs.Holds.{HasSegments}
-use Rattle.commit_point.specs.declared.load.Opened.{Opened}
+use Rattle.commit_point.specs.declared.open.Opened.{Opened}
 use Rattle.index_run.proofs.boards.written.Goals as goal
 
 pub returns-in-Ok-clause-rows : goal.returns-in-Ok-clause-rows
