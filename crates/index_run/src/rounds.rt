@@ -135,12 +135,11 @@ struct Came {
     looking: Looking,
 }
 
-/// What came back of a round's workers, with the newest commit that the round's board shows. The only error is out of
-/// memory, here or in one of the workers.
+/// What came back of a round's workers, without the newest commit. The only error is out of memory, here or in one of the
+/// workers.
 fn part<L: BoardLaw>(
     alloc: Global,
     queue: DeleteQueue,
-    newest: Option<Arc<Commit, Global>>,
     worked: Vec<Worked<Looker<L>>>,
 ) -> Result<Came, NoMemory>
     ensures queue { IfOk result (λ x. x.parts.queue ≡ queue) }
@@ -150,7 +149,6 @@ fn part<L: BoardLaw>(
     ensures came { OnOk result (AllCame worked.items) }
     ensures looking { IfOk result (λ x.
         AreLinedUp x.looking.looks.items x.looking.looked.items (companions_of worked.items)) }
-    ensures newest { IfOk result (λ x. x.looking.newest ≡ newest) }
 {
     let mut writers = Vec::new(alloc);
     let mut pieces = Vec::new(alloc);
@@ -184,7 +182,7 @@ fn part<L: BoardLaw>(
         looking: Looking {
             looks,
             looked,
-            newest,
+            newest: None,
         },
     })
 }
@@ -549,8 +547,9 @@ fn came_back<L: BoardLaw>(
         (companions_of worked.items) × (came.looking.newest ≡ newest))) }
     ensures all { OnOk result (IsOk back) }
 {
-    let worked = back?;
-    part(alloc, queue, newest, worked)
+    let mut came = part(alloc, queue, back?)?;
+    came.looking.newest = newest;
+    Ok(came)
 }
 
 /// What a round leaves.
