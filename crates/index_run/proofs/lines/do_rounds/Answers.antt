@@ -57,8 +57,8 @@ returns-in-Err-begin_looking-clause-cut g c = λ r lines size here.
     said.whole files next entries segments (ap told_files disk ∙ told)
     (subst (λ (n : ℕ). HasSegments files n next entries segments) (sym upto) there) damaged (ap Err is))))
 
-pub loop-alloc-init : goal.loop-alloc-init
-loop-alloc-init g c =
+pub loop-keep-init : goal.loop-keep-init
+loop-keep-init g c =
     let w = c.args.writer in
     let mid = c.first_texts.new.writer in
     let v = c.begin_looking.new.writer in
@@ -96,7 +96,7 @@ loop-alloc-init g c =
 
 pub do_round-round-requires-clause-come : goal.do_round-round-requires-clause-come
 do_round-round-requires-clause-come g c κs within =
-    let at = c.loop-alloc in
+    let at = c.loop-keep in
     let q = c.requires.begins in
     let far = at.invariant.come q.0 q.1 q.2 q.3 in
     let way = far.0 in (
@@ -115,15 +115,15 @@ do_round-round-requires-clause-some g c κs within = some_behind c.args.keep _ c
 
 pub returns-in-Err-came-clause-cut : goal.returns-in-Err-came-clause-cut
 returns-in-Err-came-clause-cut g c = λ r lines size here.
-    let at = c.loop-alloc in
+    let at = c.loop-keep in
     let way = (at.invariant.come r lines size here).0 in
     halted_cut g.S.Store.disk r lines _ _ _ c.halted-in-Err-came.ensures
     (on_fault _ _ _ c.in-Err-came.is (c.do_round-round.ensures.cut r lines way.log at.commits.items
     (run_behind c.args.threads c.args.keep _ r c.kept_behind-kept.ensures.same size) way.come))
 
-pub loop-alloc-preserved : goal.loop-alloc-preserved
-loop-alloc-preserved g c =
-    let at = c.loop-alloc in
+pub loop-keep-preserved : goal.loop-keep-preserved
+loop-keep-preserved g c =
+    let at = c.loop-keep in
     let asks = c.args.asks.now in
     let looks = c.args.looks.items in
     let left = c.in-Ok-came.left in
@@ -168,7 +168,7 @@ loop-alloc-preserved g c =
 
 pub returns-in-Err-settle-clause-cut : goal.returns-in-Err-settle-clause-cut
 returns-in-Err-settle-clause-cut g c = λ r lines size here.
-    let at = c.loop-alloc in
+    let at = c.loop-keep in
     let way = (at.invariant.come r lines size here).0 in
     let on =
     on_ok _ _ _ c.in-Ok-came.is (c.do_round-round.ensures.come r lines way.log at.commits.items
@@ -178,7 +178,7 @@ returns-in-Err-settle-clause-cut g c = λ r lines size here.
 
 pub look_last-requires-clause-count : goal.look_last-requires-clause-count
 look_last-requires-clause-count g c =
-    let at = c.loop-alloc in
+    let at = c.loop-keep in
     let q = c.requires.begins in
     let far = at.invariant.come q.0 q.1 q.2 q.3 in
     let same = far.1.looks_are in
@@ -186,17 +186,17 @@ look_last-requires-clause-count g c =
     count.1 ∙ sym count.0 ∙ sym (ap length same)
 
 pub look_last-requires-clause-lawful : goal.look_last-requires-clause-lawful
-look_last-requires-clause-lawful g c = inr (law_newest c.loop-alloc.looking.newest)
+look_last-requires-clause-lawful g c = inr (law_newest c.loop-keep.looking.newest)
 
 pub returns-in-Err-look_last-clause-cut : goal.returns-in-Err-look_last-clause-cut
 returns-in-Err-look_last-clause-cut g c = λ r lines size here.
-    let at = c.loop-alloc in
+    let at = c.loop-keep in
     let way = (at.invariant.come r lines size here).0 in
     stopped_cut g.S.Store.disk r lines _ _ _ c.stopped-in-Err-look_last.ensures (cut_done r lines _ _ _ _ way.come.done)
 
 pub returns-clause-over : goal.returns-clause-over
 returns-clause-over g c = λ r lines size here.
-    let at = c.loop-alloc in
+    let at = c.loop-keep in
     let far = at.invariant.come r lines size here in
     let way = far.0 in
     let looked = c.in-Ok-look_last.looked in
@@ -212,7 +212,7 @@ returns-clause-over g c = λ r lines size here.
 
 pub returns-clause-looked : goal.returns-clause-looked
 returns-clause-looked g c =
-    let at = c.loop-alloc in
+    let at = c.loop-keep in
     let q = c.requires.begins in
     let far = at.invariant.come q.0 q.1 q.2 q.3 in
     let looked = c.in-Ok-look_last.looked in
@@ -224,11 +224,11 @@ returns-clause-looked g c =
 pub returns-clause-few : goal.returns-clause-few
 returns-clause-few g c = λ lines are.
     let few = few_open c.args.threads lines c.args.shares.items are in
-    let at = c.loop-alloc in
+    let at = c.loop-keep in
     few_last c.write_last.result.came
     (record { shares = at.shares; commits = at.commits; texts = at.texts; looked = c.in-Ok-look_last.looked; count = at.count })
     (length (doing_lines lines)) c.write_last.ensures.same (omega (arith, few, at.invariant.few))
 
 pub returns-clause-cut : goal.returns-clause-cut
 returns-clause-cut g c = λ r lines size here.
-    let way = (c.loop-alloc.invariant.come r lines size here).0 in c.write_last.ensures.cut r lines way.log way.come
+    let way = (c.loop-keep.invariant.come r lines size here).0 in c.write_last.ensures.cut r lines way.log way.come

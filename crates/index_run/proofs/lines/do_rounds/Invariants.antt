@@ -9,8 +9,8 @@ use Rattle.index_run.specs.Driving.{IsRunBy, IsUnderWay, Run}
 use Rattle.index_run.specs.Looks.{IsLooking}
 use Rattle.index_run.proofs.lines.do_rounds.Given as goal
 
-abbrev pub invariant-loop-alloc : goal.invariant-loop-alloc
-invariant-loop-alloc g l =
+abbrev pub invariant-loop-keep : goal.invariant-loop-keep
+invariant-loop-keep g l =
     record {
       come : (r : Run) (lines : List Line) → IsRunBy l.fn.threads l.fn.keep r
           → BeginsHere r lines l.fn.shares.items l.asks l.fn.looks.items l.fn.writer.state (g.S.Store.disk l.fn.writer.store)
@@ -23,8 +23,8 @@ invariant-loop-alloc g l =
       later : g.S.Store.fault_count l.fn.writer.store ≤ g.S.Store.fault_count l.writer.store;
     }
 
-abbrev pub decreases-loop-alloc : goal.decreases-loop-alloc
-decreases-loop-alloc g l = open_count l.shares.items
+abbrev pub decreases-loop-keep : goal.decreases-loop-keep
+decreases-loop-keep g l = open_count l.shares.items
 
 -- the newest commit that was written may stand on the board of the look lines that are left
 abbrev pub ghosts-look_last : goal.ghosts-look_last
