@@ -128,7 +128,10 @@ all_due n worker lines s is done =
     (afters_within n worker 0 lines)
   where
     count : length s.replies ≡ 0 + length (own_lines n worker lines)
-    count = done ∙ ap length is.tasks ∙ length-map (own_lines n worker lines) task_of
+    count =
+        (let tasks = ap length is.tasks in
+        let own = length-map (own_lines n worker lines) task_of in
+        omega (arith, done, tasks, own))
 
 looks_due : (lawful : Commit → Type 0) (told : ℕ) (s : Share) (v : List Look) (o x : List Looked) (low high : ℕ)
     → AllByRecursion (λ (k : Look). k.after ≤ length s.replies) v → LooksOn lawful told v o x low high
@@ -183,7 +186,7 @@ go_nowhere n i lines (s ∷ ss) are = (
 )
 
 -- the commits with the one that is pending
-and_pending : List Pair → Option ℕ → List Pair
+abbrev and_pending : List Pair → Option ℕ → List Pair
 and_pending commits None = commits ++ []
 and_pending commits (Some s) = commits ++ (s, 0) ∷ []
 

@@ -132,7 +132,7 @@ module _ (r : Run) (lines : List Line) (shares : List Share) (log : List Line) (
 module _ (r : Run) (lines : List Line) (shares : List Share) (log : List Line) (commits : List Pair) (s docs : ℕ) (due : CommitLine)
     (w : State) (now : Option Disk) (come : HasCome r lines shares log (commits ++ (s, docs) ∷ []) due w now)
     (none : w.pending ≡ None) where
-  noted : List Pair
+  abbrev noted : List Pair
   noted = commits ++ (s, docs) ∷ []
 
   newest : newest_number (base_of r) noted ≡ s

@@ -21,7 +21,7 @@ use Rattle.index_writer.specs.declared.round.CommitInfo.{CommitInfo}
 use Rattle.index_writer.specs.declared.state.State.{State}
 use Rattle.index_run.specs.Boards.{AreLinedUp, AreLookedOn, CanShow, HaveNoWatcher, IsBegun, IsNewestBeside, IsShownBeside}
 use Rattle.index_run.specs.Looked.{AllLooked, number_of_looked}
-use Rattle.index_run.specs.Looks.{Hears, IsLookedDue, IsOfPending, IsOfRound, LooksOn, shown_by}
+use Rattle.index_run.specs.Looks.{Hears, IsLookedDue, IsOfPending, IsOfRound, LooksOn, RiseBetween, shown_by}
 use Rattle.index_run.specs.Rounds.{companions_of, share_of}
 use Rattle.index_run.specs.declared.looks.Looked.{Looked}
 use Rattle.index_run.specs.declared.looks.Looker.{Looker}
@@ -58,7 +58,7 @@ looks_join lawful told looks old mid new from via to first rest = record {
       (zip_both (IsLookedDue lawful told) (take (length first.more) left) (take (length rest.more) (drop (length mid) looks))
       first.more rest.more first.each rest.each);
   rise =
-      subst (λ (ns : List ℕ). _) (sym (map-append number_of_looked first.more rest.more))
+      subst (λ (ns : List ℕ). RiseBetween from ns to) (sym (map-append number_of_looked first.more rest.more))
       (rise_both from via to (map number_of_looked first.more) (map number_of_looked rest.more) first.rise rest.rise);
 }
   where
@@ -133,7 +133,8 @@ module _ {L : Type 0} (lawful : Commit → Type 0) where
   lined_on low [] [] (x ∷ worked) vs ws us xs lined along back shown = absurd along
   lined_on low [] [] [] (v ∷ vs) ws us xs lined along back shown = absurd lined
   lined_on low [] [] [] [] (w ∷ ws) us xs lined along back shown = absurd lined
-  lined_on low [] [] [] [] [] (u ∷ us) xs lined along back shown = absurd back
+  lined_on low [] [] [] [] [] (u ∷ us) [] lined along back shown = absurd back
+  lined_on low [] [] [] [] [] (u ∷ us) (x ∷ xs) lined along back shown = absurd back
   lined_on low [] [] [] [] [] [] (x ∷ xs) lined along back shown = absurd back
   lined_on low (l ∷ lookers) [] worked vs ws us xs lined along back shown = absurd along
   lined_on low (l ∷ lookers) (s ∷ ss) [] vs ws us xs lined along back shown = absurd along

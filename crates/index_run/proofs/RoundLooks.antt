@@ -15,6 +15,7 @@ use Rattle.ix_base.specs.declared.document.Hit.{Hit}
 use Rattle.ix_base.specs.declared.document.Row.{Row}
 use Rattle.ix_outside.specs.Disk.{Disk}
 use Rattle.commit_board.specs.Answer.{IsAnswer, IsByLawful}
+use Rattle.commit_point.specs.Holds.{IsLawful}
 use Rattle.commit_board.specs.Commits.{number_of, top_of}
 use Rattle.commit_board.specs.Posting.{begun_with}
 use Rattle.commit_board.specs.declared.commit.Commit.{Commit}
@@ -179,7 +180,7 @@ module _ (n : ℕ) (first : State) (start : Option Disk) (lines : List Line) (ol
       is_zero : g.base ≡ 0
       is_zero = (let same = on.number in omega (arith, nought, least, first_low, same))
 
-      no_rows : HasNoCommit g ⊎ ((1 ≤ g.base) × _) → g.rows ≡ []
+      no_rows : HasNoCommit g ⊎ ((1 ≤ g.base) × IsLawful g.files g.base g.next g.rows) → g.rows ≡ []
       no_rows (inl nothing_there) = nothing_there.2
       no_rows (inr some) = absurd (let one = some.0 in omega (arith, one, is_zero))
 
