@@ -131,7 +131,8 @@ module _ {L : Type 0} (lawful : Commit → Type 0) where
   lined_on low [] [] [] [] [] [] [] lined along back shown = (refl, tt)
   lined_on low [] (s ∷ ss) worked vs ws us xs lined along back shown = absurd along
   lined_on low [] [] (x ∷ worked) vs ws us xs lined along back shown = absurd along
-  lined_on low [] [] [] (v ∷ vs) ws us xs lined along back shown = absurd lined
+  lined_on low [] [] [] (v ∷ vs) [] us xs lined along back shown = absurd lined
+  lined_on low [] [] [] (v ∷ vs) (w ∷ ws) us xs lined along back shown = absurd lined
   lined_on low [] [] [] [] (w ∷ ws) us xs lined along back shown = absurd lined
   lined_on low [] [] [] [] [] (u ∷ us) [] lined along back shown = absurd back
   lined_on low [] [] [] [] [] (u ∷ us) (x ∷ xs) lined along back shown = absurd back
