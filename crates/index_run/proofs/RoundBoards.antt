@@ -139,9 +139,11 @@ module _ {L : Type 0} (lawful : Commit → Type 0) where
   lined_on low [] [] [] [] [] [] (x ∷ xs) lined along back shown = absurd back
   lined_on low (l ∷ lookers) [] worked vs ws us xs lined along back shown = absurd along
   lined_on low (l ∷ lookers) (s ∷ ss) [] vs ws us xs lined along back shown = absurd along
-  lined_on low (l ∷ lookers) (s ∷ ss) (d ∷ worked) [] ws us xs lined along back shown = absurd lined
+  lined_on low (l ∷ lookers) (s ∷ ss) (d ∷ worked) [] [] us xs lined along back shown = absurd lined
+  lined_on low (l ∷ lookers) (s ∷ ss) (d ∷ worked) [] (w ∷ ws) us xs lined along back shown = absurd lined
   lined_on low (l ∷ lookers) (s ∷ ss) (d ∷ worked) (v ∷ vs) [] us xs lined along back shown = absurd lined
-  lined_on low (l ∷ lookers) (s ∷ ss) (d ∷ worked) (v ∷ vs) (w ∷ ws) [] xs lined along back shown = absurd back
+  lined_on low (l ∷ lookers) (s ∷ ss) (d ∷ worked) (v ∷ vs) (w ∷ ws) [] [] lined along back shown = absurd back
+  lined_on low (l ∷ lookers) (s ∷ ss) (d ∷ worked) (v ∷ vs) (w ∷ ws) [] (x ∷ xs) lined along back shown = absurd back
   lined_on low (l ∷ lookers) (s ∷ ss) (d ∷ worked) (v ∷ vs) (w ∷ ws) (u ∷ us) [] lined along back shown = absurd back
   lined_on low (l ∷ lookers) (s ∷ ss) (d ∷ worked) (v ∷ vs) (w ∷ ws) (u ∷ us) (x ∷ xs) lined along back shown =
       let here = one_on low l s d v w u x lined.0 lined.1 along.0 back.0 back.1 shown.0 in
