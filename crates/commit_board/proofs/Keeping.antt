@@ -1,5 +1,5 @@
 -- Looks and posts keep the rule.
-use Rattle.std.proofs.Common.{Result, Ok, Err, MatchResult, ◌≡◌, ◌≢◌, ℕ, zero, suc, ◌+◌, ◌≤◌, nat_le, map, fold, List, [], ◌∷◌, ◌++◌, length, Option, Some, None, append-nil, append_assoc, set, sym, refl, ap, ◌∙◌, subst, ⊎_elim, zero-le, take, drop, take-append-drop, is_err, false, arith}
+use Rattle.std.proofs.Common.{Result, Ok, Err, MatchResult, OnOk, OnErr, ◌≡◌, ◌≢◌, ℕ, zero, suc, ◌+◌, ◌≤◌, nat_le, map, fold, List, [], ◌∷◌, ◌++◌, length, Option, Some, None, IfSome, option_map, append-nil, append_assoc, set, sym, refl, ap, ◌∙◌, subst, ⊎_elim, zero-le, take, drop, take-append-drop, is_err, false, arith}
 use Rattle.std.specs.Arc.{arc_value}
 use Rattle.std.specs.declared.sync.Arc.{Arc}
 use Rattle.std.specs.declared.alloc.Global.{Global}
@@ -12,7 +12,8 @@ use Rattle.atomic_table.proofs.Lists.{at_set, at_snoc}
 use Rattle.left_right.specs.Register.{Admits, Turns, TurnsAt, Forks, Merges}
 use Rattle.commit_board.specs.declared.commit.Commit.{Commit}
 use Rattle.commit_board.specs.declared.shelf.Shelf.{Shelf}
-use Rattle.commit_board.specs.Commits.{BeginsWith, RiseFrom, is_rising, last_of, number_of, top_of}
+use Rattle.commit_board.specs.Commits.{AreLawful, BeginsWith, RiseFrom, is_rising, last_of, number_of, top_of}
+use Rattle.commit_board.specs.Posting.{MayWait}
 use Rattle.commit_board.specs.Rule.{IsKept, Shows, Looks, Appends, newest}
 
 -- ---- beginnings
@@ -37,39 +38,82 @@ others list new views seat w grew kept mine k u got =
 
 -- ---- the steps
 
-pub looks : (seat : ℕ) (v : List Commit) → Turns IsKept seat v (λ x. x) Looks
-looks seat v x views (list, shows, kept) at = (
+pub looks : (lawful : Commit → Type 0) (seat : ℕ) (v : List Commit) → Turns (IsKept lawful) seat v (λ x. x) (Looks lawful)
+looks lawful seat v x views (list, shows, law, kept) at = (
   list,
-  (list, shows, others list list views seat list (λ xs h. h) kept (begins_self list)),
-  record { later = kept seat v at; shows = shows },
+  (list, shows, law, others list list views seat list (λ xs h. h) kept (begins_self list)),
+  record { later = kept seat v at; shows = shows; law = law },
 )
 
-pub admits : Admits IsKept []
-admits x views (list, shows, kept) =
-    (list, shows, λ k u got. ⊎_elim (λ (old : get_elem? views k ≡ some u). kept k u old) (λ (e : [] ≡ u). subst (λ (y : List Commit). BeginsWith list y) e (begins_none list)) (at_snoc views [] u k got))
-
-pub forks : (seat : ℕ) (v : List Commit) → Forks IsKept seat v v v
-forks seat v x views (list, shows, kept) at = (
+pub admits : (lawful : Commit → Type 0) → Admits (IsKept lawful) []
+admits lawful x views (list, shows, law, kept) = (
   list,
   shows,
+  law,
+  λ k u got. ⊎_elim (λ (old : get_elem? views k ≡ some u). kept k u old) (λ (e : [] ≡ u). subst (λ (y : List Commit). BeginsWith list y) e (begins_none list)) (at_snoc views [] u k got),
+)
+
+pub forks : (lawful : Commit → Type 0) (seat : ℕ) (v : List Commit) → Forks (IsKept lawful) seat v v v
+forks lawful seat v x views (list, shows, law, kept) at = (
+  list,
+  shows,
+  law,
   λ k u got.
       ⊎_elim (λ (old : get_elem? (set views seat v) k ≡ some u). others list list views seat v (λ xs h. h) kept (kept seat v at) k u old)
       (λ (e : v ≡ u). subst (λ (y : List Commit). BeginsWith list y) e (kept seat v at)) (at_snoc (set views seat v) v u k got),
 )
 
-pub merges : (seat : ℕ) (v : List Commit) (other : ℕ) (w : List Commit) → Merges IsKept seat v other w w []
-merges seat v other w x views (list, shows, kept) at apart there =
+pub merges : (lawful : Commit → Type 0) (seat : ℕ) (v : List Commit) (other : ℕ) (w : List Commit) → Merges (IsKept lawful) seat v other w w []
+merges lawful seat v other w x views (list, shows, law, kept) at apart there =
     let theirs : BeginsWith list w = ⊎_elim (λ (t : (other ≡ seat) × (w ≡ w)). absurd (apart t.0)) (λ (t : (other ≢ seat) × (get_elem? views other ≡ some w)). kept other w t.1) (at_set views seat other w w there) in
     let step = others list list views seat w (λ xs h. h) kept theirs in
-    (list, shows, others list list (set views seat w) other [] (λ xs h. h) step (begins_none list))
+    (list, shows, law, others list list (set views seat w) other [] (λ xs h. h) step (begins_none list))
 
 -- a board begins
-pub begins : (x : Shelf) → Shows x [] → IsKept x ([] ∷ [])
-begins x shows =
-    ([], shows, λ k u got. ⊎_elim (λ (old : get_elem? [] k ≡ some u). nothing u k old) (λ (e : [] ≡ u). subst (λ (y : List Commit). BeginsWith [] y) e (begins_none [])) (at_snoc [] [] u k got))
+pub begins : (lawful : Commit → Type 0) (x : Shelf) → Shows x [] → IsKept lawful x ([] ∷ [])
+begins lawful x shows = (
+  [],
+  shows,
+  tt,
+  λ k u got. ⊎_elim (λ (old : get_elem? [] k ≡ some u). nothing u k old) (λ (e : [] ≡ u). subst (λ (y : List Commit). BeginsWith [] y) e (begins_none [])) (at_snoc [] [] u k got),
+)
   where
     nothing : (u : List Commit) (k : ℕ) → get_elem? {A = List Commit} [] k ≡ some u → BeginsWith [] u
     nothing u k old = cc
+
+-- ---- lawful commits
+
+lawful_more : (lawful : Commit → Type 0) (xs ys : List Commit) → AreLawful lawful xs → AreLawful lawful ys → AreLawful lawful (xs ++ ys)
+lawful_more lawful [] ys hs more = more
+lawful_more lawful (x ∷ xs) ys (h, hs) more = (h, lawful_more lawful xs ys hs more)
+
+lawful_last : (lawful : Commit → Type 0) (xs : List Commit) → AreLawful lawful xs → IfSome (last_of xs) lawful
+lawful_last lawful [] hs = tt
+lawful_last lawful (x ∷ []) hs = hs.0
+lawful_last lawful (x ∷ (y ∷ ys)) hs = lawful_last lawful (y ∷ ys) hs.1
+
+-- an owner of the last commit of a list of lawful ones is one of a lawful commit
+pub lawful_owner : (lawful : Commit → Type 0) (xs : List Commit) (o : Option (Arc Commit Global)) → option_map arc_value o ≡ last_of xs → AreLawful lawful xs
+    → IfSome o (λ a. lawful (arc_value a))
+lawful_owner lawful xs None is hs = tt
+lawful_owner lawful xs (Some a) is hs = subst (λ (m : Option Commit). IfSome m lawful) (sym is) (lawful_last lawful xs hs)
+
+-- what waits, once a commit was refused
+lawful_waiting : (lawful : Commit → Type 0) (xs ys : List Commit) (c : Commit) → AreLawful lawful xs → lawful c → MayWait c xs ys → AreLawful lawful ys
+lawful_waiting lawful xs ys c hs h may =
+    ⊎_elim (λ (e : ys ≡ xs). subst (λ (l : List Commit). AreLawful lawful l) (sym e) hs)
+    (λ (e : ys ≡ xs ++ c ∷ []). subst (λ (l : List Commit). AreLawful lawful l) (sym e) (lawful_more lawful xs (c ∷ []) hs (h, tt))) may
+
+-- what was posted and what waits is lawful after a post of a lawful commit, whether it was refused or not
+pub lawful_after : {E : Type 0} (r : Result (Unit {0}) E) (lawful : Commit → Type 0) (xs ys posted waits : List Commit) (c : Commit)
+    → OnOk r (posted ≡ (xs ++ ys) ++ c ∷ []) → OnOk r (waits ≡ []) → OnErr r (posted ≡ xs) → OnErr r (MayWait c ys waits)
+    → AreLawful lawful xs → AreLawful lawful ys → lawful c → AreLawful lawful posted × AreLawful lawful waits
+lawful_after (Ok u) lawful xs ys posted waits c more none same may hs ws h = (
+  subst (λ (l : List Commit). AreLawful lawful l) (sym more) (lawful_more lawful (xs ++ ys) (c ∷ []) (lawful_more lawful xs ys hs ws) (h, tt)),
+  subst (λ (l : List Commit). AreLawful lawful l) (sym none) tt,
+)
+lawful_after (Err e) lawful xs ys posted waits c more none same may hs ws h =
+    (subst (λ (l : List Commit). AreLawful lawful l) (sym same) hs, lawful_waiting lawful ys waits c ws h may)
 
 -- ---- the poster knows the whole list
 
@@ -96,9 +140,9 @@ taken_in_is list (o ∷ ops) =
     let here : (Some (arc_value o), length list + 1) ≡ (last_of more, length more) = λ i. (sym (last_more list (arc_value o)) i, sym (length-append list (arc_value o ∷ [])) i) in
     ap (λ (s : Option Commit × ℕ). taken_in s ops) here ∙ taken_in_is more ops ∙ ap (λ (l : List Commit). (last_of l, length l)) (append_assoc list (arc_value o ∷ []) (map arc_value ops))
 
-pub posts : (commits : List Commit) (ops : List (Arc Commit Global)) (seat : ℕ) (v : List Commit) (x next : Shelf) → map arc_value ops ≡ commits → Shows x v → RiseFrom 0 (v ++ map arc_value ops)
-    → (newest next, next.count) ≡ fold (λ (t : Option Commit × ℕ) o. (Some (arc_value o), t.1 + 1)) (newest x, x.count) ops → TurnsAt IsKept seat v x next (Appends commits)
-posts commits ops seat v x next these mine rise after views (list, shows, kept) at =
+pub posts : (lawful : Commit → Type 0) (commits : List Commit) (ops : List (Arc Commit Global)) (seat : ℕ) (v : List Commit) (x next : Shelf) → map arc_value ops ≡ commits → Shows x v → RiseFrom 0 (v ++ map arc_value ops) → AreLawful lawful (map arc_value ops)
+    → (newest next, next.count) ≡ fold (λ (t : Option Commit × ℕ) o. (Some (arc_value o), t.1 + 1)) (newest x, x.count) ops → TurnsAt (IsKept lawful) seat v x next (Appends commits)
+posts lawful commits ops seat v x next these mine rise more after views (list, shows, law, kept) at =
     let is : list ≡ v = whole v x list mine shows (kept seat v at) in
     let new : List Commit = v ++ map arc_value ops in
     let grew : (xs : List Commit) → BeginsWith list xs → BeginsWith new xs = λ xs h. begins_more v xs (map arc_value ops) (subst (λ (l : List Commit). BeginsWith l xs) is h) in
@@ -106,7 +150,7 @@ posts commits ops seat v x next these mine rise after views (list, shows, kept) 
     let now : (newest next, next.count) ≡ (last_of new, length new) = after ∙ (ap (λ (s : Option Commit × ℕ). taken_in s ops) before ∙ taken_in_is v ops) in
     let shown : Shows next new = record { last = ap (λ (s : Option Commit × ℕ). s.0) now; count = sym (ap (λ (s : Option Commit × ℕ). s.1) now); rise = rise } in (
       new,
-      (new, shown, others list new views seat new grew kept (begins_self new)),
+      (new, shown, lawful_more lawful v (map arc_value ops) (subst (λ (l : List Commit). AreLawful lawful l) is law) more, others list new views seat new grew kept (begins_self new)),
       record { list = ap (λ (l : List Commit). v ++ l) these; shows = shown },
     )
 

@@ -4,6 +4,11 @@ use Rattle.ix_base.specs.declared.document.Row.{Row}
 use Rattle.searcher.specs.Searching.{Searches}
 use Rattle.commit_board.specs.declared.commit.Commit.{Commit}
 
+-- each commit of the list is lawful
+abbrev pub AreLawful : (Commit → Type 0) → List Commit → Type 0
+AreLawful lawful [] = Unit {0}
+AreLawful lawful (c ∷ cs) = lawful c × AreLawful lawful cs
+
 -- the list begins with this one
 abbrev pub BeginsWith : List Commit → List Commit → Type 0
 BeginsWith list first = (rest : List Commit) × (list ≡ first ++ rest)

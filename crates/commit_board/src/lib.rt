@@ -7,11 +7,16 @@
 //! watcher and the poster know. What a watcher is shown is the last commit of a beginning of that list
 //! (`seen_by`), which goes on from all that it was shown since it learnt last, and from all that it learnt then.
 //!
+//! Which commits may stand on a board is said by a law (`BoardLaw`), which the call that makes the board picks
+//! in its proof: each commit that is posted is lawful, and each answer is by one that is.
+//!
 //! A searcher doesn't know the number of its commit, so the board's entries are pairs of both (`Commit`).
 #![tactic(auto)]
 
 mod board;
 mod commit;
+mod entry;
+mod law;
 mod poster;
 mod publisher;
 mod rule;
@@ -21,6 +26,7 @@ mod watcher;
 
 pub use board::Board;
 pub use commit::Commit;
+pub use law::BoardLaw;
 pub use poster::Poster;
 pub use viewer::Shown;
 pub use watcher::Watcher;

@@ -2,6 +2,7 @@
 ghost use Rattle.std.specs.Prelude.{[], List};
 
 use crate::commit::Commit;
+use crate::law::BoardLaw;
 use crate::shelf::Shelf;
 use atomic_table::{Join, Split};
 use crossbeam_utils::rule::{Outcome, Protocol};
@@ -15,24 +16,29 @@ use std::sync::Arc;
 /// What a thread has seen of the list, or was told of it. No value of it is made.
 pub type Known = LinkedList<Commit>;
 
-/// There is one list, whose last commit is on the shelf, and which begins with what each thread knows.
-pub struct OneList;
+/// There is one list of lawful commits, whose last one is on the shelf, and which begins with what each
+/// thread knows.
+pub struct OneList<L> {
+    law: PhantomData<L>,
+}
 
-impl Protocol<Shelf, Known> for OneList {
+impl<L: BoardLaw> Protocol<Shelf, Known> for OneList<L> {
     ghost use Rattle.commit_board.specs.Rule.{IsKept};
 
-    ghost holds = { IsKept };
+    ghost holds = { IsKept L.lawful };
 
     ghost first = { [] };
 }
 
 /// What a look tells.
-pub struct Sees;
+pub struct Sees<L> {
+    law: PhantomData<L>,
+}
 
-impl Outcome<Shelf, Known> for Sees {
+impl<L: BoardLaw> Outcome<Shelf, Known> for Sees<L> {
     ghost use Rattle.commit_board.specs.Rule.{Looks};
 
-    ghost then = { Looks };
+    ghost then = { Looks L.lawful };
 }
 
 /// The commits that a post shows at once. The call that shows them says which they are.
@@ -72,6 +78,6 @@ impl Join<Known> for Tells {
     ghost spent = { [] };
 }
 
-pub type BoardReader = Reader<Shelf, Known, OneList>;
+pub type BoardReader<L> = Reader<Shelf, Known, OneList<L>>;
 
-pub type BoardWriter = Writer<Shelf, Arc<Commit, Global>, Known, OneList>;
+pub type BoardWriter<L> = Writer<Shelf, Arc<Commit, Global>, Known, OneList<L>>;

@@ -1,5 +1,5 @@
 //! The end of the board that is shown commits.
-ghost use Rattle.std.specs.Prelude.{◌≡◌, ◌≤◌, ◌↔◌, [], List, length, map, take, IfOk, option_map};
+ghost use Rattle.std.specs.Prelude.{◌≡◌, ◌≤◌, ◌↔◌, [], List, length, take, IfOk, option_map};
 ghost use Rattle.std.specs.Arc.{arc_value};
 ghost use Rattle.ix_base.specs.Hits.{hits};
 ghost use Rattle.ix_base.specs.declared.document.Row.{Row};
@@ -7,6 +7,8 @@ ghost use Rattle.left_right.specs.Sides.{view};
 ghost use Rattle.commit_board.specs.Commits.{AreLastRows, BeginsWith, last_of, top_of};
 
 use crate::commit::Commit;
+use crate::entry::{Entry, entry_of};
+use crate::law::BoardLaw;
 use crate::rule::{BoardReader, Sees};
 use ix_base::{Hit, NoMemory, Query};
 use std::alloc::{AllocError, Global};
@@ -23,12 +25,12 @@ pub struct Shown {
 
 /// A reader, the commit that it shows, and how many of the list that it knows end with that commit.
 #[derive(Drop)]
-pub struct Viewer {
-    pub(crate) reader: BoardReader,
-    pub(crate) newest: Option<Arc<Commit, Global>>,
+pub struct Viewer<L: BoardLaw> {
+    pub(crate) reader: BoardReader<L>,
+    pub(crate) newest: Option<Entry<L>>,
     pub(crate) count: u64,
     ghost within: { count ≤ length (view reader.place) },
-    ghost knows: { option_map arc_value newest ≡ last_of (take count (view reader.place)) },
+    ghost knows: { newest ≡ last_of (take count (view reader.place)) },
 }
 
 /// Another owner of the commit, if there is one.
@@ -43,12 +45,13 @@ pub(crate) fn copy_of(
     }
 }
 
-impl Viewer {
+impl<L: BoardLaw> Viewer<L> {
+    ghost use Rattle.commit_board.specs.Answer.{IsAnswer};
     ghost use Rattle.commit_board.specs.Board.{seen_in};
 
     /// Takes the newest commit of the board, or keeps the one that it has: where there is no memory, and
     /// where the board was ended.
-    pub(crate) fn look(self) -> (Viewer, Result<(), NoMemory>)
+    pub(crate) fn look(self) -> (Viewer<L>, Result<(), NoMemory>)
         ensures later { BeginsWith (seen_in result.0) (seen_in self) }
         ensures rises { top_of (seen_in self) ≤ top_of (seen_in result.0) }
     {
@@ -57,16 +60,17 @@ impl Viewer {
             newest,
             count,
         } = self;
-        match reader.enter_as::<Sees>() {
+        match reader.enter_as::<Sees<L>>() {
             Ok(reading) => {
                 let shown = reading.get().count;
                 let copy = copy_of(&reading.get().newest);
                 let reader = reading.leave();
                 match copy {
                     Ok(copy) => {
+                        let newest = entry_of(copy);
                         let viewer = Viewer {
                             reader,
-                            newest: copy,
+                            newest,
                             count: shown,
                         };
                         (viewer, Ok(()))
@@ -97,7 +101,7 @@ impl Viewer {
         ensures { result ≡ top_of (seen_in self.now) }
     {
         match &self.newest {
-            Some(commit) => commit.number,
+            Some(entry) => entry.number(),
             None => 0,
         }
     }
@@ -108,12 +112,17 @@ impl Viewer {
         ensures none { IfOk result (λ shown. (shown.number ≡ 0) ↔ (seen_in self.now ≡ [])) }
         ensures hits { IfOk result (λ shown. (rows : List Row) → AreLastRows (seen_in self.now) rows
             → shown.hits.items ≡ hits query.now rows) }
+        ensures lawful { IfOk result (λ shown.
+            IsAnswer L.lawful query.now shown.number shown.hits.items) }
     {
         match &self.newest {
-            Some(commit) => Ok(Shown {
-                number: commit.number,
-                hits: commit.searcher.hits(alloc, query)?,
-            }),
+            Some(entry) => {
+                let hits = entry.hits(alloc, query)?;
+                Ok(Shown {
+                    number: entry.number(),
+                    hits,
+                })
+            }
             None => Ok(Shown {
                 number: 0,
                 hits: Vec::new(alloc),

@@ -4,6 +4,7 @@ ghost use Rattle.ix_base.specs.Hits.{hits};
 ghost use Rattle.ix_base.specs.declared.document.Row.{Row};
 ghost use Rattle.commit_board.specs.Commits.{AreLastRows, BeginsWith, newer_of, top_of};
 
+use crate::law::BoardLaw;
 use crate::poster::Poster;
 use crate::viewer::{Shown, Viewer};
 use ix_base::{NoMemory, Query};
@@ -11,17 +12,19 @@ use std::alloc::Global;
 
 /// One who is shown commits of the board. It may go to another thread.
 #[derive(Drop)]
-pub struct Watcher {
+pub struct Watcher<L: BoardLaw> {
     /// It is there, but within a call.
-    pub(crate) viewer: Option<Viewer>,
+    pub(crate) viewer: Option<Viewer<L>>,
     ghost held: { IsSome viewer },
 }
 
-impl Watcher {
-    ghost use Rattle.commit_board.specs.Board.{posted_on, seen_by, waiting_on};
+impl<L: BoardLaw> Watcher<L> {
+    ghost use Rattle.commit_board.specs.Answer.{IsAnswer};
+    ghost use Rattle.commit_board.specs.Board.{seen_by};
+    ghost use Rattle.commit_board.specs.Posting.{posted_on, waiting_on};
 
     /// A watcher that shows this.
-    pub(crate) fn of(viewer: Viewer) -> Watcher
+    pub(crate) fn of(viewer: Viewer<L>) -> Watcher<L>
         ensures { result.viewer ≡ Some viewer }
     {
         Watcher {
@@ -42,6 +45,9 @@ impl Watcher {
         // What is found is found among the rows of that commit.
         ensures hits { IfOk result (λ shown. (rows : List Row) → AreLastRows (seen_by self.new) rows
             → shown.hits.items ≡ hits query.now rows) }
+        // That commit may stand on the board.
+        ensures lawful { IfOk result (λ shown.
+            IsAnswer L.lawful query.now shown.number shown.hits.items) }
     {
         let (viewer, looked) = self.viewer.take().unwrap().look();
         let shown = match looked {
@@ -65,7 +71,7 @@ impl Watcher {
     /// Takes in all that was posted: what is shown from then on is the last commit of a list that begins
     /// with that. A watcher that was shown a commit of a greater number than the last one that was posted,
     /// as by another board, stays as it is. The only error is out of memory: the watcher is as before.
-    pub fn learn(&mut self, poster: &mut Poster) -> Result<(), NoMemory>
+    pub fn learn(&mut self, poster: &mut Poster<L>) -> Result<(), NoMemory>
         ensures news { OnOk result
             (seen_by self.new ≡ newer_of (seen_by self.old) (posted_on poster.old)) }
         ensures refused { OnErr result (seen_by self.new ≡ seen_by self.old) }

@@ -2,18 +2,26 @@
 //! has n rows here, so that what is found tells which commit was searched.
 ghost use Rattle.std.specs.Prelude.{◌≡◌, ◌≤◌, IfOk};
 
+use crate::round::answers_by_rows;
 use analysis::invert;
-use commit_board::{Board, Commit, Poster, Watcher};
+use commit_board::{Board, BoardLaw, Commit, Poster, Shown, Watcher};
 use ix_base::{List, NoMemory, Query, Row};
 use live_docs::LiveDocs;
 use searcher::Searcher;
 use segment_core::{LiveSegment, Segment};
 use std::alloc::Global;
-use std::sync::Wait;
+use std::sync::{Arc, Wait};
 use std::test::*;
 use std::thread;
 use std::thread::Threads;
 use test_values::row_of;
+
+/// Every commit may stand on the board.
+struct Any;
+
+impl BoardLaw for Any {
+    ghost lawful = { λ c. Unit {0} };
+}
 
 /// So many rows.
 fn rows_of(alloc: Global, count: u64) -> Result<Vec<Row>, Fail> {
@@ -42,19 +50,20 @@ fn segment_of(alloc: Global, count: u64) -> Result<LiveSegment, Fail> {
 }
 
 /// The commit of this number.
-fn commit_of(alloc: Global, number: u64) -> Result<Commit, Fail>
+fn commit_of(alloc: Global, number: u64) -> Result<Arc<Commit, Global>, Fail>
     requires { 1 ≤ number }
 {
     let segment = segment_of(alloc, number)?;
     let segments = List::from_vec(vec![in alloc; segment]?);
-    Ok(Commit {
+    let commit = Commit {
         number,
         searcher: Searcher { segments },
-    })
+    };
+    Ok(Arc::new(alloc, commit)?)
 }
 
 /// So many commits, with the numbers from 1 on.
-fn commits_of(alloc: Global, count: u64) -> Result<Vec<Commit>, Fail> {
+fn commits_of(alloc: Global, count: u64) -> Result<Vec<Arc<Commit, Global>>, Fail> {
     let mut commits = Vec::new(alloc);
     for passed in 0..count {
         commits.push(commit_of(alloc, 1 + passed)?)?;
@@ -65,19 +74,18 @@ fn commits_of(alloc: Global, count: u64) -> Result<Vec<Commit>, Fail> {
 /// Posts a commit, and says whether its number isn't below that of the last one.
 fn post<R: Wait>(
     rt: &R,
-    alloc: Global,
-    poster: &mut Poster,
-    commit: Commit,
+    poster: &mut Poster<Any>,
+    commit: Arc<Commit, Global>,
 ) -> Result<bool, NoMemory> {
     if commit.number < poster.number() {
         return Ok(false);
     }
-    poster.post(rt, alloc, commit)?;
+    poster.post(rt, commit)?;
     Ok(true)
 }
 
 /// The number of the commit that is shown, where as many rows are found as it has.
-fn shown_by(alloc: Global, watcher: &mut Watcher) -> Result<Option<u64>, NoMemory> {
+fn shown_by(alloc: Global, watcher: &mut Watcher<Any>) -> Result<Option<u64>, NoMemory> {
     let shown = watcher.hits(alloc, &Query::All)?;
     if shown.hits.len() as u64 == shown.number {
         Ok(Some(shown.number))
@@ -87,7 +95,7 @@ fn shown_by(alloc: Global, watcher: &mut Watcher) -> Result<Option<u64>, NoMemor
 }
 
 /// Whether the watcher is shown the commit of this number.
-fn shows(alloc: Global, watcher: &mut Watcher, number: u64) -> Result<bool, NoMemory> {
+fn shows(alloc: Global, watcher: &mut Watcher<Any>, number: u64) -> Result<bool, NoMemory> {
     Ok(shown_by(alloc, watcher)? == Some(number))
 }
 
@@ -95,15 +103,15 @@ fn shows(alloc: Global, watcher: &mut Watcher, number: u64) -> Result<bool, NoMe
 fn each_is_shown<R: Wait>(
     rt: &R,
     alloc: Global,
-    poster: &mut Poster,
-    watcher: &mut Watcher,
-    commits: Vec<Commit>,
+    poster: &mut Poster<Any>,
+    watcher: &mut Watcher<Any>,
+    commits: Vec<Arc<Commit, Global>>,
 ) -> Result<bool, NoMemory> {
     let mut shown = 0;
     let mut right = shows(alloc, watcher, 0)?;
     for commit in commits {
         let number = commit.number;
-        match post(rt, alloc, poster, commit) {
+        match post(rt, poster, commit) {
             Ok(rises) => {
                 shown = number;
                 right = right && rises;
@@ -117,7 +125,11 @@ fn each_is_shown<R: Wait>(
 
 /// On a board without a commit the number 0 is shown, and then each commit that is posted, also once the
 /// board was ended.
-fn on_one_thread<R: Wait>(rt: &R, alloc: Global, commits: Vec<Commit>) -> Result<bool, NoMemory> {
+fn on_one_thread<R: Wait>(
+    rt: &R,
+    alloc: Global,
+    commits: Vec<Arc<Commit, Global>>,
+) -> Result<bool, NoMemory> {
     let (mut poster, mut watchers) = Board::make(rt, alloc, 1, None)?;
     let right = match watchers.as_mut_slice() {
         [watcher] => each_is_shown(rt, alloc, &mut poster, watcher, commits),
@@ -142,7 +154,7 @@ fn each_commit_is_shown(rt: HostRuntime) -> Result<(), Fail> {
 const LOOKS: u64 = 1_000_000;
 
 /// Looks until the commit of this number is shown: whether what is shown never falls.
-fn look_until(alloc: Global, watcher: &mut Watcher, last: u64) -> Result<bool, NoMemory> {
+fn look_until(alloc: Global, watcher: &mut Watcher<Any>, last: u64) -> Result<bool, NoMemory> {
     let mut shown = 0;
     for _ in 0..LOOKS {
         match shown_by(alloc, watcher)? {
@@ -160,9 +172,9 @@ fn look_until(alloc: Global, watcher: &mut Watcher, last: u64) -> Result<bool, N
 /// The first of the watchers looks until the commit of this number is shown.
 fn watch(
     alloc: Global,
-    watchers: Vec<Watcher>,
+    watchers: Vec<Watcher<Any>>,
     last: u64,
-) -> (Vec<Watcher>, Result<bool, NoMemory>) {
+) -> (Vec<Watcher<Any>>, Result<bool, NoMemory>) {
     let mut watchers = watchers;
     let right = match watchers.as_mut_slice() {
         [first, _] => look_until(alloc, first, last),
@@ -174,13 +186,12 @@ fn watch(
 /// Posts the commits.
 fn post_all<R: Wait>(
     rt: &R,
-    alloc: Global,
-    poster: &mut Poster,
-    commits: Vec<Commit>,
+    poster: &mut Poster<Any>,
+    commits: Vec<Arc<Commit, Global>>,
 ) -> Result<bool, NoMemory> {
     let mut rises = true;
     for commit in commits {
-        rises = rises && post(rt, alloc, poster, commit)?;
+        rises = rises && post(rt, poster, commit)?;
     }
     Ok(rises)
 }
@@ -188,8 +199,8 @@ fn post_all<R: Wait>(
 /// Whether the second of the watchers, which didn't look, is shown the last commit once it has learnt.
 fn learns(
     alloc: Global,
-    poster: &mut Poster,
-    watchers: &mut [Watcher],
+    poster: &mut Poster<Any>,
+    watchers: &mut [Watcher<Any>],
     last: u64,
 ) -> Result<bool, NoMemory> {
     match watchers {
@@ -206,14 +217,14 @@ fn learns(
 fn on_two_threads<R: Threads + Wait + Sync>(
     rt: &R,
     alloc: Global,
-    first: Commit,
-    commits: Vec<Commit>,
+    first: Arc<Commit, Global>,
+    commits: Vec<Arc<Commit, Global>>,
 ) -> Result<bool, NoMemory> {
     let (mut poster, watchers) = Board::make(rt, alloc, 2, Some(first))?;
     let (posted, (mut watchers, watched)) = thread::join(
         rt,
-        || -> Result<bool, NoMemory> { post_all(rt, alloc, &mut poster, commits) },
-        move || -> (Vec<Watcher>, Result<bool, NoMemory>) { watch(alloc, watchers, 3) },
+        || -> Result<bool, NoMemory> { post_all(rt, &mut poster, commits) },
+        move || -> (Vec<Watcher<Any>>, Result<bool, NoMemory>) { watch(alloc, watchers, 3) },
     );
     let learnt = learns(alloc, &mut poster, watchers.as_mut_slice(), 3);
     poster.end(rt);
@@ -225,5 +236,22 @@ fn one_thread_posts_while_another_watches(rt: HostRuntime) -> Result<(), Fail> {
     let first = commit_of(rt.alloc(), 1)?;
     let commits = commits_of(rt.alloc(), 3)?;
     assert!(rt; on_two_threads(&rt, rt.alloc(), first, commits)?);
+    Ok(())
+}
+
+/// Whether the answers are of these numbers, each with as many hits.
+fn are_of(answers: &[Shown], numbers: &[u64]) -> bool {
+    answers.len() == numbers.len()
+        && answers.iter().zip(numbers.iter()).all(|(shown, number)| shown.number == *number
+            && shown.hits.len() as u64 == *number)
+}
+
+#[test]
+fn each_answer_is_by_its_commit(rt: HostRuntime) -> Result<(), Fail> {
+    let alloc = rt.alloc();
+    let old = commit_of(alloc, 1)?;
+    let new = commit_of(alloc, 3)?;
+    let answers = answers_by_rows(&rt, alloc, old, new, &Query::All)?;
+    assert!(rt; are_of(answers.as_slice(), &[1, 1, 3, 3]));
     Ok(())
 }

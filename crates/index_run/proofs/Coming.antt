@@ -37,12 +37,13 @@ use Rattle.index_writer.specs.Rounds.{AreBegunFrom, ArePartsOf, IsBegun}
 use Rattle.index_writer.specs.Ready.{HasRows, IsReady, IsSound}
 use Rattle.index_writer.specs.Standing.{Settles}
 use Rattle.index_writer.specs.Storing.{Commits, GoesOn as WriterGoesOn, MayCommit, on_commit}
-use Rattle.run_log.specs.Headline.{Interleaves, commit_numbers, number_of, numbered, operations, pairs_at}
+use Rattle.run_log.specs.Headline.{AreShown, Interleaves, commit_numbers, number_of, numbered, operations, pairs_at}
 use Rattle.run_log.specs.Numbering.{HasLine}
 use Rattle.run_log.proofs.Lists.{each_behind, each_in_both, each_pair}
 use Rattle.run_log.proofs.NumberLaws.{commits_append, commits_within, rows_at_all, rows_at_front}
 use Rattle.index_run.specs.Doing.{CanBegin, IsWriterOn}
-use Rattle.index_run.specs.Answered.{AllAnswerBehind, AreAnswered, IsFound, IsNone}
+use Rattle.index_run.specs.Answered.{AllAnswerBehind, AreAnswered, IsNone}
+use Rattle.index_run.specs.Looked.{IsFoundRead}
 use Rattle.index_run.specs.Driving.{Begins, EndsRound, GoesOnBy, HasCome, HasDone, IsAt, IsCut, IsDocs, IsDue, IsDueCommit}
 use Rattle.index_run.specs.Driving.{IsOver, IsRound, IsUnderWay, Run, base_of, number_in}
 use Rattle.index_run.specs.Leaving.{CommitLaws, IsNextCommit, due_pairs, first_numbers}
@@ -248,8 +249,8 @@ begun_on n w v round upto buffer begun = record {
 }
 
 -- what came back of the workers of a round that was begun
-pub round_done : (r : Run) (lines log : List Line) (commits : List Pair) (due : CommitLine) (threads : ℕ) (w v : State) (round : Round)
-    (shares news : List Share) (worked : List Worked) (parts : RoundParts) (now : Option Disk) → r.workers ≡ threads
+pub round_done : {C : Type 0} (r : Run) (lines log : List Line) (commits : List Pair) (due : CommitLine) (threads : ℕ) (w v : State) (round : Round)
+    (shares news : List Share) (worked : List (Worked C)) (parts : RoundParts) (now : Option Disk) → r.workers ≡ threads
     → (come : HasCome r lines shares log commits due v now) → v.pending ≡ None → v.out ≡ true
     → v.published.upto ≡ w.published.upto → v.buffer ≡ w.buffer → IsBegun threads w round
     → AreWorked round.queue round.writers.items shares worked → AllCame worked → parts.queue ≡ round.queue
@@ -342,10 +343,11 @@ can_tell r lines places shares log commits due w now callers places_are done non
 
 -- the run is over
 pub over_of : (r : Run) (lines : List Line) (shares : List Share) (log : List Line) (commits : List Pair) (due : CommitLine)
-    (became : List Outcome) (w : State) (now : Option Disk) → AreDone shares → w.pending ≡ None
-    → HasCome r lines shares log commits due w now
-    → AreOutcomes (IsCounted commits) (IsFound r.first log) (base_of r) log [] lines became → IsOver r lines became w now
-over_of r lines shares log commits due became w now done none h are =
+    (shown : ℕ → ℕ) (became : List Outcome) (w : State) (now : Option Disk) → AreDone shares → w.pending ≡ None
+    → HasCome r lines shares log commits due w now → AreShown (base_of r) log shown lines
+    → AreOutcomes (IsCounted commits) (IsFoundRead r.first r.start log) shown (base_of r) log [] lines became
+    → IsOver r lines became w now
+over_of r lines shares log commits due shown became w now done none h looks are =
     let at = h.done.at in
     let all : commit_numbers (base_of r) log ≡ first_numbers r.first log at.front =
     subst (IsDue r.first log at.front w.published.upto) none at.due in
@@ -356,8 +358,10 @@ over_of r lines shares log commits due became w now done none h are =
           by_count r.keep r.first log at.front (length log) w r.start now
           (sym all ∙ sym (numbers_whole (base_of r) log)) at.disk;
       numbering = log_whole r.workers lines shares log h.done.shares_are done h.done.log_is;
+      shown = shown;
+      looks = looks;
       outcomes =
-          outcomes_counted (IsDocs r.first log) (IsFound r.first log) commits (base_of r) log lines became h.docs are;
+          outcomes_counted (IsDocs r.first log) (IsFoundRead r.first r.start log) shown commits (base_of r) log lines became h.docs are;
     }
 
 -- ---- the search lines

@@ -32,13 +32,15 @@ pub at_ok : {T E : Type 0} (result : Result T E) (x : T) (P : T → Type 0) → 
 at_ok result x P is h = subst (λ r. IfOk r P) is h
 
 -- what is said of the text that was made, said of what was written
-pub runs_onto : (keep : Option ℕ) (g : Given) (text : List Line → List ℕ) (wrote told : List ℕ → Type 0)
+pub runs_onto : (keep : Option ℕ) (g : Given) (text : List Line → (ℕ → ℕ) → List ℕ) (wrote told : List ℕ → Type 0)
     (old new : Option Disk)
     → ((made : List ℕ) → wrote made → told made) → RunsBy keep g text wrote old new → RunsBy keep g text told old new
 runs_onto None g text wrote told old new onto r = record {
   log = r.log;
   numbering = r.numbering;
-  written = onto (text r.log) r.written;
+  shown = r.shown;
+  looks = r.looks;
+  written = onto (text r.log r.shown) r.written;
   files = r.files;
   images = r.images;
   crash = r.crash;
@@ -49,7 +51,9 @@ runs_onto None g text wrote told old new onto r = record {
 runs_onto (Some keep) g text wrote told old new onto r = record {
   log = r.log;
   numbering = r.numbering;
-  written = onto (text r.log) r.written;
+  shown = r.shown;
+  looks = r.looks;
+  written = onto (text r.log r.shown) r.written;
   files = r.files;
   images = r.images;
   crash = r.crash;

@@ -29,7 +29,7 @@ use Rattle.run_report.specs.declared.outcome.Outcome.{Outcome}
 use Rattle.run_report.specs.Texts.{texts}
 use Rattle.run_log.proofs.AgainLaws.{commits_run_on}
 use Rattle.run_log.proofs.CountLaws.{same_count}
-use Rattle.run_log.specs.Headline.{CanRun, CanRunOn, Given, HasAll, HasOnly, HasOwnSome, HasSome, Interleaves, IsIn, IsKept, IsLast, IsLastSettled, IsOn, KeepsCommit, Preserves, Runs, Stops}
+use Rattle.run_log.specs.Headline.{AreShown, CanRun, CanRunOn, Given, HasAll, HasOnly, HasOwnSome, HasSome, Interleaves, IsIn, IsKept, IsLast, IsLastSettled, IsOn, KeepsCommit, Preserves, Runs, Stops}
 use Rattle.run_log.specs.Headline.{commit_numbers, is_commit, numbered, report, rows_at}
 use Rattle.run_log.proofs.OnlyLaws.{only_image, only_itself}
 use Rattle.index_run.specs.declared.stop.Stop.{Stop}
@@ -45,7 +45,7 @@ use Rattle.index_run.specs.Damage.{ReadsDamaged}
 use Rattle.index_run.specs.Doing.{IsOnGiven}
 use Rattle.index_run.specs.Driving.{IsCut, IsDocs, IsOver, Run, base_of}
 use Rattle.index_run.proofs.OutcomeLaws.{HasCount, HasFound, outcomes_weaker, texts_found}
-use Rattle.index_run.specs.Answered.{IsFound}
+use Rattle.index_run.specs.Looked.{IsFoundRead}
 use Rattle.index_run.specs.Outcomes.{AreOutcomes}
 use Rattle.index_run.specs.Telling.{CanTell, ReadsCommit, is_committed}
 use Rattle.searcher.specs.Searching.{IsDamagedIn}
@@ -205,29 +205,41 @@ over_settled g r lines outcomes w now told on o are f told_now =
     o.disk.settled g.files f told told_now on.goes_on on.on_last are
 
 -- what became of the lines, by what was given
-pub outcomes_given : (g : Given) (r : Run) (log lines : List Line) (outcomes : List Outcome) → IsOnGiven g r.first
-    → AreOutcomes (IsDocs r.first log) (IsFound r.first log) (base_of r) log [] lines outcomes
-    → AreOutcomes (HasCount g.base g.rows log) (HasFound g.base g.rows log) g.base log [] lines outcomes
-outcomes_given g r log lines outcomes on are =
-    subst (λ (n : ℕ). AreOutcomes (HasCount n g.rows log) (HasFound n g.rows log) n log [] lines outcomes) on.number
-    (outcomes_weaker (IsDocs r.first log) (HasCount (base_of r) g.rows log) (IsFound r.first log) (HasFound (base_of r) g.rows log)
-    (λ s docs is. is g.rows on.rows) (λ s query line text is. is g.rows on.rows) (base_of r) log [] lines outcomes are)
+pub outcomes_given : (g : Given) (r : Run) (log lines : List Line) (shown : ℕ → ℕ) (outcomes : List Outcome)
+    → CanRun g → told_files r.start ≡ Some g.files → IsOnGiven g r.first
+    → AreOutcomes (IsDocs r.first log) (IsFoundRead r.first r.start log) shown (base_of r) log [] lines outcomes
+    → AreOutcomes (HasCount g.base g.rows log) (HasFound g.base g.rows log) shown g.base log [] lines outcomes
+outcomes_given g r log lines shown outcomes can told on are =
+    subst (λ (n : ℕ). AreOutcomes (HasCount n g.rows log) (HasFound n g.rows log) shown n log [] lines outcomes) on.number
+    (outcomes_weaker (IsDocs r.first log) (HasCount (base_of r) g.rows log) (IsFoundRead r.first r.start log) (HasFound (base_of r) g.rows log)
+    (λ s docs is. is g.rows on.rows) (λ s query line text is. is g told can on) shown (base_of r) log [] lines outcomes are)
 
 -- the text is the report
 pub over_report : (g : Given) (r : Run) (lines : List Line) (outcomes : List Outcome) (w : State) (now : Option Disk)
-    (text : List ℕ) → g.lines ≡ lines → IsOnGiven g r.first → (o : IsOver r lines outcomes w now) → text ≡ texts outcomes
-    → text ≡ report g.base g.rows g.lines o.log
-over_report g r lines outcomes w now text same on o told =
-    told ∙ texts_found g.base g.rows o.log lines outcomes (outcomes_given g r o.log lines outcomes on o.outcomes)
-    ∙ ap (λ (ls : List Line). report g.base g.rows ls o.log) (sym same)
+    (text : List ℕ) → g.lines ≡ lines → CanRun g → told_files r.start ≡ Some g.files → IsOnGiven g r.first
+    → (o : IsOver r lines outcomes w now) → text ≡ texts outcomes → text ≡ report g.base g.rows g.lines o.log o.shown
+over_report g r lines outcomes w now text same can told on o said =
+    said
+    ∙ texts_found g.base g.rows o.log lines o.shown outcomes
+    (outcomes_given g r o.log lines o.shown outcomes can told on o.outcomes)
+    ∙ ap (λ (ls : List Line). report g.base g.rows ls o.log o.shown) (sym same)
+
+-- and the look lines were shown such commits
+pub over_looks : (g : Given) (r : Run) (lines : List Line) (outcomes : List Outcome) (w : State) (now : Option Disk)
+    → g.lines ≡ lines → IsOnGiven g r.first → (o : IsOver r lines outcomes w now) → AreShown g.base o.log o.shown g.lines
+over_looks g r lines outcomes w now same on o =
+    subst (λ (n : ℕ). AreShown n o.log o.shown g.lines) on.number
+    (subst (λ (ls : List Line). AreShown (base_of r) o.log o.shown ls) (sym same) o.looks)
 
 over_runs : (g : Given) (r : Run) (lines : List Line) (outcomes : List Outcome) (w : State) (now : Option Disk)
-    (text : List Line → List ℕ) (wrote : List ℕ → Type 0) → g.lines ≡ lines → CanRun g → told_files r.start ≡ Some g.files
-    → IsOnGiven g r.first → (o : IsOver (all r) lines outcomes w now) → wrote (text o.log)
+    (text : List Line → (ℕ → ℕ) → List ℕ) (wrote : List ℕ → Type 0) → g.lines ≡ lines → CanRun g → told_files r.start ≡ Some g.files
+    → IsOnGiven g r.first → (o : IsOver (all r) lines outcomes w now) → wrote (text o.log o.shown)
     → Runs g text wrote r.start now
 over_runs g r lines outcomes w now text wrote same can told on o written = record {
   log = o.log;
   numbering = numbering_of g.lines lines o.log same o.numbering;
+  shown = o.shown;
+  looks = over_looks g (all r) lines outcomes w now same on o;
   written = written;
   files = ends_files g r.first w o.log r.start now on told o.disk;
   images = λ are. ends_images g r.first w o.log r.start now on are o.disk;
@@ -246,7 +258,7 @@ over_told : (g : Given) (r : Run) (lines : List Line) (outcomes : List Outcome) 
     (form : Form) (result : Result Bytes Stop) → g.lines ≡ lines → CanRun g → told_files r.start ≡ Some g.files
     → IsOnGiven g r.first → (o : IsOver (all r) lines outcomes w now)
     → ((f : Files) → told_files now ≡ Some f → HasAll g o.log f
-    → IfOk result (λ bytes. bytes.items ≡ form_text form g o.log))
+    → IfOk result (λ bytes. bytes.items ≡ form_text form g o.log o.shown))
     → IfOk result (λ bytes. Runs g (form_text form g) (λ told. bytes.items ≡ told) r.start now)
 over_told g r lines outcomes w now form (Err s) same can told on o text = tt
 over_told g r lines outcomes w now form (Ok bytes) same can told on o text =
@@ -263,7 +275,7 @@ pub runs_of : (g : Given) (r : Run) (lines : List Line) (outcomes : List Outcome
 runs_of g r lines outcomes w now (Err s) same can told on o text = tt
 runs_of g r lines outcomes w now (Ok bytes) same can told on o text =
     over_runs g r lines outcomes w now (form_text Report g) (λ (said : List ℕ). bytes.items ≡ said) same can told on o
-    (over_report g (all r) lines outcomes w now bytes.items same on o text)
+    (over_report g (all r) lines outcomes w now bytes.items same can told on o text)
 
 -- the lines of a made script were done, and then their summary was made
 pub sums_of : MadeRuns → (g : Given) (r : Run) (lines : List Line) (outcomes : List Outcome) (w : State)
@@ -284,7 +296,7 @@ sums_of law g r lines outcomes w now base upto result same made can told on o fr
     last = let end = o.writer.upto in let number = on.number in omega (arith, last_is, end, number)
 
     count : count_by is_committed outcomes ≡ count_by (λ (l : Line). is_commit l.act) lines
-    count = commits_counted (IsDocs r.first o.log) (IsFound r.first o.log) (base_of r) o.log [] lines outcomes o.outcomes
+    count = commits_counted (IsDocs r.first o.log) (IsFoundRead r.first r.start o.log) o.shown (base_of r) o.log [] lines outcomes o.outcomes
 
     by : (result : Result Bytes Stop) (f : Files) → HasAll g o.log f
         → ((next : ℕ) (rows : List Row) → HoldsInverted f upto next rows

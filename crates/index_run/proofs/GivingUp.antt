@@ -88,7 +88,7 @@ come_pruned keep r lines shares log commits due w v mid now by same gives kept e
 
 pub cut_pruned : (keep : ℕ) (r : Run) (lines : List Line) (shares : List Share) (log : List Line) (commits : List (ℕ × ℕ)) (due : CommitLine)
     (w v : State) (mid now : Option Disk) (why : PruneFault) → r.keep ≡ Some keep → GivesUp keep w v mid now
-    → StopsFor r now (ran_by_pruning why) → HasCome r lines shares log commits due w mid
+    → ((log : List Line) → StopsFor r log now (ran_by_pruning why)) → HasCome r lines shares log commits due w mid
     → IsCut r lines (ran_by_pruning why) now
 cut_pruned keep r lines shares log commits due w v mid now why by gives finds come =
     let rest = log_completes r.workers lines shares log come.done.shares_are come.done.log_is in
@@ -105,7 +105,7 @@ cut_pruned keep r lines shares log commits due w v mid now why by gives finds co
             crash = pruned_crash keep r.first w v log front r.start mid now gives within was old begins rest.0;
             each = pruned_each keep r.first w v log front r.start mid now gives within was old begins rest.0;
           });
-      found = finds;
+      found = finds (log ++ rest.0);
     }
 
 -- a commit file that stays is broken: it was so at the beginning
@@ -115,11 +115,11 @@ pub finds_broken : (keep : ℕ) (r : Run) (lines : List Line) (shares : List Sha
     → ((damaged : Damaged) → why ≡ giving.Damaged damaged → (s : ℕ) × IsBrokenCommit (told_files mid) s damaged)
     → ((files : Files) (damaged : Damaged) → told_files mid ≡ Some files → why ≡ giving.Damaged damaged → BreaksStaying keep files damaged)
     → ((files : Files) (damaged : Damaged) → told_files mid ≡ Some files → AreWhole keep files → why ≡ giving.Damaged damaged → ⊥)
-    → HasCome r lines shares log commits due w mid → StopsFor r now (ran_by_pruning why)
-finds_broken keep r lines shares log commits due w mid now giving.Store by still broken staying whole come = tt
-finds_broken keep r lines shares log commits due w mid now giving.Closed by still broken staying whole come = tt
-finds_broken keep r lines shares log commits due w mid now giving.NoMemory by still broken staying whole come = tt
-finds_broken keep r lines shares log commits due w mid now (giving.Damaged damaged) by still broken staying whole come =
+    → HasCome r lines shares log commits due w mid → (all : List Line) → StopsFor r all now (ran_by_pruning why)
+finds_broken keep r lines shares log commits due w mid now giving.Store by still broken staying whole come all = tt
+finds_broken keep r lines shares log commits due w mid now giving.Closed by still broken staying whole come all = tt
+finds_broken keep r lines shares log commits due w mid now giving.NoMemory by still broken staying whole come all = tt
+finds_broken keep r lines shares log commits due w mid now (giving.Damaged damaged) by still broken staying whole come all =
     let same = ap told_files (still damaged refl) in
     record {
       keep = keep;

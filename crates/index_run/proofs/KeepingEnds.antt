@@ -35,7 +35,7 @@ use Rattle.index_run.specs.Keeping.{LeavesEach, Left, LeftOf, RunsLeaving, Stops
 use Rattle.index_run.specs.KeptDisk.{BeginsOnLast, IsDiskLeft, IsOneLeft, LeftSome, StandsLeft}
 use Rattle.index_run.specs.Leaving.{HasSomeFront, first_numbers}
 use Rattle.index_run.proofs.DiskAfter.{some_onto, the_files}
-use Rattle.index_run.proofs.Finish.{numbering_of, over_report}
+use Rattle.index_run.proofs.Finish.{numbering_of, over_looks, over_report}
 use Rattle.index_run.proofs.OneLeft.{one_less}
 use Rattle.index_run.proofs.Pruning.{can_run_left}
 use Rattle.index_run.proofs.RunEnds.{has_all, has_first}
@@ -154,11 +154,13 @@ module _ (keep : ℕ) (g : Given) (r : Run) (lines : List Line) (outcomes : List
         subst (λ (f : Files). AreKept f (MayHold now)) (sym next.1) (over_settles are found.0 found.1),
       )
 
-  pub over_runs_on : g.lines ≡ lines → CanRun g → (text : List Line → List ℕ) (wrote : List ℕ → Type 0) → wrote (text o.log)
+  pub over_runs_on : g.lines ≡ lines → CanRun g → (text : List Line → (ℕ → ℕ) → List ℕ) (wrote : List ℕ → Type 0) → wrote (text o.log o.shown)
       → RunsLeaving keep g text wrote r.start now
   over_runs_on same can text wrote written = record {
     log = o.log;
     numbering = numbering_of g.lines lines o.log same o.numbering;
+    shown = o.shown;
+    looks = over_looks g (some keep r) lines outcomes w now same on o;
     written = written;
     files = files_of;
     crash = crash_of;
@@ -178,4 +180,4 @@ pub report_runs : (keep : ℕ) (g : Given) (r : Run) (lines : List Line) (outcom
 report_runs keep g r lines outcomes w now (Err s) same can told on o text = tt
 report_runs keep g r lines outcomes w now (Ok bytes) same can told on o text =
     over_runs_on keep g r lines outcomes w now told on o same can (form_text Report g) (λ (said : List ℕ). bytes.items ≡ said)
-    (over_report g (some keep r) lines outcomes w now bytes.items same on o text)
+    (over_report g (some keep r) lines outcomes w now bytes.items same can told on o text)

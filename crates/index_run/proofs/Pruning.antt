@@ -85,11 +85,13 @@ stops_by None g old new each stops = stops
 stops_by (Some keep) g old new each stops = stops_less keep g old new each stops
 
 -- without a commit line all commits are left
-pub runs_less : (keep : ℕ) (g : Given) (text : List Line → List ℕ) (wrote : List ℕ → Type 0) (old new : Option Disk)
+pub runs_less : (keep : ℕ) (g : Given) (text : List Line → (ℕ → ℕ) → List ℕ) (wrote : List ℕ → Type 0) (old new : Option Disk)
     → has_commit g.lines ≡ false → KeepsEach g old new → Runs g text wrote old new → RunsKeeping keep g text wrote old new
 runs_less keep g text wrote old new none each runs = record {
   log = runs.log;
   numbering = runs.numbering;
+  shown = runs.shown;
+  looks = runs.looks;
   written = runs.written;
   files = some_onto (told_files new) (HasAll g runs.log) (HasLatest keep g runs.log)
       (λ f all. (f, all, subst (λ (b : Bool). IsLeft keep b f f) (sym none) refl)) runs.files;
@@ -152,34 +154,36 @@ segments_whole files d t (e ∷ es) (g ∷ gs) same have = (
     first : Contains (e ∷ es) e
     first = (0, omega arith, refl)
 
+-- a commit that is whole as it was spells what it spelled
+pub spelled_whole : (files d : Files) (s next : ℕ) (entries : List HeadSegment) (segments : List Lived) → IsWholeAs s files d
+    → HasSegments files s next entries segments → HasSegments d s next entries segments
+spelled_whole files d s next entries segments whole was = record {
+  tail = was.tail;
+  head = record {
+    file = whole (Commit s) (inl refl) ∙ was.head.file;
+    number = was.head.number;
+    fits = was.head.fits;
+  };
+  each = segments_whole files d s entries segments
+      (λ e listed name among.
+      let lists : Lists files s e =
+      record { head = head_of s next was.tail entries segments; has_head = was.head; listed = listed } in
+      whole name (inr (e, lists, among)))
+      was.each;
+  apart = was.apart;
+}
+
 inverted_whole : (files d : Files) (s next : ℕ) (rows : List Row) → IsWholeAs s files d
     → HoldsInverted files s next rows → HoldsInverted d s next rows
 inverted_whole files d s next rows whole h = record {
   holds = record {
     entries = h.holds.entries;
     segments = h.holds.segments;
-    spelled = record {
-      tail = was.tail;
-      head = record {
-        file = whole (Commit s) (inl refl) ∙ was.head.file;
-        number = was.head.number;
-        fits = was.head.fits;
-      };
-      each = segments_whole files d s h.holds.entries h.holds.segments
-          (λ e listed name among.
-          let lists : Lists files s e =
-          record { head = head_of s next was.tail h.holds.entries h.holds.segments; has_head = was.head; listed = listed } in
-          whole name (inr (e, lists, among)))
-          was.each;
-      apart = was.apart;
-    };
+    spelled = spelled_whole files d s next h.holds.entries h.holds.segments whole h.holds.spelled;
     rows_are = h.holds.rows_are;
   };
   inverted = h.inverted;
 }
-  where
-    was : HasSegments files s next h.holds.entries h.holds.segments
-    was = h.holds.spelled
 
 -- the last commit stays
 last_stays : (keep base : ℕ) (f : Files) → 1 ≤ keep → IsLast f base → base ≢ 0 → Stays keep f base
@@ -272,11 +276,11 @@ are_whole keep g f can spelled s stays = elim (spelled s stays.there) [
 
 -- ---- the same whatever is kept
 
-runs_by_none : (keep : Option ℕ) (g : Given) (text : List Line → List ℕ) (wrote : List ℕ → Type 0) (old new : Option Disk)
+runs_by_none : (keep : Option ℕ) (g : Given) (text : List Line → (ℕ → ℕ) → List ℕ) (wrote : List ℕ → Type 0) (old new : Option Disk)
     → keep ≡ None → Runs g text wrote old new → RunsBy keep g text wrote old new
 runs_by_none keep g text wrote old new is runs = subst (λ (k : Option ℕ). RunsBy k g text wrote old new) (sym is) runs
 
-pub runs_all : (keep : Option ℕ) (g : Given) (text : List Line → List ℕ) (wrote : List ℕ → Type 0) (old new : Option Disk)
+pub runs_all : (keep : Option ℕ) (g : Given) (text : List Line → (ℕ → ℕ) → List ℕ) (wrote : List ℕ → Type 0) (old new : Option Disk)
     → (keep ≡ None) ⊎ (has_commit g.lines ≡ false) → KeepsEach g old new → Runs g text wrote old new
     → RunsBy keep g text wrote old new
 runs_all keep g text wrote old new (inl is) each runs = runs_by_none keep g text wrote old new is runs
@@ -329,7 +333,7 @@ preserves_lines keep g lines old new keeps = record {
       (keeps.each t there settled) (λ c left. (left.0, some_lines g lines left.0 left.1, left.2));
 }
 
-pub all_runs : (keep : Option ℕ) (g : Given) (text : List Line → List ℕ) (result : Result Bytes Stop) (old new : Option Disk)
+pub all_runs : (keep : Option ℕ) (g : Given) (text : List Line → (ℕ → ℕ) → List ℕ) (result : Result Bytes Stop) (old new : Option Disk)
     → (keep ≡ None) ⊎ (has_commit g.lines ≡ false) → KeepsEach g old new
     → IfOk result (λ bytes. Runs g text (λ said. bytes.items ≡ said) old new)
     → IfOk result (λ bytes. RunsBy keep g text (λ said. bytes.items ≡ said) old new)

@@ -18,9 +18,9 @@ counted_each Docs (c ∷ commits) s docs each (inl here) =
 counted_each Docs (c ∷ commits) s docs each (inr there) = counted_each Docs commits s docs each.1 there
 
 -- the outcomes by these commits are those by what is true of each
-pub outcomes_counted : (Docs : ℕ → ℕ → Type 0) (Finds : ℕ → Query → ℕ → List ℕ → Type 0) (commits : List (ℕ × ℕ)) (base : ℕ) (log lines : List Line)
+pub outcomes_counted : (Docs : ℕ → ℕ → Type 0) (Finds : ℕ → Query → ℕ → List ℕ → Type 0) (shown : ℕ → ℕ) (commits : List (ℕ × ℕ)) (base : ℕ) (log lines : List Line)
     (outcomes : List Outcome) → AllByRecursion (λ (c : ℕ × ℕ). Docs c.0 c.1) commits
-    → AreOutcomes (IsCounted commits) Finds base log [] lines outcomes → AreOutcomes Docs Finds base log [] lines outcomes
-outcomes_counted Docs Finds commits base log lines outcomes each are =
+    → AreOutcomes (IsCounted commits) Finds shown base log [] lines outcomes → AreOutcomes Docs Finds shown base log [] lines outcomes
+outcomes_counted Docs Finds shown commits base log lines outcomes each are =
     outcomes_weaker (IsCounted commits) Docs Finds Finds (λ s docs is. counted_each Docs commits s docs each is)
-    (λ s query line text is. is) base log [] lines outcomes are
+    (λ s query line text is. is) shown base log [] lines outcomes are

@@ -12,7 +12,10 @@ use Rattle.op_script.specs.declared.script.Line.{Line}
 use Rattle.worker_tasks.specs.declared.share.Share.{Share}
 use Rattle.line_shares.specs.Shares.{AreShares, AreSharesFrom, is_doing, open_count, own_lines, task_of}
 use Rattle.index_run.specs.declared.lines.Rounds.{Rounds}
+use Rattle.line_shares.specs.declared.looks.Look.{Look}
 use Rattle.index_run.specs.Answered.{AreAnswered}
+use Rattle.index_run.specs.Looked.{AllLooked, AreLooked}
+use Rattle.index_run.specs.declared.looks.Looked.{Looked}
 use Rattle.index_run.specs.Driving.{HasCome, IsUnderWay, Run}
 use Rattle.index_run.specs.Rounds.{doing_lines}
 use Rattle.index_run.specs.declared.rounds.RanFault.{RanFault}
@@ -85,24 +88,34 @@ few_open n lines shares are =
 
 -- the last commit is none more
 pub few_last : (came : Result Rounds RanFault) (rounds : Rounds) (most : ℕ)
-    → IfOk came (λ x. (x.shares ≡ rounds.shares) × (x.texts ≡ rounds.texts) × (x.count ≡ rounds.count)) → rounds.count ≤ most
+    → IfOk came (λ x. (x.shares ≡ rounds.shares) × (x.texts ≡ rounds.texts) × (x.looked ≡ rounds.looked) × (x.count ≡ rounds.count)) → rounds.count ≤ most
     → IfOk came (λ x. x.count ≤ most)
-few_last (Ok x) rounds most same few = (let count = same.2 in omega (arith, count, few))
+few_last (Ok x) rounds most same few = (let count = same.3 in omega (arith, count, few))
 few_last (Err fault) rounds most same few = tt
 
 -- how far a run has come once its last commit was written
-pub over_last : (r : Run) (lines : List Line) (asks : List (Vec Ask)) (log : List Line) (due : CommitLine) (w : State)
+pub over_last : (r : Run) (lines : List Line) (asks : List (Vec Ask)) (looks : List (Vec Look)) (log : List Line) (due : CommitLine) (w : State)
     (now : Option Disk) (came : Result Rounds RanFault) (rounds : Rounds)
-    → IfOk came (λ x. (x.shares ≡ rounds.shares) × (x.texts ≡ rounds.texts) × (x.count ≡ rounds.count))
-    → AreAnswered r.first log asks rounds.texts.items
+    → IfOk came (λ x. (x.shares ≡ rounds.shares) × (x.texts ≡ rounds.texts) × (x.looked ≡ rounds.looked) × (x.count ≡ rounds.count))
+    → AreAnswered r.first log asks rounds.texts.items → AreLooked r.first r.start lines log looks rounds.looked.items
     → IfOk came (λ x. HasCome r lines x.shares.items log x.commits.items due w now)
-    → IfOk came (λ x. (d : CommitLine) × IsUnderWay r lines x.shares.items asks x.commits.items d x.texts.items w now)
-over_last r lines asks log due w now (Ok x) rounds same answered come = (
+    → IfOk came (λ x. (d : CommitLine) × (way : IsUnderWay r lines x.shares.items asks x.commits.items d x.texts.items w now)
+    × AreLooked r.first r.start lines way.log looks x.looked.items)
+over_last r lines asks looks log due w now (Ok x) rounds same answered looked come = (
   due,
   record {
     log = log;
     come = come;
     answered = subst (AreAnswered r.first log asks) (sym (ap (λ (t : Vec (Vec (List ℕ))). t.items) same.1)) answered;
   },
+  subst (AreLooked r.first r.start lines log looks) (sym (ap (λ (t : Vec (Vec Looked)). t.items) same.2)) looked,
 )
-over_last r lines asks log due w now (Err fault) rounds same answered come = tt
+over_last r lines asks looks log due w now (Err fault) rounds same answered looked come = tt
+
+-- each look line was shown a commit
+pub looked_all : (came : Result Rounds RanFault) (rounds : Rounds) (looks : List (Vec Look))
+    → IfOk came (λ x. (x.shares ≡ rounds.shares) × (x.texts ≡ rounds.texts) × (x.looked ≡ rounds.looked) × (x.count ≡ rounds.count))
+    → AllLooked looks rounds.looked.items → IfOk came (λ x. AllLooked looks x.looked.items)
+looked_all (Ok x) rounds looks same all =
+    subst (AllLooked looks) (sym (ap (λ (t : Vec (Vec Looked)). t.items) same.2)) all
+looked_all (Err fault) rounds looks same all = tt

@@ -58,12 +58,12 @@ left_more : (keep : ℕ) (P : Files → Type 0) (f now : Files) → Left keep P 
 left_more keep P f now left may = (left.0, left.1, left_then keep left.0 f now left.2 may)
 
 -- the files that the store told once the lines were done
-told_all : (keep : ℕ) (g : Given) (text : List Line → List ℕ) (wrote : List ℕ → Type 0) (start mid : Option Disk)
+told_all : (keep : ℕ) (g : Given) (text : List Line → (ℕ → ℕ) → List ℕ) (wrote : List ℕ → Type 0) (start mid : Option Disk)
     → (runs : RunsLeaving keep g text wrote start mid)
     → (f : Files) × (told_files mid ≡ Some f) × Left keep (HasAll g runs.log) f
 told_all keep g text wrote start mid runs = the_files (told_files mid) (Left keep (HasAll g runs.log)) runs.files
 
-crash_pruned : (keep : ℕ) (g : Given) (text : List Line → List ℕ) (wrote : List ℕ → Type 0)
+crash_pruned : (keep : ℕ) (g : Given) (text : List Line → (ℕ → ℕ) → List ℕ) (wrote : List ℕ → Type 0)
     (start mid new : Option Disk)
     → Prunes keep mid new → Settles g start mid → (runs : RunsLeaving keep g text wrote start mid)
     → IsKept g start → LeavesOnly start new (Left keep (HasSome g runs.log))
@@ -76,7 +76,7 @@ crash_pruned keep g text wrote start mid new prunes settles runs are =
     left_more keep (HasSome g runs.log) found.0 c (found.2.0, (length runs.log, found.2.1), found.2.2) may)
 
 -- each commit by itself that was settled, whatever became of the others
-each_pruned : (keep : ℕ) (g : Given) (text : List Line → List ℕ) (wrote : List ℕ → Type 0)
+each_pruned : (keep : ℕ) (g : Given) (text : List Line → (ℕ → ℕ) → List ℕ) (wrote : List ℕ → Type 0)
     (start mid new : Option Disk) → Prunes keep mid new → (runs : RunsLeaving keep g text wrote start mid)
     → LeavesEach keep g (HasSome g runs.log) start new
 each_pruned keep g text wrote start mid new prunes runs t there settled =
@@ -86,7 +86,7 @@ each_pruned keep g text wrote start mid new prunes runs t there settled =
     (record { here = runs.ends t there settled; crash = runs.each t there settled })
 
 -- pruning may have stopped
-pub stops_pruned : (keep : ℕ) (g : Given) (text : List Line → List ℕ) (wrote : List ℕ → Type 0)
+pub stops_pruned : (keep : ℕ) (g : Given) (text : List Line → (ℕ → ℕ) → List ℕ) (wrote : List ℕ → Type 0)
     (start mid new : Option Disk) → CanRun g → Prunes keep mid new → Settles g start mid
     → RunsLeaving keep g text wrote start mid → StopsKeeping keep g start new
 stops_pruned keep g text wrote start mid new can prunes settles runs =
@@ -98,7 +98,7 @@ stops_pruned keep g text wrote start mid new can prunes settles runs =
     (each_pruned keep g text wrote start mid new prunes runs)
 
 -- pruning was acknowledged
-pub runs_pruned : (keep : ℕ) (g : Given) (text : List Line → List ℕ) (wrote : List ℕ → Type 0)
+pub runs_pruned : (keep : ℕ) (g : Given) (text : List Line → (ℕ → ℕ) → List ℕ) (wrote : List ℕ → Type 0)
     (start mid new : Option Disk) (count : ℕ) → has_commit g.lines ≡ true → CanRun g → Prunes keep mid new
     → Settles g start mid
     → ((f now : Files) → told_files mid ≡ Some f → told_files new ≡ Some now → IsPruned keep count f now)
@@ -108,6 +108,8 @@ pub runs_pruned : (keep : ℕ) (g : Given) (text : List Line → List ℕ) (wrot
 runs_pruned keep g text wrote start mid new count some can prunes settles pruned kept runs = record {
   log = runs.log;
   numbering = runs.numbering;
+  shown = runs.shown;
+  looks = runs.looks;
   written = runs.written;
   files = some_told (HasLatest keep g runs.log) (told_files new) now.0 now.1 (
     found.2.0,

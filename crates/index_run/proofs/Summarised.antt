@@ -17,7 +17,7 @@ use Rattle.ix_outside.specs.Files.{Files}
 use Rattle.commit_point.specs.Holds.{HoldsInverted, IsLawful}
 use Rattle.segment_files.specs.Fits.{BirthsRise}
 use Rattle.op_script.specs.declared.script.Act.{Act}
-use Rattle.op_script.specs.declared.script.Act.TheVariants.{Do, Search}
+use Rattle.op_script.specs.declared.script.Act.TheVariants.{Do, Look, Search}
 use Rattle.op_script.specs.declared.script.Line.{Line}
 use Rattle.report_text.specs.Born.{born_after}
 use Rattle.report_text.specs.Lines.{summary_value, text_line}
@@ -100,23 +100,25 @@ told_commits : (Docs : ℕ → ℕ → Type 0) (s : ℕ) (op : Operation) (answe
 told_commits Docs s op answer (Some refused) same is = ap commits is ∙ sym (refused_commits op refused same)
 told_commits Docs s op answer None same is = done_commits Docs s op answer is
 
-answer_commits : (Docs : ℕ → ℕ → Type 0) (Finds : ℕ → Query → ℕ → List ℕ → Type 0) (base : ℕ) (log before : List Line) (l : Line) (a : Act) (answer : Answer)
-    → IsAnswer Docs Finds base log before l a answer → commits answer ≡ is_commit a
-answer_commits Docs Finds base log before l (Search q) answer is = ap commits is.2
-answer_commits Docs Finds base log before l (Do op) answer is =
+answer_commits : (Docs : ℕ → ℕ → Type 0) (Finds : ℕ → Query → ℕ → List ℕ → Type 0) (shown : ℕ → ℕ) (base : ℕ) (log before : List Line) (l : Line) (a : Act) (answer : Answer)
+    → IsAnswer Docs Finds shown base log before l a answer → commits answer ≡ is_commit a
+answer_commits Docs Finds shown base log before l (Search q) answer is = ap commits is.2
+answer_commits Docs Finds shown base log before l (Look q) answer is = ap commits is.2
+answer_commits Docs Finds shown base log before l (Do op) answer is =
     told_commits Docs _ op answer (refusal op) refl is
 
 -- as many commits became of the lines as are among them
-pub commits_counted : (Docs : ℕ → ℕ → Type 0) (Finds : ℕ → Query → ℕ → List ℕ → Type 0) (base : ℕ) (log before lines : List Line) (outcomes : List Outcome)
-    → AreOutcomes Docs Finds base log before lines outcomes
+pub commits_counted : (Docs : ℕ → ℕ → Type 0) (Finds : ℕ → Query → ℕ → List ℕ → Type 0) (shown : ℕ → ℕ) (base : ℕ)
+    (log before lines : List Line) (outcomes : List Outcome)
+    → AreOutcomes Docs Finds shown base log before lines outcomes
     → count_by is_committed outcomes ≡ count_by (λ (l : Line). is_commit l.act) lines
-commits_counted Docs Finds base log before [] [] are = refl
-commits_counted Docs Finds base log before [] (o ∷ outcomes) are = absurd are
-commits_counted Docs Finds base log before (l ∷ lines) [] are = absurd are
-commits_counted Docs Finds base log before (l ∷ lines) (o ∷ outcomes) are =
+commits_counted Docs Finds shown base log before [] [] are = refl
+commits_counted Docs Finds shown base log before [] (o ∷ outcomes) are = absurd are
+commits_counted Docs Finds shown base log before (l ∷ lines) [] are = absurd are
+commits_counted Docs Finds shown base log before (l ∷ lines) (o ∷ outcomes) are =
     sum_by-cons (λ (x : Outcome). cond (is_committed x) 1 0) o outcomes
-    ∙ ap (λ (b : Bool). cond b 1 0 + count_by is_committed outcomes) (answer_commits Docs Finds base log before l l.act o.answer are.0.answer)
-    ∙ ap (λ (n : ℕ). cond (is_commit l.act) 1 0 + n) (commits_counted Docs Finds base log (before ++ l ∷ []) lines outcomes are.1)
+    ∙ ap (λ (b : Bool). cond b 1 0 + count_by is_committed outcomes) (answer_commits Docs Finds shown base log before l l.act o.answer are.0.answer)
+    ∙ ap (λ (n : ℕ). cond (is_commit l.act) 1 0 + n) (commits_counted Docs Finds shown base log (before ++ l ∷ []) lines outcomes are.1)
     ∙ sym (sum_by-cons (λ (x : Line). cond (is_commit x.act) 1 0) l lines)
 
 -- ---- the summary

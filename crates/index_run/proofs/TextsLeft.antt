@@ -10,11 +10,10 @@ use Rattle.ix_base.specs.declared.query.Query.{Query}
 use Rattle.index_writer.specs.declared.state.State.{State}
 use Rattle.line_shares.proofs.AskLaws.{commit_behind, ask_of_other, ask_of_own, behind_more}
 use Rattle.line_shares.specs.Asks.{AreAsksFrom, ask_by, ask_in, asks_from, behind_past, last_behind}
-use Rattle.line_shares.specs.Shares.{is_doing}
 use Rattle.line_shares.specs.declared.asks.Ask.{Ask}
 use Rattle.op_script.specs.Shape.{LinesRise}
 use Rattle.op_script.specs.declared.script.Act.{Act}
-use Rattle.op_script.specs.declared.script.Act.TheVariants.{Do, Search}
+use Rattle.op_script.specs.declared.script.Act.TheVariants.{Do, Look, Search}
 use Rattle.op_script.specs.declared.script.Line.{Line}
 use Rattle.run_log.specs.Headline.{Interleaves, last_commit}
 use Rattle.index_run.specs.Answered.{AreAnswered, IsAnswered, IsFound, IsTextOf}
@@ -23,13 +22,14 @@ use Rattle.index_run.proofs.AnswerLaws.{answered_all}
 
 -- ---- one line
 
--- what a line asks that writes or commits
-none_asked : (caller behind : ℕ) (l : Line) → is_doing l.act ≡ true → ask_in caller behind l ≡ []
-none_asked caller behind l doing = by (eqb l.caller caller) l.act doing
+-- what a line asks that doesn't search
+none_asked : (caller behind : ℕ) (l : Line) → ((query : Query) → l.act ≡ Search query → ⊥) → ask_in caller behind l ≡ []
+none_asked caller behind l other = by (eqb l.caller caller) l.act refl
   where
-    by : (own : Bool) (a : Act) → is_doing a ≡ true → cond own (ask_by behind l.line a) [] ≡ []
+    by : (own : Bool) (a : Act) → l.act ≡ a → cond own (ask_by behind l.line a) [] ≡ []
     by true (Do op) is = refl
-    by true (Search query) is = absurd (let no : false ≡ true = is in cc)
+    by true (Look query) is = refl
+    by true (Search query) is = absurd (other query is)
     by false a is = refl
 
 -- and one that searches
@@ -116,13 +116,13 @@ module _ (first : State) (log done rest : List Line) (l : Line) where
   rise_on : LinesRise 1 (done ++ l ∷ rest) → LinesRise 1 ((done ++ l ∷ []) ++ rest)
   rise_on rise = subst (LinesRise 1) (sym (append_assoc done (l ∷ []) rest)) rise
 
-  -- a line that writes or commits takes no text
-  pub texts_done : (texts : List Texts) → is_doing l.act ≡ true → AreTextsLeft first log done (l ∷ rest) texts
-      → AreTextsLeft first log (done ++ l ∷ []) rest texts
-  texts_done texts doing are = record {
+  -- a line that doesn't search takes no text
+  pub texts_passed : (texts : List Texts) → ((query : Query) → l.act ≡ Search query → ⊥)
+      → AreTextsLeft first log done (l ∷ rest) texts → AreTextsLeft first log (done ++ l ∷ []) rest texts
+  texts_passed texts other are = record {
     size = are.size;
     rise = rise_on are.rise;
-    each = texts_stay 0 texts (λ caller le. none_asked caller (last_behind caller 0 done) l doing) are.each;
+    each = texts_stay 0 texts (λ caller le. none_asked caller (last_behind caller 0 done) l other) are.each;
   }
 
   -- a caller's next text was taken: the text, and what it has then
@@ -134,24 +134,17 @@ rises_in_front : (low : ℕ) (xs ys : List Line) → LinesRise low (xs ++ ys) �
 rises_in_front low [] ys rise = tt
 rises_in_front low (x ∷ xs) ys rise = (rise.0, rises_in_front (x.line + 1) xs ys rise.1)
 
-searching : (a : Act) → is_doing a ≡ false → (query : Query) × (a ≡ Search query)
-searching (Do op) is = absurd (let no : true ≡ false = is in cc)
-searching (Search query) is = (query, refl)
-
 module _ (first : State) (log done : List Line) (l : Line) (rest : List Line) (texts : List Texts) (own : Texts)
-    (search : is_doing l.act ≡ false) (same : slice_index_or texts l.caller own ≡ own)
+    (sought : Query) (search : l.act ≡ Search sought) (same : slice_index_or texts l.caller own ≡ own)
     (are : AreTextsLeft first log done (l ∷ rest) texts) (inside : l.caller < length texts) where
-  query_in : (query : Query) × (l.act ≡ Search query)
-  query_in = searching l.act search
-
   abbrev own_ask : Ask
-  own_ask = record { line = l.line; behind = last_behind l.caller 0 done; query = query_in.0 }
+  own_ask = record { line = l.line; behind = last_behind l.caller 0 done; query = sought }
 
   some : AllZip (IsTextOf first log) (own_ask ∷ asks_from l.caller (last_behind l.caller 0 (done ++ l ∷ [])) rest) (into_iter_items own)
       × (into_iter_len own ≡ length (into_iter_items own))
   some =
       text_some first log done rest l 0 texts l.caller own own_ask l.caller (omega arith) inside same
-      (one_asked l.caller (last_behind l.caller 0 done) l query_in.0 refl query_in.1) are.each
+      (one_asked l.caller (last_behind l.caller 0 done) l sought refl search) are.each
 
   -- there is one
   pub no_text : into_iter_len own ≡ 0 → ⊥
@@ -166,12 +159,12 @@ module _ (first : State) (log done : List Line) (l : Line) (rest : List Line) (t
   pub text_is : (new : Texts) (text : List ℕ) → IsNextText first log done rest l own new text → IsAnsweredBy first log done l text
   text_is new text next = λ query is.
       let base = first.published.upto in
-      let both : Search query_in.0 ≡ Search query = sym query_in.1 ∙ is in
-      let same_query : query_in.0 ≡ query = cc in
+      let both : Search sought ≡ Search query = sym search ∙ is in
+      let same_query : sought ≡ query = cc in
       let here : IsTextOf first log own_ask text =
       (subst (AllZip (IsTextOf first log) (own_ask ∷ asks_from l.caller (last_behind l.caller 0 (done ++ l ∷ [])) rest)) next.items some.0).0 in
       subst (λ (q : Query). IsFound first log (last_commit base log l.caller base done) q l.line text) same_query
-      (subst (λ (s : ℕ). IsFound first log s query_in.0 l.line text)
+      (subst (λ (s : ℕ). IsFound first log s sought l.line text)
       (sym (commit_behind base log l.caller base 0 1 done (omega arith) (rises_in_front 1 done (l ∷ rest) are.rise) refl)) here)
 
   -- and the rest is left

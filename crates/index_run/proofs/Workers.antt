@@ -58,7 +58,7 @@ at_work n s round lines shares begun are =
 
 -- ---- behind
 
-goes_on : (q : DeleteQueue) (w : ThreadWriter) (s : Share) (x : Worked) → Works q w s x → (x.stop ≡ NoMemory → ⊥)
+goes_on : {C : Type 0} (q : DeleteQueue) (w : ThreadWriter) (s : Share) (x : Worked C) → Works q w s x → (x.stop ≡ NoMemory → ⊥)
     → GoesOn s (share_of x)
 goes_on q w s x works came = record {
   tasks = works.does.tasks;
@@ -70,7 +70,7 @@ goes_on q w s x works came = record {
 }
 
 -- each worker went on with its share
-pub all_go_on : (q : DeleteQueue) (ws : List ThreadWriter) (ss : List Share) (xs : List Worked) → AreWorked q ws ss xs
+pub all_go_on : {C : Type 0} (q : DeleteQueue) (ws : List ThreadWriter) (ss : List Share) (xs : List (Worked C)) → AreWorked q ws ss xs
     → AllCame xs → AllZip GoesOn ss (map share_of xs)
 all_go_on q [] [] [] all came = tt
 all_go_on q [] [] (x ∷ xs) all came = absurd all
@@ -85,7 +85,7 @@ gave_all : (pieces : List Piece) (held : Option Piece) → held ≡ None → pie
 gave_all pieces held none = ap (λ (h : Option Piece). pieces ++ held_of h) none ∙ append-nil pieces
 
 -- a worker was told what its share says, and gave off the pieces that it has
-worker_of : (q : DeleteQueue) (size i n : ℕ) (lines : List Line) (w : ThreadWriter) (s : Share) (x : Worked) (gave : List Piece)
+worker_of : {C : Type 0} (q : DeleteQueue) (size i n : ℕ) (lines : List Line) (w : ThreadWriter) (s : Share) (x : Worked C) (gave : List Piece)
     → IsBegunWriter q size i w → IsShare n i lines s → Works q w s x → (x.stop ≡ NoMemory → ⊥) → gave ≡ x.pieces
     → IsWorker q i (told_in (open_tasks s) (drop (length s.replies) x.share.replies)) x.writer gave
 worker_of q size i n lines w s x gave begun is works came same =
@@ -111,7 +111,7 @@ abbrev rest_of : List (List Piece) → List (List Piece)
 rest_of [] = []
 rest_of (p ∷ ps) = ps
 
-workers_back : (q : DeleteQueue) (size i n : ℕ) (lines : List Line) (ws : List ThreadWriter) (ss : List Share) (xs : List Worked) (ps : List (Vec Piece))
+workers_back : {C : Type 0} (q : DeleteQueue) (size i n : ℕ) (lines : List Line) (ws : List ThreadWriter) (ss : List Share) (xs : List (Worked C)) (ps : List (Vec Piece))
     → AreBegunFrom q size i ws → AreSharesFrom n i lines ss → AreWorked q ws ss xs → AllCame xs → pieces_of ps ≡ gave_of xs
     → AreWorkersFrom q i (pairs_since ss (map share_of xs)) (writers_of xs) ps
 workers_back q size i n lines [] [] [] [] begun are all came same = tt
@@ -126,7 +126,7 @@ workers_back q size i n lines (w ∷ ws) (s ∷ ss) (x ∷ xs) (p ∷ ps) begun 
   workers_back q size (i + 1) n lines ws ss xs ps begun.1 are.1 all.1 came.1 (ap rest_of same),
 )
 
-worked_count : (q : DeleteQueue) (ws : List ThreadWriter) (ss : List Share) (xs : List Worked) → AreWorked q ws ss xs
+worked_count : {C : Type 0} (q : DeleteQueue) (ws : List ThreadWriter) (ss : List Share) (xs : List (Worked C)) → AreWorked q ws ss xs
     → length (writers_of xs) ≡ length ws
 worked_count q [] [] [] all = refl
 worked_count q [] [] (x ∷ xs) all = absurd all
@@ -136,7 +136,7 @@ worked_count q (w ∷ ws) (s ∷ ss) [] all = absurd all
 worked_count q (w ∷ ws) (s ∷ ss) (x ∷ xs) all = (let rest = worked_count q ws ss xs all.1 in omega (arith, rest))
 
 -- what came back is a round's parts
-pub parts_back : (n : ℕ) (s : State) (round : Round) (lines : List Line) (shares : List Share) (worked : List Worked) (parts : RoundParts)
+pub parts_back : {C : Type 0} (n : ℕ) (s : State) (round : Round) (lines : List Line) (shares : List Share) (worked : List (Worked C)) (parts : RoundParts)
     → IsBegun n s round → AreShares n lines shares → AreWorked round.queue round.writers.items shares worked
     → AllCame worked → parts.queue ≡ round.queue → parts.writers.items ≡ writers_of worked → pieces_of parts.pieces.items ≡ gave_of worked
     → ArePartsOf s.published.upto (pairs_since shares (map share_of worked)) parts
@@ -164,7 +164,7 @@ none_more [] ys e = e
 none_more (x ∷ xs) ys e = none_more xs ys (ap (drop 1) e)
 
 -- no writer linked anything
-no_links : (q : DeleteQueue) (size i : ℕ) (ws : List ThreadWriter) (ss : List Share) (xs : List Worked) → AreBegunFrom q size i ws
+no_links : {C : Type 0} (q : DeleteQueue) (size i : ℕ) (ws : List ThreadWriter) (ss : List Share) (xs : List (Worked C)) → AreBegunFrom q size i ws
     → AreWorked q ws ss xs → AllZip SameReplies ss (map share_of xs) → links_in (writers_of xs) ≡ 0
 no_links q size i [] [] [] begun all same = refl
 no_links q size i [] [] (x ∷ xs) begun all same = absurd all
@@ -190,7 +190,7 @@ any_later : (w : ThreadWriter) (ws : List ThreadWriter) → Any HasSeen ws → A
 any_later w ws some = (suc some.0, some.1, (let inside = some.2 in omega (arith, inside)), some.3, some.4)
 
 -- a worker that didn't run out of memory is done, or saw the queue closed
-by_stop : (q : DeleteQueue) (w : ThreadWriter) (s : Share) (x : Worked) → Works q w s x → (x.stop ≡ NoMemory → ⊥) → SameReplies s (share_of x)
+by_stop : {C : Type 0} (q : DeleteQueue) (w : ThreadWriter) (s : Share) (x : Worked C) → Works q w s x → (x.stop ≡ NoMemory → ⊥) → SameReplies s (share_of x)
     → (stop : Stop) → x.stop ≡ stop → HasSeen x.writer ⊎ IsDone s
 by_stop q w s x works came same Done is =
     let done : length x.share.replies ≡ length x.share.tasks = works.done.0 is in
@@ -200,7 +200,7 @@ by_stop q w s x works came same Done is =
 by_stop q w s x works came same Closed is = inl (works.closed is)
 by_stop q w s x works came same NoMemory is = absurd (came is)
 
-seen_or_done : (q : DeleteQueue) (ws : List ThreadWriter) (ss : List Share) (xs : List Worked) → AreWorked q ws ss xs → AllCame xs
+seen_or_done : {C : Type 0} (q : DeleteQueue) (ws : List ThreadWriter) (ss : List Share) (xs : List (Worked C)) → AreWorked q ws ss xs → AllCame xs
     → AllZip SameReplies ss (map share_of xs) → Any HasSeen (writers_of xs) ⊎ AreDone ss
 seen_or_done q [] [] [] all came same = inr tt
 seen_or_done q [] [] (x ∷ xs) all came same = absurd all
@@ -217,7 +217,7 @@ seen_or_done q (w ∷ ws) (s ∷ ss) (x ∷ xs) all came same =
     both (inr done) (inr rest) = inr (done, rest)
 
 -- Where tasks were left and nothing was told the round is stuck: one saw the queue closed, and none linked anything.
-pub is_stuck : (n : ℕ) (s : State) (round : Round) (shares : List Share) (worked : List Worked) (parts : RoundParts)
+pub is_stuck : {C : Type 0} (n : ℕ) (s : State) (round : Round) (shares : List Share) (worked : List (Worked C)) (parts : RoundParts)
     → IsBegun n s round → AreWorked round.queue round.writers.items shares worked → AllCame worked
     → parts.writers.items ≡ writers_of worked → (AreDone shares → ⊥)
     → AllZip SameReplies shares (map share_of worked) → IsStuck parts
@@ -231,7 +231,7 @@ is_stuck n s round shares worked parts begun all came writers left same = (
     seen (inr done) = absurd (left done)
 
 -- Where tasks were left and the round wasn't stuck more of them were told something.
-pub fewer_open : (n : ℕ) (s : State) (round : Round) (shares news : List Share) (worked : List Worked) (parts : RoundParts)
+pub fewer_open : {C : Type 0} (n : ℕ) (s : State) (round : Round) (shares news : List Share) (worked : List (Worked C)) (parts : RoundParts)
     → IsBegun n s round → AreWorked round.queue round.writers.items shares worked → AllCame worked
     → parts.writers.items ≡ writers_of worked → news ≡ map share_of worked → (IsStuck parts → ⊥)
     → (AreDone shares → ⊥) → open_count news < open_count shares

@@ -77,14 +77,15 @@ abbrev pub IsMade : List Line → Type 0
 IsMade lines = (seed : ℕ) × (count : ℕ) × (callers : ℕ) × (1 ≤ callers) × (callers ≤ 256)
     × (lines ≡ made_script seed count callers)
 
--- The text that tells of a run that had this log: its report, or the summary of its script, which is that of the run
--- whatever the log is.
-abbrev pub form_text : Form → Given → List Line → List ℕ
-form_text Report g log = report g.base g.rows g.lines log
-form_text Summary g log = text_line (summary_value (script_summary g.lines))
+-- The text that tells of a run that had this log and whose look lines were shown these commits: its report, or the
+-- summary of its script, which is that of the run whatever these are.
+abbrev pub form_text : Form → Given → List Line → (ℕ → ℕ) → List ℕ
+form_text Report g log shown = report g.base g.rows g.lines log shown
+form_text Summary g log shown = text_line (summary_value (script_summary g.lines))
 
--- What a command writes of a run that had this log: `run` its report, and `make` the summary of its script.
-abbrev pub run_text : Command → Given → List Line → List ℕ
+-- What a command writes of a run that had this log, and whose look lines were shown these commits: `run` its report,
+-- and `make` the summary of its script.
+abbrev pub run_text : Command → Given → List Line → (ℕ → ℕ) → List ℕ
 run_text (Run threads buffer merge keep) = form_text Report
 run_text (Ask commit) = form_text Report
 run_text command.List = form_text Report

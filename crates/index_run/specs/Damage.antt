@@ -1,5 +1,6 @@
 -- Where a command finds a broken file.
-use Rattle.std.specs.Prelude.{◌≡◌, ◌⊎◌, ℕ, ◌+◌, ◌≤◌, List, length, Option, Some, None, Ok}
+use Rattle.std.specs.Prelude.{◌≡◌, ◌⊎◌, ℕ, ◌+◌, ◌≤◌, List, length, Option, Some, None, Ok, true}
+use Rattle.std.specs.List.{Any}
 use Rattle.command_words.specs.declared.command.Command.{Command}
 use Rattle.command_words.specs.declared.command.Command.TheVariants.{Ask, Make, Run}
 use Rattle.command_words.specs.declared.command.Command.TheVariants as command
@@ -10,7 +11,7 @@ use Rattle.index_check.specs.Sound.{IsDamagedAt}
 use Rattle.ix_outside.specs.Files.{Files, Was}
 use Rattle.op_script.specs.Language.{script}
 use Rattle.op_script.specs.declared.script.Line.{Line}
-use Rattle.run_log.specs.Headline.{Interleaves}
+use Rattle.run_log.specs.Headline.{Interleaves, IsIn, commit_numbers, is_look}
 use Rattle.script_maker.specs.Made.{made_script}
 use Rattle.searcher.specs.Searching.{IsDamagedIn}
 use Rattle.store_answers.specs.Asking.{IsDamagedAsked}
@@ -31,16 +32,23 @@ abbrev pub IsRead : Form → ℕ → List Line → ℕ → Type 0
 IsRead Report base lines number = ⊥
 IsRead Summary base lines number = IsEnd base lines number
 
+-- What a run reads for its look lines, if it has some: the commit on which it began, and those of its log.
+pub record IsReadToLook (base : ℕ) (lines : List Line) (number : ℕ) : Type 0 where
+  pub look : Any (λ (l : Line). is_look l.act ≡ true) lines
+  pub log : List Line
+  pub numbering : Interleaves lines log
+  pub one_of : (number ≡ base) ⊎ IsIn (commit_numbers base log) number
+
 -- A commit that a run over these lines reads is first broken at this place: the last one, on which
 -- the run begins, while the files are as they were. Of a store that tells none of its files it may also be the last one of
--- a run that makes a summary. The number 0 stands for no commit.
+-- a run that makes a summary, or one that is read for look lines. The number 0 stands for no commit.
 pub record ReadsDamaged (form : Form) (lines : List Line) (old new : Option Files) (damaged : Damaged)
     : Type 0 where
   pub base : ℕ
   pub last : IsBase old base
   pub number : ℕ
   pub some : 1 ≤ number
-  pub reads : ((number ≡ base) × (new ≡ old)) ⊎ ((old ≡ None) × (new ≡ None) × IsRead form base lines number)
+  pub reads : ((number ≡ base) × (new ≡ old)) ⊎ ((old ≡ None) × (new ≡ None) × (IsRead form base lines number ⊎ IsReadToLook base lines number))
   pub broken : IsDamagedIn new number damaged
 
 -- Of the commit files that are listed one is first broken at this place; where the store tells its

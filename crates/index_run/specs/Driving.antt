@@ -1,5 +1,5 @@
 -- A run under way: between two rounds, and at the end of one.
-use Rattle.std.specs.Prelude.{◌≡◌, ℕ, ◌+◌, ◌≤◌, List, [], ◌∷◌, ◌++◌, length, map, Option, Some, None, IsSome, IsSomeAnd, true, false}
+use Rattle.std.specs.Prelude.{◌≡◌, ◌⊎◌, ℕ, ◌+◌, ◌≤◌, List, [], ◌∷◌, ◌++◌, length, map, Option, Some, None, IsSome, IsSomeAnd, true, false}
 use Rattle.std.specs.Prelude.{IfErr, IfOk, IfSome, OnOk}
 use Rattle.std.specs.Global.{Vec}
 use Rattle.std.specs.List.{AllByRecursion, AllZip}
@@ -12,7 +12,9 @@ use Rattle.ix_outside.specs.Crash.{MayHold}
 use Rattle.ix_outside.specs.Disk.{Disk, Told, told_files}
 use Rattle.ix_outside.specs.Files.{Files}
 use Rattle.ix_outside.specs.Images.{Reaches}
-use Rattle.commit_point.specs.Holds.{AreKept}
+use Rattle.segment_core.specs.LiveRows.{Lived}
+use Rattle.commit_point.specs.declared.heads.HeadSegment.{HeadSegment}
+use Rattle.commit_point.specs.Holds.{AreKept, HasSegments}
 use Rattle.commit_point.specs.Steps.{KeepsMade, OnlyCommits}
 use Rattle.commit_pruning.specs.Pruning.{IsKeptIn}
 use Rattle.op_script.specs.Shape.{LinesRise}
@@ -29,12 +31,14 @@ use Rattle.index_writer.specs.declared.round.CommitInfo.{CommitInfo}
 use Rattle.index_writer.specs.declared.round.RoundParts.{RoundParts}
 use Rattle.index_writer.specs.declared.state.State.{State}
 use Rattle.index_writer.specs.declared.writer.IndexWriter.{IndexWriter}
-use Rattle.index_writer.specs.Ready.{HasRows, IsSound}
+use Rattle.index_writer.specs.Ready.{HasRows, IsSound, IsStored}
 use Rattle.index_writer.specs.Rounds.{ArePartsOf}
 use Rattle.index_writer.specs.Storing.{GoesOn as WriterGoesOn}
-use Rattle.run_log.specs.Headline.{Given, HasSome, Interleaves, commit_numbers, number_of, pairs_at, rows_at}
+use Rattle.searcher.specs.Searching.{IsDamagedIn}
+use Rattle.run_log.specs.Headline.{AreShown, Given, HasSome, IsIn, Interleaves, commit_numbers, number_of, pairs_at, rows_at}
 use Rattle.run_log.specs.Numbering.{HasLine}
-use Rattle.index_run.specs.Answered.{AreAnswered, IsFound}
+use Rattle.index_run.specs.Answered.{AreAnswered}
+use Rattle.index_run.specs.Looked.{IsFoundRead}
 use Rattle.index_run.specs.Doing.{CanBegin, IsOnGiven, IsWriterOn}
 use Rattle.index_run.specs.Keeping.{FindsStaying, LeftOf}
 use Rattle.index_run.specs.Promises.{CanKeep}
@@ -156,13 +160,16 @@ pub record EndsRound (r : Run) (lines : List Line) (news : List Share) (log : Li
 
 -- ---- ends
 
--- A run that was done: what became of its lines, by the log that it is.
+-- A run that was done: what became of its lines, by the log that it is, and by the commits that its look lines were
+-- shown.
 pub record IsOver (r : Run) (lines : List Line) (became : List Outcome) (w : State) (now : Option Disk) : Type 0 where
   pub log : List Line
   pub writer : IsWriterOn r.first log w
   pub disk : IsDiskBy r.keep r.first log (length log) w r.start now
   pub numbering : Interleaves lines log
-  pub outcomes : AreOutcomes (IsDocs r.first log) (IsFound r.first log) (base_of r) log [] lines became
+  pub shown : ℕ → ℕ
+  pub looks : AreShown (base_of r) log shown lines
+  pub outcomes : AreOutcomes (IsDocs r.first log) (IsFoundRead r.first r.start log) shown (base_of r) log [] lines became
 
 -- Where a run stopped that keeps all commits, a crash left the first of the log's commits, made over an image of the
 -- beginning, and the files have the first of them. Each step was one by which commits are made, and no commit that stood
@@ -195,17 +202,33 @@ pub record FindsBroken (r : Run) (now : Option Disk) (damaged : Damaged) : Type 
   pub finds : FindsStaying keep (told_files now) damaged
   pub before : (old : Files) → told_files r.start ≡ Some old → ¬ CanKeep (Some keep) old
 
--- what is said of the files where a run stopped for this
-abbrev pub StopsFor : Run → Option Disk → RanFault → Type 0
-StopsFor r now (halt.Writer fault) = Unit {0}
-StopsFor r now (halt.Damaged damaged) = FindsBroken r now damaged
+-- the files spell the commit of this number; the number 0 stands for none
+abbrev pub AreSpelling : Files → ℕ → Type 0
+AreSpelling files s = (s ≡ 0)
+    ⊎ ((next : ℕ) × (entries : List HeadSegment) × (segments : List Lived) × HasSegments files s next entries segments)
+
+-- A run found a file broken of a commit that it read for its look lines: of one of the log, or of the one on which it
+-- began. So the store didn't tell files that spelled the commit on which the run began.
+pub record FindsUnread (r : Run) (log : List Line) (now : Option Disk) (damaged : Damaged) : Type 0 where
+  pub number : ℕ
+  pub some : 1 ≤ number
+  pub one_of : (number ≡ base_of r) ⊎ IsIn (commit_numbers (base_of r) log) number
+  pub broken : IsDamagedIn (told_files now) number damaged
+  pub never : (files : Files) → BeginsOnLast r.first files r.start → IsStored files r.first
+      → AreSpelling files (base_of r) → ⊥
+
+-- what is said of the files where a run of this log stopped for this
+abbrev pub StopsFor : Run → List Line → Option Disk → RanFault → Type 0
+StopsFor r log now (halt.Writer fault) = Unit {0}
+StopsFor r log now (halt.Damaged damaged) = FindsBroken r now damaged
+StopsFor r log now (halt.Unread damaged) = FindsUnread r log now damaged
 
 -- A run that stopped for this, for one order of its numbered lines.
 pub record IsCut (r : Run) (lines : List Line) (fault : RanFault) (now : Option Disk) : Type 0 where
   pub log : List Line
   pub numbering : Interleaves lines log
   pub stopped : IsStoppedBy r.keep r.first log r.start now
-  pub found : StopsFor r now fault
+  pub found : StopsFor r log now fault
 
 -- a run of which so many commits are kept, where old ones are given up
 abbrev pub KeepsBy : Option ℕ → Run → Type 0

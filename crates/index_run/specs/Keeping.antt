@@ -14,8 +14,8 @@ use Rattle.commit_point.specs.declared.heads.Head.{Head}
 use Rattle.commit_pruning.specs.Pruning.{BreaksStaying, IsBrokenCommit, IsGivenUp, IsGoneFrom, IsKeptIn, IsWholeAs, IsWholeOrGivenUp}
 use Rattle.commit_pruning.specs.Pruning.{MayBePruned, Stays}
 use Rattle.op_script.specs.declared.script.Line.{Line}
-use Rattle.run_log.specs.Headline.{CanRunOn, Given, GivesBack, HasAll, HasRoom, HasSome, Interleaves, IsKept, IsSettled, Preserves}
-use Rattle.run_log.specs.Headline.{Runs, Stops, is_commit}
+use Rattle.run_log.specs.Headline.{CanRunOn, Given, GivesBack, HasAll, HasRoom, HasSome, Interleaves, IsKept, IsSettled}
+use Rattle.run_log.specs.Headline.{AreShown, Preserves, Runs, Stops, is_commit}
 use Rattle.index_run.specs.declared.telling.Form.{Form}
 use Rattle.index_run.specs.declared.telling.Form.TheVariants.{Report}
 
@@ -68,17 +68,18 @@ HasLatest keep g log files = (was : Files) × HasAll g log was × IsLeft keep (h
 
 -- ---- what a run promises
 
--- A run that was done, for one order of its numbered lines, its log. What was written of the text that tells of the log
--- is said by `wrote`. The files that the store tells are what is left of all of the log's commits
--- and of those that were there. So is every image once the call has ended; a crash at any moment of
--- the call leaves what may be left of the first ones. And the store is again such as a run asks
--- for.
-pub record RunsKeeping (keep : ℕ) (g : Given) (text : List Line → List ℕ) (wrote : List ℕ
-    → Type 0) (old new : Option Disk)
+-- A run that was done, for one order of its numbered lines, its log, and for the commits that its look lines were
+-- shown. What was written of the text that tells of both is said by `wrote`. The files that the store tells are what is
+-- left of all of the log's commits and of those that were there. So is every image once the call has ended; a crash at
+-- any moment of the call leaves what may be left of the first ones. And the store is again such as a run asks for.
+pub record RunsKeeping (keep : ℕ) (g : Given) (text : List Line → (ℕ → ℕ) → List ℕ) (wrote : List ℕ → Type 0)
+    (old new : Option Disk)
     : Type 0 where
   pub log : List Line
   pub numbering : Interleaves g.lines log
-  pub written : wrote (text log)
+  pub shown : ℕ → ℕ
+  pub looks : AreShown g.base log shown g.lines
+  pub written : wrote (text log shown)
   pub files : IsSomeAnd (told_files new) (HasLatest keep g log)
   pub images : IsKept g old → (c : Files) → MayHold new c → Left keep (HasAll g log) c
   pub crash : IsKept g old → LeavesOnly old new (Left keep (HasSome g log))
@@ -87,11 +88,14 @@ pub record RunsKeeping (keep : ℕ) (g : Given) (text : List Line → List ℕ) 
 
 -- The same before old commits are given up behind the last one: the files are what may be left of all of the log's
 -- commits and of those that were there, and so is what a crash leaves. Each commit by itself is settled still, or gone.
-pub record RunsLeaving (keep : ℕ) (g : Given) (text : List Line → List ℕ) (wrote : List ℕ → Type 0) (old new : Option Disk)
+pub record RunsLeaving (keep : ℕ) (g : Given) (text : List Line → (ℕ → ℕ) → List ℕ) (wrote : List ℕ → Type 0)
+    (old new : Option Disk)
     : Type 0 where
   pub log : List Line
   pub numbering : Interleaves g.lines log
-  pub written : wrote (text log)
+  pub shown : ℕ → ℕ
+  pub looks : AreShown g.base log shown g.lines
+  pub written : wrote (text log shown)
   pub files : IsSomeAnd (told_files new) (Left keep (HasAll g log))
   pub crash : IsKept g old → LeavesOnly old new (Left keep (HasSome g log))
   pub each : LeavesEach keep g (HasSome g log) old new
@@ -122,12 +126,14 @@ pub record PreservesKeeping (keep : ℕ) (g : Given) (old new : Option Disk) : T
 
 -- ---- the same of a run that keeps all commits, or so many
 
-abbrev pub RunsBy : Option ℕ → Given → (List Line → List ℕ) → (List ℕ → Type 0) → Option Disk → Option Disk → Type 0
+abbrev pub RunsBy : Option ℕ → Given → (List Line → (ℕ → ℕ) → List ℕ) → (List ℕ → Type 0) → Option Disk → Option Disk
+    → Type 0
 RunsBy None = Runs
 RunsBy (Some keep) = RunsKeeping keep
 
 -- the same before old commits are given up behind the last one
-abbrev pub RunsLeavingBy : Option ℕ → Given → (List Line → List ℕ) → (List ℕ → Type 0) → Option Disk → Option Disk → Type 0
+abbrev pub RunsLeavingBy : Option ℕ → Given → (List Line → (ℕ → ℕ) → List ℕ) → (List ℕ → Type 0) → Option Disk
+    → Option Disk → Type 0
 RunsLeavingBy None = Runs
 RunsLeavingBy (Some keep) = RunsLeaving keep
 

@@ -2,6 +2,10 @@ pub mod Keeping
 pub mod Commands
 pub mod Causes
 pub mod Answered
+pub mod Looked
+pub mod Looks
+pub mod Boards
+pub mod Shown
 pub mod Outcomes
 pub mod Replied
 pub mod Leaving

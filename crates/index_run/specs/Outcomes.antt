@@ -7,7 +7,7 @@ use Rattle.ix_base.specs.declared.refusal.Refusal.{Refusal}
 use Rattle.ix_base.specs.Refusals.{refusal}
 use Rattle.op_script.specs.declared.script.Line.{Line}
 use Rattle.op_script.specs.declared.script.Act.{Act}
-use Rattle.op_script.specs.declared.script.Act.TheVariants.{Do, Search}
+use Rattle.op_script.specs.declared.script.Act.TheVariants.{Do, Look, Search}
 use Rattle.run_report.specs.declared.outcome.Answer.{Answer}
 use Rattle.run_report.specs.declared.outcome.Answer.TheVariants.{Numbered, Committed, Refused, Found}
 use Rattle.run_report.specs.declared.outcome.Outcome.{Outcome}
@@ -30,23 +30,28 @@ IsTold (Some refusal) answer P = answer ≡ Refused refusal
 IsTold None answer P = P
 
 -- What becomes of a line, by the log and by the lines before it. `Docs` says of a commit how many rows it has, and `Finds`
--- what the text of a search in it is.
-abbrev pub IsAnswer : (ℕ → ℕ → Type 0) → (ℕ → Query → ℕ → List ℕ → Type 0) → ℕ → List Line → List Line → Line → Act
-    → Answer → Type 0
-IsAnswer Docs Finds base log before l (Search query) answer = (text : List ℕ)
+-- what the text of a search in it is; `shown` is the number of the commit that a look line was shown, by its place.
+abbrev pub IsAnswer : (ℕ → ℕ → Type 0) → (ℕ → Query → ℕ → List ℕ → Type 0) → (ℕ → ℕ) → ℕ → List Line → List Line → Line
+    → Act → Answer → Type 0
+IsAnswer Docs Finds shown base log before l (Search query) answer = (text : List ℕ)
     × Finds (last_commit base log l.caller base before) query l.line text × (answer ≡ Found text)
-IsAnswer Docs Finds base log before l (Do op) answer =
+IsAnswer Docs Finds shown base log before l (Look query) answer = (text : List ℕ)
+    × Finds (shown l.line) query l.line text × (answer ≡ Found text)
+IsAnswer Docs Finds shown base log before l (Do op) answer =
     IsTold (refusal op) answer (IsDone Docs (number_of base log l.line) op answer)
 
-pub record IsOutcome (Docs : ℕ → ℕ → Type 0) (Finds : ℕ → Query → ℕ → List ℕ → Type 0) (base : ℕ) (log before : List Line) (l : Line) (o : Outcome) : Type 0 where
+pub record IsOutcome (Docs : ℕ → ℕ → Type 0) (Finds : ℕ → Query → ℕ → List ℕ → Type 0) (shown : ℕ → ℕ) (base : ℕ)
+    (log before : List Line) (l : Line) (o : Outcome)
+    : Type 0 where
   pub line : o.line ≡ l.line
-  pub answer : IsAnswer Docs Finds base log before l l.act o.answer
+  pub answer : IsAnswer Docs Finds shown base log before l l.act o.answer
 
 -- what becomes of lines, one by one, with the lines before them
-abbrev pub AreOutcomes : (ℕ → ℕ → Type 0) → (ℕ → Query → ℕ → List ℕ → Type 0) → ℕ → List Line → List Line → List Line
-    → List Outcome → Type 0
-AreOutcomes Docs Finds base log before [] [] = Unit {0}
-AreOutcomes Docs Finds base log before [] (o ∷ outcomes) = ⊥
-AreOutcomes Docs Finds base log before (l ∷ lines) [] = ⊥
-AreOutcomes Docs Finds base log before (l ∷ lines) (o ∷ outcomes) =
-    IsOutcome Docs Finds base log before l o × AreOutcomes Docs Finds base log (before ++ l ∷ []) lines outcomes
+abbrev pub AreOutcomes : (ℕ → ℕ → Type 0) → (ℕ → Query → ℕ → List ℕ → Type 0) → (ℕ → ℕ) → ℕ → List Line → List Line
+    → List Line → List Outcome → Type 0
+AreOutcomes Docs Finds shown base log before [] [] = Unit {0}
+AreOutcomes Docs Finds shown base log before [] (o ∷ outcomes) = ⊥
+AreOutcomes Docs Finds shown base log before (l ∷ lines) [] = ⊥
+AreOutcomes Docs Finds shown base log before (l ∷ lines) (o ∷ outcomes) =
+    IsOutcome Docs Finds shown base log before l o
+    × AreOutcomes Docs Finds shown base log (before ++ l ∷ []) lines outcomes

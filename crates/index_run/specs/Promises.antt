@@ -92,9 +92,10 @@ pub record Call : Type 0 where
   pub left : Option Disk
   pub text : Result (Vec ℕ) Stop
 
--- A command that ran a script, which is such lines, made such a text of the log, and kept all commits or so many.
-pub record RunsScript (keep : Option ℕ) (IsScript : List Line → Type 0) (text : Given → List Line
-    → List ℕ) (call : Call)
+-- A command that ran a script, which is such lines, made such a text of the log and of the commits that its look lines
+-- were shown, and kept all commits or so many.
+pub record RunsScript (keep : Option ℕ) (IsScript : List Line → Type 0) (text : Given → List Line → (ℕ → ℕ) → List ℕ)
+    (call : Call)
     : Type 0 where
   pub runs : (g : Given) → IsGiven g IsScript call.store → CanRun g
       → IfOk call.text (λ made. RunsBy keep g (text g) (λ told. made.items ≡ told) call.store call.left)

@@ -1,11 +1,12 @@
 -- What the workers' replies tell of a script's lines.
-use Rattle.std.specs.Prelude.{◌≡◌, ◌⊎◌, ℕ, ◌+◌, ◌<◌, List, [], ◌∷◌, ◌++◌, length, map, Some, None}
+use Rattle.std.specs.Prelude.{◌≡◌, ◌⊎◌, ℕ, ◌+◌, ◌<◌, List, [], ◌∷◌, ◌++◌, length, map, Option, Some, None}
 use Rattle.std.specs.List.{AllByRecursion, AllZip}
 use Rattle.std.specs.Vec.Iter.{into_iter_items, into_iter_len}
 use Rattle.std.specs.Global.{Global, Vec}
 use Rattle.std.specs.declared.vec.IntoIter.{IntoIter}
 use Rattle.ix_base.specs.Refusals.{refusal}
 use Rattle.ix_base.specs.declared.query.Query.{Query}
+use Rattle.ix_outside.specs.Disk.{Disk}
 use Rattle.op_script.specs.declared.script.Act.TheVariants.{Search}
 use Rattle.op_script.specs.Shape.{LinesRise}
 use Rattle.op_script.specs.declared.script.Line.{Line}
@@ -23,6 +24,7 @@ use Rattle.run_report.specs.declared.outcome.Answer.{Answer}
 use Rattle.run_report.specs.declared.outcome.Answer.TheVariants as answer
 use Rattle.index_writer.specs.declared.state.State.{State}
 use Rattle.index_run.specs.Answered.{AreAnswered, IsFound, IsTextOf}
+use Rattle.index_run.specs.Shown.{AreSeenLeft, Seen}
 
 -- ---- the commits, each as its number and how many rows it has
 
@@ -115,10 +117,14 @@ IsAnsweredBy first log done l text = (query : Query) → l.act ≡ Search query
 
 -- ---- on the way
 
--- How far it has come: the replies to the lines left, and the texts of the search lines among them.
-pub record IsSoFar (first : State) (log done rest : List Line) (told : List Replies) (texts : List Texts) : Type 0 where
+-- How far it has come: the replies to the lines left, the texts of the search lines among them, and what the look lines
+-- among them were shown.
+pub record IsSoFar (first : State) (start : Option Disk) (log : List Line) (shown : ℕ → ℕ) (done rest : List Line) (told : List Replies)
+    (texts : List Texts) (seen : List Seen)
+    : Type 0 where
   pub left : AreLeft first.published.upto log rest told
   pub texts_left : AreTextsLeft first log done rest texts
+  pub seen_left : AreSeenLeft first start log shown rest seen
   pub callers : AllByRecursion (λ (l : Line). l.caller < 256) rest
   pub committed : AllByRecursion (IsCommitted first.published.upto log) rest
 

@@ -16,22 +16,26 @@ abbrev pub doing_lines : List Line → List Line
 doing_lines lines = filter (λ (l : Line). is_doing l.act) lines
 
 -- the workers' writers
-abbrev pub writers_of : List Worked → List ThreadWriter
-writers_of worked = map (λ (w : Worked). w.writer) worked
+abbrev pub writers_of : {C : Type 0} → List (Worked C) → List ThreadWriter
+writers_of {C} worked = map (λ (w : Worked C). w.writer) worked
+
+-- what went along with them
+abbrev pub companions_of : {C : Type 0} → List (Worked C) → List C
+companions_of {C} worked = map (λ (w : Worked C). w.companion) worked
 
 -- the pieces that they gave off
-abbrev pub gave_of : List Worked → List (List Piece)
-gave_of worked = map (λ (w : Worked). w.pieces) worked
+abbrev pub gave_of : {C : Type 0} → List (Worked C) → List (List Piece)
+gave_of {C} worked = map (λ (w : Worked C). w.pieces) worked
 
 abbrev pub pieces_of : List (Vec Piece) → List (List Piece)
 pieces_of pieces = map (λ (p : Vec Piece). p.items) pieces
 
-abbrev pub share_of : Worked → Share
+abbrev pub share_of : {C : Type 0} → Worked C → Share
 share_of w = w.share
 
 -- none of the workers ran out of memory
-abbrev pub AllCame : List Worked → Type 0
-AllCame worked = AllByRecursion (λ (w : Worked). w.stop ≡ NoMemory → ⊥) worked
+abbrev pub AllCame : {C : Type 0} → List (Worked C) → Type 0
+AllCame {C} worked = AllByRecursion (λ (w : Worked C). w.stop ≡ NoMemory → ⊥) worked
 
 -- these commits, and then this one, if it is one: the number of each, and how many rows it has
 abbrev pub given : List (ℕ × ℕ) → Option CommitInfo → List (ℕ × ℕ)

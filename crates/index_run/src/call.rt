@@ -147,7 +147,8 @@ pub fn top<R: Threads + Wait + Sync, I: Source, O: Sink, S: Store, G: Gate>(
         → IsOneOf result.status (0 ∷ 4 ∷ []) }
 
     // The headline: the numbers run on from the last commit's, the new commits hold exactly the
-    // rows by the lines numbered up to theirs, and the run's text is written and nothing else.
+    // rows by the lines numbered up to theirs, each look line was shown the last commit or a new one,
+    // and the run's text is written and nothing else.
     ensures headline { (c : Command) (g : Given) → command_of words.now ≡ Some c
         → IsGiven g (HasScript c (I.left input.old)) (S.disk store) → CanRun g → result.status ≡ 0
         → RunsBy (keep_of c) g (run_text c g) (λ text. Appends (O.written out.old) (O.written out.new) text)

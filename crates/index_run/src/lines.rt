@@ -9,19 +9,24 @@ ghost use Rattle.op_script.specs.Shape.{AreScriptLines};
 ghost use Rattle.index_run.specs.Doing.{CanBegin};
 ghost use Rattle.op_script.specs.declared.script.Line.{Line};
 ghost use Rattle.line_shares.specs.Shares.{AreDone, AreShares};
-ghost use Rattle.index_run.specs.Driving.{Begins, HasCome, IsCut, IsOver, IsRunBy, IsUnderWay, Run};
+ghost use Rattle.index_run.specs.Boards.{BeginsHere};
+ghost use Rattle.index_run.specs.Driving.{HasCome, IsCut, IsOver, IsRunBy, IsUnderWay, Run};
+ghost use Rattle.index_run.specs.Looked.{AllLooked, AreLooked};
 ghost use Rattle.index_run.specs.Rounds.{doing_lines, given};
 
+use crate::boards::{begin_looking, look_last};
+use crate::looks::Looked;
 use crate::outcomes::outcomes_of;
 use crate::rounds::{Ran, RanFault, RoundLeft, do_round, write_pending};
 use crate::searches::{answer_behind, no_texts};
 use index_writer::{CommitInfo, IndexWriter, WriterFault, pruned_go_on, segments_stand};
 use ix_base::{List, NoMemory};
 use ix_outside::{Gate, Store};
-use line_shares::{Ask, CommitLine, Dealt, all_done, deal};
+use line_shares::{Ask, CommitLine, Dealt, Look, all_done, deal};
 use op_script::Line;
 use run_report::Outcome;
 use std::alloc::Global;
+use std::marker::Brand;
 use std::sync::Wait;
 use std::thread::Threads;
 use worker_tasks::Share;
@@ -35,6 +40,8 @@ struct Rounds {
     commits: Vec<(u64, u64)>,
     /// The text of each search line, those of each caller in their order.
     texts: Vec<Vec<List<u8>>>,
+    /// What each look line was shown, those of each worker in their order.
+    looked: Vec<Vec<Looked>>,
     /// How many rounds there were.
     count: u64,
 }
@@ -45,6 +52,8 @@ struct Rounds {
 /// A round's commit is written while the workers of the next one run, and that of the last round at once. Where only so many
 /// commits are kept, all but so many of the latest are given up behind each so many commits that are written beside rounds. A search
 /// line is answered from memory, where the round has ended that its commit line ended, and before that commit is written.
+/// A look line is answered by its worker, when it comes to it between its tasks, from the newest commit that is written
+/// by then.
 pub fn do_lines<R: Threads + Wait + Sync, S: Store, G: Gate>(
     rt: &R,
     alloc: Global,
@@ -76,22 +85,26 @@ pub fn do_lines<R: Threads + Wait + Sync, S: Store, G: Gate>(
         places,
         shares,
         asks,
+        looks,
     } = match deal(alloc, threads, lines) {
         Ok(dealt) => dealt,
         Err(error) => return Ran::stopped(writer, WriterFault::from(error)),
     };
     let asks = asks.as_slice();
-    let Ran { writer, came } = do_rounds(rt, alloc, gate, writer, threads, keep, shares, asks);
+    let Ran { writer, came } = do_rounds(
+        rt, alloc, gate, writer, threads, keep, shares, asks, looks,
+    );
     let Rounds {
         shares,
         commits,
         texts,
+        looked,
         ..
     } = match came {
         Ok(rounds) => rounds,
         Err(fault) => return Ran::halted(writer, fault),
     };
-    match outcomes_of(alloc, places, shares, commits.as_slice(), texts) {
+    match outcomes_of(alloc, places, shares, commits.as_slice(), texts, looked) {
         Ok(outcomes) => Ran {
             writer,
             came: Ok(outcomes),
@@ -112,18 +125,21 @@ fn do_rounds<R: Threads + Wait + Sync, S: Store, G: Gate>(
     keep: Option<u32>,
     shares: Vec<Share>,
     asks: &[Vec<Ask>],
+    looks: Vec<Vec<Look>>,
 ) -> Ran<S, Rounds>
     requires threads { (1 ≤ threads) × (threads ≤ 16) }
     requires some { IfSome keep (λ keep. 1 ≤ keep) }
     requires out { writer.state.out ≡ false }
     requires begins { (r : Run) × (lines : ListOf Line) × IsRunBy threads keep r
-        × Begins r lines shares.items asks.now writer.state (S.disk writer.store) }
+        × BeginsHere r lines shares.items asks.now looks.items writer.state (S.disk writer.store) }
     ensures over { (r : Run) (lines : ListOf Line) → IsRunBy threads keep r
-        → Begins r lines shares.items asks.now writer.state (S.disk writer.store)
-        → IfOk result.came (λ x. (due : CommitLine) × IsUnderWay r lines x.shares.items asks.now
-        x.commits.items due x.texts.items result.writer.state (S.disk result.writer.store)) }
+        → BeginsHere r lines shares.items asks.now looks.items writer.state (S.disk writer.store)
+        → IfOk result.came (λ x. (due : CommitLine) × (way : IsUnderWay r lines x.shares.items asks.now
+        x.commits.items due x.texts.items result.writer.state (S.disk result.writer.store))
+        × AreLooked r.first r.start lines way.log looks.items x.looked.items) }
+    ensures looked { IfOk result.came (λ x. AllLooked looks.items x.looked.items) }
     ensures cut { (r : Run) (lines : ListOf Line) → IsRunBy threads keep r
-        → Begins r lines shares.items asks.now writer.state (S.disk writer.store)
+        → BeginsHere r lines shares.items asks.now looks.items writer.state (S.disk writer.store)
         → IfErr result.came (λ fault. IsCut r lines fault (S.disk result.writer.store)) }
     ensures written { OnOk result.came (result.writer.state.pending ≡ None) }
     ensures done { IfOk result.came (λ x. AreDone x.shares.items) }
@@ -143,10 +159,14 @@ fn do_rounds<R: Threads + Wait + Sync, S: Store, G: Gate>(
         Ok(texts) => texts,
         Err(error) => return Ran::stopped(writer, WriterFault::from(error)),
     };
+    let mut looking = match begin_looking(alloc, &mut writer, looks) {
+        Ok(looking) => looking,
+        Err(fault) => return Ran::halted(writer, fault),
+    };
     while !all_done(shares.as_slice()) {
         let kept = kept_behind(keep, commits.len());
         let round = do_round(
-            rt, alloc, gate, writer, threads, kept, shares, due, &mut count,
+            rt, alloc, gate, writer, threads, kept, shares, looking, due, &mut count,
         );
         writer = round.writer;
         let left = match round.came {
@@ -157,6 +177,7 @@ fn do_rounds<R: Threads + Wait + Sync, S: Store, G: Gate>(
         let commit = left.commit;
         shares = left.shares;
         due = left.due;
+        looking = left.looking;
         match settle(
             alloc,
             &mut writer,
@@ -170,10 +191,15 @@ fn do_rounds<R: Threads + Wait + Sync, S: Store, G: Gate>(
             Err(error) => return Ran::stopped(writer, WriterFault::from(error)),
         }
     }
+    let looked = match look_last::<Brand, R>(rt, alloc, looking) {
+        Ok(looked) => looked,
+        Err(error) => return Ran::stopped(writer, WriterFault::from(error)),
+    };
     let rounds = Rounds {
         shares,
         commits,
         texts,
+        looked,
         count,
     };
     write_last(writer, rounds, &due)
@@ -251,7 +277,7 @@ fn write_last<S: Store>(writer: IndexWriter<S>, rounds: Rounds, due: &CommitLine
         (S.disk writer.store) → IfErr result.came (λ fault. IsCut r lines fault (S.disk result.writer.store)) }
     ensures written { OnOk result.came (result.writer.state.pending ≡ None) }
     ensures same { IfOk result.came (λ x. (x.shares ≡ rounds.shares) × (x.texts ≡ rounds.texts)
-        × (x.count ≡ rounds.count)) }
+        × (x.looked ≡ rounds.looked) × (x.count ≡ rounds.count)) }
     ensures closed { result.came ≡ Err (RanFault.Writer WriterFault.Closed) → ⊥ }
     ensures later { S.fault_count writer.store ≤ S.fault_count result.writer.store }
     ensures failed { result.came ≡ Err (RanFault.Writer WriterFault.Store)

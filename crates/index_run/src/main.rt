@@ -10,12 +10,14 @@ use std::{env, io};
 
 mod answering;
 mod begin;
+mod boards;
 mod call;
 mod checking;
 mod commands;
 mod doing;
 mod input;
 mod lines;
+mod looks;
 mod outcomes;
 mod output;
 mod program;
@@ -51,6 +53,8 @@ mod tests_gate;
 mod tests_keep;
 #[cfg(test)]
 mod tests_large;
+#[cfg(test)]
+mod tests_looks;
 #[cfg(test)]
 mod tests_operations;
 #[cfg(test)]

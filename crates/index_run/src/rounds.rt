@@ -1,5 +1,6 @@
 //! The rounds of a run: each is begun, done by its workers, ended and committed.
-ghost use Rattle.std.specs.Prelude.{◌≡◌, ◌+◌, ◌≤◌, ◌<◌, ℕ, List, length, map, IfErr, IfOk, IfSome, OnOk, IsTrue, Err, None, true, false};
+ghost use Rattle.std.specs.Prelude.{◌≡◌, ◌⊎◌, ◌+◌, ◌++◌, ◌≤◌, ◌<◌, ℕ, List, length, map, IfErr, IfOk, IfSome, IsOk, OnOk, IsTrue, Err, None, true, false, option_map};
+ghost use Rattle.std.specs.Arc.{arc_value};
 ghost use Rattle.std.specs.List.{AllByRecursion};
 ghost use Rattle.ix_outside.specs.Causes.{Rose};
 ghost use Rattle.op_script.specs.declared.script.Line.{Line};
@@ -11,11 +12,22 @@ ghost use Rattle.index_writer.specs.Ready.{IsSound};
 ghost use Rattle.index_writer.specs.Rounds.{ArePartsOf, IsBegun};
 ghost use Rattle.index_writer.specs.Working.{IsStuck};
 ghost use Rattle.index_run.specs.Driving.{EndsRound, GoesOnBy, HasCome, IsCut, IsRound, IsRunBy, Run, WritesPending};
+ghost use Rattle.commit_board.specs.declared.commit.Commit.{Commit};
 ghost use Rattle.index_run.specs.Causes.{ran_by_pruning};
 ghost use Rattle.index_run.specs.declared.rounds.RanFault.TheVariants as halt;
 ghost use Rattle.index_run.specs.Merged.{EndsMerged};
-ghost use Rattle.index_run.specs.Rounds.{AllCame, gave_of, given, pieces_of, share_of, writers_of};
+ghost use Rattle.round_work.specs.Working.{AreAtWork};
+ghost use Rattle.commit_board.specs.Commits.{top_of};
+ghost use Rattle.commit_board.specs.Posting.{begun_with};
+ghost use Rattle.line_shares.specs.Looks.{AreLooks};
+ghost use Rattle.index_run.specs.Boards.{AreLinedUp, AreLookedOn, CanShow, ComesBack, IsNewestBeside, IsShownBeside, Prunes};
+ghost use Rattle.index_run.specs.Looked.{AllLooked};
+ghost use Rattle.index_run.specs.Looks.{IsLooking, IsOfRound};
+ghost use Rattle.index_run.specs.Rounds.{AllCame, companions_of, gave_of, given, pieces_of, share_of, writers_of};
 
+use crate::boards::{RoundBoard, begin_board, end_board, show};
+use crate::looks::{Looker, Looking};
+use commit_board::{BoardLaw, Commit, Poster};
 use delete_queue::DeleteQueue;
 use index_writer::{
     CommitInfo, IndexWriter, PruneFault, Round, RoundEnd, RoundParts, WriterFault, commits_go_on,
@@ -26,8 +38,10 @@ use ix_outside::{Gate, Store};
 use line_shares::{CommitLine, committed, told_counts};
 use round_work::{Stop, Worked, run_round};
 use std::alloc::Global;
-use std::sync::Wait;
+use std::marker::Brand;
+use std::sync::{Arc, Wait};
 use std::thread::Threads;
+use thread_writer::ThreadWriter;
 use worker_tasks::Share;
 
 /// No round is begun after a number above this or after more rounds, and no commit written or round
@@ -42,6 +56,9 @@ pub enum RanFault {
     Writer(WriterFault),
     /// Old commits were to be given up, and the commit file of one that stays is broken.
     Damaged(Damaged),
+    /// A commit of the run, or the one on which it began, was read for the look lines, and one of its files is
+    /// broken: of a store that doesn't hold what was written.
+    Unread(Damaged),
 }
 
 impl From<PruneFault> for RanFault {
@@ -110,44 +127,65 @@ fn begin_round<S: Store>(
     writer.begin_round(threads)
 }
 
-/// What came back of a round's workers, as the round's parts and the shares. The only error is out of
-/// memory, here or in one of the workers.
-fn part(
+/// What came back of a round's workers: the round's parts, the shares, and the look lines.
+#[derive(Drop)]
+struct Came {
+    parts: RoundParts,
+    shares: Vec<Share>,
+    looking: Looking,
+}
+
+/// What came back of a round's workers, without the newest commit. The only error is out of memory, here or in one of the
+/// workers.
+#[tactic(auto, using(crate::proofs::RoundBoards::lined_more))]
+fn part<L: BoardLaw>(
     alloc: Global,
     queue: DeleteQueue,
-    worked: Vec<Worked>,
-) -> Result<(RoundParts, Vec<Share>), NoMemory>
-    ensures queue { IfOk result (λ x. x.0.queue ≡ queue) }
-    ensures writers { IfOk result (λ x. x.0.writers.items ≡ writers_of worked.items) }
-    ensures pieces { IfOk result (λ x. pieces_of x.0.pieces.items ≡ gave_of worked.items) }
-    ensures shares { IfOk result (λ x. x.1.items ≡ map share_of worked.items) }
+    worked: Vec<Worked<Looker<L>>>,
+) -> Result<Came, NoMemory>
+    ensures queue { IfOk result (λ x. x.parts.queue ≡ queue) }
+    ensures writers { IfOk result (λ x. x.parts.writers.items ≡ writers_of worked.items) }
+    ensures pieces { IfOk result (λ x. pieces_of x.parts.pieces.items ≡ gave_of worked.items) }
+    ensures shares { IfOk result (λ x. x.shares.items ≡ map share_of worked.items) }
     ensures came { OnOk result (AllCame worked.items) }
+    ensures looking { IfOk result (λ x.
+        AreLinedUp x.looking.looks.items x.looking.looked.items (companions_of worked.items)) }
 {
     let mut writers = Vec::new(alloc);
     let mut pieces = Vec::new(alloc);
     let mut shares = Vec::new(alloc);
+    let mut looks = Vec::new(alloc);
+    let mut looked = Vec::new(alloc);
     for one in worked {
         let Worked {
             writer,
             share,
+            companion,
             pieces: given,
             stop,
         } = one;
-        if stop == Stop::NoMemory {
+        if stop == Stop::NoMemory || companion.short {
             return Err(NoMemory);
         }
         pieces.push(given.into_vec())?;
         writers.push(writer)?;
         shares.push(share)?;
+        looks.push(companion.looks)?;
+        looked.push(companion.looked)?;
     }
-    Ok((
-        RoundParts {
+    Ok(Came {
+        parts: RoundParts {
             queue,
             writers,
             pieces,
         },
         shares,
-    ))
+        looking: Looking {
+            looks,
+            looked,
+            newest: None,
+        },
+    })
 }
 
 /// Ends the round that is out, and then takes a step of a merge, as far as the round's operations and
@@ -294,42 +332,95 @@ pub fn write_pending<S: Store>(
     }
 }
 
-/// Writes the commit with which the last round ended, as `write_pending` does, and then gives up all commits
-/// but so many of the latest, where only so many are kept and one was written. A round may be out.
-fn write_and_prune<S: Store>(
+/// Gives up all commits but so many of the latest, where only so many are kept and one was written. A round may be
+/// out.
+fn prune_behind<S: Store>(
     writer: IndexWriter<S>,
     keep: Option<u32>,
-    due: &CommitLine,
+    commit: CommitInfo,
 ) -> Ran<S, Option<CommitInfo>>
     requires sound { IsSound writer.state }
     requires open { writer.state.closed ≡ false }
     requires some { IfSome keep (λ keep. 1 ≤ keep) }
-    ensures pending { WritesPending S.disk keep due.now writer result }
+    ensures pruned { Prunes S.disk keep commit writer result }
     ensures closed { result.came ≡ Err (RanFault.Writer WriterFault.Closed) → ⊥ }
     ensures later { S.fault_count writer.store ≤ S.fault_count result.writer.store }
     ensures failed { result.came ≡ Err (RanFault.Writer WriterFault.Store)
         → Rose (S.fault_count writer.store) (S.fault_count result.writer.store) }
 {
+    let mut writer = writer;
     let Some(keep) = keep else {
-        return write_pending(writer, due);
-    };
-    let Ran { mut writer, came } = write_pending(writer, due);
-    let commit = match came {
-        Ok(commit) => commit,
-        Err(fault) => return Ran::halted(writer, fault),
-    };
-    if commit.is_none() {
         return Ran {
             writer,
-            came: Ok(commit),
+            came: Ok(Some(commit)),
         };
-    }
+    };
     match writer.prune(keep) {
         Ok(_) => Ran {
             writer,
-            came: Ok(commit),
+            came: Ok(Some(commit)),
         },
         Err(fault) => Ran::halted(writer, RanFault::from(fault)),
+    }
+}
+
+/// What was done beside a round, and the commit that was shown on its board, if one was.
+#[derive(Drop)]
+struct Beside<S> {
+    ran: Ran<S, Option<CommitInfo>>,
+    newest: Option<Arc<Commit, Global>>,
+}
+
+impl<S> Beside<S> {
+    /// Nothing was shown.
+    fn unshown(ran: Ran<S, Option<CommitInfo>>) -> Beside<S>
+        ensures { result ≡ record { ran = ran; newest = None } }
+    {
+        Beside { ran, newest: None }
+    }
+}
+
+/// Writes the commit with which the last round ended, as `write_pending` does, shows it on the round's board, where there
+/// is one, and then gives up all commits but so many of the latest, where only so many are kept and one was written. A
+/// round may be out.
+fn write_and_prune<L: BoardLaw, R: Wait, S: Store>(
+    rt: &R,
+    alloc: Global,
+    writer: IndexWriter<S>,
+    keep: Option<u32>,
+    due: &CommitLine,
+    poster: &mut Option<Poster<L>>,
+) -> Beside<S>
+    requires sound { IsSound writer.state }
+    requires open { writer.state.closed ≡ false }
+    requires some { IfSome keep (λ keep. 1 ≤ keep) }
+    requires board { IfSome poster.old (CanShow L.lawful writer.state (S.disk writer.store)) }
+    ensures shown { poster.old ≡ None → result.newest ≡ None }
+    ensures newest { IfSome poster.old (λ _. IfOk result.ran.came (λ commit.
+        IsShownBeside writer.state (S.disk writer.store) commit (option_map arc_value result.newest))) }
+    ensures pending { WritesPending S.disk keep due.now writer result.ran }
+    ensures closed { result.ran.came ≡ Err (RanFault.Writer WriterFault.Closed) → ⊥ }
+    ensures later { S.fault_count writer.store ≤ S.fault_count result.ran.writer.store }
+    ensures failed { result.ran.came ≡ Err (RanFault.Writer WriterFault.Store)
+        → Rose (S.fault_count writer.store) (S.fault_count result.ran.writer.store) }
+{
+    let Ran { mut writer, came } = write_pending(writer, due);
+    let info = match came {
+        Ok(Some(info)) => info,
+        Ok(None) => {
+            return Beside::unshown(Ran {
+                writer,
+                came: Ok(None),
+            });
+        }
+        Err(fault) => return Beside::unshown(Ran::halted(writer, fault)),
+    };
+    match show(rt, alloc, &mut writer, poster, info.number) {
+        Ok(newest) => Beside {
+            ran: prune_behind(writer, keep, info),
+            newest,
+        },
+        Err(fault) => Beside::unshown(Ran::halted(writer, fault)),
     }
 }
 
@@ -337,10 +428,8 @@ fn write_and_prune<S: Store>(
 /// closed, and gives the round back.
 fn let_go<R: Threads + Sync, S: Store>(
     rt: &R,
-    alloc: Global,
     writer: &mut IndexWriter<S>,
-    queue: DeleteQueue,
-    back: Result<Vec<Worked>, NoMemory>,
+    back: Result<Came, NoMemory>,
 )
     requires sound { IsSound writer.old.state }
     requires out { writer.old.state.out ≡ true }
@@ -349,12 +438,119 @@ fn let_go<R: Threads + Sync, S: Store>(
     if !writer.is_closed() {
         return;
     }
-    let Ok(worked) = back else {
-        return;
-    };
-    if let Ok((parts, _)) = part(alloc, queue, worked) {
-        let _ = writer.end_round(rt, parts);
+    if let Ok(came) = back {
+        let _ = writer.end_round(rt, came.parts);
     }
+}
+
+/// A round that is to be done: its queue, and each worker's writer and share.
+#[derive(Drop)]
+struct Begun {
+    queue: DeleteQueue,
+    writers: Vec<ThreadWriter>,
+    shares: Vec<Share>,
+}
+
+/// Lets the workers of a round go on with their shares and look lines, while the commit with which the round before
+/// ended is written, by its line, if it ended with one. Returns what was done beside them, and what came back of
+/// them.
+fn work<L: BoardLaw + Send, R: Threads + Wait + Sync, S: Store, G: Gate>(
+    rt: &R,
+    alloc: Global,
+    gate: &G,
+    writer: IndexWriter<S>,
+    keep: Option<u32>,
+    begun: Begun,
+    looking: Looking,
+    due: CommitLine,
+) -> (Ran<S, Option<CommitInfo>>, Result<Came, NoMemory>)
+    requires workers { AreAtWork begun.queue 0 begun.writers.items begun.shares.items }
+    requires count { (1 ≤ length begun.writers.items) × (length begun.writers.items ≤ 16) }
+    requires looks { (length looking.looks.items ≡ length begun.writers.items)
+        × (length looking.looked.items ≡ length begun.writers.items) }
+    requires sound { IsSound writer.state }
+    requires open { writer.state.closed ≡ false }
+    requires some { IfSome keep (λ keep. 1 ≤ keep) }
+    requires top { AllLooked looking.looks.items looking.looked.items
+        ⊎ IfSome writer.state.pending (λ s. top_of (begun_with looking.newest) ≤ s) }
+    requires lawful { (c : Commit) → IsOfRound (option_map arc_value looking.newest) writer.state
+        (S.disk writer.store) c → L.lawful c }
+    ensures pending { WritesPending S.disk keep due writer result.0 }
+    ensures back { IfOk result.1 (λ came. ComesBack begun.queue begun.writers.items begun.shares.items
+        came.parts came.shares.items) }
+    ensures looking { IfOk result.1 (λ came. (came.looking.looks.items ≡ looking.looks.items)
+        × AreLookedOn L.lawful (top_of (begun_with looking.newest)) came.shares.items
+        looking.looks.items looking.looked.items came.looking.looked.items) }
+    // Where a look line is left, the newest commit that was written is at hand.
+    ensures newest { IfOk result.1 (λ came. IfOk result.0.came (λ commit.
+        AllLooked looking.looks.items looking.looked.items
+        ⊎ IsNewestBeside writer.state (S.disk writer.store) commit
+        (option_map arc_value looking.newest) (option_map arc_value came.looking.newest))) }
+    ensures closed { result.0.came ≡ Err (RanFault.Writer WriterFault.Closed) → ⊥ }
+    ensures later { S.fault_count writer.store ≤ S.fault_count result.0.writer.store }
+    ensures failed { result.0.came ≡ Err (RanFault.Writer WriterFault.Store)
+        → Rose (S.fault_count writer.store) (S.fault_count result.0.writer.store) }
+{
+    let Begun {
+        queue,
+        writers,
+        shares,
+    } = begun;
+    let RoundBoard {
+        mut poster,
+        lookers,
+        newest,
+    } = match begin_board::<L, R>(rt, alloc, looking) {
+        Ok(board) => board,
+        Err(NoMemory) => return (Ran::stopped(writer, WriterFault::NoMemory), Err(NoMemory)),
+    };
+    let board = &mut poster;
+    let (Beside { ran, newest: shown }, back) = run_round(
+        rt,
+        alloc,
+        &queue,
+        writers,
+        shares,
+        lookers,
+        gate,
+        move || -> Beside<S>
+            requires sound { IsSound writer.state }
+            requires open { writer.state.closed ≡ false }
+            requires some { IfSome keep (λ keep. 1 ≤ keep) }
+            requires board { IfSome board.now (CanShow L.lawful writer.state (S.disk writer.store)) }
+            ensures pending { WritesPending S.disk keep due writer result.ran }
+            ensures shown { board.entry.now ≡ None → result.newest ≡ None }
+            ensures newest { IfSome board.entry.now (λ _. IfOk result.ran.came (λ commit.
+                IsShownBeside writer.state (S.disk writer.store) commit
+                (option_map arc_value result.newest))) }
+            ensures closed { result.ran.came ≡ Err (RanFault.Writer WriterFault.Closed) → ⊥ }
+            ensures later { S.fault_count writer.store ≤ S.fault_count result.ran.writer.store }
+            ensures failed { result.ran.came ≡ Err (RanFault.Writer WriterFault.Store)
+                → Rose (S.fault_count writer.store) (S.fault_count result.ran.writer.store) }
+        { write_and_prune(rt, alloc, writer, keep, &due, board) },
+    );
+    end_board(rt, poster);
+    (ran, came_back(alloc, queue, shown.or(newest), back))
+}
+
+/// What came back of a round's workers, where there was memory for all.
+fn came_back<L: BoardLaw>(
+    alloc: Global,
+    queue: DeleteQueue,
+    newest: Option<Arc<Commit, Global>>,
+    back: Result<Vec<Worked<Looker<L>>>, NoMemory>,
+) -> Result<Came, NoMemory>
+    ensures back { IfOk result (λ came. IfOk back (λ worked. (came.parts.queue ≡ queue)
+        × (came.parts.writers.items ≡ writers_of worked.items)
+        × (pieces_of came.parts.pieces.items ≡ gave_of worked.items)
+        × (came.shares.items ≡ map share_of worked.items) × AllCame worked.items
+        × AreLinedUp came.looking.looks.items came.looking.looked.items
+        (companions_of worked.items) × (came.looking.newest ≡ newest))) }
+    ensures all { OnOk result (IsOk back) }
+{
+    let mut came = part(alloc, queue, back?)?;
+    came.looking.newest = newest;
+    Ok(came)
 }
 
 /// What a round leaves.
@@ -366,12 +562,15 @@ pub struct RoundLeft {
     pub commit: Option<CommitInfo>,
     /// The line of the commit with which the round ended, with its pairs, or none.
     pub due: CommitLine,
+    /// The look lines, of which more were shown a commit.
+    pub looking: Looking,
 }
 
 /// Does a round: its workers go on with their shares at the same time, each by a writer of its own,
 /// until the lines are done or one of them closes the queue. Meanwhile the commit with which the round
 /// before ended is written, by its line, if it ended with one, and old commits are given up behind it where
-/// only so many are kept. It asks that a worker has a line that was told nothing, and counts the round.
+/// only so many are kept. A worker's look lines are answered where it comes to them, from the newest commit that was
+/// written. It asks that a worker has a line that was told nothing, and counts the round.
 pub fn do_round<R: Threads + Wait + Sync, S: Store, G: Gate>(
     rt: &R,
     alloc: Global,
@@ -380,6 +579,7 @@ pub fn do_round<R: Threads + Wait + Sync, S: Store, G: Gate>(
     threads: u32,
     keep: Option<u32>,
     shares: Vec<Share>,
+    looking: Looking,
     due: CommitLine,
     rounds: &mut u64,
 ) -> Ran<S, RoundLeft>
@@ -389,11 +589,21 @@ pub fn do_round<R: Threads + Wait + Sync, S: Store, G: Gate>(
     requires out { writer.state.out ≡ false }
     requires come { (r : Run) × (lines : List Line) × (log : List Line) × (commits : List (ℕ × ℕ))
         × IsRunBy threads keep r
-        × HasCome r lines shares.items log commits due writer.state (S.disk writer.store) }
+        × HasCome r lines shares.items log commits due writer.state (S.disk writer.store)
+        × IsLooking r.first r.start lines shares.items log commits looking.looks.items looking }
     ensures come { (r : Run) (lines log : List Line) (commits : List (ℕ × ℕ)) → IsRunBy threads keep r
         → HasCome r lines shares.items log commits due writer.state (S.disk writer.store)
         → IfOk result.came (λ x. GoesOnBy r lines x.shares.items log (given commits x.commit) x.due
         result.writer.state (S.disk result.writer.store)) }
+    // The look lines have come as far by the log with the round's lines.
+    ensures looking { (r : Run) (lines log : List Line) (commits : List (ℕ × ℕ)) → IsRunBy threads keep r
+        → AreLooks threads lines looking.looks.items
+        → HasCome r lines shares.items log commits due writer.state (S.disk writer.store)
+        → IsLooking r.first r.start lines shares.items log commits looking.looks.items looking
+        → IfOk result.came (λ x. (on : GoesOnBy r lines x.shares.items log (given commits x.commit)
+        x.due result.writer.state (S.disk result.writer.store))
+        → IsLooking r.first r.start lines x.shares.items (log ++ on.more) (given commits x.commit)
+        looking.looks.items x.looking) }
     ensures cut { (r : Run) (lines log : List Line) (commits : List (ℕ × ℕ)) → IsRunBy threads keep r
         → HasCome r lines shares.items log commits due writer.state (S.disk writer.store)
         → IfErr result.came (λ fault. IsCut r lines fault (S.disk result.writer.store)) }
@@ -416,37 +626,27 @@ pub fn do_round<R: Threads + Wait + Sync, S: Store, G: Gate>(
         Ok(counts) => counts,
         Err(error) => return Ran::stopped(writer, WriterFault::from(error)),
     };
-    let (Ran { mut writer, came }, back) = run_round(
-        rt,
-        alloc,
-        &queue,
+    let begun = Begun {
+        queue,
         writers,
         shares,
-        gate,
-        move || -> Ran<S, Option<CommitInfo>>
-            requires sound { IsSound writer.state }
-            requires open { writer.state.closed ≡ false }
-            requires some { IfSome keep (λ keep. 1 ≤ keep) }
-            ensures pending { WritesPending S.disk keep due writer result }
-            ensures closed { result.came ≡ Err (RanFault.Writer WriterFault.Closed) → ⊥ }
-            ensures later { S.fault_count writer.store ≤ S.fault_count result.writer.store }
-            ensures failed { result.came ≡ Err (RanFault.Writer WriterFault.Store)
-                → Rose (S.fault_count writer.store) (S.fault_count result.writer.store) }
-        { write_and_prune(writer, keep, &due) },
+    };
+    let (Ran { mut writer, came }, back) = work::<Brand, R, S, G>(
+        rt, alloc, gate, writer, keep, begun, looking, due,
     );
     let commit = match came {
         Ok(commit) => commit,
         Err(fault) => {
-            let_go(rt, alloc, &mut writer, queue, back);
+            let_go(rt, &mut writer, back);
             return Ran::halted(writer, fault);
         }
     };
-    let worked = match back {
-        Ok(worked) => worked,
-        Err(error) => return Ran::stopped(writer, WriterFault::from(error)),
-    };
-    let (parts, shares) = match part(alloc, queue, worked) {
-        Ok(parted) => parted,
+    let Came {
+        parts,
+        shares,
+        looking,
+    } = match back {
+        Ok(came) => came,
         Err(error) => return Ran::stopped(writer, WriterFault::from(error)),
     };
     let told = counts.as_slice();
@@ -458,6 +658,7 @@ pub fn do_round<R: Threads + Wait + Sync, S: Store, G: Gate>(
                 shares,
                 commit,
                 due,
+                looking,
             }),
         },
         Err(fault) => Ran::stopped(writer, fault),

@@ -39,7 +39,9 @@ impl From<RanFault> for Stop {
         match fault {
             RanFault::Writer(WriterFault::Store) => Stop::Fault(Fault::Store),
             RanFault::Writer(WriterFault::Closed | WriterFault::NoMemory) => Stop::NoMemory,
-            RanFault::Damaged(damaged) => Stop::Fault(Fault::Damaged(damaged)),
+            RanFault::Damaged(damaged) | RanFault::Unread(damaged) => Stop::Fault(Fault::Damaged(
+                damaged,
+            )),
         }
     }
 }

@@ -11,7 +11,7 @@ use Rattle.ix_base.specs.declared.query.Query.{Query}
 use Rattle.commit_point.specs.Holds.{Pairs}
 use Rattle.op_script.specs.Shape.{LinesRise}
 use Rattle.op_script.specs.declared.script.Act.{Act}
-use Rattle.op_script.specs.declared.script.Act.TheVariants.{Do, Search}
+use Rattle.op_script.specs.declared.script.Act.TheVariants.{Do, Search, Look}
 use Rattle.op_script.specs.declared.script.Line.{Line}
 use Rattle.run_log.specs.Headline.{is_commit, last_commit, number_of}
 use Rattle.run_log.proofs.Lists.{each_in_both}
@@ -168,6 +168,13 @@ ask_of_doing caller behind l op is = by (eqb l.caller caller)
     by true = rw is refl
     by false = refl
 
+ask_of_look : (caller behind : ℕ) (l : Line) (query : Query) → l.act ≡ Look query → ask_in caller behind l ≡ []
+ask_of_look caller behind l query is = by (eqb l.caller caller)
+  where
+    by : (own : Bool) → cond own (ask_by behind l.line l.act) [] ≡ []
+    by true = rw is refl
+    by false = refl
+
 pub not_commit : (op : Operation) → ((pairs : Pairs) → op ≡ Commit pairs → ⊥) → is_commit (Do op) ≡ false
 not_commit (Add doc) not = refl
 not_commit (AddBlock docs) not = refl
@@ -242,19 +249,31 @@ asked_commit done l old new at line pairs has place own is within asks behinds =
       (ap (λ (a : Act). is_commit a) is) has.behinds);
 }
 
+-- with a line more that neither searches nor commits
+asked_kept : (done : List Line) (l : Line) (asked : Asked) → HasAsked done asked → is_commit l.act ≡ false
+    → ((caller behind : ℕ) → ask_in caller behind l ≡ []) → HasAsked (done ++ l ∷ []) asked
+asked_kept done l asked has not none = record {
+  asks = record {
+    count = has.asks.count;
+    each = asks_stay 0 done l asked.asks.items (λ caller b le. none caller b) has.asks.each;
+  };
+  many = has.many;
+  behinds = behinds_stay 0 done l asked.behinds (λ caller b le. behind_kept caller b l not) has.behinds;
+}
+
 -- with a line more that writes
 pub asked_write : (done : List Line) (l : Line) (asked : Asked) (op : Operation) → HasAsked done asked
     → l.act ≡ Do op → is_commit (Do op) ≡ false → HasAsked (done ++ l ∷ []) asked
-asked_write done l asked op has is not = record {
-  asks = record {
-    count = has.asks.count;
-    each = asks_stay 0 done l asked.asks.items (λ caller b le. ask_of_doing caller b l op is) has.asks.each;
-  };
-  many = has.many;
-  behinds =
-      behinds_stay 0 done l asked.behinds
-      (λ caller b le. behind_kept caller b l (ap (λ (a : Act). is_commit a) is ∙ not)) has.behinds;
-}
+asked_write done l asked op has is not =
+    asked_kept done l asked has (ap (λ (a : Act). is_commit a) is ∙ not)
+    (λ caller behind. ask_of_doing caller behind l op is)
+
+-- with a look line more
+pub asked_look : (done : List Line) (l : Line) (asked : Asked) (query : Query) → HasAsked done asked
+    → l.act ≡ Look query → HasAsked (done ++ l ∷ []) asked
+asked_look done l asked query has is =
+    asked_kept done l asked has (ap (λ (a : Act). is_commit a) is)
+    (λ caller behind. ask_of_look caller behind l query is)
 
 -- ---- the lines behind which they search
 
@@ -276,6 +295,7 @@ ask_each caller behind l P none one = by (eqb l.caller caller) l.act refl
   where
     by : (own : Bool) (a : Act) → l.act ≡ a → P (cond own (ask_by behind l.line a) [])
     by true (Search query) is = one query is
+    by true (Look query) is = none
     by true (Do op) is = none
     by false a is = none
 

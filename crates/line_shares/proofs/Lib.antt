@@ -8,4 +8,6 @@ pub mod ShareLaws
 pub mod TellLaws
 pub mod CommittedLaws
 pub mod AskLaws
+pub mod LookLaws
+pub mod LooksBehind
 pub mod ToldLaws

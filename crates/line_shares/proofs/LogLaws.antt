@@ -41,7 +41,7 @@ abbrev lines_replied : ℕ → List Line → List Share → ℕ → List Line
 lines_replied n lines shares worker = take (length (replies_at shares worker)) (own_lines n worker lines)
 
 -- a caller's lines of the log are its numbered lines that have replies
-logged : (n : ℕ) (lines : List Line) (shares : List Share) (log : List Line) → AreShares n lines shares
+pub logged : (n : ℕ) (lines : List Line) (shares : List Share) (log : List Line) → AreShares n lines shares
     → IsLogOf n lines shares log → (caller : ℕ)
     → of_caller caller log ≡ of_caller caller (numbered (lines_replied n lines shares (caller % n)))
 logged n lines shares log are is caller =

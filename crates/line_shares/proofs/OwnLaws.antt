@@ -14,7 +14,7 @@ use Rattle.line_shares.specs.Shares.{is_doing, own_lines}
 
 -- ---- lists
 
-both_true : (a b : Bool) → (a && b) ≡ true → (a ≡ true) × (b ≡ true)
+pub both_true : (a b : Bool) → (a && b) ≡ true → (a ≡ true) × (b ≡ true)
 both_true true b is = (refl, is)
 both_true false b is = absurd cc
 

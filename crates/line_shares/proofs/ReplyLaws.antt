@@ -6,7 +6,7 @@ use Rattle.std.specs.List.{AllByRecursion}
 use Rattle.ix_base.specs.Refusals.{refusal}
 use Rattle.ix_base.specs.declared.refusal.Refusal.{Refusal}
 use Rattle.op_script.specs.declared.script.Act.{Act}
-use Rattle.op_script.specs.declared.script.Act.TheVariants.{Do, Search}
+use Rattle.op_script.specs.declared.script.Act.TheVariants.{Do, Search, Look}
 use Rattle.op_script.specs.declared.script.Line.{Line}
 use Rattle.row_fates.specs.Fate.{Numbered as NumberedOperation}
 use Rattle.worker_tasks.specs.declared.task.Reply.{Reply}
@@ -28,16 +28,19 @@ IsDoingLine l = is_doing l.act ≡ true
 pub doing_act : (a : Act) → is_doing a ≡ true → a ≡ Do (operation_of a)
 doing_act (Do op) is = refl
 doing_act (Search query) is = absurd cc
+doing_act (Look query) is = absurd cc
 
 -- it gets a number exactly where its operation isn't refused
 numbered_where : (a : Act) → is_doing a ≡ true → is_numbered a ≡ is_none (refusal (operation_of a))
 numbered_where (Do op) is = refl
 numbered_where (Search query) is = absurd cc
+numbered_where (Look query) is = absurd cc
 
 -- a line that gets a number is one
 pub numbered_doing : (a : Act) → is_numbered a ≡ true → is_doing a ≡ true
 numbered_doing (Do op) is = refl
 numbered_doing (Search query) is = absurd cc
+numbered_doing (Look query) is = absurd cc
 
 -- ---- more replies
 

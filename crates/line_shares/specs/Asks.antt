@@ -2,7 +2,7 @@
 use Rattle.std.specs.Prelude.{◌≡◌, ◌⊎◌, ℕ, zero, suc, ◌+◌, ◌≤◌, ◌==◌, ◌&&◌, if◌then◌else◌, true, List, [], ◌∷◌, ◌++◌, length}
 use Rattle.std.specs.Global.{Vec}
 use Rattle.op_script.specs.declared.script.Act.{Act}
-use Rattle.op_script.specs.declared.script.Act.TheVariants.{Do, Search}
+use Rattle.op_script.specs.declared.script.Act.TheVariants.{Do, Search, Look}
 use Rattle.op_script.specs.declared.script.Line.{Line}
 use Rattle.run_log.specs.Headline.{is_commit, number_of}
 use Rattle.line_shares.specs.declared.asks.Ask.{Ask}
@@ -12,6 +12,7 @@ use Rattle.line_shares.specs.declared.asks.Ask.{Ask}
 -- what a line asks, where it searches; its caller's last commit line is `behind`
 abbrev pub ask_by : ℕ → ℕ → Act → List Ask
 ask_by behind line (Search query) = (record { line = line; behind = behind; query = query }) ∷ []
+ask_by behind line (Look query) = []
 ask_by behind line (Do op) = []
 
 -- the same, where the line is this caller's

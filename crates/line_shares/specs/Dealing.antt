@@ -7,6 +7,7 @@ use Rattle.op_script.specs.declared.script.Line.{Line}
 use Rattle.worker_tasks.specs.declared.share.Share.{Share}
 use Rattle.worker_tasks.specs.declared.task.Task.{Task}
 use Rattle.line_shares.specs.declared.asks.Asked.{Asked}
+use Rattle.line_shares.specs.declared.looks.Look.{Look}
 use Rattle.line_shares.specs.Asks.{AreAsks, last_behind}
 use Rattle.line_shares.specs.Shares.{own_lines, task_of}
 
@@ -23,6 +24,10 @@ AreTasks n lines vs = AreTasksFrom n 0 lines vs
 -- so many workers have no task
 abbrev pub AreNoTasks : ℕ → List (Vec Task) → Type 0
 AreNoTasks n vs = (length vs ≡ n) × AllByRecursion (λ (v : Vec Task). v.items ≡ []) vs
+
+-- so many workers have no look
+abbrev pub AreNoLooks : ℕ → List (Vec Look) → Type 0
+AreNoLooks n vs = (length vs ≡ n) × AllByRecursion (λ (v : Vec Look). v.items ≡ []) vs
 
 -- a share has these tasks, and was told nothing
 abbrev pub IsShareOf : Vec Task → Share → Type 0

@@ -5,7 +5,7 @@ use Rattle.std.specs.List.{filter, AllByRecursion}
 use Rattle.ix_base.specs.declared.document.Operation.{Operation}
 use Rattle.ix_base.specs.declared.document.Operation.TheVariants.{Add, AddBlock, Update, UpdateBlock, DeleteTerm, DeleteQuery, SetNumber, Commit}
 use Rattle.op_script.specs.declared.script.Act.{Act}
-use Rattle.op_script.specs.declared.script.Act.TheVariants.{Do, Search}
+use Rattle.op_script.specs.declared.script.Act.TheVariants.{Do, Search, Look}
 use Rattle.op_script.specs.declared.script.Line.{Line}
 use Rattle.worker_tasks.specs.declared.share.Share.{Share}
 use Rattle.worker_tasks.specs.declared.task.Reply.{Reply}
@@ -22,11 +22,13 @@ use Rattle.line_shares.specs.declared.place.Place.{Place}
 abbrev pub is_doing : Act → Bool
 is_doing (Do op) = true
 is_doing (Search query) = false
+is_doing (Look query) = false
 
 -- the operation of a line that writes or commits
 abbrev pub operation_of : Act → Operation
 operation_of (Do op) = op
 operation_of (Search query) = Commit []
+operation_of (Look query) = Commit []
 
 -- what its worker is to do
 abbrev pub task_of : Line → Task
@@ -45,6 +47,7 @@ kind_of_operation (Commit pairs) = kind.Commit
 abbrev pub kind_of : Act → Kind
 kind_of (Do op) = kind_of_operation op
 kind_of (Search query) = kind.Search
+kind_of (Look query) = kind.Look
 
 -- what is kept of a line to tell what became of it
 abbrev pub place_of : Line → Place

@@ -5,6 +5,8 @@
 pub enum Kind {
     /// It searches, in its caller's last commit: what it searches stands among its caller's asks.
     Search,
+    /// It looks, in a commit that its worker is shown: what it searches stands among its worker's looks.
+    Look,
     /// It writes: what became of it stands in its worker's share.
     Write,
     /// It commits: what became of it stands there too.

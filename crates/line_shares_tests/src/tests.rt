@@ -2,7 +2,7 @@
 ghost use Rattle.std.specs.Prelude.{◌≤◌};
 
 use ix_base::{Block, Document, Fields, List, Name, Operation, Query, Term, Text};
-use line_shares::{Ask, Dealt, Kind, Place, all_done, deal};
+use line_shares::{Ask, Dealt, Kind, Look, Place, all_done, deal};
 use op_script::{Act, Line};
 use std::alloc::Global;
 use std::fmt::Write;
@@ -46,6 +46,7 @@ fn renewing(alloc: Global) -> Result<Act, Fail> {
 fn kind_of<'a>(place: &'a Place) -> &'a str {
     match &place.kind {
         Kind::Search => "search",
+        Kind::Look => "look",
         Kind::Write => "write",
         Kind::Commit => "commit",
     }
@@ -198,6 +199,60 @@ fn asks_stand_behind_their_callers_commits(rt: HostRuntime) -> Result<(), Fail> 
     show_asks(&mut shown, asks.as_slice())?;
     assert!(rt; asks.len() == 256);
     assert!(rt; shown.as_str() == " 1.0 0 4.0 2 7.0 2 10.0 8 3.255 0 9.255 6");
+    Ok(())
+}
+
+/// Shows the looks of each worker's callers, and how many of its tasks stand before each.
+fn show_looks(out: &mut String, looks: &[Vec<Look>]) -> Result<(), Fail> {
+    for own in looks {
+        for look in own {
+            write!(out, " {}.{} {}", look.line, look.caller, look.after)?;
+        }
+        out.push_str(";")?;
+    }
+    Ok(())
+}
+
+/// What is done in a line of looks and other lines.
+fn look_or_else(alloc: Global, line: u32) -> Result<Act, Fail> {
+    match line {
+        2 | 4 | 5 | 8 | 9 => Ok(Act::Look(Query::All)),
+        7 => Ok(Act::Search(Query::All)),
+        3 => Ok(Act::Do(Operation::Commit(Fields::none(alloc)))),
+        _ => adding(alloc, "a1"),
+    }
+}
+
+/// Looks of four callers, with other lines between them.
+fn looks_and_others(alloc: Global) -> Result<Vec<Line>, Fail> {
+    let mut lines = Vec::new(alloc);
+    for (line, caller) in [
+        (1, 0),
+        (2, 0),
+        (3, 2),
+        (4, 1),
+        (5, 2),
+        (6, 1),
+        (7, 0),
+        (8, 1),
+        (9, 255),
+    ] {
+        let act = look_or_else(alloc, line)?;
+        lines.push(Line { line, caller, act })?;
+    }
+    Ok(lines)
+}
+
+/// Each look is dealt to its caller's worker, with the number of that worker's writes and commits before it.
+#[test]
+fn looks_stand_behind_their_workers_tasks(rt: HostRuntime) -> Result<(), Fail> {
+    let alloc = rt.alloc();
+    let lines = looks_and_others(alloc)?;
+    let Dealt { looks, places, .. } = deal(alloc, 2, List::from_vec(lines))?;
+    let mut shown = String::new(alloc);
+    show_looks(&mut shown, looks.as_slice())?;
+    show_place(&mut shown, places.as_slice().last().ok_or("no line")?)?;
+    assert!(rt; shown.as_str() == " 2.0 1 5.2 2; 4.1 0 8.1 1 9.255 1; 9.255 look");
     Ok(())
 }
 

@@ -12,7 +12,7 @@ use Rattle.ix_base.specs.declared.document.Operation.{Operation}
 use Rattle.ix_base.specs.declared.document.Operation.TheVariants.{Add, AddBlock, Update, UpdateBlock, DeleteTerm, DeleteQuery, SetNumber, Commit}
 use Rattle.op_script.specs.declared.script.Line.{Line}
 use Rattle.op_script.specs.declared.script.Act.{Act}
-use Rattle.op_script.specs.declared.script.Act.TheVariants.{Do, Search}
+use Rattle.op_script.specs.declared.script.Act.TheVariants.{Do, Search, Look}
 use Rattle.run_log.specs.Headline.{act_operation, operations}
 use Rattle.run_log.proofs.Lists.{each_in_both, each_by_keys}
 use Rattle.made_runs.specs.Born.{documents}
@@ -138,6 +138,7 @@ module _ (Owns : ℕ → Document → Type 0) where
   keeps_of : (c : ℕ) (a : Act) → ((op : Operation) → a ≡ Do op → KeepsTo Owns c op) → IfSome (act_operation a) (KeepsTo Owns c)
   keeps_of c (Do op) keeps = keeps op refl
   keeps_of c (Search query) keeps = tt
+  keeps_of c (Look query) keeps = tt
 
   left_of_caller : Stays → (c : ℕ) (ts : List Tagged) (ls : List Line) → AreOwned ts → AllByRecursion (KeepsToOwn Owns) ls
       → of_tag c (tagged ts ls) ≡ tagged (of_tag c ts) (of_caller c ls)

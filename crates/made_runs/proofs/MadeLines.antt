@@ -12,13 +12,15 @@ use Rattle.ix_base.specs.declared.document.Operation.TheVariants.{Commit}
 use Rattle.op_script.specs.declared.script.Line.{Line}
 use Rattle.op_script.specs.declared.script.Act.{Act}
 use Rattle.op_script.specs.declared.script.Act.TheVariants.{Do}
-use Rattle.run_log.specs.Headline.{act_operation, is_numbered, numbered, operations}
+use Rattle.run_log.specs.Headline.{act_operation, is_look, is_numbered, numbered, operations}
 use Rattle.run_log.proofs.Lists.{each_says, each_in_both, each_mapped}
+use Rattle.run_log.proofs.LookLaws.{none_shown}
 use Rattle.script_maker.specs.Draws.{draw_at}
 use Rattle.script_maker.specs.Made.{made_act, made_line, last_commit, made_script}
 use Rattle.script_maker.specs.Operations.{drawn_operation}
 use Rattle.made_runs.specs.Apart.{KeepsTo, KeepsToOwn}
 use Rattle.made_runs.specs.Ends.{CallersCommit, EndsInCommit}
+use Rattle.made_runs.specs.Looks.{MadeLooks}
 use Rattle.made_runs.specs.Own.{IsOwn, MadeApart}
 use Rattle.run_log.proofs.ByKeys.{Decided}
 use Rattle.made_runs.proofs.Chosen.{filter_none}
@@ -139,6 +141,14 @@ pub made_numbered : (seed lines callers : ℕ) → 1 ≤ callers → callers ≤
     → numbered (made_script seed lines callers) ≡ made_script seed lines callers
 made_numbered seed lines callers some few =
     all_numbered callers (made_script seed lines callers) (each_made seed lines callers some few)
+
+-- ---- no line looks
+
+pub made_looks : MadeLooks
+made_looks seed lines callers base log shown some few =
+    none_shown base log shown [] (made_script seed lines callers)
+    (each_says (IsMade callers) (λ (l : Line). is_look l.act ≡ false) (made_script seed lines callers)
+    (λ l made. ap (λ (a : Act). is_look a) made.is) (each_made seed lines callers some few))
 
 -- ---- each caller ends with a commit
 

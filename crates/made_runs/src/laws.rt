@@ -2,6 +2,7 @@
 ghost use Rattle.made_runs.specs.Apart.{CallersApart};
 ghost use Rattle.made_runs.specs.Born.{BornLater};
 ghost use Rattle.made_runs.specs.Ends.{LastIsCommit};
+ghost use Rattle.made_runs.specs.Looks.{MadeLooks};
 ghost use Rattle.made_runs.specs.Own.{MadeApart};
 ghost use Rattle.made_runs.specs.Summary.{MadeNumbers, MadeRuns};
 
@@ -20,6 +21,11 @@ pub fn callers_apart()
 /// Each caller of a made script adds, removes and changes documents of its own alone.
 pub fn made_apart()
     ensures { MadeApart }
+{}
+
+/// A made script has no look line, so nothing is asked of what its look lines were shown.
+pub fn made_looks()
+    ensures { MadeLooks }
 {}
 
 /// Where the last line of each caller is a commit, the last commit of every log has the number of

@@ -4,4 +4,6 @@
 
 mod laws;
 
-pub use laws::{born_later, callers_apart, last_is_commit, made_apart, made_numbers, made_runs};
+pub use laws::{
+    born_later, callers_apart, last_is_commit, made_apart, made_looks, made_numbers, made_runs,
+};

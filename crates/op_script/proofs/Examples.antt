@@ -62,6 +62,18 @@ one_search : script (codes "{\"c\":255,\"op\":\"search\",\"query\":{\"term\":[\"
 unfolding script serde_json_on_literals is_utf8 chars encode_utf8
 one_search = refl
 
+one_look : script (codes "{\"c\":0,\"op\":\"look\",\"query\":\"all\"}") ≡ Ok (record { line = 1; caller = 0; act = act.Look query.All } ∷ [])
+unfolding script serde_json_on_literals is_utf8 chars encode_utf8
+one_look = refl
+
+look_without_query : script (codes "{\"c\":0,\"op\":\"look\"}") ≡ Err (record { line = 1; why = why.Members })
+unfolding script serde_json_on_literals is_utf8 chars encode_utf8
+look_without_query = refl
+
+look_for_no_query : script (codes "{\"c\":0,\"op\":\"look\",\"query\":{}}") ≡ Err (record { line = 1; why = why.Query })
+unfolding script serde_json_on_literals is_utf8 chars encode_utf8
+look_for_no_query = refl
+
 blank_lines_count : script (codes "\r\n \t\n{\"c\":1,\"op\":\"commit\"}\r\n\n") ≡ Ok (record { line = 3; caller = 1; act = act.Do (operation.Commit []) } ∷ [])
 unfolding script serde_json_on_literals is_utf8 chars encode_utf8
 blank_lines_count = refl

@@ -52,6 +52,7 @@ act_of verb.Set d =
     given why.Number (number_at (codes "value") d) (λ value. Ok (act.Do (operation.SetNumber (record { field = field; bytes = bytes }) num value))))))
 act_of verb.Commit d = given why.Data (texts_at (codes "data") d) (λ pairs. Ok (act.Do (operation.Commit pairs)))
 act_of verb.Search d = given why.Query (query_at (codes "query") d) (λ query. Ok (act.Search query))
+act_of verb.Look d = given why.Query (query_at (codes "query") d) (λ query. Ok (act.Look query))
 
 abbrev pub line_with : ℕ → ℕ → Result Act Why → Result Line Why
 line_with at caller (Err reason) = Err reason

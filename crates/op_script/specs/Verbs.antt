@@ -15,7 +15,8 @@ verb_named name = if bytes_eq name (codes "add") then Some verb.Add
     else (if bytes_eq name (codes "delete_query") then Some verb.DeleteQuery
     else (if bytes_eq name (codes "set") then Some verb.Set
     else (if bytes_eq name (codes "commit") then Some verb.Commit
-    else (if bytes_eq name (codes "search") then Some verb.Search else None))))))))
+    else (if bytes_eq name (codes "search") then Some verb.Search
+    else (if bytes_eq name (codes "look") then Some verb.Look else None)))))))))
 
 abbrev pub members_of : Verb → List (List ℕ)
 members_of verb.Add = codes "c" ∷ codes "op" ∷ codes "doc" ∷ []
@@ -27,6 +28,7 @@ members_of verb.DeleteQuery = codes "c" ∷ codes "op" ∷ codes "query" ∷ []
 members_of verb.Set = codes "c" ∷ codes "op" ∷ codes "field" ∷ codes "term" ∷ codes "num" ∷ codes "value" ∷ []
 members_of verb.Commit = codes "c" ∷ codes "op" ∷ []
 members_of verb.Search = codes "c" ∷ codes "op" ∷ codes "query" ∷ []
+members_of verb.Look = codes "c" ∷ codes "op" ∷ codes "query" ∷ []
 
 -- whether the members are those of the verb; a commit may have `data` besides
 abbrev pub has_members : Verb → Data → Bool

@@ -132,6 +132,17 @@ pub fn search_in(alloc: Global, value: &Value) -> Result<Act, LineFault>
     Ok(Act::Search(query_from(alloc, query)?))
 }
 
+/// A search of whichever commit is shown.
+pub fn look_in(alloc: Global, value: &Value) -> Result<Act, LineFault>
+    ensures ok { IfOk result (λ act. act_of Verb.Look (view value.now) ≡ Ok act) }
+    ensures bad { (why : Why) → result ≡ Err (LineFault.Bad why)
+        → act_of Verb.Look (view value.now) ≡ Err why }
+    ensures memory { result ≡ Err LineFault.NoMemory → IsOk (act_of Verb.Look (view value.now)) }
+{
+    let query = query_at(value, "query")?;
+    Ok(Act::Look(query_from(alloc, query)?))
+}
+
 /// The term of a field of this name.
 fn term_from(alloc: Global, field: &str, bytes: &str) -> Result<Term, NoMemory>
     requires { is_name field.now ≡ true }

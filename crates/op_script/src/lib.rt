@@ -1,5 +1,5 @@
-//! Scripts: one JSON object a line, each an operation of a caller or a search. Questions: one query
-//! a line.
+//! Scripts: one JSON object a line, each an operation of a caller, a search or a look. Questions:
+//! one query a line.
 #![tactic(auto)]
 
 mod acts;

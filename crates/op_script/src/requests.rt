@@ -7,7 +7,7 @@ ghost use Rattle.op_script.specs.declared.script.BadLine.{BadLine};
 ghost use Rattle.op_script.specs.declared.script.Why.{Why};
 
 use crate::acts::{
-    add_block_in, add_in, commit_in, delete_in, delete_query_in, search_in, set_in,
+    add_block_in, add_in, commit_in, delete_in, delete_query_in, look_in, search_in, set_in,
     update_block_in, update_in,
 };
 use crate::input_lines::is_blank;
@@ -108,5 +108,6 @@ fn act_in(alloc: Global, verb: Verb, value: &Value) -> Result<Act, LineFault>
         Verb::Set => set_in(alloc, value),
         Verb::Commit => commit_in(alloc, value),
         Verb::Search => search_in(alloc, value),
+        Verb::Look => look_in(alloc, value),
     }
 }

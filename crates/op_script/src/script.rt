@@ -11,8 +11,10 @@ use std::alloc::{AllocError, AllocFailed};
 pub enum Act {
     /// An operation, which gets a number unless it is refused.
     Do(Operation),
-    /// A search, which never gets one.
+    /// A search of its caller's last commit before it, which never gets a number.
     Search(Query),
+    /// A search of whichever commit is shown when its turn comes, which never gets a number either.
+    Look(Query),
 }
 
 /// A line of a script: its place in the input, counted from 1, and whose it is.

@@ -18,6 +18,7 @@ pub enum Verb {
     Set,
     Commit,
     Search,
+    Look,
 }
 
 /// The verb of this name.
@@ -42,6 +43,8 @@ pub fn verb_named(name: &str) -> Option<Verb>
         Some(Verb::Commit)
     } else if name == "search" {
         Some(Verb::Search)
+    } else if name == "look" {
+        Some(Verb::Look)
     } else {
         None
     }
@@ -63,5 +66,6 @@ pub fn has_members_of(verb: Verb, value: &Value) -> bool
             has_exactly(value, &["c", "op"]) || has_exactly(value, &["c", "op", "data"])
         }
         Verb::Search => has_exactly(value, &["c", "op", "query"]),
+        Verb::Look => has_exactly(value, &["c", "op", "query"]),
     }
 }

@@ -89,6 +89,17 @@ const SCRIPTS: &str = r#"
 {"c":0,"op":"search","query":{"bool":{"must_not":[]}}} => 1 Query
 {"c":0,"op":"search","query":{"bool":[]}} => 1 Query
 
+# Looks, of which each is written as a search is.
+{"c":0,"op":"look","query":"all"} => 1 lines
+{"c":0,"op":"look","query":{"bool":{"not":["all"]}}} => 1 lines
+{"c":0,"op":"look","query":{}} => 1 Query
+{"c":0,"op":"look","query":"All"} => 1 Query
+{"c":0,"op":"look","query":{"phrase":["","a"]}} => 1 Query
+{"c":0,"op":"look"} => 1 Members
+{"c":0,"op":"look","query":"all","commit":2} => 1 Members
+{"op":"look","query":"all"} => 1 Caller
+{"c":0,"op":"Look","query":"all"} => 1 Op
+
 # The members of each operation after `c`, with their values.
 {"c":0,"op":"update","field":"key","term":"a","doc":{"key":"b"}} => 1 lines
 {"c":0,"op":"update","field":"","term":1,"doc":{}} => 1 Name

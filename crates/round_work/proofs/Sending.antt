@@ -11,14 +11,13 @@ use denote.Ref.{ShrRef}
 use denote.Struct.Field.{row_field, i64-field}
 use denote.Struct.Tuple.{TupleAt, parts, type_at}
 use Rattle.delete_queue.specs.contracts.queue.DeleteQueue as queue
-use Rattle.thread_writer.specs.contracts.writer.ThreadWriter as thread_writer
 use Rattle.ix_base.specs.contracts.document.Operation as operation
 use Rattle.ix_base.specs.contracts.query.Query as query
 use Rattle.piece_queue.specs.contracts.queue.PieceQueue as pieces
-use Rattle.piece_queue.specs.contracts.sender.Sender as sender
 use Rattle.worker_tasks.specs.contracts.share.Share as share
 use Rattle.worker_tasks.specs.contracts.task.Task as task
 use Rattle.round_work.specs.contracts.worked.Stopped as stopped
+use Rattle.round_work.specs.contracts.worker.Worker as worker
 use Rattle.ix_base.proofs.block.Block.TheSendSync as block
 use Rattle.ix_base.proofs.document.Document.TheSendSync as document
 use Rattle.ix_base.proofs.document.Term.TheSendSync as term
@@ -52,8 +51,11 @@ task_send = search (sendable, declared_send, operation_send) depth 14
 pub share_send : IsSend share.the_row
 share_send = search (sendable, declared_send, list.the_send, task_send, reply.the_send, piece_send) depth 14
 
-pub stopped_send : IsSend stopped.the_row
-stopped_send = search (sendable, declared_send, written.the_send, share_send, sender_send, stop.the_send) depth 14
+pub worker_send : (C : RattleType) → IsSend C → IsSend (worker.the_row C)
+worker_send C c = search (sendable, declared_send, written.the_send, share_send, sender_send) depth 14
+
+pub stopped_send : (C : RattleType) → IsSend C → IsSend (stopped.the_row C)
+stopped_send C c = search (sendable, declared_send, written.the_send, share_send, sender_send, stop.the_send) depth 14
 
 parts_send : (Ts : List RattleType) → AllSend Ts → FieldsHave IsSend (parts Ts)
 parts_send [] s = tt
@@ -62,21 +64,18 @@ parts_send (T ∷ Ts) s = (as_row_send (row_field T) s.0, parts_send Ts s.1)
 tuple_send : (name : Sym) (Ts : List RattleType) → AllSend Ts → IsSend (TupleAt name Ts)
 tuple_send name Ts s = declared_send (type_at name Ts) (parts_send Ts s)
 
--- of what a worker takes: the handle, the queues, its writer, its share, its sender and the gate
-pub worker_send : (name : Sym) (δ : Ty) (k : Kept) (r : Lifetime) (ρ : Lft) (R : RattleType) (q : Lifetime) (κ : Lft)
-    (p : Lifetime) (π : Lft) (g : Lifetime) (ν : Lft) (G : RattleType) → IsSync R → IsSync G
+-- of what a thread takes: the handle, the queues, its worker and the gate
+pub work_send : (name : Sym) (δ : Ty) (k : Kept) (r : Lifetime) (ρ : Lft) (R : RattleType) (q : Lifetime) (κ : Lft)
+    (p : Lifetime) (π : Lft) (C : RattleType) (g : Lifetime) (ν : Lft) (G : RattleType) → IsSync R → IsSend C → IsSync G
     → IsSend (param 2 (arg δ k (TupleAt name (ShrRef r ρ R ∷ ShrRef q κ queue.the_row ∷ ShrRef p π pieces.the_row
-    ∷ thread_writer.the_row ∷ share.the_row ∷ sender.the_row ∷ ShrRef g ν G ∷ []))))
-worker_send name δ k r ρ R q κ p π g ν G rs gs =
+    ∷ worker.the_row C ∷ ShrRef g ν G ∷ []))))
+work_send name δ k r ρ R q κ p π C g ν G rs cs gs =
     let Ts : List RattleType = ShrRef r ρ R ∷ ShrRef q κ queue.the_row ∷ ShrRef p π pieces.the_row
-    ∷ thread_writer.the_row ∷ share.the_row ∷ sender.the_row ∷ ShrRef g ν G ∷ [] in
+    ∷ worker.the_row C ∷ ShrRef g ν G ∷ [] in
     param_send 2 (arg δ k (TupleAt name Ts)) (arg_send δ k (TupleAt name Ts) (tuple_send name Ts (
       shr_send r ρ R rs,
       (
         shr_send q κ queue.the_row queue_sync.the_sync,
-        (
-          shr_send p π pieces.the_row queue_shared,
-          (written.the_send, (share_send, (sender_send, (shr_send g ν G gs, tt)))),
-        ),
+        (shr_send p π pieces.the_row queue_shared, (worker_send C cs, (shr_send g ν G gs, tt))),
       ),
     )))

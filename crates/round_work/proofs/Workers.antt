@@ -1,5 +1,6 @@
 -- The workers of a round.
-use Rattle.std.proofs.Common.{◌≡◌, ◌∙◌, ℕ, zero, suc, ◌+◌, List, [], ◌∷◌, ◌++◌, length, map, refl, sym, ap, subst, arith, length-append}
+use Rattle.std.proofs.Common.{◌≡◌, ◌∙◌, ℕ, zero, suc, ◌+◌, List, [], ◌∷◌, ◌++◌, Result, Ok, Err, IfOk, length, map, refl, sym, ap, subst, arith, append_assoc, append-nil}
+use Rattle.std.proofs.lemmas.List.{map-append}
 use Rattle.std.specs.List.{AllByRecursion, AllZip}
 use Rattle.delete_queue.specs.declared.queue.DeleteQueue.{DeleteQueue}
 use Rattle.piece_queue.specs.declared.queue.PieceQueue.{PieceQueue}
@@ -10,11 +11,21 @@ use Rattle.piece_queue.specs.Views.{parcels_of, pieces_of}
 use Rattle.thread_writer.specs.declared.piece.Piece.{Piece}
 use Rattle.thread_writer.specs.declared.writer.ThreadWriter.{ThreadWriter}
 use Rattle.worker_tasks.specs.declared.share.Share.{Share}
-use Rattle.round_work.specs.declared.starting.Started.{Started}
 use Rattle.round_work.specs.declared.worked.Stopped.{Stopped}
+use Rattle.round_work.specs.declared.worked.Worked.{Worked}
+use Rattle.round_work.specs.declared.worker.Worker.{Worker}
+use Rattle.round_work.specs.Companions.{AreAlong}
 use Rattle.round_work.specs.Outboxes.{IsFresh}
-use Rattle.round_work.specs.Rounds.{AreFresh, AreSenders, AreStarted, AreStopped, ComesBack, Starts, Stops, sent_of, with_pieces, without, worked_of}
-use Rattle.round_work.specs.Working.{AreAtWork, AreWorked, IsAtWork, Works}
+use Rattle.round_work.specs.Rounds.{AreFresh, AreNumbered, AreSenders, ComesOf, IsReady, Stops}
+use Rattle.round_work.specs.Rounds.{companion_in, sender_in, sent_of, share_in, with_pieces, without, worked_of, writer_in}
+use Rattle.round_work.specs.Working.{AreAtWork, AreWorked, IsAtWork}
+
+-- ---- lists
+
+-- the last element, and those before it
+pub all_last : {A : Type 0} (P : A → Type 0) (xs : List A) (x : A) → AllByRecursion P (xs ++ x ∷ []) → AllByRecursion P xs × P x
+all_last P [] x all = (tt, all.0)
+all_last P (y ∷ xs) x all = let rest = all_last P xs x all.1 in ((all.0, rest.0), rest.1)
 
 pub zip_more : {A B : Type 0} (R : A → B → Type 0) (xs : List A) (ys : List B) (x : A) (y : B) → AllZip R xs ys → R x y
     → AllZip R (xs ++ x ∷ []) (ys ++ y ∷ [])
@@ -22,6 +33,51 @@ zip_more R [] [] x y all holds = (holds, tt)
 zip_more R [] (b ∷ ys) x y all holds = absurd all
 zip_more R (a ∷ xs) [] x y all holds = absurd all
 zip_more R (a ∷ xs) (b ∷ ys) x y all holds = (all.0, zip_more R xs ys x y all.1 holds)
+
+-- the same, where the lists are said to end with these
+pub zip_last : {A B : Type 0} (R : A → B → Type 0) (xs before : List A) (x : A) (ys some : List B) (y : B) → xs ≡ before ++ x ∷ []
+    → ys ≡ some ++ y ∷ [] → AllZip R before some → R x y → AllZip R xs ys
+zip_last {A} {B} R xs before x ys some y xs_are ys_are all holds =
+    subst (λ (us : List A). AllZip R us ys) (sym xs_are)
+    (subst (λ (vs : List B). AllZip R (before ++ x ∷ []) vs) (sym ys_are) (zip_more R before some x y all holds))
+
+-- as many of one as of the other
+pub zip_many : {A B : Type 0} (R : A → B → Type 0) (xs : List A) (ys : List B) → AllZip R xs ys → length ys ≡ length xs
+zip_many R [] [] all = refl
+zip_many R [] (y ∷ ys) all = absurd all
+zip_many R (x ∷ xs) [] all = absurd all
+zip_many R (x ∷ xs) (y ∷ ys) all = ap suc (zip_many R xs ys all.1)
+
+pub zip_through : {A B D : Type 0} (R : A → B → Type 0) (S : B → D → Type 0) (T : A → D → Type 0)
+    → ((x : A) (y : B) (z : D) → R x y → S y z → T x z) → (xs : List A) (ys : List B) (zs : List D) → AllZip R xs ys → AllZip S ys zs
+    → AllZip T xs zs
+zip_through R S T both [] [] [] one two = tt
+zip_through R S T both [] [] (z ∷ zs) one two = absurd two
+zip_through R S T both [] (y ∷ ys) zs one two = absurd one
+zip_through R S T both (x ∷ xs) [] zs one two = absurd one
+zip_through R S T both (x ∷ xs) (y ∷ ys) [] one two = absurd two
+zip_through R S T both (x ∷ xs) (y ∷ ys) (z ∷ zs) one two =
+    (both x y z one.0 two.0, zip_through R S T both xs ys zs one.1 two.1)
+
+-- of a list with one element more
+pub mapped : {A B : Type 0} (f : A → B) (xs new : List A) (x : A) → new ≡ xs ++ x ∷ [] → map f new ≡ map f xs ++ f x ∷ []
+mapped f xs new x is = ap (map f) is ∙ map-append f xs (x ∷ [])
+
+-- the first of those that are left was moved over
+pub moved_over : {A B : Type 0} (f : A → B) (xs new : List A) (x : A) (all left rest : List B) → new ≡ xs ++ x ∷ [] → left ≡ f x ∷ rest
+    → map f xs ++ left ≡ all → map f new ++ rest ≡ all
+moved_over {A} {B} f xs new x all left rest is next before =
+    ap (λ (us : List B). us ++ rest) (mapped f xs new x is)
+    ∙ (append_assoc (map f xs) (f x ∷ []) rest ∙ (ap (λ (us : List B). map f xs ++ us) (sym next) ∙ before))
+
+-- none is left
+pub none_left : {A B : Type 0} (f : A → B) (xs : List A) (all left : List B) → map f xs ++ left ≡ all → length left ≡ 0 → map f xs ≡ all
+none_left f xs all [] is many = sym (append-nil (map f xs)) ∙ is
+none_left f xs all (y ∷ left) is many = absurd (omega (arith, many))
+
+pub if_ok : {A E : Type 0} (P Q : A → Type 0) (r : Result A E) → ((a : A) → P a → Q a) → IfOk r P → IfOk r Q
+if_ok P Q (Ok a) then holds = then a holds
+if_ok P Q (Err e) then holds = tt
 
 -- ---- before
 
@@ -34,30 +90,11 @@ at_work_more q i n (x ∷ ws) [] w s all is at = absurd all
 at_work_more q i n (x ∷ ws) (y ∷ ss) w s all is at = (all.0, at_work_more q (i + 1) n ws ss w s all.1 (omega (arith, is)) at)
 
 -- as many writers as shares
-pub at_work_many : (q : DeleteQueue) (i : ℕ) (ws : List ThreadWriter) (ss : List Share) → AreAtWork q i ws ss → length ws ≡ length ss
+pub at_work_many : (q : DeleteQueue) (i : ℕ) (ws : List ThreadWriter) (ss : List Share) → AreAtWork q i ws ss → length ss ≡ length ws
 at_work_many q i [] [] all = refl
 at_work_many q i [] (s ∷ ss) all = absurd all
 at_work_many q i (w ∷ ws) [] all = absurd all
 at_work_many q i (w ∷ ws) (s ∷ ss) all = ap suc (at_work_many q (i + 1) ws ss all.1)
-
-no_more : (q : DeleteQueue) (i : ℕ) (ss : List Share) (s : Share) → AreAtWork q i [] (ss ++ s ∷ []) → ⊥
-no_more q i [] s all = all
-no_more q i (y ∷ ss) s all = all
-
-none_before : (q : DeleteQueue) (i : ℕ) (ws : List ThreadWriter) (w : ThreadWriter) → AreAtWork q i (ws ++ w ∷ []) [] → ⊥
-none_before q i [] w all = all
-none_before q i (x ∷ ws) w all = all
-
--- the last worker, and those before it
-at_work_last : (q : DeleteQueue) (i n : ℕ) (ws : List ThreadWriter) (ss : List Share) (w : ThreadWriter) (s : Share)
-    → AreAtWork q i (ws ++ w ∷ []) (ss ++ s ∷ []) → n ≡ i + length ws → AreAtWork q i ws ss × IsAtWork q n w s
-at_work_last q i n [] [] w s all is = (tt, subst (λ (k : ℕ). IsAtWork q k w s) (let e : i ≡ n = omega (arith, is) in e) all.0)
-at_work_last q i n [] (y ∷ ss) w s all is = absurd (no_more q (i + 1) ss s all.1)
-at_work_last q i n (x ∷ ws) [] w s all is = absurd (none_before q (i + 1) ws w all.1)
-at_work_last q i n (x ∷ ws) (y ∷ ss) w s all is =
-    let rest = at_work_last q (i + 1) n ws ss w s all.1 (omega (arith, is)) in ((all.0, rest.0), rest.1)
-
--- ---- senders
 
 -- one sender more
 pub fresh_more : (pieces : PieceQueue) (i n : ℕ) (xs : List Sender) (x : Sender) → AreFresh pieces i xs → n ≡ i + length xs
@@ -65,137 +102,89 @@ pub fresh_more : (pieces : PieceQueue) (i n : ℕ) (xs : List Sender) (x : Sende
 fresh_more pieces i n [] x all is fresh = (subst (λ (k : ℕ). IsFresh pieces k x) (let e : n ≡ i = omega (arith, is) in e) fresh, tt)
 fresh_more pieces i n (y ∷ xs) x all is fresh = (all.0, fresh_more pieces (i + 1) n xs x all.1 (omega (arith, is)) fresh)
 
-fresh_last : (pieces : PieceQueue) (i n : ℕ) (xs : List Sender) (x : Sender) → AreFresh pieces i (xs ++ x ∷ []) → n ≡ i + length xs
-    → AreFresh pieces i xs × IsFresh pieces n x
-fresh_last pieces i n [] x all is = (tt, subst (λ (k : ℕ). IsFresh pieces k x) (let e : i ≡ n = omega (arith, is) in e) all.0)
-fresh_last pieces i n (y ∷ xs) x all is =
-    let rest = fresh_last pieces (i + 1) n xs x all.1 (omega (arith, is)) in ((all.0, rest.0), rest.1)
+ready_from : {C : Type 0} (q : DeleteQueue) (pieces : PieceQueue) (i : ℕ) (xs : List (Worker C)) → AreAtWork q i (map writer_in xs) (map share_in xs)
+    → AreFresh pieces i (map sender_in xs) → AllByRecursion (IsReady q pieces) xs
+ready_from q pieces i [] work fresh = tt
+ready_from q pieces i (x ∷ xs) work fresh = (
+  record {
+    sender = record { is = fresh.0.is; number_is = refl; sent = fresh.0.sent };
+    worker = subst (λ (k : ℕ). IsAtWork q k x.writer x.share) (sym fresh.0.number_is) work.0;
+  },
+  ready_from q pieces (i + 1) xs work.1 fresh.1,
+)
 
--- ---- the last worker
+-- workers that were lined up can begin
+pub all_ready : {C : Type 0} (q : DeleteQueue) (pieces : PieceQueue) (ws : List ThreadWriter) (ss : List Share) (xs : List (Worker C))
+    → AreAtWork q 0 ws ss → map writer_in xs ≡ ws → map share_in xs ≡ ss → AreFresh pieces 0 (map sender_in xs)
+    → AllByRecursion (IsReady q pieces) xs
+all_ready q pieces ws ss xs work writers shares fresh =
+    ready_from q pieces 0 xs
+    (subst (λ (us : List ThreadWriter). AreAtWork q 0 us (map share_in xs)) (sym writers)
+    (subst (λ (us : List Share). AreAtWork q 0 ws us) (sym shares) work)) fresh
 
--- The last worker can begin with the last sender, which has its number, and those before it with theirs.
-pub record CanBegin (q : DeleteQueue) (pieces : PieceQueue) (ws : List ThreadWriter) (ss : List Share) (xs : List Sender)
-    (w : ThreadWriter) (s : Share) (x : Sender) : Type 0 where
-  pub before : AreAtWork q 0 ws ss
-  pub others : AreFresh pieces 0 xs
-  pub count : length xs ≡ length ws
-  pub number : number_of x ≡ length ws
-  pub sender : IsFresh pieces (number_of x) x
-  pub worker : IsAtWork q (number_of x) w s
-
-begins : (q : DeleteQueue) (pieces : PieceQueue) (ws : List ThreadWriter) (ss : List Share) (xs : List Sender) (w : ThreadWriter) (s : Share)
-    (x : Sender) → AreAtWork q 0 (ws ++ w ∷ []) (ss ++ s ∷ []) → AreFresh pieces 0 (xs ++ x ∷ [])
-    → length (xs ++ x ∷ []) ≡ length (ws ++ w ∷ []) → CanBegin q pieces ws ss xs w s x
-begins q pieces ws ss xs w s x all fresh many =
-    let count : length xs ≡ length ws =
-    (let one = length-append xs (x ∷ []) in let two = length-append ws (w ∷ []) in omega (arith, many, one, two)) in
-    let one = at_work_last q 0 (length ws) ws ss w s all (omega arith) in
-    let two = fresh_last pieces 0 (length ws) xs x fresh (omega (arith, count)) in
-    let number = two.1.number_is in
-    record {
-      before = one.0;
-      others = two.0;
-      count = count;
-      number = number;
-      sender = record { is = two.1.is; number_is = refl; sent = two.1.sent };
-      worker = subst (λ (k : ℕ). IsAtWork q k w s) (sym number) one.1;
-    }
-
-pub can_begin : (q : DeleteQueue) (pieces : PieceQueue) (ws before : List ThreadWriter) (ss left : List Share) (xs others : List Sender)
-    (w : ThreadWriter) (s : Share) (x : Sender) → AreAtWork q 0 ws ss → AreFresh pieces 0 xs → length xs ≡ length ws
-    → ws ≡ before ++ w ∷ [] → ss ≡ left ++ s ∷ [] → xs ≡ others ++ x ∷ [] → CanBegin q pieces before left others w s x
-can_begin q pieces ws before ss left xs others w s x all fresh many writers_are shares_are senders_are =
-    begins q pieces before left others w s x
-    (subst (λ (vs : List ThreadWriter). AreAtWork q 0 vs (left ++ s ∷ [])) writers_are
-    (subst (λ (us : List Share). AreAtWork q 0 ws us) shares_are all)) (subst (AreFresh pieces 0) senders_are fresh)
-    (sym (ap (λ (ys : List Sender). length ys) senders_are) ∙ many ∙ ap (λ (vs : List ThreadWriter). length vs) writers_are)
-
-started_more : (q : DeleteQueue) (pieces : PieceQueue) (i n : ℕ) (ws : List ThreadWriter) (ss : List Share) (ts : List Started) (w : ThreadWriter)
-    (s : Share) (t : Started) → AreStarted q pieces i ws ss ts → n ≡ i + length ws → Starts q pieces n w s t
-    → AreStarted q pieces i (ws ++ w ∷ []) (ss ++ s ∷ []) (ts ++ t ∷ [])
-started_more q pieces i n [] [] [] w s t are is starts =
-    (subst (λ (k : ℕ). Starts q pieces k w s t) (let e : n ≡ i = omega (arith, is) in e) starts, tt)
-started_more q pieces i n [] [] (z ∷ ts) w s t are is starts = absurd are
-started_more q pieces i n [] (y ∷ ss) ts w s t are is starts = absurd are
-started_more q pieces i n (x ∷ ws) [] ts w s t are is starts = absurd are
-started_more q pieces i n (x ∷ ws) (y ∷ ss) [] w s t are is starts = absurd are
-started_more q pieces i n (x ∷ ws) (y ∷ ss) (z ∷ ts) w s t are is starts =
-    (are.0, started_more q pieces (i + 1) n ws ss ts w s t are.1 (omega (arith, is)) starts)
-
--- the last worker was started after those before it
-pub started_last : (q : DeleteQueue) (pieces : PieceQueue) (ws before : List ThreadWriter) (ss left : List Share) (w : ThreadWriter) (s : Share)
-    (ts some : List Started) (t : Started) → ws ≡ before ++ w ∷ [] → ss ≡ left ++ s ∷ [] → ts ≡ some ++ t ∷ []
-    → AreStarted q pieces 0 before left some → Starts q pieces (length before) w s t → AreStarted q pieces 0 ws ss ts
-started_last q pieces ws before ss left w s ts some t writers_are shares_are items are starts =
-    subst (λ (xs : List ThreadWriter). AreStarted q pieces 0 xs ss ts) (sym writers_are)
-    (subst (λ (ys : List Share). AreStarted q pieces 0 (before ++ w ∷ []) ys ts) (sym shares_are)
-    (subst (λ (zs : List Started). AreStarted q pieces 0 (before ++ w ∷ []) (left ++ s ∷ []) zs) (sym items)
-    (started_more q pieces 0 (length before) before left some w s t are (omega arith) starts)))
-
--- as many were started as there are writers
-pub started_many : (q : DeleteQueue) (pieces : PieceQueue) (i : ℕ) (ws : List ThreadWriter) (ss : List Share) (ts : List Started)
-    → AreStarted q pieces i ws ss ts → length ts ≡ length ws
-started_many q pieces i [] [] [] are = refl
-started_many q pieces i [] [] (z ∷ ts) are = absurd are
-started_many q pieces i [] (y ∷ ss) ts are = absurd are
-started_many q pieces i (x ∷ ws) [] ts are = absurd are
-started_many q pieces i (x ∷ ws) (y ∷ ss) [] are = absurd are
-started_many q pieces i (x ∷ ws) (y ∷ ss) (z ∷ ts) are = ap suc (started_many q pieces (i + 1) ws ss ts are.1)
+-- and have their numbers
+pub all_numbered : {C : Type 0} (pieces : PieceQueue) (i : ℕ) (xs : List (Worker C)) → AreFresh pieces i (map sender_in xs) → AreNumbered i xs
+all_numbered pieces i [] fresh = tt
+all_numbered pieces i (x ∷ xs) fresh = (fresh.0.number_is, all_numbered pieces (i + 1) xs fresh.1)
 
 -- ---- behind
 
-pub stopped_all : (q : DeleteQueue) (pieces : PieceQueue) (i : ℕ) (ws : List ThreadWriter) (ss : List Share) (ts : List Started)
-    (xs : List Stopped) → AreStarted q pieces i ws ss ts → AllZip ComesBack ts xs → AreStopped q pieces i ws ss xs
-stopped_all q pieces i [] [] [] [] are back = tt
-stopped_all q pieces i [] [] [] (x ∷ xs) are back = absurd back
-stopped_all q pieces i [] [] (t ∷ ts) xs are back = absurd are
-stopped_all q pieces i [] (s ∷ ss) ts xs are back = absurd are
-stopped_all q pieces i (w ∷ ws) [] ts xs are back = absurd are
-stopped_all q pieces i (w ∷ ws) (s ∷ ss) [] xs are back = absurd are
-stopped_all q pieces i (w ∷ ws) (s ∷ ss) (t ∷ ts) [] are back = absurd back
-stopped_all q pieces i (w ∷ ws) (s ∷ ss) (t ∷ ts) (x ∷ xs) are back =
-    (back.0 q pieces i w s are.0, stopped_all q pieces (i + 1) ws ss ts xs are.1 back.1)
-
--- as many stopped as there are writers
-pub stopped_many : (q : DeleteQueue) (pieces : PieceQueue) (i : ℕ) (ws : List ThreadWriter) (ss : List Share) (xs : List Stopped)
-    → AreStopped q pieces i ws ss xs → length xs ≡ length ws
-stopped_many q pieces i [] [] [] are = refl
-stopped_many q pieces i [] [] (x ∷ xs) are = absurd are
-stopped_many q pieces i [] (s ∷ ss) xs are = absurd are
-stopped_many q pieces i (w ∷ ws) [] xs are = absurd are
-stopped_many q pieces i (w ∷ ws) (s ∷ ss) [] are = absurd are
-stopped_many q pieces i (w ∷ ws) (s ∷ ss) (x ∷ xs) are = ap suc (stopped_many q pieces (i + 1) ws ss xs are.1)
-
-pub senders : (q : DeleteQueue) (pieces : PieceQueue) (i : ℕ) (ws : List ThreadWriter) (ss : List Share) (xs : List Stopped)
-    → AreStopped q pieces i ws ss xs → AreSenders pieces xs
-senders q pieces i [] [] [] are = tt
-senders q pieces i [] [] (x ∷ xs) are = absurd are
-senders q pieces i [] (s ∷ ss) xs are = absurd are
-senders q pieces i (w ∷ ws) [] xs are = absurd are
-senders q pieces i (w ∷ ws) (s ∷ ss) [] are = absurd are
-senders q pieces i (w ∷ ws) (s ∷ ss) (x ∷ xs) are = (are.0.sender, senders q pieces (i + 1) ws ss xs are.1)
+-- `hears` says from a companion and a count that it hears to what it becomes
+pub senders : {C : Type 0} (hears : C → ℕ → C → Type 0) (q : DeleteQueue) (pieces : PieceQueue) (xs : List (Worker C)) (ys : List (Stopped C))
+    → AllZip (Stops hears q pieces) xs ys → AreSenders pieces ys
+senders hears q pieces [] [] all = tt
+senders hears q pieces [] (y ∷ ys) all = absurd all
+senders hears q pieces (x ∷ xs) [] all = absurd all
+senders hears q pieces (x ∷ xs) (y ∷ ys) all = (all.0.sender, senders hears q pieces xs ys all.1)
 
 -- of each worker what was taken is what it sent
 abbrev pub AllCame : List Piece → List Sent → Type 0
 AllCame taken ended = AllByRecursion (λ (d : Sent). pieces_of d.worker taken ≡ d.put) ended
 
-one_worked : (q : DeleteQueue) (pieces : PieceQueue) (i : ℕ) (w : ThreadWriter) (s : Share) (x : Stopped) (taken : List Piece)
-    → Stops q pieces i w s x → pieces_of (number_of x.sender) taken ≡ sent_by x.sender → Works q w s (worked_of x (pieces_of i taken))
-one_worked q pieces i w s x taken stops came =
-    subst (λ (l : List Piece). Works q w s (worked_of x l)) (sym came ∙ ap (λ (k : ℕ). pieces_of k taken) stops.number_is) stops.works
+one_comes : {C : Type 0} (hears : C → ℕ → C → Type 0) (q : DeleteQueue) (pieces : PieceQueue) (i : ℕ) (x : Worker C) (y : Stopped C)
+    (taken : List Piece) → number_of x.sender ≡ i → Stops hears q pieces x y → pieces_of (number_of y.sender) taken ≡ sent_by y.sender
+    → ComesOf hears q x (worked_of y (pieces_of i taken))
+one_comes hears q pieces i x y taken number stops came =
+    subst (λ (l : List Piece). ComesOf hears q x (worked_of y l))
+    (sym came ∙ ap (λ (k : ℕ). pieces_of k taken) (stops.number_is ∙ number)) stops.comes
 
--- each worker with the pieces that were taken of it did its work
-pub all_worked : (q : DeleteQueue) (pieces : PieceQueue) (i n : ℕ) (ws : List ThreadWriter) (ss : List Share) (xs : List Stopped)
-    (taken : List Piece) → AreStopped q pieces i ws ss xs → n ≡ length xs → AllCame taken (map sent_of xs)
-    → AreWorked q ws ss (with_pieces (map without xs) (parcels_of i n taken))
-all_worked q pieces i n [] [] [] taken are many came = tt
-all_worked q pieces i n [] [] (x ∷ xs) taken are many came = absurd are
-all_worked q pieces i n [] (s ∷ ss) xs taken are many came = absurd are
-all_worked q pieces i n (w ∷ ws) [] xs taken are many came = absurd are
-all_worked q pieces i n (w ∷ ws) (s ∷ ss) [] taken are many came = absurd are
-all_worked q pieces i zero (w ∷ ws) (s ∷ ss) (x ∷ xs) taken are many came = absurd (omega (arith, many))
-all_worked q pieces i (suc n) (w ∷ ws) (s ∷ ss) (x ∷ xs) taken are many came = (
-  one_worked q pieces i w s x taken are.0 came.0,
-  subst (λ (k : ℕ). AreWorked q ws ss (with_pieces (map without xs) (parcels_of k n taken))) (let e : i + 1 ≡ suc i = omega arith in e)
-      (all_worked q pieces (i + 1) n ws ss xs taken are.1 (omega (arith, many)) came.1),
+-- each worker comes with the pieces that were taken of it
+pub all_come : {C : Type 0} (hears : C → ℕ → C → Type 0) (q : DeleteQueue) (pieces : PieceQueue) (i n : ℕ) (xs : List (Worker C))
+    (ys : List (Stopped C)) (taken : List Piece) → AreNumbered i xs → AllZip (Stops hears q pieces) xs ys → n ≡ length ys
+    → AllCame taken (map sent_of ys) → AllZip (ComesOf hears q) xs (with_pieces (map without ys) (parcels_of i n taken))
+all_come hears q pieces i n [] [] taken numbered all many came = tt
+all_come hears q pieces i n [] (y ∷ ys) taken numbered all many came = absurd all
+all_come hears q pieces i n (x ∷ xs) [] taken numbered all many came = absurd all
+all_come hears q pieces i zero (x ∷ xs) (y ∷ ys) taken numbered all many came = absurd (omega (arith, many))
+all_come hears q pieces i (suc n) (x ∷ xs) (y ∷ ys) taken numbered all many came = (
+  one_comes hears q pieces i x y taken numbered.0 all.0 came.0,
+  subst (λ (k : ℕ). AllZip (ComesOf hears q) xs (with_pieces (map without ys) (parcels_of k n taken))) (let e : i + 1 ≡ suc i = omega arith in e)
+      (all_come hears q pieces (i + 1) n xs ys taken numbered.1 all.1 (omega (arith, many)) came.1),
 )
+
+each_worked : {C : Type 0} (hears : C → ℕ → C → Type 0) (q : DeleteQueue) (xs : List (Worker C)) (all : List (Worked C))
+    → AllZip (ComesOf hears q) xs all → AreWorked q (map writer_in xs) (map share_in xs) all
+each_worked hears q [] [] come = tt
+each_worked hears q [] (y ∷ all) come = absurd come
+each_worked hears q (x ∷ xs) [] come = absurd come
+each_worked hears q (x ∷ xs) (y ∷ all) come = (come.0.0, each_worked hears q xs all come.1)
+
+each_along : {C : Type 0} (hears : C → ℕ → C → Type 0) (q : DeleteQueue) (xs : List (Worker C)) (all : List (Worked C))
+    → AllZip (ComesOf hears q) xs all → AreAlong hears (map companion_in xs) (map share_in xs) all
+each_along hears q [] [] come = tt
+each_along hears q [] (y ∷ all) come = absurd come
+each_along hears q (x ∷ xs) [] come = absurd come
+each_along hears q (x ∷ xs) (y ∷ all) come = (come.0.1, each_along hears q xs all come.1)
+
+-- what came back of workers that were lined up
+pub all_worked : {C : Type 0} (hears : C → ℕ → C → Type 0) (q : DeleteQueue) (ws : List ThreadWriter) (ss : List Share) (xs : List (Worker C))
+    (all : List (Worked C)) → map writer_in xs ≡ ws → map share_in xs ≡ ss → AllZip (ComesOf hears q) xs all → AreWorked q ws ss all
+all_worked hears q ws ss xs all writers shares come =
+    subst (λ (us : List ThreadWriter). AreWorked q us ss all) writers
+    (subst (λ (us : List Share). AreWorked q (map writer_in xs) us all) shares (each_worked hears q xs all come))
+
+pub all_along : {C : Type 0} (hears : C → ℕ → C → Type 0) (q : DeleteQueue) (cs : List C) (ss : List Share) (xs : List (Worker C))
+    (all : List (Worked C)) → map companion_in xs ≡ cs → map share_in xs ≡ ss → AllZip (ComesOf hears q) xs all → AreAlong hears cs ss all
+all_along {C} hears q cs ss xs all companions shares come =
+    subst (λ (us : List C). AreAlong hears us ss all) companions
+    (subst (λ (us : List Share). AreAlong hears (map companion_in xs) us all) shares (each_along hears q xs all come))

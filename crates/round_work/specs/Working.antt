@@ -100,7 +100,7 @@ pub record LacksRoom (w : ThreadWriter) (share : Share) : Type 0 where
 -- only where its seat has seen that the queue is closed. It linked a turn only after the next task found its part full.
 -- What its writer gave off are its pieces and then the one that its share holds; it holds none but
 -- where memory ran out.
-pub record Works (q : DeleteQueue) (writer : ThreadWriter) (share : Share) (worked : Worked) : Type 0 where
+pub record Works {C : Type 0} (q : DeleteQueue) (writer : ThreadWriter) (share : Share) (worked : Worked C) : Type 0 where
   pub does : Does q writer share worked.writer worked.share (worked.pieces ++ held_of worked.share.held)
   pub sent : (worked.stop ≡ NoMemory → ⊥) → worked.share.held ≡ None
   pub done : (worked.stop ≡ Done) ↔ (length worked.share.replies ≡ length worked.share.tasks)
@@ -108,7 +108,7 @@ pub record Works (q : DeleteQueue) (writer : ThreadWriter) (share : Share) (work
   pub turns : (turns_of worked.writer ≡ turns_of writer) ⊎ LacksRoom worked.writer worked.share
 
 -- each worker did so, in their order
-abbrev pub AreWorked : DeleteQueue → List ThreadWriter → List Share → List Worked → Type 0
+abbrev pub AreWorked : {C : Type 0} → DeleteQueue → List ThreadWriter → List Share → List (Worked C) → Type 0
 AreWorked q [] [] [] = Unit {0}
 AreWorked q (w ∷ ws) (s ∷ ss) (x ∷ xs) = Works q w s x × AreWorked q ws ss xs
 AreWorked q ws ss xs = ⊥

@@ -1,12 +1,12 @@
 //! What came back of the workers of a round, with their pieces.
 ghost use Rattle.std.specs.Prelude.{◌≡◌, [], List as ListOf, length, map, IfOk};
+ghost use Rattle.std.specs.List.{AllZip};
 ghost use Rattle.delete_queue.specs.declared.queue.DeleteQueue.{DeleteQueue};
 ghost use Rattle.piece_queue.specs.Passes.{IsReceiver, ended_with, made_by};
-ghost use Rattle.thread_writer.specs.declared.writer.ThreadWriter.{ThreadWriter};
-ghost use Rattle.round_work.specs.Rounds.{AreSenders, AreStopped, sent_of, with_pieces, without};
-ghost use Rattle.worker_tasks.specs.declared.share.Share.{Share};
-ghost use Rattle.round_work.specs.Working.{AreWorked};
+ghost use Rattle.round_work.specs.declared.worker.Worker.{Worker};
+ghost use Rattle.round_work.specs.Rounds.{AreNumbered, AreSenders, ComesOf, Stops, sent_of, with_pieces, without};
 
+use crate::companion::Companion;
 use crate::worked::{Stopped, Worked};
 use ix_base::{List, NoMemory};
 use piece_queue::{PieceQueue, Receiver};
@@ -16,20 +16,20 @@ use thread_writer::Piece;
 
 /// Takes the workers' senders back, and then all pieces that are left in the queue: what each worker
 /// did, with its pieces. The only error is out of memory.
-pub(crate) fn gather<R: Wait>(
+pub(crate) fn gather<R: Wait, C: Companion>(
     rt: &R,
     alloc: Global,
     pieces: &PieceQueue,
     receiver: Receiver,
-    stopped: Vec<Stopped>,
-) -> Result<Vec<Worked>, NoMemory>
+    stopped: Vec<Stopped<C>>,
+) -> Result<Vec<Worked<C>>, NoMemory>
     requires receiver { IsReceiver pieces.now receiver }
     requires ended { ended_with receiver ≡ [] }
     requires made { made_by receiver ≡ length stopped.items }
     requires senders { AreSenders pieces.now stopped.items }
-    ensures { (q : DeleteQueue) (ws : ListOf ThreadWriter) (ss : ListOf Share)
-        → AreStopped q pieces.now 0 ws ss stopped.items
-        → IfOk result (λ all. AreWorked q ws ss all.items) }
+    ensures { (q : DeleteQueue) (workers : ListOf (Worker C)) → AreNumbered 0 workers
+        → AllZip (Stops C.hears q pieces.now) workers stopped.items
+        → IfOk result (λ all. AllZip (ComesOf C.hears q) workers all.items) }
 {
     let count = stopped.len();
     let mut receiver = receiver;
@@ -40,12 +40,12 @@ pub(crate) fn gather<R: Wait>(
 }
 
 /// Takes each worker's sender back. The only error is out of memory.
-fn take_all_back(
+fn take_all_back<C: Companion>(
     alloc: Global,
     pieces: &PieceQueue,
     receiver: &mut Receiver,
-    stopped: Vec<Stopped>,
-) -> Result<Vec<Worked>, NoMemory>
+    stopped: Vec<Stopped<C>>,
+) -> Result<Vec<Worked<C>>, NoMemory>
     requires receiver { IsReceiver pieces.now receiver.old }
     requires ended { ended_with receiver.old ≡ [] }
     requires senders { AreSenders pieces.now stopped.items }
@@ -59,6 +59,7 @@ fn take_all_back(
         let Stopped {
             writer,
             share,
+            companion,
             sender,
             stop,
         } = one;
@@ -66,6 +67,7 @@ fn take_all_back(
         workers.push(Worked {
             writer,
             share,
+            companion,
             pieces: List::new(alloc),
             stop,
         })?;
@@ -74,11 +76,11 @@ fn take_all_back(
 }
 
 /// Gives the workers their pieces, in order. The only error is out of memory.
-fn hand_out(
+fn hand_out<C: Companion>(
     alloc: Global,
-    workers: Vec<Worked>,
+    workers: Vec<Worked<C>>,
     parcels: Vec<Vec<Piece>>,
-) -> Result<Vec<Worked>, NoMemory>
+) -> Result<Vec<Worked<C>>, NoMemory>
     requires count { length parcels.items ≡ length workers.items }
     ensures { IfOk result (λ all. all.items
         ≡ with_pieces workers.items (map (λ p. p.items) parcels.items)) }
@@ -92,12 +94,14 @@ fn hand_out(
         let Worked {
             writer,
             share,
+            companion,
             stop,
             ..
         } = worked;
         all.push(Worked {
             writer,
             share,
+            companion,
             pieces: List::from_vec(parcel),
             stop,
         })?;

@@ -7,13 +7,16 @@
 //! where memory runs out. What it has not done it does in a later round, by a writer of a later queue.
 #![tactic(auto)]
 
+mod companion;
 mod gathering;
 mod line;
 mod outbox;
 mod round;
 mod starting;
 mod worked;
+mod worker;
 mod working;
 
+pub use companion::Companion;
 pub use round::run_round;
 pub use worked::{Stop, Worked};

@@ -16,20 +16,23 @@ pub enum Stop {
     NoMemory,
 }
 
-/// A worker that came back, with the pieces that its writer gave off in the round, in order.
+/// A worker that came back, with what went along with it, and the pieces that its writer gave off in the
+/// round, in order.
 #[derive(Drop)]
-pub struct Worked {
+pub struct Worked<C> {
     pub writer: ThreadWriter,
     pub share: Share,
+    pub companion: C,
     pub pieces: List<Piece>,
     pub stop: Stop,
 }
 
 /// A worker that stopped. Its pieces were sent.
 #[derive(Drop)]
-pub(crate) struct Stopped {
+pub(crate) struct Stopped<C> {
     pub writer: ThreadWriter,
     pub share: Share,
+    pub companion: C,
     pub sender: Sender,
     pub stop: Stop,
 }

@@ -7,49 +7,55 @@ ghost use Rattle.thread_writer.specs.Writing.{IsWriter};
 ghost use Rattle.round_work.specs.declared.line.Halt.TheVariants as halt;
 ghost use Rattle.round_work.specs.declared.worked.Stop.TheVariants as stop;
 ghost use Rattle.round_work.specs.Lines.{Closes, TurnsFor, told_for};
+ghost use Rattle.round_work.specs.Companions.{HearsUpTo};
 ghost use Rattle.round_work.specs.Outboxes.{IsFresh, IsOutbox, gave_by};
-ghost use Rattle.round_work.specs.Rounds.{Stops};
+ghost use Rattle.round_work.specs.Rounds.{IsReady, Stops};
 ghost use Rattle.worker_tasks.specs.Shares.{share_of};
 ghost use Rattle.round_work.specs.Working.{Does, IsAtWork, LacksRoom, WorksOn, turns_of};
 ghost use Rattle.worker_tasks.specs.Replies.{IsReplyTo};
 
+use crate::companion::Companion;
 use crate::line::{Halt, do_line};
 use crate::outbox::Outbox;
 use crate::worked::{Stop, Stopped};
+use crate::worker::Worker;
 use delete_queue::DeleteQueue;
 use ix_base::{List, Operation};
 use ix_outside::Gate;
-use piece_queue::{PieceQueue, Sender};
+use piece_queue::PieceQueue;
 use std::sync::Wait;
 use thread_writer::ThreadWriter;
 use worker_tasks::{Reply, Share, Task};
 
-/// Does the tasks of a share that were told nothing yet, in order, by a writer of this queue with the
-/// number of its sender, which has given nothing off. Each piece is sent as soon as it is full.
+/// Does the tasks of a worker's share that were told nothing yet, in order, by its writer, which is one of this queue
+/// with the number of its sender, and has given nothing off. Each piece is sent as soon as it is full.
 ///
-/// The gate hears of each line before it is tried, and of each number. The worker stops where its
+/// The gate hears of each line before it is tried, and of each number. What goes along with the worker hears
+/// how many tasks were told something, at the beginning and behind each. The worker stops where its
 /// tasks are done, after a commit, where the queue is closed, where the writer's part of the queue has
 /// no room for a task (it closes the queue by a turn then), and where memory runs out. What was done
 /// before is kept.
-pub fn work<R: Wait, G: Gate>(
+pub fn work<R: Wait, G: Gate, C: Companion>(
     rt: &R,
     queue: &DeleteQueue,
     pieces: &PieceQueue,
-    writer: ThreadWriter,
-    share: Share,
-    sender: Sender,
+    worker: Worker<C>,
     gate: &G,
-) -> Stopped
-    requires sender { IsFresh pieces.now (number_of sender) sender }
-    requires worker { IsAtWork queue.now (number_of sender) writer share }
-    ensures stops { Stops queue.now pieces.now (number_of sender) writer share result }
+) -> Stopped<C>
+    requires ready { IsReady queue.now pieces.now worker }
+    ensures stops { Stops C.hears queue.now pieces.now worker result }
 {
+    let Worker {
+        mut writer,
+        share,
+        mut companion,
+        sender,
+    } = worker;
     let Share {
         tasks,
         replies,
         held,
     } = share;
-    let mut writer = writer;
     let mut replies = replies.into_vec();
     let mut outbox = Outbox { sender, held };
     let stop = do_tasks(
@@ -59,6 +65,7 @@ pub fn work<R: Wait, G: Gate>(
         &mut writer,
         tasks.as_slice(),
         &mut replies,
+        &mut companion,
         &mut outbox,
         gate,
     );
@@ -71,19 +78,21 @@ pub fn work<R: Wait, G: Gate>(
     Stopped {
         writer,
         share,
+        companion,
         sender,
         stop,
     }
 }
 
 /// Does the tasks behind those that have a reply, and says why it stopped.
-fn do_tasks<R: Wait, G: Gate>(
+fn do_tasks<R: Wait, G: Gate, C: Companion>(
     rt: &R,
     queue: &DeleteQueue,
     pieces: &PieceQueue,
     writer: &mut ThreadWriter,
     tasks: &[Task],
     replies: &mut Vec<Reply>,
+    companion: &mut C,
     outbox: &mut Outbox,
     gate: &G,
 ) -> Stop
@@ -93,6 +102,8 @@ fn do_tasks<R: Wait, G: Gate>(
     ensures does { Does queue.now
         writer.old (share_of tasks.now replies.old.items outbox.old.held)
         writer.new (share_of tasks.now replies.new.items outbox.new.held) (gave_by outbox.new) }
+    ensures along { HearsUpTo C.hears companion.old (length replies.old.items)
+        (length replies.new.items) companion.new }
     ensures outbox { IsOutbox pieces.now (number_of outbox.old.sender) outbox.new }
     ensures sent { (result ≡ stop.NoMemory → ⊥) → outbox.new.held ≡ None }
     ensures done { (result ≡ stop.Done) ↔ (length replies.new.items ≡ length tasks.now) }
@@ -100,10 +111,11 @@ fn do_tasks<R: Wait, G: Gate>(
     ensures turned { (turns_of writer.new ≡ turns_of writer.old)
         ⊎ LacksRoom writer.new (share_of tasks.now replies.new.items outbox.new.held) }
 {
+    tell_along(companion, replies);
     while replies.len() < tasks.len() {
         let task = &tasks[replies.len()];
         match do_task(rt, queue, pieces, writer, task, replies, outbox, gate) {
-            Ok(_) => {}
+            Ok(_) => tell_along(companion, replies),
             Err(halt) => return stop_for(halt),
         }
         if is_commit(&task.operation) {
@@ -153,6 +165,13 @@ fn tell<G: Gate>(gate: &G, line: u32, reply: Reply) {
     if let Reply::Numbered(number) = reply {
         gate.told(line, number);
     }
+}
+
+/// Lets what goes along with the worker hear how many tasks have a reply.
+fn tell_along<C: Companion>(companion: &mut C, replies: &Vec<Reply>)
+    ensures { C.hears companion.old (length replies.now.items) companion.new }
+{
+    companion.come_to(replies.len());
 }
 
 /// Whether the operation is a commit.

@@ -2,4 +2,6 @@
 #![tactic(auto)]
 
 #[cfg(test)]
+mod along;
+#[cfg(test)]
 mod tests;

@@ -7,11 +7,12 @@ ghost use Rattle.round_work.specs.Working.{AreAtWork, IsAtWork};
 ghost use Rattle.round_work.specs.declared.worked.Stop.TheVariants as stop;
 ghost use Rattle.round_work_tests.specs.Shares.{CanGoOn};
 
+use crate::along::{listeners, nothings, show_heard};
 use delete_queue::{DeleteQueue, Reserve, Seat};
 use ix_base::{Birth, Document, Fields, NoMemory, Operation, Refusal, Text};
 use ix_memory::{GroupsGate, MeetingGate, RecordingGate};
 use ix_outside::Gate;
-use round_work::{Stop, Worked, run_round};
+use round_work::{Companion, Stop, Worked, run_round};
 use std::alloc::Global;
 use std::fmt::Write;
 use std::sync::Wait;
@@ -73,7 +74,7 @@ fn four_tasks(alloc: Global) -> Result<Vec<Task>, Fail> {
 }
 
 /// The share of a worker. The only error is that it ran out of memory.
-fn share_of(worked: Worked) -> Result<Share, NoMemory>
+fn share_of<C: Companion>(worked: Worked<C>) -> Result<Share, NoMemory>
     requires few { length worked.share.replies ≤ length worked.share.tasks }
     requires sent { (worked.stop ≡ stop.NoMemory → ⊥) → worked.share.held ≡ None }
     ensures { IfOk result CanGoOn }
@@ -85,13 +86,13 @@ fn share_of(worked: Worked) -> Result<Share, NoMemory>
     Ok(share)
 }
 
-/// Works by the only writer of a new queue.
-fn one_round<R: Threads + Wait + Sync, G: Gate>(
+/// Works by the only writer of a new queue, and shows what became of its share, and what its companion heard.
+fn one_round<R: Threads + Wait + Sync>(
     rt: &R,
     alloc: Global,
     base: u64,
     share: Share,
-    gate: &G,
+    gate: &RecordingGate,
     out: &mut String,
 ) -> Result<Share, Fail>
     requires base { base ≤ 1000 }
@@ -102,36 +103,43 @@ fn one_round<R: Threads + Wait + Sync, G: Gate>(
     let mut shares = Vec::new(alloc);
     shares.push(share)?;
     let (writers, shares) = begin_all(alloc, &queue, seats, shares)?;
-    let ((), back) = run_round(rt, alloc, &queue, writers, shares, gate, || ());
+    let along = listeners(alloc, gate, writers.len())?;
+    let ((), back) = run_round(rt, alloc, &queue, writers, shares, along, gate, || ());
     let mut all = back?;
     let Some(worked) = all.pop() else {
         return Err(Fail::new("a worker"));
     };
+    show_heard(out, worked.companion.heard.as_slice())?;
     show(out, worked.stop, &worked.share, worked.pieces.len())?;
     Ok(share_of(worked)?)
 }
 
-/// What becomes of a share in two rounds, the first of them behind the number 250.
-fn two_rounds<R: Threads + Wait + Sync, G: Gate>(
+/// What becomes of a share in three rounds, the first of them behind the number 250. It is done before the
+/// third.
+fn three_rounds<R: Threads + Wait + Sync>(
     rt: &R,
     alloc: Global,
-    gate: &G,
+    gate: &RecordingGate,
 ) -> Result<String, Fail> {
     let mut out = String::new(alloc);
     let share = Share::new(alloc, four_tasks(alloc)?);
     let share = one_round(rt, alloc, 250, share, gate, &mut out)?;
     let share = one_round(rt, alloc, 252, share, gate, &mut out)?;
+    let share = one_round(rt, alloc, 253, share, gate, &mut out)?;
     write!(out, " {}", share.tasks().len())?;
     Ok(out)
 }
 
 /// A worker stops at its commit, before the gate hears of the next line, and goes on in the next
-/// round. It gives its full buffer off before the line that follows.
+/// round. It gives its full buffer off before the line that follows. Its companion hears how many tasks were told
+/// something before the first one of a round is tried, and behind each before the next one is.
 #[test]
-fn worker_of_two_rounds(rt: HostRuntime) -> Result<(), Fail> {
+fn worker_of_three_rounds(rt: HostRuntime) -> Result<(), Fail> {
     let gate = RecordingGate::new();
-    let shown = two_rounds(&rt, rt.alloc(), &gate)?;
-    let expected = " 251 term 32767 252 closed 1; 251 term 32767 252 253 done 0; 4";
+    let shown = three_rounds(&rt, rt.alloc(), &gate)?;
+    let expected = " 0 at 0, 1 at 2, 2 at 3, 3 at 5, 251 term 32767 252 closed 1; \
+        3 at 5, 4 at 7, 251 term 32767 252 253 done 0; \
+        4 at 7, 251 term 32767 252 253 done 0; 4";
     assert!(rt; shown.as_str() == expected);
     assert!(rt; gate.count() == 7);
     let heard = [
@@ -206,14 +214,15 @@ fn round<R: Threads + Wait + Sync, G: Gate, T: Drop, F: FnOnce() -> T>(
     each: u32,
     gate: &G,
     beside: F,
-) -> Result<(T, Vec<Worked>), Fail>
+) -> Result<(T, Vec<Worked<()>>), Fail>
     requires few { (1 ≤ workers) × (workers ≤ 16) × (each ≤ 1000) }
     requires beside { F.IsAlwaysCallable beside }
 {
     let (queue, seats) = DeleteQueue::make(alloc, 0, workers, &mut Reserve::new(alloc))?;
     let shares = shares_of(alloc, workers, each)?;
     let (writers, shares) = begin_all(alloc, &queue, seats, shares)?;
-    let (seen, back) = run_round(rt, alloc, &queue, writers, shares, gate, beside);
+    let along = nothings(alloc, writers.len())?;
+    let (seen, back) = run_round(rt, alloc, &queue, writers, shares, along, gate, beside);
     Ok((seen, back?))
 }
 

@@ -126,7 +126,7 @@ last_committed base (l ∷ ls) (op ∷ before) e =
 
 -- ---- the numbers of commits rise
 
-from_lower : (low high : ℕ) (ns : List ℕ) → low ≤ high → Rises high ns → Rises low ns
+pub from_lower : (low high : ℕ) (ns : List ℕ) → low ≤ high → Rises high ns → Rises low ns
 from_lower low high [] le h = tt
 from_lower low high (n ∷ ns) le h = (omega (arith, le, h.0), h.1)
 

@@ -4,6 +4,8 @@ pub mod CountLaws
 pub mod OnlyLaws
 pub mod CommitLaws
 pub mod LogLaws
+pub mod LookLaws
+pub mod ThirdLaws
 pub mod NumberLaws
 pub mod TellingLaws
 pub mod PlaceLaws

@@ -6,7 +6,7 @@ use Rattle.std.proofs.lemmas.Bool.Decides.{eqb_tells}
 use Rattle.ix_base.specs.declared.document.Operation.TheVariants.{Add, AddBlock, Update, UpdateBlock, DeleteTerm, DeleteQuery, SetNumber, Commit}
 use Rattle.op_script.specs.Shape.{LinesRise}
 use Rattle.op_script.specs.declared.script.Act.{Act}
-use Rattle.op_script.specs.declared.script.Act.TheVariants.{Do, Search}
+use Rattle.op_script.specs.declared.script.Act.TheVariants.{Do, Search, Look}
 use Rattle.op_script.specs.declared.script.Line.{Line}
 use Rattle.run_log.specs.Headline.{Interleaves, IsIn, commit_numbers, is_commit, is_numbered, last_commit, number_of, numbered}
 use Rattle.run_log.specs.Telling.{of_caller}
@@ -57,6 +57,7 @@ each_at P (n ∷ ns) s each (inr i) = each_at P ns s each.1 i
 -- a commit line gets a number
 pub commit_numbered : (a : Act) → is_commit a ≡ true → is_numbered a ≡ true
 commit_numbered (Search q) is = absurd cc
+commit_numbered (Look q) is = absurd cc
 commit_numbered (Do (Add doc)) is = absurd cc
 commit_numbered (Do (AddBlock docs)) is = absurd cc
 commit_numbered (Do (Update t doc)) is = absurd cc

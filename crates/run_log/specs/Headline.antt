@@ -1,6 +1,6 @@
 -- What a run promises: what it is given, how its lines are numbered, what its report is, and what it leaves.
 use Rattle.std.specs.Prelude.{◌≡◌, ◌≢◌, ◌⊎◌, ◌<◌, ◌≤◌, ◌+◌, ◌-◌, ◌*◌, ◌^◌, ℕ, Bool, true, false, ◌==◌, ◌&&◌, if◌then◌else◌}
-use Rattle.std.specs.Prelude.{List, [], ◌∷◌, ◌++◌, length, take, Option, Some, None, is_none, IsSome, IsSomeAnd}
+use Rattle.std.specs.Prelude.{List, [], ◌∷◌, ◌++◌, length, map, take, Option, Some, None, is_none, IsSome, IsSomeAnd}
 use Rattle.ix_base.specs.declared.document.Row.{Row}
 use Rattle.ix_base.specs.declared.file_name.FileName.{FileName}
 use Rattle.ix_base.specs.declared.file_name.FileName.TheVariants as file
@@ -18,9 +18,10 @@ use Rattle.ix_base.specs.declared.document.Operation.TheVariants.{Commit}
 use Rattle.ix_base.specs.Refusals.{refusal}
 use Rattle.ix_base.specs.Steps.{after}
 use Rattle.op_script.specs.declared.script.Act.{Act}
-use Rattle.op_script.specs.declared.script.Act.TheVariants.{Do, Search}
+use Rattle.op_script.specs.declared.script.Act.TheVariants.{Do, Search, Look}
 use Rattle.ix_base.specs.Counts.{doc_count}
 use Rattle.ix_base.specs.Hits.{hits}
+use Rattle.ix_base.specs.declared.query.Query.{Query}
 use Rattle.ix_base.specs.declared.refusal.Refusal.{Refusal}
 use Rattle.report_text.specs.Lines.{text_line, write_value, commit_value, refused_value, search_value}
 use Rattle.ix_outside.specs.Calls.{LeavesOnly}
@@ -101,15 +102,21 @@ pub record IsLastSettled (g : Given) (store : Option Disk) : Type 0 where
 abbrev pub act_operation : Act → Option Operation
 act_operation (Do op) = Some op
 act_operation (Search q) = None
+act_operation (Look q) = None
 
 -- a write or commit line gets a number unless it is refused
 abbrev pub is_numbered : Act → Bool
 is_numbered (Do op) = is_none (refusal op)
 is_numbered (Search q) = false
+is_numbered (Look q) = false
 
 abbrev pub is_commit : Act → Bool
 is_commit (Do (Commit pairs)) = true
 is_commit a = false
+
+abbrev pub is_look : Act → Bool
+is_look (Look q) = true
+is_look a = false
 
 -- the lines that get a number
 abbrev pub numbered : List Line → List Line
@@ -158,6 +165,51 @@ commit_numbers last (l ∷ log) =
     if is_commit l.act then (last + 1) ∷ commit_numbers (last + 1) log
     else commit_numbers (last + 1) log
 
+-- the number is one of these
+abbrev pub IsIn : List ℕ → ℕ → Type 0
+IsIn [] s = ⊥
+IsIn (n ∷ ns) s = (s ≡ n) ⊎ IsIn ns s
+
+-- ---- the look lines: each was shown a commit, whose number `shown` gives by the line's place
+
+-- The commit that a caller was shown last: that of the last look line among these, or else the one that was found
+-- before.
+abbrev pub last_shown : (ℕ → ℕ) → ℕ → ℕ → List Line → ℕ
+last_shown shown caller found [] = found
+last_shown shown caller found (l ∷ ls) = last_shown shown caller
+    (if (l.caller == caller) && is_look l.act then shown l.line else found) ls
+
+-- the numbers of the caller's commit lines among these, in their order; a commit line is never refused
+abbrev pub commits_of : ℕ → List Line → ℕ → List Line → List ℕ
+commits_of base log caller lines =
+    map (λ (l : Line). number_of base log l.line)
+    (filter (λ (l : Line). (l.caller == caller) && is_commit l.act) lines)
+
+-- the third last of these numbers, or this one where there are fewer than three
+abbrev pub third_last : ℕ → List ℕ → ℕ
+third_last none [] = none
+third_last none (a ∷ []) = none
+third_last none (a ∷ b ∷ []) = none
+third_last none (a ∷ b ∷ c ∷ []) = a
+third_last none (a ∷ b ∷ c ∷ d ∷ ns) = third_last none (b ∷ c ∷ d ∷ ns)
+
+-- What a look line was shown, with the lines that stand before it in the script: the base or a commit of the log, not
+-- below the one that its caller's last look line was shown, and not below its caller's third last commit line.
+pub record IsShown (base : ℕ) (log : List Line) (shown : ℕ → ℕ) (before : List Line) (l : Line) : Type 0 where
+  pub one_of : (shown l.line ≡ base) ⊎ IsIn (commit_numbers base log) (shown l.line)
+  pub rises : last_shown shown l.caller base before ≤ shown l.line
+  pub at_least : third_last base (commits_of base log l.caller before) ≤ shown l.line
+
+-- each look line of these was shown such a commit; those before them stand before them in the script
+abbrev pub AreShownFrom : ℕ → List Line → (ℕ → ℕ) → List Line → List Line → Type 0
+AreShownFrom base log shown before [] = Unit {0}
+AreShownFrom base log shown before (l ∷ ls) =
+    (is_look l.act ≡ true → IsShown base log shown before l) × AreShownFrom base log shown (before ++ l ∷ []) ls
+
+-- each look line of the script was shown such a commit
+abbrev pub AreShown : ℕ → List Line → (ℕ → ℕ) → List Line → Type 0
+AreShown base log shown lines = AreShownFrom base log shown [] lines
+
 -- ---- the report: the text of each line of the script, in its order
 
 -- The commit of a caller's search: that of the last commit line among these, or else the one that
@@ -179,23 +231,27 @@ abbrev pub told_text : Option Refusal → ℕ → List ℕ → List ℕ
 told_text (Some refusal) line text = text_line (refused_value line refusal)
 told_text None line text = text
 
+-- the text of a line that searches the commit s
+abbrev pub hits_text : ℕ → List Row → List Line → ℕ → Query → ℕ → List ℕ
+hits_text base rows log line query s = text_line (search_value s (hits query (rows_at base rows log s)) line)
+
 -- the text of a line, with the lines that stand before it in the script
-abbrev pub act_text : ℕ → List Row → List Line → List Line → Line → Act → List ℕ
-act_text base rows log before l (Search query) =
-    let s = last_commit base log l.caller base before in
-    text_line (search_value s (hits query (rows_at base rows log s)) l.line)
-act_text base rows log before l (Do op) =
+abbrev pub act_text : ℕ → List Row → List Line → (ℕ → ℕ) → List Line → Line → Act → List ℕ
+act_text base rows log shown before l (Search query) =
+    hits_text base rows log l.line query (last_commit base log l.caller base before)
+act_text base rows log shown before l (Look query) = hits_text base rows log l.line query (shown l.line)
+act_text base rows log shown before l (Do op) =
     told_text (refusal op) l.line (done_text base rows log l.line op)
 
-abbrev pub report_from : ℕ → List Row → List Line → List Line → List Line → List ℕ
-report_from base rows log before [] = []
-report_from base rows log before (l ∷ ls) =
-    act_text base rows log before l l.act ++ report_from base rows log (before ++ l ∷ []) ls
+abbrev pub report_from : ℕ → List Row → List Line → (ℕ → ℕ) → List Line → List Line → List ℕ
+report_from base rows log shown before [] = []
+report_from base rows log shown before (l ∷ ls) =
+    act_text base rows log shown before l l.act ++ report_from base rows log shown (before ++ l ∷ []) ls
 
 -- the whole report of a script, whose lines were numbered by the log over these rows of the commit
--- `base`
-abbrev pub report : ℕ → List Row → List Line → List Line → List ℕ
-report base rows lines log = report_from base rows log [] lines
+-- `base`, and whose look lines were shown these commits
+abbrev pub report : ℕ → List Row → List Line → List Line → (ℕ → ℕ) → List ℕ
+report base rows lines log shown = report_from base rows log shown [] lines
 
 -- ---- what a run promises
 
@@ -203,11 +259,6 @@ report base rows lines log = report_from base rows log [] lines
 pub record HasOnly (files d : Files) : Type 0 where
   pub kept : KeepsCommits files d
   pub only : (s : ℕ) → IsSome (d (file.Commit s)) → IsSome (files (file.Commit s))
-
--- the number is one of these
-abbrev pub IsIn : List ℕ → ℕ → Type 0
-IsIn [] s = ⊥
-IsIn (n ∷ ns) s = (s ≡ n) ⊎ IsIn ns s
 
 -- A commit of the log: it has the rows by the operations numbered up to it, and the postings of
 -- each segment are the inversion of its rows. Its pairs are those of its line. Its next id is in range.
@@ -258,15 +309,18 @@ HasOwnSome g log files = (count : ℕ) × HasOwnFirst g log count files
 abbrev pub GivesBack : Option Disk → Type 0
 GivesBack store = (g : Given) × (told_files store ≡ Some g.files) × CanRun g × IsKept g store
 
--- A run that was done, for one order of its numbered lines, its log. What was written of the text that tells of the log
--- is said by `wrote`. All of the log's commits are in the files that the store tells, and in every
--- image once the call has ended. A crash at any moment of the call leaves the first ones. And the
--- store is again such as a run asks for. Where only the last commit's segments are settled, the
--- log's commits are there all the same, whatever becomes of older ones.
-pub record Runs (g : Given) (text : List Line → List ℕ) (wrote : List ℕ → Type 0) (old new : Option Disk) : Type 0 where
+-- A run that was done, for one order of its numbered lines, its log, and for the commits that its look lines were
+-- shown. What was written of the text that tells of both is said by `wrote`. All of the log's commits are in the files
+-- that the store tells, and in every image once the call has ended. A crash at any moment of the call leaves the first
+-- ones. And the store is again such as a run asks for. Where only the last commit's segments are settled, the log's
+-- commits are there all the same, whatever becomes of older ones.
+pub record Runs (g : Given) (text : List Line → (ℕ → ℕ) → List ℕ) (wrote : List ℕ → Type 0)
+    (old new : Option Disk) : Type 0 where
   pub log : List Line
   pub numbering : Interleaves g.lines log
-  pub written : wrote (text log)
+  pub shown : ℕ → ℕ
+  pub looks : AreShown g.base log shown g.lines
+  pub written : wrote (text log shown)
   pub files : IsSomeAnd (told_files new) (HasAll g log)
   pub images : IsKept g old → (c : Files) → MayHold new c → HasAll g log c
   pub crash : IsKept g old → LeavesOnly old new (HasSome g log)

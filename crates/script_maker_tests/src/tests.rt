@@ -112,6 +112,7 @@ fn shown(alloc: Global, line: &Line) -> Result<String, Fail> {
     match &line.act {
         Act::Do(operation) => show_operation(&mut out, operation)?,
         Act::Search(_) => out.push_str(" search")?,
+        Act::Look(_) => out.push_str(" look")?,
     }
     Ok(out)
 }

@@ -1,20 +1,17 @@
-use Rattle.std.proofs.Common.{◌≡◌, ◌∙◌, List, Result, Ok, Err, IfOk, sym, ap, subst, append-nil, length, map, arith}
+use Rattle.std.proofs.Common.{◌≡◌, ◌∙◌, List, sym, ap, subst, append-nil, length, map, arith}
 use Rattle.std.specs.Global.{Vec}
+use Rattle.std.specs.List.{AllZip}
 use Rattle.piece_queue.specs.Passes.{taken_by}
 use Rattle.piece_queue.specs.Views.{parcels_of}
 use Rattle.thread_writer.specs.declared.piece.Piece.{Piece}
 use Rattle.round_work.specs.declared.worked.Worked.{Worked}
-use Rattle.round_work.specs.Rounds.{sent_of, with_pieces, without}
-use Rattle.round_work.specs.Working.{AreWorked}
-use Rattle.round_work.proofs.Workers.{AllCame, all_worked}
+use Rattle.round_work.specs.Rounds.{ComesOf, sent_of, with_pieces, without}
+use Rattle.round_work.proofs.Workers.{AllCame, all_come, if_ok}
 use Rattle.round_work.proofs.gathering.gather.Goals as goal
 
-if_ok : {A E : Type 0} (P Q : A → Type 0) (r : Result A E) → ((a : A) → P a → Q a) → IfOk r P → IfOk r Q
-if_ok P Q (Ok a) then holds = then a holds
-if_ok P Q (Err e) then holds = tt
-
 pub returns : goal.returns
-returns g c = λ q ws ss are.
+returns g c = λ q xs numbered stops.
+    let hears = g.C.Companion.hears in
     let stopped = c.args.stopped.items in
     let taken = taken_by c.empty.new.self in
     let workers = c.in_ok-workers.workers.items in
@@ -26,8 +23,9 @@ returns g c = λ q ws ss are.
     let count : c.len-count.result ≡ length stopped =
     (let len = c.len-count.ensures in let long = c.args.stopped.ok.0 in omega (arith, len, long)) in
     let same : with_pieces workers (items parcels) ≡ with_pieces (map without stopped) (parcels_of 0 c.len-count.result taken) =
-    ap (λ (xs : List Worked). with_pieces xs (items parcels)) c.in_ok-workers.ensures.workers
+    ap (λ (ws : List (Worked g.row.C.Denot)). with_pieces ws (items parcels)) c.in_ok-workers.ensures.workers
     ∙ ap (λ (ps : List (List Piece)). with_pieces (map without stopped) ps) c.in_ok-parcels.ensures.parcels in
-    if_ok (λ (v : Vec Worked). v.items ≡ with_pieces workers (items parcels)) (λ (v : Vec Worked). AreWorked q ws ss v.items) c.hand_out.result
-    (λ v is. subst (AreWorked q ws ss) (sym (is ∙ same))
-    (all_worked q c.args.pieces.now 0 c.len-count.result ws ss stopped taken are count came)) c.hand_out.ensures
+    if_ok (λ (v : Vec (Worked g.row.C.Denot)). v.items ≡ with_pieces workers (items parcels))
+    (λ (v : Vec (Worked g.row.C.Denot)). AllZip (ComesOf hears q) xs v.items) c.hand_out.result
+    (λ v is. subst (AllZip (ComesOf hears q) xs) (sym (is ∙ same))
+    (all_come hears q c.args.pieces.now 0 c.len-count.result xs stopped taken numbered stops count came)) c.hand_out.ensures

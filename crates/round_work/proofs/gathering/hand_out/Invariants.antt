@@ -5,7 +5,7 @@ use Rattle.round_work.specs.Rounds.{with_pieces}
 use Rattle.round_work.proofs.gathering.hand_out.Given as goal
 
 abbrev pub invariant-loop-worked : goal.invariant-loop-worked
-invariant-loop-worked l = record {
+invariant-loop-worked g l = record {
   seen : List (List Piece);
   parcels : map (λ p. p.items) l.fn.parcels.items ≡ seen ++ map (λ p. p.items) (into_iter_items l.parcels);
   same : length seen ≡ length l.yielded;

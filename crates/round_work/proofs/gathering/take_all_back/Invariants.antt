@@ -5,7 +5,7 @@ use Rattle.round_work.specs.Rounds.{AreSenders, sent_of, without}
 use Rattle.round_work.proofs.gathering.take_all_back.Given as goal
 
 abbrev pub invariant-loop-one : goal.invariant-loop-one
-invariant-loop-one l = record {
+invariant-loop-one g l = record {
   receiver : IsReceiver l.pieces l.receiver;
   made : made_by l.receiver ≡ made_by l.fn.receiver;
   ended : ended_with l.receiver ≡ map sent_of l.yielded;

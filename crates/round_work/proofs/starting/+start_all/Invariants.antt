@@ -2,4 +2,4 @@ use Rattle.std.proofs.Common.{length}
 use Rattle.round_work.proofs.starting.+start_all.Given as goal
 
 abbrev pub decreases-start_all : goal.decreases-start_all
-decreases-start_all g l = length l.writers.items
+decreases-start_all g l = length l.workers.items

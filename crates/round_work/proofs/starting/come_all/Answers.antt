@@ -1,7 +1,5 @@
-use Rattle.std.proofs.Common.{◌∙◌, [], ◌∷◌, ◌++◌, List, length, sym, ap, subst, arith, length-append}
+use Rattle.std.proofs.Common.{◌∙◌, [], ◌∷◌, ◌++◌, length, sym, ap, subst, arith, length-append}
 use Rattle.std.specs.List.{AllZip}
-use Rattle.round_work.specs.declared.starting.Started.{Started}
-use Rattle.round_work.specs.declared.worked.Stopped.{Stopped}
 use Rattle.round_work.specs.Rounds.{ComesBack}
 use Rattle.round_work.proofs.Workers.{zip_more}
 use Rattle.round_work.proofs.starting.come_all.Goals as goal
@@ -18,11 +16,11 @@ loop-one-preserved g c =
       ended = c.empty.ensures.ended ∙ at.invariant.ended;
       room =
           let room = at.invariant.room in
-          let one = ap (λ (ts : List Started). length ts) c.in-Some.ensures.steps.0 in
-          let many = ap (λ (xs : List Stopped). length xs) items in
+          let one = ap length c.in-Some.ensures.steps.0 in
+          let many = ap length items in
           let pushed = length-append at.stopped.items (x ∷ []) in
           let capacity = c.push_reserved.ensures.capacity in
           omega (arith, room, one, many, pushed, capacity);
-      back = subst (λ (xs : List Stopped). AllZip ComesBack (at.yielded ++ t ∷ []) xs) (sym items)
-          (zip_more ComesBack at.yielded at.stopped.items t x at.invariant.back c.come_back.ensures);
+      back = subst (AllZip (ComesBack g.C.Companion.hears) (at.yielded ++ t ∷ [])) (sym items)
+          (zip_more (ComesBack g.C.Companion.hears) at.yielded at.stopped.items t x at.invariant.back c.come_back.ensures);
     }

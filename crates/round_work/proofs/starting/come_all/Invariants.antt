@@ -12,5 +12,5 @@ invariant-loop-one g l = record {
   made : made_by l.receiver ≡ made_by l.fn.receiver;
   ended : ended_with l.receiver ≡ ended_with l.fn.receiver;
   room : length l.stopped.items + length (into_iter_items l.one-iterator) ≤ vec_capacity l.stopped;
-  back : AllZip ComesBack l.yielded l.stopped.items;
+  back : AllZip (ComesBack g.C.Companion.hears) l.yielded l.stopped.items;
 }

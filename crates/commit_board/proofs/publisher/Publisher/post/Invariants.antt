@@ -1,4 +1,4 @@
-use Rattle.commit_board.specs.Board.{waiting_in}
+use Rattle.commit_board.specs.Publishing.{waiting_in}
 use Rattle.commit_board.proofs.publisher.Publisher.post.Given as goal
 
 -- all that waits is shown
