@@ -327,7 +327,7 @@ fn read_whole<F: Read + OpenFile + Drop>(alloc: Global, file: F) -> io::Result<V
     if !fits(size) {
         return Err(Error::from(ErrorKind::FileTooLarge));
     }
-    let mut bytes = Vec::new(alloc);
+    let mut bytes = Vec::with_capacity(alloc, size as usize)?;
     let count = file.take(size).read_to_end(&mut bytes)?;
     if count as u64 != size {
         return Err(Error::from(ErrorKind::UnexpectedEof));
