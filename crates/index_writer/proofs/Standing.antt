@@ -18,7 +18,7 @@ use Rattle.commit_pruning.proofs.ListedLaws.{listed_by, own_listed}
 use Rattle.commit_pruning.specs.Pruning.{IsWholeAs, Stays}
 use Rattle.index_writer.specs.declared.state.State.{State}
 use Rattle.index_writer.specs.Ready.{IsStored, written_of}
-use Rattle.index_writer.specs.Standing.{CommitsStand, OpenedStand, PrunedGoOn, StandingStays, StandsOnLast}
+use Rattle.index_writer.specs.Standing.{CommitsStand, OpenedStand, PrunedGoOn, PrunedStand, StandingStays, StandsOnLast}
 use Rattle.index_writer.specs.Storing.{GoesOn, renewed}
 use Rattle.index_writer.proofs.Following.{opened_go_on}
 
@@ -243,16 +243,32 @@ is_there : (files : Files) (t : ℕ) (name : FileName) → IsFileOf files t name
 is_there files t name (inl same) some = subst (λ (n : FileName). IsSome (files n)) same some
 is_there files t name (inr (e, lists, among)) some = subst (λ (o : Option (List ℕ)). IsSome o) (sym lists.has_head.file) refl
 
+pub pruned_stand : PrunedStand
+pruned_stand keep s files now some pruned none_above stands = (
+  stand_onto stands.own now s.published.upto s.published.segments s.written (λ name is. (own name is).1) stands.stored,
+  record { own = stands.own; of_last = own; stored = stands.stored },
+)
+  where
+    own : (name : FileName) → IsSome (stands.own name) → IsFileOf now s.last name × (now name ≡ stands.own name)
+    own name is =
+        let of = stands.of_last name is in
+        let was : IsSome (files name) = subst (λ (o : Option (List ℕ)). IsSome o) (sym of.1) is in
+        let stays = last_stays keep files s.last some none_above (is_there files s.last name of.0 was) in
+        (file_of files now s.last name (pruned.stays s.last stays (Commit s.last) (inl refl)) of.0, pruned.stays s.last stays name of.0 ∙ of.1)
+
 pub pruned_go_on : PrunedGoOn
 pruned_go_on keep s files now some pruned goes stands = (
   record {
     none_above = λ t lt. gone t (goes.none_above t lt) (none_or_some (now (Commit t)));
     ids = λ t e lists. listed_id t e lists (pruned.only t (there_in t e lists));
-    stored = stand_onto stands.own now s.published.upto s.published.segments s.written (λ name is. (own name is).1) stands.stored;
+    stored = stand.0;
   },
-  record { own = stands.own; of_last = own; stored = stands.stored },
+  stand.1,
 )
   where
+    stand : IsStored now s × StandsOnLast now s
+    stand = pruned_stand keep s files now some pruned goes.none_above stands
+
     there_in : (t : ℕ) (e : HeadSegment) → Lists now t e → IsSome (now (Commit t))
     there_in t e lists = subst (λ (o : Option (List ℕ)). IsSome o) (sym lists.has_head.file) refl
 
@@ -266,13 +282,6 @@ pruned_go_on keep s files now some pruned goes stands = (
         by : (now (Commit t) ≡ None) ⊎ IsWholeAs t files now → e.id < s.since
         by (inl none) = absurd (no_some (now (Commit t)) none (there_in t e lists))
         by (inr whole) = goes.ids t e (lists_there now files t e (sym (whole (Commit t) (inl refl))) lists)
-
-    own : (name : FileName) → IsSome (stands.own name) → IsFileOf now s.last name × (now name ≡ stands.own name)
-    own name is =
-        let of = stands.of_last name is in
-        let was : IsSome (files name) = subst (λ (o : Option (List ℕ)). IsSome o) (sym of.1) is in
-        let stays = last_stays keep files s.last some goes.none_above (is_there files s.last name of.0 was) in
-        (file_of files now s.last name (pruned.stays s.last stays (Commit s.last) (inl refl)) of.0, pruned.stays s.last stays name of.0 ∙ of.1)
 
 -- the same of a writer that was closed
 pub closed_too : (now : Files) (s : State) → GoesOn now s × StandsOnLast now s → GoesOn now (record s { closed = true }) × StandsOnLast now (record s { closed = true })

@@ -1,6 +1,7 @@
 -- Whose files the writer's segments stand in, and what a writer can go on from once old commits are given up.
-use Rattle.std.specs.Prelude.{◌≡◌, ◌≤◌, ℕ, Option, Some, IsSome}
+use Rattle.std.specs.Prelude.{◌≡◌, ◌<◌, ◌≤◌, ℕ, Option, Some, None, IsSome}
 use Rattle.ix_base.specs.declared.file_name.FileName.{FileName}
+use Rattle.ix_base.specs.declared.file_name.FileName.TheVariants.{Commit}
 use Rattle.ix_outside.specs.Crash.{MayHold}
 use Rattle.ix_outside.specs.Disk.{Disk, told_files}
 use Rattle.ix_outside.specs.Files.{Files}
@@ -43,6 +44,12 @@ StandingStays =
 abbrev pub PrunedGoOn : Type 0
 PrunedGoOn = (keep : ℕ) (s : State) (files now : Files) → 1 ≤ keep → MayBePruned keep files now
     → GoesOn files s → StandsOnLast files s → GoesOn now s × StandsOnLast now s
+
+-- What is on the store of its segments stands in its last commit then, also where an older commit lists an id that is new
+-- since that one.
+abbrev pub PrunedStand : Type 0
+PrunedStand = (keep : ℕ) (s : State) (files now : Files) → 1 ≤ keep → MayBePruned keep files now
+    → ((t : ℕ) → s.last < t → files (Commit t) ≡ None) → StandsOnLast files s → IsStored now s × StandsOnLast now s
 
 -- A writer's commit settles: where the writer can go on from the files, what is on the store of its segments stands in
 -- files of its last commit, and each commit was kept before, each commit is kept, the new one too.

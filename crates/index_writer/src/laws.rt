@@ -1,6 +1,6 @@
 //! The laws of commits. Each is the contract of a function that does nothing.
 ghost use Rattle.index_writer.specs.Laws.{CommitsGoOn, CommitsHold, CrashesHold, OpenedGoOn};
-ghost use Rattle.index_writer.specs.Standing.{CommitsStand, OpenedStand, PrunedGoOn, StandingStays};
+ghost use Rattle.index_writer.specs.Standing.{CommitsStand, OpenedStand, PrunedGoOn, PrunedStand, StandingStays};
 
 /// A writer that committed can go on from the files that it made.
 pub fn commits_go_on()
@@ -27,7 +27,9 @@ pub fn segments_stand()
     ensures stay { StandingStays }
 {}
 
-/// A writer can go on from files of which old commits were given up, or some of them.
+/// A writer can go on from files of which old commits were given up, or some of them, and what is on the store of its
+/// segments stands in its last commit.
 pub fn pruned_go_on()
-    ensures { PrunedGoOn }
+    ensures go_on { PrunedGoOn }
+    ensures stand { PrunedStand }
 {}

@@ -18,7 +18,7 @@ use Rattle.index_run.proofs.lines.do_lines.Goals as goal
 pub returns-in-Err-clause-cut : goal.returns-in-Err-clause-cut
 returns-in-Err-clause-cut g c =
     let w = c.args.writer in
-    let laws : KeepLaws = record { stand = c.segments_stand.ensures.commit; stay = c.segments_stand.ensures.stay; go_on = c.pruned_go_on.ensures } in
+    let laws : KeepLaws = record { stand = c.segments_stand.ensures.commit; stay = c.segments_stand.ensures.stay; go_on = c.pruned_go_on.ensures.go_on; stand_left = c.pruned_go_on.ensures.stand } in
     let r : Run = record { workers = c.args.threads; keep = c.args.keep; first = w.state; start = g.S.Store.disk w.store } in
     stopped_cut g.S.Store.disk r c.args.lines w _ _ c.stopped.ensures
     (cut_start r c.args.lines laws c.requires.some c.requires.ready)
@@ -26,7 +26,7 @@ returns-in-Err-clause-cut g c =
 pub do_rounds-writer-requires-clause-begins : goal.do_rounds-writer-requires-clause-begins
 do_rounds-writer-requires-clause-begins g c κs within =
     let w = c.args.writer in
-    let laws : KeepLaws = record { stand = c.segments_stand.ensures.commit; stay = c.segments_stand.ensures.stay; go_on = c.pruned_go_on.ensures } in
+    let laws : KeepLaws = record { stand = c.segments_stand.ensures.commit; stay = c.segments_stand.ensures.stay; go_on = c.pruned_go_on.ensures.go_on; stand_left = c.pruned_go_on.ensures.stand } in
     let r : Run = record { workers = c.args.threads; keep = c.args.keep; first = w.state; start = g.S.Store.disk w.store } in
     let dealt = c.in-Ok in
     let asks : AreAsks c.args.lines c.as_slice-asks.result.now =
@@ -46,7 +46,7 @@ do_rounds-writer-requires-clause-begins g c κs within =
 pub returns-in-Err-came-clause-cut : goal.returns-in-Err-came-clause-cut
 returns-in-Err-came-clause-cut g c =
     let w = c.args.writer in
-    let laws : KeepLaws = record { stand = c.segments_stand.ensures.commit; stay = c.segments_stand.ensures.stay; go_on = c.pruned_go_on.ensures } in
+    let laws : KeepLaws = record { stand = c.segments_stand.ensures.commit; stay = c.segments_stand.ensures.stay; go_on = c.pruned_go_on.ensures.go_on; stand_left = c.pruned_go_on.ensures.stand } in
     let r : Run = record { workers = c.args.threads; keep = c.args.keep; first = w.state; start = g.S.Store.disk w.store } in
     let dealt = c.in-Ok in
     let asks : AreAsks c.args.lines c.as_slice-asks.result.now =
@@ -65,7 +65,7 @@ returns-in-Err-came-clause-cut g c =
 pub outcomes_of-requires : goal.outcomes_of-requires
 outcomes_of-requires g c =
     let w = c.args.writer in
-    let laws : KeepLaws = record { stand = c.segments_stand.ensures.commit; stay = c.segments_stand.ensures.stay; go_on = c.pruned_go_on.ensures } in
+    let laws : KeepLaws = record { stand = c.segments_stand.ensures.commit; stay = c.segments_stand.ensures.stay; go_on = c.pruned_go_on.ensures.go_on; stand_left = c.pruned_go_on.ensures.stand } in
     let r : Run = record { workers = c.args.threads; keep = c.args.keep; first = w.state; start = g.S.Store.disk w.store } in
     let dealt = c.in-Ok in
     let asks : AreAsks c.args.lines c.as_slice-asks.result.now =
@@ -111,7 +111,7 @@ outcomes_of-requires g c =
 pub returns-in-Ok-outcomes_of-clause-over : goal.returns-in-Ok-outcomes_of-clause-over
 returns-in-Ok-outcomes_of-clause-over g c =
     let w = c.args.writer in
-    let laws : KeepLaws = record { stand = c.segments_stand.ensures.commit; stay = c.segments_stand.ensures.stay; go_on = c.pruned_go_on.ensures } in
+    let laws : KeepLaws = record { stand = c.segments_stand.ensures.commit; stay = c.segments_stand.ensures.stay; go_on = c.pruned_go_on.ensures.go_on; stand_left = c.pruned_go_on.ensures.stand } in
     let r : Run = record { workers = c.args.threads; keep = c.args.keep; first = w.state; start = g.S.Store.disk w.store } in
     let dealt = c.in-Ok in
     let asks : AreAsks c.args.lines c.as_slice-asks.result.now =
@@ -159,7 +159,7 @@ returns-in-Ok-outcomes_of-clause-over g c =
 pub returns-clause-cut : goal.returns-clause-cut
 returns-clause-cut g c =
     let w = c.args.writer in
-    let laws : KeepLaws = record { stand = c.segments_stand.ensures.commit; stay = c.segments_stand.ensures.stay; go_on = c.pruned_go_on.ensures } in
+    let laws : KeepLaws = record { stand = c.segments_stand.ensures.commit; stay = c.segments_stand.ensures.stay; go_on = c.pruned_go_on.ensures.go_on; stand_left = c.pruned_go_on.ensures.stand } in
     let r : Run = record { workers = c.args.threads; keep = c.args.keep; first = w.state; start = g.S.Store.disk w.store } in
     let dealt = c.in-Ok in
     let asks : AreAsks c.args.lines c.as_slice-asks.result.now =
