@@ -52,6 +52,8 @@ use Rattle.index_run.proofs.RepliedLaws.{outcomes_counted}
 use Rattle.index_run.specs.Outcomes.{AreOutcomes}
 use Rattle.index_run.specs.Rounds.{AllCame, gave_of, pieces_of, share_of, writers_of}
 use Rattle.index_run.proofs.AnswerLaws.{all_first, all_more, all_plain, due_commit, none_commit, number_at, settled_at}
+use Rattle.index_run.proofs.OnLatest.{latest_commit, latest_other, latest_start}
+use Rattle.index_run.proofs.DiskAfter.{same_stored}
 use Rattle.index_run.proofs.DiskBy.{by_commit, by_count, by_same, by_start, pending_above, stopped_done}
 use Rattle.index_run.specs.KeptDisk.{KeepLaws}
 use Rattle.index_writer.specs.declared.fault.WriterFault.{WriterFault}
@@ -78,6 +80,7 @@ at_start r laws some can = record {
   within = omega arith;
   due = subst (IsDue r.first [] 0 r.first.published.upto) (sym can.pending) refl;
   disk = by_start laws r.keep some r.first r.start can;
+  latest = latest_start r.first r.start;
 }
 
 -- a stop before the lines were dealt out
@@ -122,6 +125,8 @@ at_same r log w v now at ready published written last since closed pending = rec
       subst (λ (p : Published). IsDue r.first log at.front p.upto v.pending) (sym published)
       (subst (IsDue r.first log at.front w.published.upto) (sym pending) at.due);
   disk = by_same r.keep r.first log at.front w v r.start now published written last since at.disk;
+  latest =
+      latest_other r.first w v r.start now (λ files h. same_stored files w v published written h) last at.latest;
 }
 
 done_begun : (r : Run) (lines : List Line) (shares : List Share) (log : List Line) (w v : State) (now : Option Disk)
@@ -220,6 +225,9 @@ module _ (r : Run) (lines : List Line) (shares : List Share) (log : List Line) (
                 settled
                 (λ low. subst (λ (ps : Pairs). LeavesOnly old now (Reaches (MayCommit ps w) (MayHold old))) own (crash low))
                 only standing at.disk;
+            latest =
+                latest_commit due.pairs w v is (pending_above w c.number at.writer.ready pending) r.first r.start old now
+                laws.stand (made room) at.latest;
           };
           log_is = come.done.log_is;
           told = come.done.told;

@@ -85,7 +85,7 @@ same_goes_on files w v stored last since goes = record {
 }
 
 -- what stands in files of the last commit, of the same ones
-same_on_last : (files : Files) (w v : State) → ((f : Files) → IsStored f w → IsStored f v) → v.last ≡ w.last
+pub same_on_last : (files : Files) (w v : State) → ((f : Files) → IsStored f w → IsStored f v) → v.last ≡ w.last
     → StandsOnLast files w → StandsOnLast files v
 same_on_last files w v stored last on = record {
   own = on.own;

@@ -2,7 +2,7 @@
 use Rattle.std.proofs.Common.{◌≡◌, ◌∙◌, ◌⊎◌, inl, inr, ℕ, ◌+◌, ◌-◌, ◌≤◌, List, [], ◌∷◌}
 use Rattle.std.proofs.Common.{length, map, Some, None, Ok, Err, Result, refl, sym, ap, subst, Vec, arith}
 use Rattle.std.specs.Prelude.{Option, IfOk, IfErr, IsSomeAnd, count_by}
-use Rattle.std.specs.List.{AllByRecursion}
+use Rattle.std.specs.List.{AllByRecursion, Any}
 use Rattle.std.specs.declared.alloc.Global.{Global}
 use Rattle.ix_base.specs.Counts.{doc_count}
 use Rattle.ix_base.specs.Hits.{hit_of}
@@ -30,7 +30,7 @@ use Rattle.run_report.specs.Texts.{texts}
 use Rattle.run_log.proofs.AgainLaws.{commits_run_on}
 use Rattle.run_log.proofs.CountLaws.{same_count}
 use Rattle.run_log.specs.Headline.{AreShown, CanRun, CanRunOn, Given, HasAll, HasOnly, HasOwnSome, HasSome, Interleaves, IsIn, IsKept, IsLast, IsLastSettled, IsOn, KeepsCommit, Preserves, Runs, Stops}
-use Rattle.run_log.specs.Headline.{commit_numbers, is_commit, numbered, report, rows_at}
+use Rattle.run_log.specs.Headline.{commit_numbers, is_commit, is_look, numbered, report, rows_at}
 use Rattle.run_log.proofs.OnlyLaws.{only_image, only_itself}
 use Rattle.index_run.specs.declared.stop.Stop.{Stop}
 use Rattle.index_run.specs.declared.stop.Stop.TheVariants as stop
@@ -43,7 +43,8 @@ use Rattle.index_run.specs.declared.rounds.RanFault.TheVariants as halt
 use Rattle.index_run.specs.Commands.{IsMade, form_text}
 use Rattle.index_run.specs.Damage.{ReadsDamaged}
 use Rattle.index_run.specs.Doing.{IsOnGiven}
-use Rattle.index_run.specs.Driving.{IsCut, IsDocs, IsOver, Run, base_of}
+use Rattle.index_run.specs.Driving.{FindsUnread, IsCut, IsDocs, IsOver, Run, base_of}
+use Rattle.index_run.specs.KeptDisk.{IsOnLatest}
 use Rattle.index_run.proofs.OutcomeLaws.{HasCount, HasFound, outcomes_weaker, texts_found}
 use Rattle.index_run.specs.Looked.{IsFoundRead}
 use Rattle.index_run.specs.Outcomes.{AreOutcomes}
@@ -409,20 +410,48 @@ same_told (Err s) start now (inr (inr found)) none = λ listed.
 
 -- why the rounds stopped where something is damaged
 pub broken_by : (why : RanFault) (s : Stop) (damaged : Damaged) → s ≡ stop_by_rounds why
-    → s ≡ stop.Fault (fault.Damaged damaged) → why ≡ halt.Damaged damaged
+    → s ≡ stop.Fault (fault.Damaged damaged) → (why ≡ halt.Damaged damaged) ⊎ (why ≡ halt.Unread damaged)
 broken_by (halt.Writer writing.Store) s damaged is e = absurd (let both = sym is ∙ e in cc)
 broken_by (halt.Writer writing.Closed) s damaged is e = absurd (let both = sym is ∙ e in cc)
 broken_by (halt.Writer writing.NoMemory) s damaged is e = absurd (let both = sym is ∙ e in cc)
 broken_by (halt.Damaged found) s damaged is e =
-    let both : stop.Fault (fault.Damaged found) ≡ stop.Fault (fault.Damaged damaged) = sym is ∙ e in cc
+    let both : stop.Fault (fault.Damaged found) ≡ stop.Fault (fault.Damaged damaged) = sym is ∙ e in inl cc
+broken_by (halt.Unread found) s damaged is e =
+    let both : stop.Fault (fault.Damaged found) ≡ stop.Fault (fault.Damaged damaged) = sym is ∙ e in inr cc
 
 -- they stop with one of these statuses, where nothing is damaged
 pub rounds_outside : (why : RanFault) (s : Stop) → s ≡ stop_by_rounds why
-    → ((damaged : Damaged) → why ≡ halt.Damaged damaged → ⊥) → IsOneOf (stop_status s) (4 ∷ 7 ∷ [])
-rounds_outside (halt.Writer writing.Store) s is whole = subst (λ (x : Stop). IsOneOf (stop_status x) (4 ∷ 7 ∷ [])) (sym is) refl
-rounds_outside (halt.Writer writing.Closed) s is whole = subst (λ (x : Stop). IsOneOf (stop_status x) (4 ∷ 7 ∷ [])) (sym is) refl
-rounds_outside (halt.Writer writing.NoMemory) s is whole = subst (λ (x : Stop). IsOneOf (stop_status x) (4 ∷ 7 ∷ [])) (sym is) refl
-rounds_outside (halt.Damaged damaged) s is whole = absurd (whole damaged refl)
+    → ((damaged : Damaged) → why ≡ halt.Damaged damaged → ⊥) → ((damaged : Damaged) → why ≡ halt.Unread damaged → ⊥)
+    → IsOneOf (stop_status s) (4 ∷ 7 ∷ [])
+rounds_outside (halt.Writer writing.Store) s is whole read = subst (λ (x : Stop). IsOneOf (stop_status x) (4 ∷ 7 ∷ [])) (sym is) refl
+rounds_outside (halt.Writer writing.Closed) s is whole read = subst (λ (x : Stop). IsOneOf (stop_status x) (4 ∷ 7 ∷ [])) (sym is) refl
+rounds_outside (halt.Writer writing.NoMemory) s is whole read = subst (λ (x : Stop). IsOneOf (stop_status x) (4 ∷ 7 ∷ [])) (sym is) refl
+rounds_outside (halt.Damaged damaged) s is whole read = absurd (whole damaged refl)
+rounds_outside (halt.Unread damaged) s is whole read = absurd (read damaged refl)
+
+-- A commit that was read for look lines is broken only where the store told nothing when the run began.
+pub unread_untold : (r : Run) (log : List Line) (now : Option Disk) (damaged : Damaged)
+    → ((files : Files) → told_files r.start ≡ Some files → IsOnLatest files r.first) → FindsUnread r log now damaged
+    → r.start ≡ None
+unread_untold r log now damaged begins found = by r.start refl
+  where
+    by : (d : Option Disk) → r.start ≡ d → r.start ≡ None
+    by None e = e
+    by (Some disk) e =
+        let told = ap told_files e in absurd (found.never (read_files disk) told (begins (read_files disk) told))
+
+-- It was to be read.
+pub unread_in : (r : Run) (form : Form) (lines log : List Line) (old now : Option Disk) (damaged : Damaged)
+    → IsBase (told_files old) (base_of r) → told_files old ≡ None → Any (λ (l : Line). is_look l.act ≡ true) lines
+    → Interleaves lines log → FindsUnread r log now damaged → ReadsDamaged form lines (told_files old) (told_files now) damaged
+unread_in r form lines log old now damaged is_base none looks numbering found = record {
+  base = base_of r;
+  last = is_base;
+  number = found.number;
+  some = found.some;
+  reads = inr (inr (none, record { look = looks; log = log; numbering = numbering; one_of = found.one_of }));
+  broken = found.broken;
+}
 
 -- what is damaged after the lines were done was to be read
 pub damaged_in : MadeRuns → (r : Run) (form : Form) (lines : List Line) (outcomes : List Outcome) (w : State)
@@ -439,6 +468,6 @@ damaged_in law r Summary lines outcomes w old now base upto damaged made is_base
       last = is_base;
       number = upto;
       some = (let above = last_above law lines o.log (base_of r) (made refl) o.numbering in omega (arith, last, above));
-      reads = inr (none.0, none.1, record { log = o.log; numbering = o.numbering; is = last });
+      reads = inr (inl (none.0, none.1, record { log = o.log; numbering = o.numbering; is = last }));
       broken = found.1;
     }

@@ -24,6 +24,7 @@ use Rattle.index_run.specs.declared.rounds.RanFault.TheVariants as halt
 use Rattle.index_run.proofs.DiskAfter.{the_files}
 use Rattle.index_run.proofs.DiskPruned.{GivesUp, after, found, pruned_crash, pruned_each, pruned_files, pruned_left, pruned_spelled}
 use Rattle.index_run.proofs.OneLeft.{EndsPrune}
+use Rattle.index_run.proofs.OnLatest.{latest_pruned}
 use Rattle.index_run.proofs.Pruning.{are_whole}
 
 -- the disk of a run of which so many commits are kept
@@ -51,6 +52,9 @@ come_pruned keep r lines shares log commits due w v mid now by same gives kept e
           within = come.done.at.within;
           due = come.done.at.due;
           disk = subst (λ (k : Option ℕ). IsDiskBy k r.first log come.done.at.front w r.start now) (sym by) pruned;
+          latest =
+              latest_pruned keep r.first w r.start mid now was.laws.stand_left was.some gives.only gives.left
+              come.done.at.latest;
         };
         log_is = come.done.log_is;
         told = come.done.told;

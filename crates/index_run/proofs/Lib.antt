@@ -8,6 +8,7 @@ pub mod WriterOn
 pub mod KeptThere
 pub mod MadeCommits
 pub mod DiskAfter
+pub mod OnLatest
 pub mod RunEnds
 pub mod RunBegins
 pub mod Rounding

@@ -53,6 +53,7 @@ use Rattle.index_run.specs.declared.rounds.RanFault.TheVariants as halt
 use Rattle.index_run.proofs.Coming.{next_commit, pairs_due}
 use Rattle.index_run.proofs.DiskBy.{by_round, pending_above, stopped_done, stopped_written}
 use Rattle.index_run.proofs.LogNumbers.{numbers_front}
+use Rattle.index_run.proofs.OnLatest.{latest_other}
 use Rattle.index_run.proofs.WriterOn.{writer_round}
 
 -- ---- stops
@@ -271,6 +272,7 @@ module _ (r : Run) (lines : List Line) (olds news : List Share) (log : List Line
       within = omega (arith, h.before.at.within, length-append log more);
       due = is_pending.1;
       disk = disk_on;
+      latest = latest_other r.first w v r.start mid e.stored e.last h.before.at.latest;
     };
     log_is =
         log_grows r.workers w.published.upto lines olds news log e.ts more h.before.shares_are h.go_on

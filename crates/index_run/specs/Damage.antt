@@ -48,7 +48,8 @@ pub record ReadsDamaged (form : Form) (lines : List Line) (old new : Option File
   pub last : IsBase old base
   pub number : ℕ
   pub some : 1 ≤ number
-  pub reads : ((number ≡ base) × (new ≡ old)) ⊎ ((old ≡ None) × (new ≡ None) × (IsRead form base lines number ⊎ IsReadToLook base lines number))
+  pub reads : ((number ≡ base) × (new ≡ old)) ⊎ (((old ≡ None) × (new ≡ None) × IsRead form base lines number)
+      ⊎ ((old ≡ None) × IsReadToLook base lines number))
   pub broken : IsDamagedIn new number damaged
 
 -- Of the commit files that are listed one is first broken at this place; where the store tells its

@@ -12,9 +12,7 @@ use Rattle.ix_outside.specs.Crash.{MayHold}
 use Rattle.ix_outside.specs.Disk.{Disk, Told, told_files}
 use Rattle.ix_outside.specs.Files.{Files}
 use Rattle.ix_outside.specs.Images.{Reaches}
-use Rattle.segment_core.specs.LiveRows.{Lived}
-use Rattle.commit_point.specs.declared.heads.HeadSegment.{HeadSegment}
-use Rattle.commit_point.specs.Holds.{AreKept, HasSegments}
+use Rattle.commit_point.specs.Holds.{AreKept}
 use Rattle.commit_point.specs.Steps.{KeepsMade, OnlyCommits}
 use Rattle.commit_pruning.specs.Pruning.{IsKeptIn}
 use Rattle.op_script.specs.Shape.{LinesRise}
@@ -31,7 +29,7 @@ use Rattle.index_writer.specs.declared.round.CommitInfo.{CommitInfo}
 use Rattle.index_writer.specs.declared.round.RoundParts.{RoundParts}
 use Rattle.index_writer.specs.declared.state.State.{State}
 use Rattle.index_writer.specs.declared.writer.IndexWriter.{IndexWriter}
-use Rattle.index_writer.specs.Ready.{HasRows, IsSound, IsStored}
+use Rattle.index_writer.specs.Ready.{HasRows, IsSound}
 use Rattle.index_writer.specs.Rounds.{ArePartsOf}
 use Rattle.index_writer.specs.Storing.{GoesOn as WriterGoesOn}
 use Rattle.searcher.specs.Searching.{IsDamagedIn}
@@ -42,7 +40,7 @@ use Rattle.index_run.specs.Looked.{IsFoundRead}
 use Rattle.index_run.specs.Doing.{CanBegin, IsOnGiven, IsWriterOn}
 use Rattle.index_run.specs.Keeping.{FindsStaying, LeftOf}
 use Rattle.index_run.specs.Promises.{CanKeep}
-use Rattle.index_run.specs.KeptDisk.{BeginsOnLast, IsDiskBy, LeftSome}
+use Rattle.index_run.specs.KeptDisk.{BeginsOnLast, IsDiskBy, IsOnLatest, LeftSome, StaysOnLatest}
 use Rattle.index_run.specs.Leaving.{HasSomeFront, IsNextCommit, first_numbers}
 use Rattle.index_run.specs.Outcomes.{AreOutcomes}
 use Rattle.index_run.specs.Rounds.{given}
@@ -79,7 +77,8 @@ abbrev pub IsDueCommit : ℕ → List Line → Option ℕ → CommitLine → Typ
 IsDueCommit base log pending due = IfSome pending (λ s. HasLine log due.line × (number_of base log due.line ≡ s)
     × (due.pairs ≡ pairs_at base log s))
 
--- The writer is on the log. The disk has the log's commits, but for one that is pending.
+-- The writer is on the log. The disk has the log's commits, but for one that is pending. The files spell the last commit
+-- that was written, where they did so when the run began.
 pub record IsAt (r : Run) (log : List Line) (w : State) (now : Option Disk) : Type 0 where
   pub first : CanBegin r.first
   pub writer : IsWriterOn r.first log w
@@ -87,6 +86,7 @@ pub record IsAt (r : Run) (log : List Line) (w : State) (now : Option Disk) : Ty
   pub within : front ≤ length log
   pub due : IsDue r.first log front w.published.upto w.pending
   pub disk : IsDiskBy r.keep r.first log front w r.start now
+  pub latest : StaysOnLatest r.first r.start w now
 
 -- the commit s has so many rows, where the writer had some when the run began
 abbrev pub IsDocs : State → List Line → ℕ → ℕ → Type 0
@@ -202,11 +202,6 @@ pub record FindsBroken (r : Run) (now : Option Disk) (damaged : Damaged) : Type 
   pub finds : FindsStaying keep (told_files now) damaged
   pub before : (old : Files) → told_files r.start ≡ Some old → ¬ CanKeep (Some keep) old
 
--- the files spell the commit of this number; the number 0 stands for none
-abbrev pub AreSpelling : Files → ℕ → Type 0
-AreSpelling files s = (s ≡ 0)
-    ⊎ ((next : ℕ) × (entries : List HeadSegment) × (segments : List Lived) × HasSegments files s next entries segments)
-
 -- A run found a file broken of a commit that it read for its look lines: of one of the log, or of the one on which it
 -- began. So the store didn't tell files that spelled the commit on which the run began.
 pub record FindsUnread (r : Run) (log : List Line) (now : Option Disk) (damaged : Damaged) : Type 0 where
@@ -214,8 +209,7 @@ pub record FindsUnread (r : Run) (log : List Line) (now : Option Disk) (damaged 
   pub some : 1 ≤ number
   pub one_of : (number ≡ base_of r) ⊎ IsIn (commit_numbers (base_of r) log) number
   pub broken : IsDamagedIn (told_files now) number damaged
-  pub never : (files : Files) → BeginsOnLast r.first files r.start → IsStored files r.first
-      → AreSpelling files (base_of r) → ⊥
+  pub never : (files : Files) → told_files r.start ≡ Some files → IsOnLatest files r.first → ⊥
 
 -- what is said of the files where a run of this log stopped for this
 abbrev pub StopsFor : Run → List Line → Option Disk → RanFault → Type 0

@@ -1,15 +1,18 @@
 -- What a run leaves on the disk that gives up old commits as it goes on.
-use Rattle.std.specs.Prelude.{◌≡◌, ℕ, ◌+◌, ◌*◌, ◌≤◌, List, length, Option, Some, None, IsSome, IsSomeAnd}
+use Rattle.std.specs.Prelude.{◌≡◌, ◌⊎◌, ℕ, ◌+◌, ◌*◌, ◌<◌, ◌≤◌, List, length, Option, Some, None, IsSome, IsSomeAnd}
 use Rattle.ix_base.specs.declared.file_name.FileName.TheVariants.{Commit}
 use Rattle.ix_outside.specs.Calls.{LeavesOnly}
 use Rattle.ix_outside.specs.Crash.{MayHold}
 use Rattle.ix_outside.specs.Disk.{Disk, told_files}
 use Rattle.ix_outside.specs.Files.{Files}
-use Rattle.commit_point.specs.Holds.{AreKept}
+use Rattle.segment_core.specs.LiveRows.{Lived}
+use Rattle.commit_point.specs.declared.heads.HeadSegment.{HeadSegment}
+use Rattle.commit_point.specs.Holds.{AreKept, HasSegments}
 use Rattle.commit_pruning.specs.Pruning.{IsKeptIn, MayBePruned}
 use Rattle.op_script.specs.declared.script.Line.{Line}
 use Rattle.index_writer.specs.declared.state.State.{State}
-use Rattle.index_writer.specs.Standing.{CommitsStand, PrunedGoOn, StandingStays, StandsOnLast}
+use Rattle.index_writer.specs.Ready.{IsStored}
+use Rattle.index_writer.specs.Standing.{CommitsStand, PrunedGoOn, PrunedStand, StandingStays, StandsOnLast}
 use Rattle.index_writer.specs.Storing.{GoesOn}
 use Rattle.index_run.specs.Keeping.{AreSpelled, LeftOf, StaysOrGone}
 use Rattle.index_run.specs.Leaving.{HasSomeFront, IsDiskAfter, Stands, first_numbers}
@@ -19,6 +22,7 @@ pub record KeepLaws : Type 0 where
   pub stand : CommitsStand
   pub stay : StandingStays
   pub go_on : PrunedGoOn
+  pub stand_left : PrunedStand
 
 -- The files are what is left of files in which the log's commits stand; the writer can go on from them, and what is on
 -- the store of its segments stands in its last commit.
@@ -68,3 +72,23 @@ pub record IsDiskKeeping (keep : ℕ) (first : State) (log : List Line) (count :
 abbrev pub IsDiskBy : Option ℕ → State → List Line → ℕ → State → Option Disk → Option Disk → Type 0
 IsDiskBy None = IsDiskAfter
 IsDiskBy (Some keep) = IsDiskKeeping keep
+
+-- ---- the last commit, whatever older commits list
+
+-- the files spell the commit of this number; the number 0 stands for none
+abbrev pub AreSpelling : Files → ℕ → Type 0
+AreSpelling files s = (s ≡ 0)
+    ⊎ ((next : ℕ) × (entries : List HeadSegment) × (segments : List Lived) × HasSegments files s next entries segments)
+
+-- The files spell the writer's last commit, and none is above it. What is on the store of the writer's segments stands in
+-- files of it.
+pub record IsOnLatest (files : Files) (w : State) : Type 0 where
+  pub none_above : (t : ℕ) → w.last < t → files (Commit t) ≡ None
+  pub spelled : AreSpelling files w.last
+  pub stored : IsStored files w
+  pub on_last : StandsOnLast files w
+
+-- so it is now, where it was so when the run began
+abbrev pub StaysOnLatest : State → Option Disk → State → Option Disk → Type 0
+StaysOnLatest first start w now = (old : Files) → told_files start ≡ Some old → IsOnLatest old first
+    → IsSomeAnd (told_files now) (λ (files : Files). IsOnLatest files w)

@@ -52,3 +52,8 @@ AreLooked first start lines log looks looked =
 -- each look of each worker was shown a commit
 abbrev pub AllLooked : List (Vec Look) → List (Vec Looked) → Type 0
 AllLooked looks looked = AllZip (λ (v : Vec Look) (w : Vec Looked). length w.items ≡ length v.items) looks looked
+
+-- some worker has a look line
+abbrev pub SomeLook : List (Vec Look) → Type 0
+SomeLook [] = ⊥
+SomeLook (v ∷ vs) = (1 ≤ length v.items) ⊎ SomeLook vs
