@@ -16,6 +16,7 @@ use Rattle.run_log.proofs.OnlyLaws.{none_of}
 use Rattle.index_writer.specs.Standing.{OpenedStand}
 use Rattle.index_run.specs.Beginning.{BeginsOn, CanBeginOn, IsBase, IsGivenCommit, IsOpened, IsSpelled, last_or_zero}
 use Rattle.index_run.specs.Doing.{IsOnGiven}
+use Rattle.index_run.specs.KeptDisk.{IsOnLatest}
 use Rattle.index_run.proofs.LogNumbers.{nat_or}
 use Rattle.index_run.proofs.RunBegins.{begins_lawful}
 use Rattle.index_check.proofs.SomeRows.{some_rows}
@@ -193,3 +194,36 @@ opened_on_given law stand g last size merge w can given is =
     let lawful = lawful_given g can given.some in
     let holds = lawful.holds.holds in
     begins_lawful law stand g last size merge w can lawful (given.is holds.entries holds.segments holds.spelled) is
+
+-- ---- the last commit is spelled
+
+-- a writer without a commit, on files that have none
+pub latest_none : (told : Option Files) (size merge : ℕ) (w : State) → IsOpened told None
+    → w ≡ opened_on (record { number = 0; next_id = 1; entries = []; segments = [] }) size merge → (files : Files)
+    → told ≡ Some files → IsOnLatest files w
+latest_none told size merge w found is files told_is =
+    let last = base_there told 0 files told_is found in
+    let on : IsOnLatest files (opened_on (record { number = 0; next_id = 1; entries = []; segments = [] }) size merge) =
+    record {
+      none_above = last.none_above;
+      spelled = inl refl;
+      stored = tt;
+      on_last = record { own = λ name. None; of_last = λ name some. absurd cc; stored = tt };
+    } in
+    subst (IsOnLatest files) (sym is) on
+
+-- a writer on the commit that was read
+pub latest_opened : OpenedGoOn → OpenedStand → (told : Option Files) (last : Opened) (size merge : ℕ) (w : State)
+    → IsOpened told (Some last) → w ≡ opened_on last size merge → (files : Files) → told ≡ Some files → IsOnLatest files w
+latest_opened law stand told last size merge w found is files told_is =
+    let was : Was (Some files) found.1.0 = subst (λ (o : Option Files). Was o found.1.0) told_is found.1.1 in
+    let spelled : IsSpelled files last = subst (λ (f : Files). IsSpelled f last) (sym was) found.1.2 in
+    let there = base_there told last.number files told_is found.0 in
+    let on : IsOnLatest files (opened_on last size merge) =
+    record {
+      none_above = there.none_above;
+      spelled = inr (last.next_id, last.entries, last.segments, spelled.spelled);
+      stored = (law files last).stored size merge spelled.spelled.each;
+      on_last = stand files last size merge spelled.spelled;
+    } in
+    subst (IsOnLatest files) (sym is) on

@@ -23,14 +23,14 @@ use Rattle.report_text.specs.declared.fault.Fault.TheVariants as fault
 use Rattle.run_report.specs.declared.outcome.Outcome.{Outcome}
 use Rattle.searcher.specs.Searching.{IsDamagedIn}
 use Rattle.run_report.specs.Texts.{texts}
-use Rattle.run_log.specs.Headline.{CanRun, Given, IsKept, IsLast, IsOn}
+use Rattle.run_log.specs.Headline.{CanRun, Given, Interleaves, IsKept, IsLast, IsOn}
 use Rattle.index_run.specs.Beginning.{BeginsOn, CanBeginOn}
 use Rattle.index_run.specs.Causes.{IsOneOf, LeavesStore, LeavesStoreBy, stop_by_rounds, stop_status}
 use Rattle.index_run.specs.Commands.{IsMade, form_text}
 use Rattle.index_run.specs.Doing.{CanBegin, IsOnGiven}
-use Rattle.index_run.specs.Driving.{IsCut, IsOver, IsStoppedBy, Run, base_of}
+use Rattle.index_run.specs.Driving.{FindsUnread, IsCut, IsOver, IsStoppedBy, Run, base_of}
 use Rattle.index_run.specs.Keeping.{AreSpelled, FindsStaying, IsBeside, PreservesBy, RunsLeaving, RunsLeavingBy, StepsBy, StopsBy, StopsKeeping}
-use Rattle.index_run.specs.KeptDisk.{IsDiskBy}
+use Rattle.index_run.specs.KeptDisk.{IsDiskBy, IsOnLatest}
 use Rattle.index_run.specs.Leaving.{IsDiskAfter}
 use Rattle.index_run.specs.Promises.{CanKeep}
 use Rattle.index_run.specs.Telling.{CanTell, is_committed}
@@ -41,7 +41,7 @@ use Rattle.index_run.specs.declared.stop.Stop.TheVariants as stop
 use Rattle.index_run.specs.declared.telling.Form.{Form}
 use Rattle.index_run.specs.declared.telling.Form.TheVariants.{Report, Summary}
 use Rattle.index_run.proofs.DiskAfter.{the_files}
-use Rattle.index_run.proofs.Finish.{broken_by, cut_keeps, cut_stops, listed_outside, over_keeps, over_settled, over_stops, rounds_outside, told_by, untold, whole_in}
+use Rattle.index_run.proofs.Finish.{broken_by, cut_keeps, cut_stops, listed_outside, none_still, over_keeps, over_settled, over_stops, rounds_outside, told_by, unread_untold, untold, whole_in}
 use Rattle.index_run.proofs.KeepingEnds.{cut_leaves, over_leaves, over_settles, report_runs}
 use Rattle.index_run.proofs.Pruning.{leaves_all, preserves_pruned}
 use Rattle.index_run.proofs.RunEnds.{spells}
@@ -89,34 +89,59 @@ cut_steps_by r lines why now cut = λ is.
 
 -- a commit file that is broken was broken at the beginning
 pub cut_whole_by : (r : Run) (lines : List Line) (why : RanFault) (s : Stop) (now : Option Disk) (files : Files)
-    → IsCut r lines why now → s ≡ stop_by_rounds why → told_files r.start ≡ Some files → CanKeep r.keep files
-    → IsOneOf (stop_status s) (4 ∷ 7 ∷ [])
-cut_whole_by r lines why s now files cut is told can =
+    → IsCut r lines why now → s ≡ stop_by_rounds why → told_files r.start ≡ Some files → IsOnLatest files r.first
+    → CanKeep r.keep files → IsOneOf (stop_status s) (4 ∷ 7 ∷ [])
+cut_whole_by r lines why s now files cut is told on can =
     rounds_outside why s is
     (λ damaged e.
     let broken : IsCut r lines (halt.Damaged damaged) now = subst (λ (w : RanFault). IsCut r lines w now) e cut in
     broken.found.before files told (subst (λ (k : Option ℕ). CanKeep k files) broken.found.kept can))
+    (λ damaged e.
+    let unread : IsCut r lines (halt.Unread damaged) now = subst (λ (w : RanFault). IsCut r lines w now) e cut in
+    unread.found.never files told on)
 
+-- what is found broken: the commit file of one that stays, or a file of one that was read for look lines
 pub cut_damaged_by : (r : Run) (lines : List Line) (why : RanFault) (s : Stop) (now : Option Disk) (damaged : Damaged)
     → IsCut r lines why now → s ≡ stop_by_rounds why → s ≡ stop.Fault (fault.Damaged damaged)
-    → (keep : ℕ) × (r.keep ≡ Some keep) × FindsStaying keep (told_files now) damaged
-cut_damaged_by r lines why s now damaged cut is e =
-    let broken : IsCut r lines (halt.Damaged damaged) now =
-    subst (λ (w : RanFault). IsCut r lines w now) (broken_by why s damaged is e) cut in
-    (broken.found.keep, broken.found.kept, broken.found.finds)
+    → ((keep : ℕ) × (r.keep ≡ Some keep) × FindsStaying keep (told_files now) damaged)
+    ⊎ ((why ≡ halt.Unread damaged) × (log : List Line) × Interleaves lines log × FindsUnread r log now damaged)
+cut_damaged_by r lines why s now damaged cut is e = found (broken_by why s damaged is e)
+  where
+    found : (why ≡ halt.Damaged damaged) ⊎ (why ≡ halt.Unread damaged)
+        → ((keep : ℕ) × (r.keep ≡ Some keep) × FindsStaying keep (told_files now) damaged)
+        ⊎ ((why ≡ halt.Unread damaged) × (log : List Line) × Interleaves lines log × FindsUnread r log now damaged)
+    found (inl same) =
+        let broken : IsCut r lines (halt.Damaged damaged) now = subst (λ (w : RanFault). IsCut r lines w now) same cut in
+        inl (broken.found.keep, broken.found.kept, broken.found.finds)
+    found (inr same) =
+        let unread : IsCut r lines (halt.Unread damaged) now = subst (λ (w : RanFault). IsCut r lines w now) same cut in
+        inr (same, unread.log, unread.numbering, unread.found)
 
--- the store is left as it was at none of these statuses
-pub cut_leaves_by : (r : Run) (lines : List Line) (why : RanFault) (s : Stop) (now : Option Disk) → IsCut r lines why now
-    → s ≡ stop_by_rounds why → LeavesStoreBy r.keep (stop_status s) → ⊥
-cut_leaves_by r lines (halt.Writer writing.Store) s now cut is leaves =
-    let store : LeavesStore 7 = subst (λ (x : Stop). LeavesStore (stop_status x)) is (leaves_all r.keep (stop_status s) leaves) in cc
-cut_leaves_by r lines (halt.Writer writing.Closed) s now cut is leaves =
-    let memory : LeavesStore 4 = subst (λ (x : Stop). LeavesStore (stop_status x)) is (leaves_all r.keep (stop_status s) leaves) in cc
-cut_leaves_by r lines (halt.Writer writing.NoMemory) s now cut is leaves =
-    let memory : LeavesStore 4 = subst (λ (x : Stop). LeavesStore (stop_status x)) is (leaves_all r.keep (stop_status s) leaves) in cc
-cut_leaves_by r lines (halt.Damaged damaged) s now cut is leaves =
+-- a store that told nothing tells nothing where the run keeps all commits
+untold_still : (keep : Option ℕ) (first : State) (log : List Line) (start now : Option Disk) → IsStoppedBy keep first log start now
+    → LeavesStoreBy keep 8 → start ≡ None → now ≡ start
+untold_still None first log start now stopped leaves none = none_still start now stopped.only none ∙ sym none
+untold_still (Some k) first log start now stopped leaves none =
+    absurd (let eight : LeavesStoreBy (Some k) 8 = leaves in cc)
+
+-- At none of these statuses the store is left as it was, but where it told nothing.
+pub cut_leaves_by : (r : Run) (lines : List Line) (why : RanFault) (s : Stop) (now : Option Disk)
+    → ((files : Files) → told_files r.start ≡ Some files → IsOnLatest files r.first) → IsCut r lines why now
+    → s ≡ stop_by_rounds why → LeavesStoreBy r.keep (stop_status s) → now ≡ r.start
+cut_leaves_by r lines (halt.Writer writing.Store) s now begins cut is leaves =
+    absurd (let store : LeavesStore 7 = subst (λ (x : Stop). LeavesStore (stop_status x)) is (leaves_all r.keep (stop_status s) leaves) in cc)
+cut_leaves_by r lines (halt.Writer writing.Closed) s now begins cut is leaves =
+    absurd (let memory : LeavesStore 4 = subst (λ (x : Stop). LeavesStore (stop_status x)) is (leaves_all r.keep (stop_status s) leaves) in cc)
+cut_leaves_by r lines (halt.Writer writing.NoMemory) s now begins cut is leaves =
+    absurd (let memory : LeavesStore 4 = subst (λ (x : Stop). LeavesStore (stop_status x)) is (leaves_all r.keep (stop_status s) leaves) in cc)
+cut_leaves_by r lines (halt.Damaged damaged) s now begins cut is leaves =
     let broken : LeavesStoreBy r.keep 8 = subst (λ (x : Stop). LeavesStoreBy r.keep (stop_status x)) is leaves in
-    let eight : LeavesStoreBy (Some cut.found.keep) 8 = subst (λ (k : Option ℕ). LeavesStoreBy k 8) cut.found.kept broken in cc
+    let eight : LeavesStoreBy (Some cut.found.keep) 8 = subst (λ (k : Option ℕ). LeavesStoreBy k 8) cut.found.kept broken in
+    absurd cc
+cut_leaves_by r lines (halt.Unread damaged) s now begins cut is leaves =
+    untold_still r.keep r.first cut.log r.start now cut.stopped
+    (subst (λ (x : Stop). LeavesStoreBy r.keep (stop_status x)) is leaves)
+    (unread_untold r cut.log now damaged begins cut.found)
 
 -- ---- the lines were done
 

@@ -1,8 +1,8 @@
 -- A script that was done, and one that stopped.
 use Rattle.std.proofs.Common.{◌≡◌, ◌∙◌, ◌⊎◌, inl, inr, ℕ, ◌+◌, ◌-◌, ◌≤◌, List, [], ◌∷◌}
 use Rattle.std.proofs.Common.{length, map, Some, None, Ok, Err, Result, refl, sym, ap, subst, Vec, arith}
-use Rattle.std.specs.Prelude.{Option, IfOk, IfErr, IsSomeAnd, count_by}
-use Rattle.std.specs.List.{AllByRecursion, Any}
+use Rattle.std.specs.Prelude.{Option, IfOk, IfErr, IsSomeAnd, count_by, true}
+use Rattle.std.specs.List.{Any}
 use Rattle.std.specs.declared.alloc.Global.{Global}
 use Rattle.ix_base.specs.Counts.{doc_count}
 use Rattle.ix_base.specs.Hits.{hit_of}
@@ -363,7 +363,7 @@ whole_in law g r form lines outcomes w now upto (Err s) made on told here last_i
         (found.2 (g.base + length o.log) (inr (last_in law lines o.log g.base (made refl) o.numbering)))
 
 -- a store that tells nothing goes on telling nothing
-none_still : (old now : Option Disk) → Told OnlyCommits old now → old ≡ None → now ≡ None
+pub none_still : (old now : Option Disk) → Told OnlyCommits old now → old ≡ None → now ≡ None
 none_still None None only is = refl
 none_still None (Some disk) only is = absurd only
 none_still (Some disk) now only is = absurd cc

@@ -31,6 +31,7 @@ pub mod RoundLooks
 pub mod RoundBoards
 pub mod LookEnds
 pub mod LookUnread
+pub mod LooksAsked
 pub mod Posted
 pub mod Finish
 pub mod Pruning

@@ -9,6 +9,7 @@ ghost use Rattle.index_run.specs.Doing.{CanBegin, IsOnGiven};
 ghost use Rattle.run_log.specs.Headline.{CanRun, Given, IsLast, IsOn};
 ghost use Rattle.index_run.specs.Causes.{IsOneOf, stop_status};
 ghost use Rattle.index_run.specs.Beginning.{BeginsOn, CanBeginOn, IsBase, IsDamagedBase, IsHighBase};
+ghost use Rattle.index_run.specs.KeptDisk.{IsOnLatest};
 ghost use Rattle.index_run.specs.Beginning.{IsOpened, OpensOn, StopsWith, last_or_zero};
 
 use crate::stop::Stop;
@@ -108,6 +109,8 @@ pub fn begin<S: Store>(
         → IsLast g.files g.base → IsOn g → IfOk result (λ writer. BeginsOn g writer.state) }
     ensures begins { IfOk result (λ writer. (files : Files) → told_files (S.disk store) ≡ Some files
         → CanBeginOn files) }
+    ensures latest { IfOk result (λ writer. (files : Files) → told_files (S.disk store) ≡ Some files
+        → IsOnLatest files writer.state) }
     ensures given { (g : Given) → told_files (S.disk store) ≡ Some g.files → CanRun g
         → IfOk result (λ writer. IsOnGiven g writer.state) }
     ensures base { (base : ℕ) → StopsWith result (Stop.Fault (Fault.Base base))

@@ -14,7 +14,7 @@ ghost use Rattle.commit_board.specs.Board.{seen_by};
 ghost use Rattle.commit_board.specs.Commits.{top_of};
 ghost use Rattle.commit_board.specs.Posting.{begun_with, posted_on, waiting_on};
 ghost use Rattle.index_run.specs.Boards.{AreLinedUp, AreLookedAt, HaveNoWatcher, HaveWatchers, IsBegun, IsLookingAtFirst};
-ghost use Rattle.index_run.specs.Looked.{AllLooked};
+ghost use Rattle.index_run.specs.Looked.{AllLooked, SomeLook};
 ghost use Rattle.index_run.specs.Looks.{IsRead};
 
 use crate::looks::{Looked, Looker, Looking, look_on, nothing_looked};
@@ -100,6 +100,9 @@ pub fn begin_looking<S: Store>(
     ensures reads { S.disk writer.new.store ≡ S.disk writer.old.store }
     ensures looking { IfOk result (λ x. IsLookingAtFirst writer.old.state
         (S.disk writer.old.store) looks.items x) }
+    // A commit is read for look lines alone.
+    ensures asked { (damaged : Damaged) → result ≡ Err (RanFault.Unread damaged)
+        → SomeLook looks.items }
     ensures unread { (damaged : Damaged) → result ≡ Err (RanFault.Unread damaged)
         → (1 ≤ writer.old.state.published.upto) × IsDamagedIn (told_files (S.disk writer.old.store))
         writer.old.state.published.upto damaged }
@@ -145,6 +148,8 @@ pub fn show<L: BoardLaw, R: Wait, S: Store>(
     ensures state { writer.new.state ≡ writer.old.state }
     ensures reads { S.disk writer.new.store ≡ S.disk writer.old.store }
     ensures none { poster.old ≡ None → IfOk result (λ newest. newest ≡ None) }
+    ensures asked { poster.old ≡ None → (damaged : Damaged)
+        → result ≡ Err (RanFault.Unread damaged) → ⊥ }
     ensures shown { IfSome poster.old (λ p. IfOk result (λ newest. IsSomeAnd newest (λ c.
         ((arc_value c).number ≡ number) × IsRead (S.disk writer.old.store) (arc_value c)))) }
     ensures unread { (damaged : Damaged) → result ≡ Err (RanFault.Unread damaged)

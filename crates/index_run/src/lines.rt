@@ -1,7 +1,9 @@
 //! The lines of a script, done in rounds by workers that run at the same time.
-ghost use Rattle.std.specs.Prelude.{◌≡◌, ◌⊎◌, ◌≤◌, ℕ, List as ListOf, [], length, IfErr, IfOk, IfSome, IsSome, OnOk, Err, None, false};
+ghost use Rattle.std.specs.Prelude.{◌≡◌, ◌⊎◌, ◌≤◌, ℕ, List as ListOf, [], length, IfErr, IfOk, IfSome, IsSome, OnOk, Err, None, true, false};
 ghost use Rattle.std.specs.Global.{Vec};
-ghost use Rattle.std.specs.List.{AllByRecursion};
+ghost use Rattle.std.specs.List.{AllByRecursion, Any};
+ghost use Rattle.ix_base.specs.declared.damaged.Damaged.{Damaged};
+ghost use Rattle.run_log.specs.Headline.{is_look};
 ghost use Rattle.index_run.specs.Answered.{AllAnswerBehind, IsNone};
 ghost use Rattle.line_shares.specs.declared.round_commit.CommitLine.{CommitLine};
 ghost use Rattle.ix_outside.specs.Causes.{Rose};
@@ -11,7 +13,7 @@ ghost use Rattle.op_script.specs.declared.script.Line.{Line};
 ghost use Rattle.line_shares.specs.Shares.{AreDone, AreShares};
 ghost use Rattle.index_run.specs.Boards.{BeginsHere};
 ghost use Rattle.index_run.specs.Driving.{HasCome, IsCut, IsOver, IsRunBy, IsUnderWay, Run};
-ghost use Rattle.index_run.specs.Looked.{AllLooked, AreLooked};
+ghost use Rattle.index_run.specs.Looked.{AllLooked, AreLooked, SomeLook};
 ghost use Rattle.index_run.specs.Rounds.{doing_lines, given};
 
 use crate::boards::{begin_looking, look_last};
@@ -74,6 +76,9 @@ pub fn do_lines<R: Threads + Wait + Sync, S: Store, G: Gate>(
     ensures cut { IfErr result.came (λ fault. IsCut
         (record { workers = threads; keep = keep; first = writer.state; start = S.disk writer.store })
         lines fault (S.disk result.writer.store)) }
+    // A commit is read for look lines alone.
+    ensures asked { (damaged : Damaged) → result.came ≡ Err (RanFault.Unread damaged)
+        → Any (λ l. is_look l.act ≡ true) lines }
     ensures closed { result.came ≡ Err (RanFault.Writer WriterFault.Closed) → ⊥ }
     ensures later { S.fault_count writer.store ≤ S.fault_count result.writer.store }
     ensures failed { result.came ≡ Err (RanFault.Writer WriterFault.Store)
@@ -141,6 +146,8 @@ fn do_rounds<R: Threads + Wait + Sync, S: Store, G: Gate>(
     ensures cut { (r : Run) (lines : ListOf Line) → IsRunBy threads keep r
         → BeginsHere r lines shares.items asks.now looks.items writer.state (S.disk writer.store)
         → IfErr result.came (λ fault. IsCut r lines fault (S.disk result.writer.store)) }
+    ensures asked { (damaged : Damaged) → result.came ≡ Err (RanFault.Unread damaged)
+        → SomeLook looks.items }
     ensures written { OnOk result.came (result.writer.state.pending ≡ None) }
     ensures done { IfOk result.came (λ x. AreDone x.shares.items) }
     ensures few { (lines : ListOf Line) → AreShares threads lines shares.items
@@ -275,6 +282,7 @@ fn write_last<S: Store>(writer: IndexWriter<S>, rounds: Rounds, due: &CommitLine
     ensures cut { (r : Run) (lines log : ListOf Line)
         → HasCome r lines rounds.shares.items log rounds.commits.items due.now writer.state
         (S.disk writer.store) → IfErr result.came (λ fault. IsCut r lines fault (S.disk result.writer.store)) }
+    ensures read { (damaged : Damaged) → result.came ≡ Err (RanFault.Unread damaged) → ⊥ }
     ensures written { OnOk result.came (result.writer.state.pending ≡ None) }
     ensures same { IfOk result.came (λ x. (x.shares ≡ rounds.shares) × (x.texts ≡ rounds.texts)
         × (x.looked ≡ rounds.looked) × (x.count ≡ rounds.count)) }

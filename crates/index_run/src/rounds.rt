@@ -2,6 +2,7 @@
 ghost use Rattle.std.specs.Prelude.{◌≡◌, ◌⊎◌, ◌+◌, ◌++◌, ◌≤◌, ◌<◌, ℕ, List, length, map, IfErr, IfOk, IfSome, IsOk, OnOk, IsTrue, Err, None, true, false, option_map};
 ghost use Rattle.std.specs.Arc.{arc_value};
 ghost use Rattle.std.specs.List.{AllByRecursion};
+ghost use Rattle.ix_base.specs.declared.damaged.Damaged.{Damaged};
 ghost use Rattle.ix_outside.specs.Causes.{Rose};
 ghost use Rattle.op_script.specs.declared.script.Line.{Line};
 ghost use Rattle.row_fates.specs.Fate.{Numbered};
@@ -305,6 +306,9 @@ pub fn write_pending<S: Store>(
     requires sound { IsSound writer.state }
     requires open { writer.state.closed ≡ false }
     ensures pending { WritesPending S.disk None due.now writer result }
+    ensures last { IfOk result.came (λ commit. IfSome commit (λ info.
+        result.writer.state.last ≡ info.number)) }
+    ensures read { (damaged : Damaged) → result.came ≡ Err (RanFault.Unread damaged) → ⊥ }
     ensures closed { result.came ≡ Err (RanFault.Writer WriterFault.Closed) → ⊥ }
     ensures later { S.fault_count writer.store ≤ S.fault_count result.writer.store }
     ensures failed { result.came ≡ Err (RanFault.Writer WriterFault.Store)
@@ -343,6 +347,7 @@ fn prune_behind<S: Store>(
     requires open { writer.state.closed ≡ false }
     requires some { IfSome keep (λ keep. 1 ≤ keep) }
     ensures pruned { Prunes S.disk keep commit writer result }
+    ensures read { (damaged : Damaged) → result.came ≡ Err (RanFault.Unread damaged) → ⊥ }
     ensures closed { result.came ≡ Err (RanFault.Writer WriterFault.Closed) → ⊥ }
     ensures later { S.fault_count writer.store ≤ S.fault_count result.writer.store }
     ensures failed { result.came ≡ Err (RanFault.Writer WriterFault.Store)
@@ -396,6 +401,8 @@ fn write_and_prune<L: BoardLaw, R: Wait, S: Store>(
     requires some { IfSome keep (λ keep. 1 ≤ keep) }
     requires board { IfSome poster.old (CanShow L.lawful writer.state (S.disk writer.store)) }
     ensures shown { poster.old ≡ None → result.newest ≡ None }
+    ensures asked { poster.old ≡ None → (damaged : Damaged)
+        → result.ran.came ≡ Err (RanFault.Unread damaged) → ⊥ }
     ensures newest { IfSome poster.old (λ _. IfOk result.ran.came (λ commit.
         IsShownBeside writer.state (S.disk writer.store) commit (option_map arc_value result.newest))) }
     ensures pending { WritesPending S.disk keep due.now writer result.ran }
@@ -476,6 +483,9 @@ fn work<L: BoardLaw + Send, R: Threads + Wait + Sync, S: Store, G: Gate>(
     requires lawful { (c : Commit) → IsOfRound (option_map arc_value looking.newest) writer.state
         (S.disk writer.store) c → L.lawful c }
     ensures pending { WritesPending S.disk keep due writer result.0 }
+    // A commit is read for look lines alone.
+    ensures asked { (damaged : Damaged) → result.0.came ≡ Err (RanFault.Unread damaged)
+        → AllLooked looking.looks.items looking.looked.items → ⊥ }
     ensures back { IfOk result.1 (λ came. ComesBack begun.queue begun.writers.items begun.shares.items
         came.parts came.shares.items) }
     ensures looking { IfOk result.1 (λ came. (came.looking.looks.items ≡ looking.looks.items)
@@ -520,6 +530,8 @@ fn work<L: BoardLaw + Send, R: Threads + Wait + Sync, S: Store, G: Gate>(
             requires board { IfSome board.now (CanShow L.lawful writer.state (S.disk writer.store)) }
             ensures pending { WritesPending S.disk keep due writer result.ran }
             ensures shown { board.entry.now ≡ None → result.newest ≡ None }
+            ensures asked { board.entry.now ≡ None → (damaged : Damaged)
+                → result.ran.came ≡ Err (RanFault.Unread damaged) → ⊥ }
             ensures newest { IfSome board.entry.now (λ _. IfOk result.ran.came (λ commit.
                 IsShownBeside writer.state (S.disk writer.store) commit
                 (option_map arc_value result.newest))) }
@@ -607,6 +619,9 @@ pub fn do_round<R: Threads + Wait + Sync, S: Store, G: Gate>(
     ensures cut { (r : Run) (lines log : List Line) (commits : List (ℕ × ℕ)) → IsRunBy threads keep r
         → HasCome r lines shares.items log commits due writer.state (S.disk writer.store)
         → IfErr result.came (λ fault. IsCut r lines fault (S.disk result.writer.store)) }
+    // A commit is read for look lines alone.
+    ensures asked { (damaged : Damaged) → result.came ≡ Err (RanFault.Unread damaged)
+        → AllLooked looking.looks.items looking.looked.items → ⊥ }
     ensures out { OnOk result.came (result.writer.state.out ≡ false) }
     // Where a task was left, one was told something.
     ensures goes_on { (AreDone shares.items → ⊥)

@@ -5,7 +5,7 @@ use Rattle.index_writer.specs.Ready.{opened_on}
 use Rattle.index_writer.specs.Standing.{StandsOnLast}
 use Rattle.index_writer.specs.declared.state.State.{State}
 use Rattle.index_run.specs.Beginning.{IsOpened, OpensOn}
-use Rattle.index_run.proofs.Beginnings.{begins_on, begins_opened, follows, opened_begins, opened_on_given}
+use Rattle.index_run.proofs.Beginnings.{begins_on, begins_opened, follows, latest_none, latest_opened, opened_begins, opened_on_given}
 use Rattle.index_run.proofs.begin.begin.Goals as goal
 
 pub open-requires-clause-last : goal.open-requires-clause-last
@@ -30,6 +30,19 @@ returns-in-Ok-open-clause-given g c = λ given told can.
     let opens = subst (OpensOn given) c.in-Some.is (c.in-Ok.ensures.on given told can.0 (begins_on given can)) in
     opened_on_given c.opened_go_on.ensures c.segments_stand.ensures.opened given c.in-Some.opened c.args.buffer c.args.merge c.in-Ok-open.writer.state can opens
     c.in-Ok-open.ensures.state
+
+pub returns-in-Ok-open-clause-latest : goal.returns-in-Ok-open-clause-latest
+returns-in-Ok-open-clause-latest g c =
+    let told = told_files (g.S.Store.disk c.args.store) in
+    let found : IsOpened told (Some c.in-Some.opened) = subst (IsOpened told) c.in-Some.is c.in-Ok.ensures.found in
+    latest_opened c.opened_go_on.ensures c.segments_stand.ensures.opened told c.in-Some.opened c.args.buffer c.args.merge
+    c.in-Ok-open.writer.state found c.in-Ok-open.ensures.state
+
+-- without a commit
+pub returns-in_default-clause-latest : goal.returns-in_default-clause-latest
+returns-in_default-clause-latest g c =
+    let told = told_files (g.S.Store.disk c.args.store) in
+    search (latest_none told c.args.buffer c.args.merge c.none.result.state, c.in-Ok.ensures.found, c.none.ensures.state, rules)
 
 pub returns-in_default-clause-begins : goal.returns-in_default-clause-begins
 returns-in_default-clause-begins g c =

@@ -12,7 +12,7 @@ use Rattle.index_run.specs.Keeping.{AreSpelled, FindsStaying, PreservesBy, RunsL
 use Rattle.index_run.specs.declared.stop.Stop.TheVariants as stop
 use Rattle.index_run.proofs.Beside.{cut_damaged_by, cut_keeps_by, cut_leaves_by, cut_steps_by, cut_stops_by, cut_whole_by, many_beside}
 use Rattle.index_run.proofs.Beside.{over_keeps_by, over_settled_by, over_spelled_by, over_steps_by, over_stops_by, steps_none, texts_by, untold_by, whole_by}
-use Rattle.index_run.proofs.Finish.{damaged_in, keeps_none, over_same, same_disks, same_told, stops_none, told_still}
+use Rattle.index_run.proofs.Finish.{damaged_in, keeps_none, over_same, same_disks, same_told, stops_none, told_still, unread_in, unread_untold}
 use Rattle.index_run.proofs.Listed.{ok_always}
 use Rattle.index_run.proofs.Pruning.{all_leave, keeps_by, stops_by}
 use Rattle.index_run.proofs.RunPruned.{Settles}
@@ -81,8 +81,11 @@ returns-in-Err-came-clause-same g c = λ leaves.
       first = c.in-Ok.writer.state;
       start = g.S.Store.disk c.in-Ok.writer.store;
     } in
-    absurd (cut_leaves_by r c.args.lines c.in-Err-came.fault c.from.result _
-    (on_fault _ _ _ c.in-Err-came.is c.do_lines-writer.ensures.cut) c.from.ensures leaves)
+    ap (λ s. g.S.Store.disk s) c.into_parts-store.ensures.store
+    ∙ cut_leaves_by r c.args.lines c.in-Err-came.fault c.from.result _
+    (λ files told. c.in-Ok.ensures.latest files (sym (ap told_files c.in-Ok.ensures.reads) ∙ told))
+    (on_fault _ _ _ c.in-Err-came.is c.do_lines-writer.ensures.cut) c.from.ensures leaves
+    ∙ c.in-Ok.ensures.reads
 
 pub returns-in-Err-came-clause-whole : goal.returns-in-Err-came-clause-whole
 returns-in-Err-came-clause-whole g c = λ run told last can may_keep.
@@ -90,7 +93,8 @@ returns-in-Err-came-clause-whole g c = λ run told last can may_keep.
     let r : Run = record { workers = c.args.options.threads; keep = c.args.beside; first = c.in-Ok.writer.state; start = began } in
     cut_whole_by r c.args.lines c.in-Err-came.fault c.from.result _ run.files
     (on_fault _ _ _ c.in-Err-came.is c.do_lines-writer.ensures.cut) c.from.ensures
-    (told_still (g.S.Store.disk c.args.store) began run.files c.in-Ok.ensures.reads told) may_keep
+    (told_still (g.S.Store.disk c.args.store) began run.files c.in-Ok.ensures.reads told)
+    (c.in-Ok.ensures.latest run.files told) may_keep
 
 pub returns-in-Err-came-clause-damaged : goal.returns-in-Err-came-clause-damaged
 returns-in-Err-came-clause-damaged g c = λ damaged is.
@@ -101,15 +105,24 @@ returns-in-Err-came-clause-damaged g c = λ damaged is.
       first = c.in-Ok.writer.state;
       start = g.S.Store.disk c.in-Ok.writer.store;
     } in
-    let found =
-    cut_damaged_by r c.args.lines c.in-Err-came.fault c.from.result _ damaged
-    (on_fault _ _ _ c.in-Err-came.is c.do_lines-writer.ensures.cut) c.from.ensures said in
-    inr (
-      found.0,
-      found.1,
-      subst (λ (d : Option Disk). FindsStaying found.0 (told_files d) damaged)
-          (sym (ap (λ s. g.S.Store.disk s) c.into_parts-store.ensures.store)) found.2,
-    )
+    let store = ap (λ s. g.S.Store.disk s) c.into_parts-store.ensures.store in
+    let cut = on_fault _ _ _ c.in-Err-came.is c.do_lines-writer.ensures.cut in
+    elim (cut_damaged_by r c.args.lines c.in-Err-came.fault c.from.result _ damaged cut c.from.ensures said) [
+      | inl found ↦ inr (
+        found.0,
+        found.1,
+        subst (λ (d : Option Disk). FindsStaying found.0 (told_files d) damaged) (sym store) found.2,
+      )
+      | inr found ↦
+          let none =
+          unread_untold r found.1 _ damaged
+          (λ files told. c.in-Ok.ensures.latest files (sym (ap told_files c.in-Ok.ensures.reads) ∙ told)) found.3 in
+          inl (subst (λ (d : Option Disk). ReadsDamaged c.args.form c.args.lines (told_files (g.S.Store.disk c.args.store)) (told_files d) damaged)
+          (sym store)
+          (unread_in r c.args.form c.args.lines found.1 (g.S.Store.disk c.args.store) _ damaged c.in-Ok.ensures.last
+          (ap told_files (sym c.in-Ok.ensures.reads ∙ none))
+          (c.do_lines-writer.ensures.asked damaged (c.in-Err-came.is ∙ ap Err found.0)) found.2 found.3))
+    ]
 
 pub returns-in-Err-came-clause-unbegun : goal.returns-in-Err-came-clause-unbegun
 returns-in-Err-came-clause-unbegun g c = λ f told not. absurd (not (c.in-Ok.ensures.begins f told))
