@@ -1,18 +1,20 @@
 -- A script has a look line where some worker has one.
 use Rattle.std.proofs.Common.{◌≡◌, ◌∙◌, ◌⊎◌, inl, inr, ℕ, ◌+◌, ◌<◌, ◌≤◌, ◌%◌, ◌==◌, Bool, true, false, List, [], ◌∷◌, ◌++◌, length, refl, ap, subst, arith}
-use Rattle.std.specs.Prelude.{◌||◌, if◌then◌else◌}
+use Rattle.std.specs.Prelude.{◌||◌, Option, if◌then◌else◌}
 use Rattle.std.specs.Global.{Vec}
 use Rattle.std.specs.List.{AllZip, Any, list_any}
 use Rattle.std.proofs.lemmas.Bool.{cases_lt}
 use Rattle.std.proofs.lemmas.List.{length-append}
 use Rattle.std.proofs.lemmas.List.Folds.{Any-from_list_any}
+use Rattle.ix_outside.specs.Disk.{Disk}
 use Rattle.op_script.specs.declared.script.Act.{Act}
 use Rattle.op_script.specs.declared.script.Act.TheVariants as act
 use Rattle.op_script.specs.declared.script.Line.{Line}
+use Rattle.index_writer.specs.declared.state.State.{State}
 use Rattle.line_shares.specs.Looks.{AreLooks, AreLooksFrom, after_past, look_by, look_in, looks_from}
 use Rattle.line_shares.specs.declared.looks.Look.{Look}
 use Rattle.run_log.specs.Headline.{is_look}
-use Rattle.index_run.specs.Looked.{AllLooked, SomeLook}
+use Rattle.index_run.specs.Looked.{AllLooked, AreLooked, SomeLook}
 use Rattle.index_run.specs.declared.looks.Looked.{Looked}
 
 -- whether a line is a look line
@@ -76,3 +78,12 @@ some_unlooked (v ∷ vs) (w ∷ ws) few not =
       | inl less ↦ inl (omega (arith, less))
       | inr ge ↦ inr (some_unlooked vs ws few.1 (λ all. not (let le = few.0 in (omega (arith, le, ge), all))))
     ]
+
+-- none was shown more commits than it has look lines
+pub few_looked : (first : State) (start : Option Disk) (lines log : List Line) (looks : List (Vec Look)) (looked : List (Vec Looked))
+    → AreLooked first start lines log looks looked
+    → AllZip (λ (v : Vec Look) (w : Vec Looked). length w.items ≤ length v.items) looks looked
+few_looked first start lines log [] [] are = tt
+few_looked first start lines log [] (w ∷ ws) are = absurd are
+few_looked first start lines log (v ∷ vs) [] are = absurd are
+few_looked first start lines log (v ∷ vs) (w ∷ ws) are = (are.0.few, few_looked first start lines log vs ws are.1)

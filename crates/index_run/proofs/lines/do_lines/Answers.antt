@@ -11,7 +11,8 @@ use Rattle.index_run.specs.KeptDisk.{KeepLaws}
 use Rattle.index_run.specs.Outcomes.{AreOutcomes}
 use Rattle.index_run.specs.Replied.{AreFound, CanTell, IsCounted}
 use Rattle.index_run.proofs.Coming.{begins, can_tell, cut_start, over_of}
-use Rattle.index_run.proofs.Rounding.{cut_done, halted_cut, keeps_own, on_fault, on_ok, stopped_cut}
+use Rattle.index_run.proofs.LooksAsked.{asked_lines}
+use Rattle.index_run.proofs.Rounding.{cut_done, halted_cut, halted_for, keeps_own, on_fault, on_ok, stopped_cut}
 use Rattle.index_run.proofs.Shown.{looks_shown}
 use Rattle.index_run.proofs.lines.do_lines.Goals as goal
 
@@ -61,6 +62,11 @@ returns-in-Err-came-clause-cut g c =
     } in
     halted_cut g.S.Store.disk r c.args.lines _ _ _ c.halted.ensures
     (on_fault _ _ _ c.in-Err-came.is (c.do_rounds-writer.ensures.cut r c.args.lines (refl, keeps_own c.args.keep r refl) begun))
+
+pub returns-in-Err-came-clause-asked : goal.returns-in-Err-came-clause-asked
+returns-in-Err-came-clause-asked g c = λ damaged is.
+    asked_lines c.args.threads c.args.lines c.in-Ok.dealt.looks.items c.in-Ok.ensures.looks
+    (c.do_rounds-writer.ensures.asked damaged (halted_for _ _ _ _ _ c.in-Err-came.is c.halted.ensures is))
 
 pub outcomes_of-requires : goal.outcomes_of-requires
 outcomes_of-requires g c =

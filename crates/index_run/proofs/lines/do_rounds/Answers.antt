@@ -22,9 +22,10 @@ use Rattle.index_run.proofs.CallerAnswers.{behind_count}
 use Rattle.index_run.proofs.Coming.{under_way, way_on}
 use Rattle.index_run.proofs.LookEnds.{ComesBoth, law_newest, looked_last, looking_first}
 use Rattle.index_run.proofs.LookUnread.{cut_begun}
+use Rattle.index_run.proofs.LooksAsked.{few_looked, some_unlooked}
 use Rattle.index_run.proofs.RoundCount.{few_last, few_open, looked_all, over_last}
 use Rattle.index_run.proofs.RoundLooks.{behind_count as looks_count}
-use Rattle.index_run.proofs.Rounding.{cut_done, halted_cut, on_fault, on_ok, run_behind, some_behind, stopped_cut, stopped_same}
+use Rattle.index_run.proofs.Rounding.{cut_done, halted_cut, halted_for, on_fault, on_ok, run_behind, some_behind, stopped_cut, stopped_same}
 use Rattle.index_run.proofs.lines.do_rounds.Goals as goal
 
 pub returns-in-Err-clause-cut : goal.returns-in-Err-clause-cut
@@ -232,3 +233,21 @@ returns-clause-few g c = λ lines are.
 pub returns-clause-cut : goal.returns-clause-cut
 returns-clause-cut g c = λ r lines size here.
     let way = (c.loop-keep.invariant.come r lines size here).0 in c.write_last.ensures.cut r lines way.log way.come
+
+-- ---- a commit is read for look lines alone
+
+pub returns-in-Err-begin_looking-clause-asked : goal.returns-in-Err-begin_looking-clause-asked
+returns-in-Err-begin_looking-clause-asked g c = λ damaged is.
+    c.begin_looking.ensures.asked damaged
+    (halted_for _ _ _ _ _ c.in-Err-begin_looking.is c.halted.ensures is)
+
+pub returns-in-Err-came-clause-asked : goal.returns-in-Err-came-clause-asked
+returns-in-Err-came-clause-asked g c = λ damaged is.
+    let at = c.loop-keep in
+    let q = c.requires.begins in
+    let far = at.invariant.come q.0 q.1 q.2 q.3 in
+    let left =
+    c.do_round-round.ensures.asked damaged (halted_for _ _ _ _ _ c.in-Err-came.is c.halted-in-Err-came.ensures is) in
+    some_unlooked c.args.looks.items at.looking.looked.items
+    (few_looked q.0.first q.0.start q.1 far.0.log c.args.looks.items at.looking.looked.items far.1.looked)
+    (λ all. left (subst (λ (ls : List (Vec Look)). AllLooked ls at.looking.looked.items) (sym far.1.looks_are) all))
