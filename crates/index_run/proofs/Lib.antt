@@ -33,6 +33,8 @@ pub mod LookEnds
 pub mod LookUnread
 pub mod LooksAsked
 pub mod Posted
+pub mod LinedUp
+pub mod LookedAt
 pub mod Finish
 pub mod Pruning
 pub mod Commanded
