@@ -101,9 +101,11 @@ none_before place (l ∷ ls) late = rw (le-ltb l.line place late.0) (none_before
 all_before : (low : ℕ) (before : List Line) (l : Line) (behind : List Line) → LinesRise low (before ++ l ∷ behind)
     → filter (λ (x : Line). nat_lt x.line l.line) (before ++ l ∷ behind) ≡ before
 all_before low [] l behind rise =
-    none_before l.line (l ∷ behind)
-    (omega arith, each_says (λ (x : Line). l.line + 1 ≤ x.line) (λ (x : Line). l.line ≤ x.line) behind
-    (λ x le. omega (arith, le)) (none_below (l.line + 1) behind rise.1))
+    none_before l.line (l ∷ behind) (
+      omega arith,
+      each_says (λ (x : Line). l.line + 1 ≤ x.line) (λ (x : Line). l.line ≤ x.line) behind
+          (λ x le. omega (arith, le)) (none_below (l.line + 1) behind rise.1),
+    )
 all_before low (x ∷ before) l behind rise =
     rw (lt-ltb x.line l.line less) (ap (λ (ls : List Line). x ∷ ls) (all_before (x.line + 1) before l behind rise.1))
   where
