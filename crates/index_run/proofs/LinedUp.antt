@@ -1,6 +1,7 @@
 -- The look lines of each worker of a round, lined up, and their watchers, handed out.
 use Rattle.std.proofs.Common.{◌≡◌, ◌∙◌, ◌⊎◌, inl, inr, ℕ, zero, suc, ◌+◌, ◌<◌, ◌≤◌, List, [], ◌∷◌, ◌++◌, length, refl, sym, ap, subst, arith}
-use Rattle.std.proofs.Common.{append-nil, append_assoc}
+use Rattle.std.proofs.Common.{append-nil, append_assoc, drop, take}
+use Rattle.std.proofs.lemmas.List.{drop_all, take_all}
 use Rattle.std.specs.Prelude.{MatchOption, Option, Some, None, option_map, slice_index_or, slice_set}
 use Rattle.std.specs.Arc.{arc_value}
 use Rattle.std.specs.declared.sync.Arc.{Arc}
@@ -167,6 +168,23 @@ lined_with {L} (u ∷ watchers) (o ∷ olds) (x ∷ news) [] (w ∷ ws) have are
 lined_with {L} (u ∷ watchers) (o ∷ olds) (x ∷ news) (v ∷ vs) [] have are = absurd are
 lined_with {L} (u ∷ watchers) (o ∷ olds) (x ∷ news) (v ∷ vs) (w ∷ ws) have are =
     (have.1 ∙ are.0, have.2 ∙ are.1, lined_with watchers olds news vs ws have.3 are.2)
+
+have_many : {L : Type 0} (watchers : List (Watcher L)) (olds news : List (Looker L)) → HaveWatchers watchers olds news
+    → length news ≡ length olds
+have_many {L} [] [] [] have = refl
+have_many {L} [] [] (x ∷ news) have = absurd have
+have_many {L} [] (o ∷ olds) news have = absurd have
+have_many {L} (w ∷ watchers) [] news have = absurd have
+have_many {L} (w ∷ watchers) (o ∷ olds) [] have = absurd have
+have_many {L} (w ∷ watchers) (o ∷ olds) (x ∷ news) have = ap suc (have_many watchers olds news have.3)
+
+-- what the slice of a vector was made is what the vector has then
+pub written_back : {L : Type 0} (n : ℕ) (watchers : List (Watcher L)) (olds news : List (Looker L)) → HaveWatchers watchers olds news
+    → n ≡ length olds → take n (news ++ drop (length news) olds) ≡ news
+written_back {L} n watchers olds news have n_is =
+    let many = have_many watchers olds news have in
+    ap (λ (rest : List (Looker L)). take n (news ++ rest)) (drop_all (length news) olds (omega (arith, many)))
+    ∙ ap (λ (xs : List (Looker L)). take n xs) (append-nil news) ∙ take_all n news (omega (arith, many, n_is))
 
 -- each was shown what its watcher was shown
 pub shown_with : {L : Type 0} (cs : List Commit) (watchers : List (Watcher L)) (olds news : List (Looker L))

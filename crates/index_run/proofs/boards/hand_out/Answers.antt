@@ -9,7 +9,7 @@ pub loop-looker-preserved : goal.loop-looker-preserved
 loop-looker-preserved g c =
     let at = c.loop-looker in
     let old = c.looker-item.result in
-    let next = c.next-looker in
+    let next = c.next in
     let new : Looker g.row.L.Denot =
     record (slice_index_or at.lookers at.looker-index old) { watcher = next.result } in
     let same = sym c.looker-item.is in
