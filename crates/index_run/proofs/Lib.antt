@@ -29,8 +29,10 @@ pub mod Looking
 pub mod Newest
 pub mod RoundLooks
 pub mod RoundBoards
+pub mod RoundBack
 pub mod LookEnds
 pub mod LookUnread
+pub mod WrittenBeside
 pub mod LooksAsked
 pub mod Posted
 pub mod LinedUp

@@ -71,8 +71,9 @@ pub struct Ended<S> {
 /// text is made whole before its first byte is written. Statuses 2, 3, 5 and 7 to 11 write one
 /// line, which takes no memory.
 ///
-/// `ask`, `list` and `check` change no file, and no call that ends with 2, 3, 5 or 8 to 11 does, but with
-/// `--keep` one that ends with 8. What a run did before it stopped stays: input that was read, and commits
+/// `ask`, `list` and `check` change no file, and no call that ends with 2, 3, 5 or 8 to 11 does, but one
+/// that ends with 8 with `--keep`, or at a commit that it read for look lines, of a store that tells none
+/// of its files. What a run did before it stopped stays: input that was read, and commits
 /// that were written. Without `--keep` no step of a call deletes a file, none but the rename of a pending
 /// commit file makes a commit file, and where the last commit is lawful a commit that stands at some moment
 /// of the call stands from then on. With `--keep` commits are given up as the run goes on: the latest ones

@@ -53,9 +53,10 @@ pub struct Done<S> {
     pub store: S,
 }
 
-/// Does the lines over the store's last commit, gives up old commits where only so many are to be kept and a
-/// line committed, and returns the text that tells of the lines, of which nothing is written yet. Commits are given
-/// up behind each commit that is written beside a round, and behind the last one once the text is made.
+/// Does the lines over the store's last commit, gives up old commits where only so many are to be kept
+/// and a line committed, and returns the text that tells of the lines, of which nothing is written yet.
+/// Old commits are given up behind every `keep`th commit that is written beside a round, and behind the
+/// last one once the text is made.
 pub fn do_script<R: Threads + Wait + Sync, S: Store, G: Gate>(
     rt: &R,
     alloc: Global,
@@ -146,8 +147,9 @@ fn has_commit(lines: &[Line]) -> bool
     lines.iter().any(|line| is_commit(line))
 }
 
-/// Does the lines over the store's last commit, and returns the text that tells of them. Beside the rounds all commits
-/// are kept, or so many of the latest; behind the last commit none is given up yet.
+/// Does the lines over the store's last commit, and returns the text that tells of them. All commits are
+/// kept, or old ones are given up behind every `beside`th commit that is written beside a round; behind
+/// the last commit none is given up yet.
 fn tell_script<R: Threads + Wait + Sync, S: Store, G: Gate>(
     rt: &R,
     alloc: Global,
