@@ -62,8 +62,12 @@ module _ (lawful : Commit → Type 0) (low : ℕ) where
       let same : x ∷ news ≡ o ∷ olds = up.0 in
       let here : own ≡ o = cc in
       let low_on = looks_down lawful told v.items own.items new.items low from to on le in (
-        (told, to, subst (λ (w : Vec Looked). LooksOn lawful told y.items w.items new.items low to) here
-            (subst (λ (u : Vec Look). LooksOn lawful told u.items own.items new.items low to) (sym v_is) low_on)),
+        (
+          told,
+          to,
+          subst (λ (w : Vec Looked). LooksOn lawful told y.items w.items new.items low to) here
+              (subst (λ (u : Vec Look). LooksOn lawful told u.items own.items new.items low to) (sym v_is) low_on),
+        ),
         subst (λ (w : Vec Looked). length w.items ≤ length y.items → length new.items ≡ length y.items) here
             (subst (λ (u : Vec Look). length own.items ≤ length u.items → length new.items ≡ length u.items) (sym v_is) all),
         ((cc), (let count = up.1 in omega (arith, count))),

@@ -38,8 +38,10 @@ returns-clause-looking g c =
             none = c.in-Ok.ensures.none;
             newest = inr (
               w.in_ok-written_commit.ensures.number ∙ c.upto-base.ensures,
-              ((let number = w.in_ok-written_commit.ensures.number in let some = w.if-base-gt0.true in omega (arith, number, some)),
-              w.in_ok-written_commit.ensures.read),
+              (
+                (let number = w.in_ok-written_commit.ensures.number in let some = w.if-base-gt0.true in omega (arith, number, some)),
+                w.in_ok-written_commit.ensures.read,
+              ),
             );
           })
       | else-base-gt0 w ↦ elim w.else-base-gt0.branch [

@@ -84,9 +84,10 @@ loop-keep-init g c =
           subst (λ (cs : List (ℕ × ℕ)). ComesBoth r lines shares asks looks cs c.none-due.result texts looking v.state dv) (sym c.new-commits.ensures.items)
           (subst (λ (d : CommitLine). ComesBoth r lines shares asks looks [] d texts looking v.state dv) (sym c.none-due.ensures)
           (subst (λ (x : State). ComesBoth r lines shares asks looks [] no_commit texts looking x dv) (sym state)
-          (subst (λ (d : Option Disk). ComesBoth r lines shares asks looks [] no_commit texts looking w.state d) (sym disk)
-          (under_way r lines shares asks w.state (g.S.Store.disk w.store) said.0 texts here.begins said.1 said.2,
-          looking_first r.first r.start lines shares looks looking many at))));
+          (subst (λ (d : Option Disk). ComesBoth r lines shares asks looks [] no_commit texts looking w.state d) (sym disk) (
+            under_way r lines shares asks w.state (g.S.Store.disk w.store) said.0 texts here.begins said.1 said.2,
+            looking_first r.first r.start lines shares looks looking many at,
+          ))));
       count = behind_count w.state 0 asks said.0 texts said.2;
       out = ap (λ (s : State). s.out) state ∙ c.requires.out;
       few = omega arith;
@@ -157,10 +158,12 @@ loop-keep-preserved g c =
           (subst (λ (d : Option Disk). ComesBoth r lines left.shares.items asks looks commits left.due texts left.looking w.state d)
           (sym (ap (λ s. g.S.Store.disk s) c.settle.ensures.store))
           (subst (λ (cs : List (ℕ × ℕ)). ComesBoth r lines left.shares.items asks looks cs left.due texts left.looking w.state (g.S.Store.disk w.store))
-          (sym (rw c.in-Ok-came.is at c.in-Ok-settle.ensures.noted))
-          (way_on r lines left.shares.items asks way.log (given at.commits.items left.commit) left.due at.texts.items texts
-          w.state (g.S.Store.disk w.store) here.begins.0 way.answered on c.in-Ok-settle.ensures.none
-          (rw c.in-Ok-came.is at c.in-Ok-settle.ensures.answers), now_looks))));
+          (sym (rw c.in-Ok-came.is at c.in-Ok-settle.ensures.noted)) (
+            way_on r lines left.shares.items asks way.log (given at.commits.items left.commit) left.due at.texts.items texts
+                w.state (g.S.Store.disk w.store) here.begins.0 way.answered on c.in-Ok-settle.ensures.none
+                (rw c.in-Ok-came.is at c.in-Ok-settle.ensures.answers),
+            now_looks,
+          ))));
       count = c.settle.ensures.count;
       out = ap (λ (s : State). s.out) c.settle.ensures.state ∙ on_ok _ _ _ c.in-Ok-came.is c.do_round-round.ensures.out;
       few = search rules;
