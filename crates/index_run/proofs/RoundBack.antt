@@ -18,12 +18,12 @@ use Rattle.index_run.specs.declared.looks.Looked.{Looked}
 use Rattle.index_run.specs.declared.looks.Looker.{Looker}
 
 -- what came back of one worker, without what went along with it
-alone : {C : Type 0} → Worked C → Worked (Unit {0})
-alone x = record { writer = x.writer; share = x.share; companion = tt; pieces = x.pieces; stop = x.stop }
+abbrev alone : {C : Type 0} → Worked C → Worked (Unit {0})
+alone {C} x = record { writer = x.writer; share = x.share; companion = tt; pieces = x.pieces; stop = x.stop }
 
-all_alone : {C : Type 0} → List (Worked C) → List (Worked (Unit {0}))
-all_alone [] = []
-all_alone (x ∷ xs) = alone x ∷ all_alone xs
+abbrev all_alone : {C : Type 0} → List (Worked C) → List (Worked (Unit {0}))
+all_alone {C} [] = []
+all_alone {C} (x ∷ xs) = alone x ∷ all_alone xs
 
 module _ {C : Type 0} where
   works_alone : (q : DeleteQueue) (ws : List ThreadWriter) (ss : List Share) (xs : List (Worked C)) → AreWorked q ws ss xs

@@ -1,4 +1,4 @@
-use Rattle.std.proofs.Common.{◌≡◌, rules}
+use Rattle.std.proofs.Common.{rules}
 use Rattle.std.specs.Vec.Iter.{into_iter_items}
 use Rattle.index_run.proofs.RoundBack.{came_on, items_on, pieces_on, shares_on, writers_on}
 use Rattle.index_run.proofs.RoundBoards.{lined_more}
@@ -38,7 +38,7 @@ loop-one-preserved-in_ok-push-5-2 g c =
           pieces_on at.yielded one at.pieces.items c.push.new.self.items c.into_vec.result at.invariant.pieces c.in_ok-push.ensures.items
           c.into_vec.ensures;
       shares = shares_on at.yielded one at.shares.items c.push-in-loop-one-2.new.self.items at.invariant.shares c.in_ok-push-3.ensures.items;
-      came = came_on at.yielded one at.invariant.came (λ is. let e = c.eq.ensures in let f = c.if-eq.false in let h = c.if-eq.ensures in cc);
+      came = came_on at.yielded one at.invariant.came (λ is. let e = c.eq.ensures in let f = c.if-eq.false in search rules);
       looking =
           lined_more at.looks.items c.push-in-loop-one-3.new.self.items at.looked.items c.push-in-loop-one-4.new.self.items at.yielded
           one at.invariant.looking c.in_ok-push-4.ensures.items c.in_ok-push-5.ensures.items;
@@ -58,7 +58,7 @@ loop-one-preserved g c =
           pieces_on at.yielded one at.pieces.items c.push.new.self.items c.into_vec.result at.invariant.pieces c.in_ok-push.ensures.items
           c.into_vec.ensures;
       shares = shares_on at.yielded one at.shares.items c.push-in-loop-one-2.new.self.items at.invariant.shares c.in_ok-push-3.ensures.items;
-      came = came_on at.yielded one at.invariant.came (λ is. let e = c.eq.ensures in let f = c.if-eq.false in let h = c.if-eq.ensures in ?);
+      came = came_on at.yielded one at.invariant.came (λ is. let e = c.eq.ensures in let f = c.if-eq.false in search rules);
       looking =
           lined_more at.looks.items c.push-in-loop-one-3.new.self.items at.looked.items c.push-in-loop-one-4.new.self.items at.yielded
           one at.invariant.looking c.in_ok-push-4.ensures.items c.in_ok-push-5.ensures.items;
