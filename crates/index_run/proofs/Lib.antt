@@ -34,6 +34,7 @@ pub mod LookEnds
 pub mod LookUnread
 pub mod WrittenBeside
 pub mod LooksAsked
+pub mod LooksSent
 pub mod Posted
 pub mod LinedUp
 pub mod LookedAt

@@ -1,11 +1,14 @@
 -- What came back of a round's workers, whatever went along with them.
-use Rattle.std.proofs.Common.{◌≡◌, ◌∙◌, List, [], ◌∷◌, length, map, refl, ap, arith}
+use Rattle.std.proofs.Common.{◌≡◌, ◌∙◌, List, [], ◌∷◌, ◌++◌, length, map, refl, sym, ap, append_assoc, arith}
+use Rattle.std.proofs.lemmas.List.{map-append}
 use Rattle.std.specs.Global.{Vec}
 use Rattle.delete_queue.specs.declared.queue.DeleteQueue.{DeleteQueue}
 use Rattle.index_writer.specs.declared.round.RoundParts.{RoundParts}
 use Rattle.line_shares.specs.declared.looks.Look.{Look}
 use Rattle.round_work.specs.Working.{AreWorked, Works}
+use Rattle.round_work.specs.declared.worked.Stop.TheVariants.{NoMemory}
 use Rattle.round_work.specs.declared.worked.Worked.{Worked}
+use Rattle.run_log.proofs.Lists.{each_in_both}
 use Rattle.thread_writer.specs.declared.piece.Piece.{Piece}
 use Rattle.thread_writer.specs.declared.writer.ThreadWriter.{ThreadWriter}
 use Rattle.worker_tasks.specs.declared.share.Share.{Share}
@@ -15,12 +18,12 @@ use Rattle.index_run.specs.declared.looks.Looked.{Looked}
 use Rattle.index_run.specs.declared.looks.Looker.{Looker}
 
 -- what came back of one worker, without what went along with it
-alone : {C : Type 0} → Worked C → Worked (Unit {0})
-alone x = record { writer = x.writer; share = x.share; companion = tt; pieces = x.pieces; stop = x.stop }
+abbrev alone : {C : Type 0} → Worked C → Worked (Unit {0})
+alone {C} x = record { writer = x.writer; share = x.share; companion = tt; pieces = x.pieces; stop = x.stop }
 
-all_alone : {C : Type 0} → List (Worked C) → List (Worked (Unit {0}))
-all_alone [] = []
-all_alone (x ∷ xs) = alone x ∷ all_alone xs
+abbrev all_alone : {C : Type 0} → List (Worked C) → List (Worked (Unit {0}))
+all_alone {C} [] = []
+all_alone {C} (x ∷ xs) = alone x ∷ all_alone xs
 
 module _ {C : Type 0} where
   works_alone : (q : DeleteQueue) (ws : List ThreadWriter) (ss : List Share) (xs : List (Worked C)) → AreWorked q ws ss xs
@@ -75,3 +78,34 @@ lined_count {L} (v ∷ vs) [] xs are = absurd are
 lined_count {L} (v ∷ vs) (w ∷ ws) [] are = absurd are
 lined_count {L} (v ∷ vs) (w ∷ ws) (x ∷ xs) are =
     (let rest = lined_count vs ws xs are.2 in omega (arith, rest))
+
+-- ---- one worker more came back
+
+pub items_on : {X : Type 0} (yielded rest now all : List X) (one : X) → yielded ++ rest ≡ all → rest ≡ one ∷ now
+    → (yielded ++ one ∷ []) ++ now ≡ all
+items_on {X} yielded rest now all one before steps =
+    append_assoc yielded (one ∷ []) now ∙ ap (λ (xs : List X). yielded ++ xs) (sym steps) ∙ before
+
+mapped_on : {X Y : Type 0} (f : X → Y) (xs : List X) (x : X) (old new : List Y) → old ≡ map f xs → new ≡ old ++ f x ∷ []
+    → new ≡ map f (xs ++ x ∷ [])
+mapped_on {X} {Y} f xs x old new before is =
+    is ∙ ap (λ (ys : List Y). ys ++ f x ∷ []) before ∙ sym (map-append f xs (x ∷ []))
+
+module _ {C : Type 0} (xs : List (Worked C)) (one : Worked C) where
+  pub writers_on : (old new : List ThreadWriter) → old ≡ writers_of xs → new ≡ old ++ one.writer ∷ []
+      → new ≡ writers_of (xs ++ one ∷ [])
+  writers_on old new before is = mapped_on (λ (w : Worked C). w.writer) xs one old new before is
+
+  pub shares_on : (old new : List Share) → old ≡ map share_of xs → new ≡ old ++ one.share ∷ []
+      → new ≡ map share_of (xs ++ one ∷ [])
+  shares_on old new before is = mapped_on (λ (w : Worked C). w.share) xs one old new before is
+
+  pub pieces_on : (old new : List (Vec Piece)) (given : Vec Piece) → pieces_of old ≡ gave_of xs → new ≡ old ++ given ∷ []
+      → given.items ≡ one.pieces → pieces_of new ≡ gave_of (xs ++ one ∷ [])
+  pieces_on old new given before is pieces =
+      mapped_on (λ (w : Worked C). w.pieces) xs one (pieces_of old) (pieces_of new) before
+      (ap pieces_of is ∙ map-append (λ (p : Vec Piece). p.items) old (given ∷ [])
+      ∙ ap (λ (p : List Piece). pieces_of old ++ p ∷ []) pieces)
+
+  pub came_on : AllCame xs → (one.stop ≡ NoMemory → ⊥) → AllCame (xs ++ one ∷ [])
+  came_on came not = each_in_both (λ (w : Worked C). w.stop ≡ NoMemory → ⊥) xs (one ∷ []) came (not, tt)

@@ -36,7 +36,7 @@ use Rattle.index_run.specs.declared.rounds.RanFault.TheVariants as halt
 use Rattle.index_run.proofs.DiskAfter.{changed, the_files}
 use Rattle.index_run.proofs.LookUnread.{cut_shown}
 use Rattle.index_run.proofs.Newest.{Pair}
-use Rattle.index_run.proofs.Rounding.{cut_done, on_ok}
+use Rattle.index_run.proofs.Rounding.{cut_done, on_fault, on_ok, one_error}
 
 -- ---- the commit that was written
 
@@ -68,6 +68,9 @@ written_of pairs w v before now info hold ready pending made = record {
         (subst (λ (s : ℕ). HoldsInverted n.0 s w.published.next_id rows) (sym can.0 ∙ sym same) holds.0);
   };
 }
+
+pub came_with : {T E : Type 0} (came : Result (Option T) E) (o p : Option T) → came ≡ Ok o → o ≡ p → came ≡ Ok p
+came_with {T} {E} came o p is same = is ∙ ap Ok same
 
 -- ---- it is shown
 
@@ -115,6 +118,38 @@ pruned_unread giving.Store damaged is = cc
 pruned_unread giving.Closed damaged is = cc
 pruned_unread (giving.Damaged broken) damaged is = cc
 pruned_unread giving.NoMemory damaged is = cc
+
+-- no commit was written, or the run stops
+module _ {S : Type 0} (disk : S → Option Disk) (keep : Option ℕ) (due : CommitLine) (old : IndexWriter S)
+    (wrote ran : Ran S (Option CommitInfo)) (written : WritesPending disk None due old wrote) where
+  pub pending_none : wrote.came ≡ Ok None → ran ≡ record { writer = wrote.writer; came = Ok None }
+      → WritesPending disk keep due old ran
+  pending_none is ended = subst (WritesPending disk keep due old) (sym ended) (record {
+    come = λ r lines shares log commits keeps come.
+        on_ok (λ (commit : Option CommitInfo). HasCome r lines shares log (given commits commit) due wrote.writer.state
+        (disk wrote.writer.store)) wrote.came None is (written.come r lines shares log commits tt come);
+    cut = λ r lines shares log commits keeps come. tt;
+    written = on_ok (λ (c : Option CommitInfo). wrote.writer.state.pending ≡ None) wrote.came None is written.written;
+    upto =
+        on_ok (λ (c : Option CommitInfo). wrote.writer.state.published.upto ≡ old.state.published.upto) wrote.came None is written.upto;
+    is_open = on_ok (λ (c : Option CommitInfo). wrote.writer.state.closed ≡ false) wrote.came None is written.is_open;
+    same = written.same;
+    sound = written.sound;
+  })
+
+  pub pending_fault : (fault : RanFault) → wrote.came ≡ Err fault → ran ≡ record { writer = wrote.writer; came = Err fault }
+      → WritesPending disk keep due old ran
+  pending_fault fault is ended = subst (WritesPending disk keep due old) (sym ended) (record {
+    come = λ r lines shares log commits keeps come. tt;
+    cut = λ r lines shares log commits keeps come.
+        on_fault (λ (f : RanFault). IsCut r lines f (disk wrote.writer.store)) wrote.came fault is
+        (written.cut r lines shares log commits tt come);
+    written = tt;
+    upto = tt;
+    is_open = tt;
+    same = written.same;
+    sound = written.sound;
+  })
 
 module _ {S : Type 0} (disk : S → Option Disk) (keep : Option ℕ) (due : CommitLine) (old : IndexWriter S)
     (wrote : Ran S (Option CommitInfo)) (info : CommitInfo) (mid : IndexWriter S) (is : wrote.came ≡ Ok (Some info))
@@ -220,5 +255,4 @@ pub halted_unread : {S T : Type 0} (writer : IndexWriter S) (fault : RanFault) (
     → ran ≡ record { writer = writer; came = Err fault } → ((damaged : Damaged) → fault ≡ halt.Unread damaged → ⊥)
     → (damaged : Damaged) → ran.came ≡ Err (halt.Unread damaged) → ⊥
 halted_unread {S} {T} writer fault ran halted never damaged told =
-    let both : Err {T = T} fault ≡ Err (halt.Unread damaged) = sym (ap (λ (x : Ran S T). x.came) halted) ∙ told in
-    never damaged cc
+    never damaged (one_error ran.came fault (halt.Unread damaged) (ap (λ (x : Ran S T). x.came) halted) told)

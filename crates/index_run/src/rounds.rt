@@ -138,7 +138,6 @@ struct Came {
 
 /// What came back of a round's workers, without the newest commit. The only error is out of memory, here or in one of the
 /// workers.
-#[tactic(auto, using(crate::proofs::RoundBoards::lined_more))]
 fn part<L: BoardLaw>(
     alloc: Global,
     queue: DeleteQueue,
