@@ -29,10 +29,14 @@ pub mod Looking
 pub mod Newest
 pub mod RoundLooks
 pub mod RoundBoards
+pub mod RoundBack
 pub mod LookEnds
 pub mod LookUnread
+pub mod WrittenBeside
 pub mod LooksAsked
 pub mod Posted
+pub mod LinedUp
+pub mod LookedAt
 pub mod Finish
 pub mod Pruning
 pub mod Commanded

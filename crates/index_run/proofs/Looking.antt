@@ -12,6 +12,7 @@ use Rattle.line_shares.specs.declared.looks.Look.{Look}
 use Rattle.index_run.specs.Looked.{AllLooked, number_of_looked}
 use Rattle.index_run.specs.Looks.{IsLookedBy, IsLookedDue, LooksOn, NoneIsDue, RiseBetween}
 use Rattle.index_run.specs.declared.looks.Looked.{Looked}
+use Rattle.index_run.proofs.CommitLines.{zip_says}
 
 -- ---- numbers that rise
 
@@ -39,6 +40,18 @@ looks_up lawful told looks old new from to most on le = record {
   new_is = on.new_is;
   each = on.each;
   rise = rise_up from to most (map number_of_looked on.more) on.rise le;
+}
+
+-- what was shown for fewer tasks is shown for more
+pub looks_later : (lawful : Commit → Type 0) (told more : ℕ) (looks : List Look) (old new : List Looked) (from to : ℕ)
+    → told ≤ more → LooksOn lawful told looks old new from to → LooksOn lawful more looks old new from to
+looks_later lawful told more looks old new from to le on = record {
+  more = on.more;
+  new_is = on.new_is;
+  each =
+      zip_says (IsLookedDue lawful told) (IsLookedDue lawful more) (take (length on.more) (drop (length old) looks)) on.more
+      (λ k x is. (is.0, let due = is.1 in omega (arith, due, le))) on.each;
+  rise = on.rise;
 }
 
 -- one look line more

@@ -2,7 +2,7 @@
 use Rattle.std.proofs.Common.{◌≡◌, ◌∙◌, ◌⊎◌, inl, inr, ℕ, ◌+◌, ◌<◌, ◌≤◌, ◌%◌, ◌==◌, Bool, true, false, List, [], ◌∷◌, ◌++◌, length, refl, ap, subst, arith}
 use Rattle.std.specs.Prelude.{◌||◌, Option, if◌then◌else◌}
 use Rattle.std.specs.Global.{Vec}
-use Rattle.std.specs.List.{AllZip, Any, list_any}
+use Rattle.std.specs.List.{AllByRecursion, Any, list_any}
 use Rattle.std.proofs.lemmas.Bool.{cases_lt}
 use Rattle.std.proofs.lemmas.List.{length-append}
 use Rattle.std.proofs.lemmas.List.Folds.{Any-from_list_any}
@@ -14,7 +14,7 @@ use Rattle.index_writer.specs.declared.state.State.{State}
 use Rattle.line_shares.specs.Looks.{AreLooks, AreLooksFrom, after_past, look_by, look_in, looks_from}
 use Rattle.line_shares.specs.declared.looks.Look.{Look}
 use Rattle.run_log.specs.Headline.{is_look}
-use Rattle.index_run.specs.Looked.{AllLooked, AreLooked, SomeLook}
+use Rattle.index_run.specs.Looked.{AllLooked, AreLooked, FewLooked, SomeLook}
 use Rattle.index_run.specs.declared.looks.Looked.{Looked}
 
 -- whether a line is a look line
@@ -68,8 +68,7 @@ asked_lines n lines looks are some = Any-from_list_any is_look_line lines (asked
 
 -- where a look line is left, some worker has one
 pub some_unlooked : (looks : List (Vec Look)) (looked : List (Vec Looked))
-    → AllZip (λ (v : Vec Look) (w : Vec Looked). length w.items ≤ length v.items) looks looked
-    → (AllLooked looks looked → ⊥) → SomeLook looks
+    → FewLooked looks looked → (AllLooked looks looked → ⊥) → SomeLook looks
 some_unlooked [] [] few not = absurd (not tt)
 some_unlooked [] (w ∷ ws) few not = absurd few
 some_unlooked (v ∷ vs) [] few not = absurd few
@@ -81,9 +80,17 @@ some_unlooked (v ∷ vs) (w ∷ ws) few not =
 
 -- none was shown more commits than it has look lines
 pub few_looked : (first : State) (start : Option Disk) (lines log : List Line) (looks : List (Vec Look)) (looked : List (Vec Looked))
-    → AreLooked first start lines log looks looked
-    → AllZip (λ (v : Vec Look) (w : Vec Looked). length w.items ≤ length v.items) looks looked
+    → AreLooked first start lines log looks looked → FewLooked looks looked
 few_looked first start lines log [] [] are = tt
 few_looked first start lines log [] (w ∷ ws) are = absurd are
 few_looked first start lines log (v ∷ vs) [] are = absurd are
 few_looked first start lines log (v ∷ vs) (w ∷ ws) are = (are.0.few, few_looked first start lines log vs ws are.1)
+
+-- none was, where none was shown any
+pub none_few : (looks : List (Vec Look)) (looked : List (Vec Looked)) → length looked ≡ length looks
+    → AllByRecursion (λ (w : Vec Looked). w.items ≡ []) looked → FewLooked looks looked
+none_few [] [] same none = tt
+none_few [] (w ∷ ws) same none = absurd (omega (arith, same))
+none_few (v ∷ vs) [] same none = absurd (omega (arith, same))
+none_few (v ∷ vs) (w ∷ ws) same none =
+    ((let empty = ap length none.0 in omega (arith, empty)), none_few vs ws (omega (arith, same)) none.1)

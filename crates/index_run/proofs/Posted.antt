@@ -1,6 +1,6 @@
 -- The last commit that was posted.
 use Rattle.std.proofs.Common.{◌≡◌, ◌∙◌, List, [], ◌∷◌, ◌++◌, ap, refl, subst, sym}
-use Rattle.std.specs.Prelude.{IfOk, IsSomeAnd, Option, Some, None, Result, Ok, Err, option_map}
+use Rattle.std.specs.Prelude.{IfOk, IfSome, IsSomeAnd, Option, Some, None, Result, Ok, Err, option_map}
 use Rattle.std.specs.Arc.{arc_value}
 use Rattle.std.specs.declared.sync.Arc.{Arc}
 use Rattle.std.specs.declared.alloc.Global.{Global}
@@ -23,3 +23,8 @@ pub some_as : (o : Option (Arc Commit Global)) (c : Commit) (P : Commit → Type
     → IsSomeAnd o (λ (x : Arc Commit Global). P (arc_value x))
 some_as None c P is holds = absurd cc
 some_as (Some x) c P is holds = (let same : arc_value x ≡ c = cc in subst P (sym same) holds)
+
+-- what is true is true of any that is there
+pub some_any : {A : Type 0} (o : Option A) (P : Type 0) → P → IfSome o (λ (x : A). P)
+some_any None P holds = tt
+some_any (Some x) P holds = holds

@@ -26,23 +26,12 @@ use Rattle.index_run.specs.Rounds.{companions_of, share_of}
 use Rattle.index_run.specs.declared.looks.Looked.{Looked}
 use Rattle.index_run.specs.declared.looks.Looker.{Looker}
 use Rattle.index_run.specs.declared.looks.Looking.{Looking}
-use Rattle.index_run.proofs.CommitLines.{zip_both, zip_says}
-use Rattle.index_run.proofs.Looking.{rise_both}
+use Rattle.index_run.proofs.CommitLines.{zip_both}
+use Rattle.index_run.proofs.LinedUp.{lined_pushed}
+use Rattle.index_run.proofs.Looking.{looks_later, rise_both}
 use Rattle.index_run.proofs.RoundLooks.{calm}
 
 -- ---- one worker's look lines, as it goes on
-
--- what was shown for fewer tasks is shown for more
-looks_later : (lawful : Commit → Type 0) (told more : ℕ) (looks : List Look) (old new : List Looked) (from to : ℕ)
-    → told ≤ more → LooksOn lawful told looks old new from to → LooksOn lawful more looks old new from to
-looks_later lawful told more looks old new from to le on = record {
-  more = on.more;
-  new_is = on.new_is;
-  each =
-      zip_says (IsLookedDue lawful told) (IsLookedDue lawful more) (take (length on.more) (drop (length old) looks)) on.more
-      (λ k x is. (is.0, let due = is.1 in omega (arith, due, le))) on.each;
-  rise = on.rise;
-}
 
 -- some look lines, and then further ones
 looks_join : (lawful : Commit → Type 0) (told : ℕ) (looks : List Look) (old mid new : List Looked) (from via to : ℕ)
@@ -212,15 +201,6 @@ module _ {L : Type 0} (lawful : Commit → Type 0) where
         (λ (d : Commit). (d.number ≡ info.number) × IsOfPending w now d)) (sym (some c refl)) beside)
 
 -- one worker more that came back
-lined_pushed : {L : Type 0} (vs : List (Vec Look)) (ws : List (Vec Looked)) (xs : List (Looker L)) (x : Looker L)
-    → AreLinedUp vs ws xs → AreLinedUp (vs ++ x.looks ∷ []) (ws ++ x.looked ∷ []) (xs ++ x ∷ [])
-lined_pushed {L} [] [] [] x are = (refl, refl, tt)
-lined_pushed {L} [] [] (y ∷ xs) x are = absurd are
-lined_pushed {L} [] (w ∷ ws) xs x are = absurd are
-lined_pushed {L} (v ∷ vs) [] xs x are = absurd are
-lined_pushed {L} (v ∷ vs) (w ∷ ws) [] x are = absurd are
-lined_pushed {L} (v ∷ vs) (w ∷ ws) (y ∷ xs) x are = (are.0, are.1, lined_pushed vs ws xs x are.2)
-
 pub lined_more : {L : Type 0} (vs us : List (Vec Look)) (ws zs : List (Vec Looked)) (xs : List (Worked (Looker L))) (one : Worked (Looker L))
     → AreLinedUp vs ws (companions_of xs) → us ≡ vs ++ one.companion.looks ∷ [] → zs ≡ ws ++ one.companion.looked ∷ []
     → AreLinedUp us zs (companions_of (xs ++ one ∷ []))

@@ -89,18 +89,22 @@ pub halted_cut : {S T : Type 0} (disk : S → Option Disk) (r : Run) (lines : Li
 halted_cut {S} {T} disk r lines writer fault ran is cut =
     subst (λ (x : Ran S T). IfErr x.came (λ why. IsCut r lines why (disk x.writer.store))) (sym is) cut
 
+-- there is one error
+pub one_error : {T E : Type 0} (r : Result T E) (a b : E) → r ≡ Err a → r ≡ Err b → a ≡ b
+one_error {T} {E} r a b first second = cc
+
 -- what a run stopped for is what was told of it
 pub halted_for : {S T U : Type 0} (writer : IndexWriter S) (fault why : RanFault) (ran : Ran S T) (came : Result U RanFault)
     → came ≡ Err fault → ran ≡ record { writer = writer; came = Err fault } → ran.came ≡ Err why → came ≡ Err why
 halted_for {S} {T} {U} writer fault why ran came is halted told =
-    let both : Err {T = T} fault ≡ Err why = sym (ap (λ (x : Ran S T). x.came) halted) ∙ told in
-    let same : fault ≡ why = cc in is ∙ ap Err same
+    let same : fault ≡ why = one_error ran.came fault why (ap (λ (x : Ran S T). x.came) halted) told in is ∙ ap Err same
 
 -- one that stopped by a fault of its writer found no commit broken
 pub stopped_for : {S T : Type 0} (writer : IndexWriter S) (fault : WriterFault) (damaged : Damaged) (ran : Ran S T)
     → ran ≡ record { writer = writer; came = Err (halt.Writer fault) } → ran.came ≡ Err (halt.Unread damaged) → ⊥
 stopped_for {S} {T} writer fault damaged ran stopped told =
-    let both : Err {T = T} (halt.Writer fault) ≡ Err (halt.Unread damaged) = sym (ap (λ (x : Ran S T). x.came) stopped) ∙ told in cc
+    let same : halt.Writer fault ≡ halt.Unread damaged =
+    one_error ran.came (halt.Writer fault) (halt.Unread damaged) (ap (λ (x : Ran S T). x.came) stopped) told in cc
 
 -- a run keeps as many commits as it keeps
 pub keeps_own : (keep : Option ℕ) (r : Run) → r.keep ≡ keep → KeepsBy keep r

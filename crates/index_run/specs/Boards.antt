@@ -99,6 +99,11 @@ abbrev pub CanShow : (Commit → Type 0) → State → Option Disk → Posting �
 CanShow lawful w now p = (waiting_on p ≡ []) × IfSome w.pending (λ (s : ℕ). top_of (posted_on p) ≤ s)
     × ((c : Commit) → IsOfPending w now c → lawful c)
 
+-- The commit that was written is the one that was pending: what is read of it from then on is of the writer's rows.
+pub record IsWrittenOf (w : State) (before now : Option Disk) (info : CommitInfo) : Type 0 where
+  pub number_is : w.pending ≡ Some info.number
+  pub is_read : (c : Commit) → c.number ≡ info.number → IsRead now c → IsOfPending w before c
+
 -- the commit that was shown beside a round: the one that was pending, if one was written
 abbrev pub IsShownBeside : State → Option Disk → Option CommitInfo → Option Commit → Type 0
 IsShownBeside w now None newest = newest ≡ None

@@ -53,6 +53,10 @@ AreLooked first start lines log looks looked =
 abbrev pub AllLooked : List (Vec Look) → List (Vec Looked) → Type 0
 AllLooked looks looked = AllZip (λ (v : Vec Look) (w : Vec Looked). length w.items ≡ length v.items) looks looked
 
+-- no worker was shown more commits than it has look lines
+abbrev pub FewLooked : List (Vec Look) → List (Vec Looked) → Type 0
+FewLooked looks looked = AllZip (λ (v : Vec Look) (w : Vec Looked). length w.items ≤ length v.items) looks looked
+
 -- some worker has a look line
 abbrev pub SomeLook : List (Vec Look) → Type 0
 SomeLook [] = ⊥

@@ -14,10 +14,10 @@ ghost use Rattle.commit_board.specs.Board.{seen_by};
 ghost use Rattle.commit_board.specs.Commits.{top_of};
 ghost use Rattle.commit_board.specs.Posting.{begun_with, posted_on, waiting_on};
 ghost use Rattle.index_run.specs.Boards.{AreLinedUp, AreLookedAt, HaveNoWatcher, HaveWatchers, IsBegun, IsLookingAtFirst};
-ghost use Rattle.index_run.specs.Looked.{AllLooked, SomeLook};
+ghost use Rattle.index_run.specs.Looked.{AllLooked, FewLooked, SomeLook};
 ghost use Rattle.index_run.specs.Looks.{IsRead};
 
-use crate::looks::{Looked, Looker, Looking, look_on, nothing_looked};
+use crate::looks::{Looked, Looker, Looking, look_to_end, nothing_looked};
 use crate::rounds::RanFault;
 use commit_board::{Board, BoardLaw, Commit, Poster, Watcher};
 use commit_point::OpenFault;
@@ -199,12 +199,16 @@ fn line_up<L: BoardLaw>(
     ensures none { IfOk result (λ all. HaveNoWatcher all.items) }
 {
     let mut lookers = Vec::with_capacity(alloc, looks.len())?;
-    for (looks, looked) in looks.into_iter().zip(looked) {
+    let mut looked = looked.into_iter();
+    for own in looks {
+        let Some(shown) = looked.next() else {
+            unreachable!()
+        };
         lookers.push(Looker {
             alloc,
             watcher: None,
-            looks,
-            looked,
+            looks: own,
+            looked: shown,
             short: false,
         })?;
     }
@@ -216,8 +220,9 @@ fn hand_out<L: BoardLaw>(lookers: &mut [Looker<L>], watchers: Vec<Watcher<L>>)
     requires { length watchers.items ≡ length lookers.old }
     ensures { HaveWatchers watchers.items lookers.old lookers.new }
 {
-    for (at, watcher) in watchers.into_iter().enumerate() {
-        lookers[at].watcher = Some(watcher);
+    let mut watchers = watchers.into_iter();
+    for looker in lookers.iter_mut() {
+        looker.watcher = watchers.next();
     }
 }
 
@@ -294,7 +299,8 @@ pub fn look_last<L: BoardLaw, R: Wait>(
         ⊎ IfSome looking.newest (λ c. L.lawful (arc_value c)) }
     ensures looked { IfOk result (λ all. AreLookedAt L.lawful
         (top_of (begun_with looking.newest)) looking.looks.items looking.looked.items all.items) }
-    ensures all { IfOk result (λ all. AllLooked looking.looks.items all.items) }
+    ensures all { FewLooked looking.looks.items looking.looked.items
+        → IfOk result (λ all. AllLooked looking.looks.items all.items) }
 {
     if looking.is_over() {
         return Ok(looking.looked);
@@ -326,11 +332,11 @@ fn look_at_all<L: BoardLaw>(
     requires count { length looked.old ≡ length looks.now }
     ensures looked { OnOk result (AreLookedAt L.lawful (top_of (seen_by watcher.old)) looks.now
         looked.old looked.new) }
-    ensures all { OnOk result (AllLooked looks.now looked.new) }
+    ensures all { FewLooked looks.now looked.old → OnOk result (AllLooked looks.now looked.new) }
 {
     for at in 0..looks.len() {
         let own = looks[at].as_slice();
-        look_on(alloc, watcher, own, &mut looked[at], usize::MAX)?;
+        look_to_end(alloc, watcher, own, &mut looked[at])?;
     }
     Ok(())
 }

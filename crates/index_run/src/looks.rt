@@ -1,5 +1,5 @@
 //! Look lines, answered by a worker between its tasks, from what it is shown on the board of the round.
-ghost use Rattle.std.specs.Prelude.{◌≡◌, ◌≤◌, ◌↔◌, [], length, IfOk, IsTrue, OnOk};
+ghost use Rattle.std.specs.Prelude.{◌≡◌, ◌≤◌, ◌↔◌, [], ℕ, length, IfOk, IsTrue, OnOk};
 ghost use Rattle.std.specs.List.{AllByRecursion};
 ghost use Rattle.commit_board.specs.Board.{seen_by};
 ghost use Rattle.commit_board.specs.Commits.{top_of};
@@ -96,6 +96,26 @@ pub fn look_on<L: BoardLaw>(
         if next.after > told {
             return Ok(());
         }
+        let shown = look(alloc, watcher, next)?;
+        looked.push(shown)?;
+    }
+    Ok(())
+}
+
+/// Answers the look lines of a worker that are left. The only error is out of memory.
+pub fn look_to_end<L: BoardLaw>(
+    alloc: Global,
+    watcher: &mut Watcher<L>,
+    looks: &[Look],
+    looked: &mut Vec<Looked>,
+) -> Result<(), NoMemory>
+    ensures on { (told : ℕ) × LooksOn L.lawful told looks.now looked.old.items looked.new.items
+        (top_of (seen_by watcher.old)) (top_of (seen_by watcher.new)) }
+    ensures all { length looked.old.items ≤ length looks.now
+        → OnOk result (length looked.new.items ≡ length looks.now) }
+{
+    for at in looked.len()..looks.len() {
+        let next = &looks[at];
         let shown = look(alloc, watcher, next)?;
         looked.push(shown)?;
     }

@@ -21,7 +21,7 @@ ghost use Rattle.round_work.specs.Working.{AreAtWork};
 ghost use Rattle.commit_board.specs.Commits.{top_of};
 ghost use Rattle.commit_board.specs.Posting.{begun_with};
 ghost use Rattle.line_shares.specs.Looks.{AreLooks};
-ghost use Rattle.index_run.specs.Boards.{AreLinedUp, AreLookedOn, CanShow, ComesBack, IsNewestBeside, IsShownBeside, Prunes};
+ghost use Rattle.index_run.specs.Boards.{AreLinedUp, AreLookedOn, CanShow, ComesBack, IsNewestBeside, IsShownBeside, IsWrittenOf, Prunes};
 ghost use Rattle.index_run.specs.Looked.{AllLooked};
 ghost use Rattle.index_run.specs.Looks.{IsLooking, IsOfRound};
 ghost use Rattle.index_run.specs.Rounds.{AllCame, companions_of, gave_of, given, pieces_of, share_of, writers_of};
@@ -308,6 +308,8 @@ pub fn write_pending<S: Store>(
     ensures pending { WritesPending S.disk None due.now writer result }
     ensures last { IfOk result.came (λ commit. IfSome commit (λ info.
         result.writer.state.last ≡ info.number)) }
+    ensures made { IfOk result.came (λ commit. IfSome commit (λ info.
+        IsWrittenOf writer.state (S.disk writer.store) (S.disk result.writer.store) info)) }
     ensures read { (damaged : Damaged) → result.came ≡ Err (RanFault.Unread damaged) → ⊥ }
     ensures closed { result.came ≡ Err (RanFault.Writer WriterFault.Closed) → ⊥ }
     ensures later { S.fault_count writer.store ≤ S.fault_count result.writer.store }

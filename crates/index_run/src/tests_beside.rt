@@ -149,15 +149,17 @@ fn commit_beside_round(rt: HostRuntime) -> Result<(), Fail> {
 }
 
 /// Sixteen callers, each by a worker of its own, over a store whose syncs take long: 320 lines, in which
-/// 32 commits end their rounds. The report is the one that is folded from its numbers.
+/// 32 commits end their rounds, and looks stand before and behind each. The report is the one that is
+/// folded from its numbers and what the looks were shown.
 #[test]
 fn sixteen_beside_slow_syncs(rt: HostRuntime) -> Result<(), Fail> {
-    let lines = lines_of(rt.alloc(), 16, 320, "aaaa3aacsa")?;
+    let lines = lines_of(rt.alloc(), 16, 320, "alaa3aacsl")?;
     let options = Options {
         case: 16,
         threads: 16,
         buffer: 3,
         merge: 2,
+        keep: None,
     };
     let nothing = Kept {
         number: 0,

@@ -4,11 +4,28 @@ use crate::tests::{Done, EVERYTHING, Outside, run};
 use ix_memory::MemoryStore;
 use ix_outside::Store;
 use plain_fold::{
-    Draws, Kept, Leaf, Line, Options, Query, answer_text, compare, compare_numbers, last_commit,
-    numbers_in, report_of, script_of,
+    Draws, Kept, Leaf, Line, Options, Query, answer_text, compare, compare_numbers, compare_shown,
+    last_commit, numbers_in, report_of, script_of, shown_in,
 };
 use std::alloc::Global;
+use std::fmt::Write;
 use std::test::*;
+
+/// Compares what the look lines were shown with what they may be shown, and the report of a run with the
+/// one that is folded from that and from its numbers.
+fn check_shown(
+    alloc: Global,
+    case: u64,
+    lines: &[Line],
+    begun: &Kept,
+    numbers: &[u64],
+    report: &str,
+) -> Result<(), Fail> {
+    let shown = shown_in(alloc, report)?;
+    compare_shown(case, begun, lines, numbers, shown.as_slice())?;
+    let wanted = report_of(alloc, begun, lines, numbers, shown.as_slice())?;
+    compare(case, report, wanted.as_str())
+}
 
 /// Compares the report of a run with the one that is folded from its numbers. Returns the last commit
 /// after it.
@@ -21,9 +38,25 @@ fn check_report(
 ) -> Result<Kept, Fail> {
     let numbers = numbers_in(alloc, report)?;
     compare_numbers(options, begun, lines, numbers.as_slice())?;
-    let wanted = report_of(alloc, begun, lines, numbers.as_slice())?;
-    compare(options.case, report, wanted.as_str())?;
+    check_shown(
+        alloc,
+        options.case,
+        lines,
+        begun,
+        numbers.as_slice(),
+        report,
+    )?;
     last_commit(alloc, begun, lines, numbers.as_slice())
+}
+
+/// The words of a run by these options.
+fn words_of(alloc: Global, options: Options) -> Result<String, Fail> {
+    let (threads, buffer, merge) = (options.threads, options.buffer, options.merge);
+    let mut words = format!(in alloc; "run --threads={threads} --buffer={buffer} --merge={merge}")?;
+    if let Some(keep) = options.keep {
+        write!(words, " --keep={keep}")?;
+    }
+    Ok(words)
 }
 
 /// Runs the lines over the store by these options.
@@ -33,10 +66,7 @@ fn run_lines<R: Outside, S: Store>(
     lines: &[Line],
     store: S,
 ) -> Result<Done<S>, Fail> {
-    let (threads, buffer, merge) = (options.threads, options.buffer, options.merge);
-    let words = format!(in rt.alloc();
-        "run --threads={threads} --buffer={buffer} --merge={merge}"
-    )?;
+    let words = words_of(rt.alloc(), options)?;
     let script = script_of(rt.alloc(), lines)?;
     Ok(run(rt, words.as_str(), script.as_bytes(), store)?)
 }

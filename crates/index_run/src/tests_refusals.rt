@@ -18,9 +18,18 @@ enum Refused {
     Write,
     /// A call of the store, in a second run.
     Store,
+    /// The same, in one that looks before its commit and behind it.
+    Look,
     /// A call of the store, where a question is asked.
     Question,
 }
+
+/// Another document and a commit, between two looks.
+const LOOKED: &str = r#"{"c":0,"op":"look","query":"all"}
+{"c":0,"op":"add","doc":{"key":"a2"}}
+{"c":0,"op":"commit"}
+{"c":0,"op":"look","query":"all"}
+"#;
 
 const NO_SOURCE: &str = "{\"status\":5,\"why\":\"source\"}\n";
 
@@ -49,6 +58,7 @@ fn refuse<R: Outside>(rt: &R, what: Refused, number: u64) -> Result<Done<MemoryS
         Refused::Read => return run_failing(rt, calls, Vec::new(rt.alloc())),
         Refused::Write => return run_failing(rt, Vec::new(rt.alloc()), calls),
         Refused::Store => ("run --threads 1", SECOND),
+        Refused::Look => ("run --threads 1", LOOKED),
         Refused::Question => ("ask", EVERYTHING),
     };
     Ok(run(
@@ -64,7 +74,7 @@ fn is_told<R: Outside>(rt: &R, what: Refused, done: Done<MemoryStore>) -> Result
     match what {
         Refused::Read => Ok(ended(rt, done, 5, NO_SOURCE).list(rt.alloc())?.is_empty()),
         Refused::Write => is_written(rt, done),
-        Refused::Store => is_whole(rt, ended(rt, done, 7, NO_STORE)),
+        Refused::Store | Refused::Look => is_whole(rt, ended(rt, done, 7, NO_STORE)),
         Refused::Question => Ok(files_beside(rt, &mut ended(rt, done, 7, NO_STORE))? == Some(5)),
     }
 }
@@ -117,13 +127,14 @@ fn first_free<R: Outside>(rt: &R, what: Refused) -> Result<u64, Fail> {
 }
 
 /// Each call in turn. A run reads until the source has ended; the second run lists the store, reads five
-/// files and makes twelve calls for its commit, before it reads that; a question takes the list and the
-/// reads of five files.
+/// files and makes twelve calls for its commit, before it reads that; one that looks reads five files more,
+/// for the commit that it is shown first; a question takes the list and the reads of five files.
 #[test]
 fn each_call_is_refused(rt: HostRuntime) -> Result<(), Fail> {
     assert!(rt; first_free(&rt, Refused::Read)? > 2);
     assert!(rt; first_free(&rt, Refused::Write)? > 1);
     assert!(rt; first_free(&rt, Refused::Store)? > 6 + 12);
+    assert!(rt; first_free(&rt, Refused::Look)? > 6 + 5 + 12);
     assert!(rt; first_free(&rt, Refused::Question)? == 6 + 1);
     Ok(())
 }

@@ -18,9 +18,12 @@ use std::test::*;
 /// A search for all documents.
 const ALL: Act = Act::Search(Query::One(Leaf::All));
 
+/// A look for all documents.
+const LOOK: Act = Act::Look(Query::One(Leaf::All));
+
 /// The lines of so many callers in turn: at each turn each of them does what its letter says, over and over.
-/// It adds a document (`a`), commits (`c`), searches for all (`s`), or deletes the document of a key that is
-/// so far ahead (a digit). There are three keys for each caller.
+/// It adds a document (`a`), commits (`c`), searches for all (`s`), looks for all (`l`), or deletes the
+/// document of a key that is so far ahead (a digit). There are three keys for each caller.
 pub(crate) fn lines_of(
     alloc: Global,
     callers: u64,
@@ -42,6 +45,7 @@ pub(crate) fn lines_of(
             b'a' => Act::Add(document_of(at % keys)),
             b'c' => Act::Commit,
             b's' => ALL,
+            b'l' => LOOK,
             digit => Act::Delete(Term::Key(at.saturating_add(u64::from(digit & 15)) % keys)),
         };
         lines.push(Line { caller, act })?;
@@ -50,13 +54,14 @@ pub(crate) fn lines_of(
 }
 
 /// Runs the lines by so many threads over an empty store, and compares the report with the one that
-/// is folded from its numbers.
-fn check<R: Outside>(rt: &R, threads: u64, lines: &[Line]) -> Result<(), Fail> {
+/// is folded from its numbers. So many commits are kept, or all.
+fn check<R: Outside>(rt: &R, threads: u64, keep: Option<u64>, lines: &[Line]) -> Result<(), Fail> {
     let options = Options {
         case: threads,
         threads,
         buffer: 3,
         merge: 2,
+        keep,
     };
     let nothing = Kept {
         number: 0,
@@ -82,18 +87,31 @@ fn two_callers(rt: HostRuntime) -> Result<(), Fail> {
     ];
     let lines = acts.map(|(caller, act)| Line { caller, act });
     for threads in [1, 2, 4] {
-        check(&rt, threads, &lines)?;
+        check(&rt, threads, None, &lines)?;
     }
     Ok(())
 }
 
-/// Six callers, which add, delete each other's documents, commit and search, with 1, 2, 4 and 16
+/// Six callers, which add, delete each other's documents, look, commit and search, with 1, 2, 4 and 16
 /// threads: 240 lines in which 24 commits end their rounds.
 #[test]
 fn six_callers(rt: HostRuntime) -> Result<(), Fail> {
-    let lines = lines_of(rt.alloc(), 6, 240, "aaa1aaa5cs")?;
+    let lines = lines_of(rt.alloc(), 6, 240, "aal1ala5cs")?;
     for threads in [1, 2, 4, 16] {
-        check(&rt, threads, lines.as_slice())?;
+        check(&rt, threads, None, lines.as_slice())?;
+    }
+    Ok(())
+}
+
+/// Three callers, of which each looks before and behind each of its six commits, where all are kept, and
+/// where only one or two are.
+#[test]
+fn looks_beside_commits(rt: HostRuntime) -> Result<(), Fail> {
+    let lines = lines_of(rt.alloc(), 3, 90, "lalcl")?;
+    for keep in [None, Some(1), Some(2)] {
+        for threads in [1, 2, 3] {
+            check(&rt, threads, keep, lines.as_slice())?;
+        }
     }
     Ok(())
 }

@@ -112,7 +112,7 @@ impl Draws {
 
     /// Adds in two of five, some of them blocks, and each other operation often enough.
     fn act(&mut self) -> Act {
-        match self.below(22) {
+        match self.below(26) {
             0..7 => Act::Add(self.document()),
             7..9 => Act::AddBlock(self.block()),
             9..11 => Act::Update(self.term(), self.document()),
@@ -123,7 +123,9 @@ impl Draws {
             15 => Act::SetRank(self.term(), self.value()),
             16..18 => Act::Commit,
             18 => Act::Search(Query::One(Leaf::All)),
-            _ => Act::Search(self.query()),
+            19..22 => Act::Search(self.query()),
+            22..24 => Act::Look(Query::One(Leaf::All)),
+            _ => Act::Look(self.query()),
         }
     }
 
@@ -140,7 +142,7 @@ impl Draws {
         Ok(lines)
     }
 
-    /// Options, with one of these numbers of threads.
+    /// Options, with one of these numbers of threads. All commits are kept.
     pub fn options(&mut self, case: u64, threads: &[u64]) -> Options {
         let choice = self.below(threads.len().max(1) as u64) as usize;
         Options {
@@ -148,6 +150,7 @@ impl Draws {
             threads: threads.get(choice).copied().unwrap_or(1),
             buffer: [1, 2, 3, 1000][self.below(4) as usize % 4],
             merge: [2, 3, 8][self.below(3) as usize % 3],
+            keep: None,
         }
     }
 }

@@ -1,6 +1,7 @@
 //! What lines leave and report, on a plain list of documents, for tests: slow and short, with nothing of
-//! what the program is made of. The numbers of the lines are read off the run's own report, since they
-//! may differ from run to run; all else in the report follows from them.
+//! what the program is made of. The numbers of the lines, and those of the commits that look lines were
+//! shown, are read off the run's own report; all else in the report follows from them.
+use crate::numbers::{last_commits, place_of};
 use crate::script::{
     Act, Block, Document, Leaf, Line, Query, Term, next_document, phrase_sought, put_numbers,
     word_sought, words_of,
@@ -18,13 +19,14 @@ pub struct Kept {
     pub documents: Vec<Document>,
 }
 
-/// How the lines are run. The case is named where something differs.
+/// How the lines are run. The case is named where something differs. Only so many commits are kept, or all.
 #[derive(Clone, Copy)]
 pub struct Options {
     pub case: u64,
     pub threads: u64,
     pub buffer: u64,
     pub merge: u64,
+    pub keep: Option<u64>,
 }
 
 fn has_term(document: &Document, term: Term) -> bool {
@@ -134,79 +136,9 @@ fn do_act(documents: &mut Vec<Document>, act: Act) -> Result<(), NoMemory> {
         Act::DeleteQuery(query) => remove_hits(documents, query),
         Act::SetPrice(term, value) => set_price(documents, term, value),
         Act::SetRank(term, value) => set_rank(documents, term, value),
-        Act::Commit | Act::Search(_) => {}
+        Act::Commit | Act::Search(_) | Act::Look(_) => {}
     }
     Ok(())
-}
-
-/// The number behind `"seq":` in a line of a report, or 0 where there is none.
-fn number_in(line: &str) -> u64 {
-    let mut number = 0u64;
-    if let Some((_, behind)) = line.split_once("\"seq\":") {
-        for byte in behind.as_bytes() {
-            if byte.is_ascii_digit() {
-                number = number
-                    .wrapping_mul(10)
-                    .wrapping_add(u64::from(*byte - b'0'));
-            }
-        }
-    }
-    number
-}
-
-/// The number that each line of a report has.
-pub fn numbers_in(alloc: Global, report: &str) -> Result<Vec<u64>, NoMemory> {
-    let mut numbers = Vec::new(alloc);
-    for line in report.lines() {
-        numbers.push(number_in(line))?;
-    }
-    Ok(numbers)
-}
-
-/// The place of the only line that has this number.
-pub fn place_of(numbers: &[u64], number: u64) -> Option<usize> {
-    let mut found = None;
-    for (place, one) in numbers.iter().enumerate() {
-        if *one == number {
-            if found.is_some() {
-                return None;
-            }
-            found = Some(place);
-        }
-    }
-    found
-}
-
-/// Whether the lines but searches have the numbers that follow this one, each once, and in the order of
-/// the lines where that is asked for.
-fn follow(lines: &[Line], numbers: &[u64], base: u64, in_order: bool) -> bool {
-    let mut number = base;
-    for (place, line) in lines.iter().enumerate() {
-        if let Act::Search(_) = line.act {
-            continue;
-        }
-        number = number.wrapping_add(1);
-        match place_of(numbers, number) {
-            Some(found) if found == place || !in_order => {}
-            _ => return false,
-        }
-    }
-    true
-}
-
-/// Whether the numbers rise along the lines of each caller.
-fn rise(lines: &[Line], numbers: &[u64]) -> bool {
-    let mut last = [0u64; 16];
-    for (line, number) in lines.iter().zip(numbers.iter()) {
-        let caller = (line.caller % 16) as usize;
-        if *number != 0 {
-            if *number <= last[caller] {
-                return false;
-            }
-            last[caller] = *number;
-        }
-    }
-    true
 }
 
 /// The documents that the lines numbered up to this leave of those that the run began on.
@@ -226,18 +158,20 @@ fn documents_at(
     Ok(documents)
 }
 
-/// The number of the last commit that the caller made before this place, or that of the one that the run
-/// began on.
-fn commit_seen(begun: &Kept, lines: &[Line], numbers: &[u64], place: usize, caller: u64) -> u64 {
-    let mut seen = begun.number;
-    for (line, number) in lines.iter().zip(numbers.iter()).take(place) {
-        if line.caller == caller {
-            if let Act::Commit = line.act {
-                seen = *number;
-            }
-        }
+/// The number of the commit in which the line at this place searches, its caller's last one, or which it
+/// was shown.
+fn commit_seen(
+    begun: &Kept,
+    lines: &[Line],
+    numbers: &[u64],
+    shown: &[u64],
+    place: usize,
+    line: &Line,
+) -> u64 {
+    match line.act {
+        Act::Look(_) => shown.get(place).copied().unwrap_or(begun.number),
+        _ => last_commits(begun, lines, numbers, place, line.caller)[0],
     }
-    seen
 }
 
 /// Appends the documents that match, as a report lists them.
@@ -276,12 +210,14 @@ pub fn answer_text(
     Ok(text)
 }
 
-/// The report of these lines, by the numbers that they have.
+/// The report of these lines, by the numbers that they have and those of the commits that look lines were
+/// shown.
 pub fn report_of(
     alloc: Global,
     begun: &Kept,
     lines: &[Line],
     numbers: &[u64],
+    shown: &[u64],
 ) -> Result<String, Fail> {
     let mut report = String::new(alloc);
     for (place, line) in lines.iter().enumerate() {
@@ -292,8 +228,8 @@ pub fn report_of(
                 let docs = documents_at(alloc, begun, lines, numbers, seq)?.len();
                 writeln!(report, "{{\"docs\":{docs},\"line\":{at},\"seq\":{seq}}}")?;
             }
-            Act::Search(query) => {
-                let number = commit_seen(begun, lines, numbers, place, line.caller);
+            Act::Search(query) | Act::Look(query) => {
+                let number = commit_seen(begun, lines, numbers, shown, place, line);
                 let documents = documents_at(alloc, begun, lines, numbers, number)?;
                 let commit = Kept { number, documents };
                 put_answer(&mut report, &commit, query, at)?;
@@ -334,21 +270,4 @@ pub fn compare(case: u64, text: &str, wanted: &str) -> Result<(), Fail> {
         }
     }
     Err(Fail::new(format_args!("case {case}: lines are missing")))
-}
-
-/// Fails where the numbers aren't those that the lines may get.
-pub fn compare_numbers(
-    options: Options,
-    begun: &Kept,
-    lines: &[Line],
-    numbers: &[u64],
-) -> Result<(), Fail> {
-    let case = options.case;
-    if !follow(lines, numbers, begun.number, options.threads == 1) {
-        return Err(Fail::new(format_args!("case {case}: other numbers")));
-    }
-    if !rise(lines, numbers) {
-        return Err(Fail::new(format_args!("case {case}: numbers of a caller that fall")));
-    }
-    Ok(())
 }

@@ -106,6 +106,7 @@ pub enum Act {
     SetRank(Term, i64),
     Commit,
     Search(Query),
+    Look(Query),
 }
 
 /// A line of a script, with its caller.
@@ -303,6 +304,10 @@ fn put_act(out: &mut String, act: Act) -> Result<(), NoMemory> {
         Act::Commit => out.push_str("\"op\":\"commit\"")?,
         Act::Search(query) => {
             out.push_str("\"op\":\"search\",\"query\":")?;
+            put_query(out, query)?;
+        }
+        Act::Look(query) => {
+            out.push_str("\"op\":\"look\",\"query\":")?;
             put_query(out, query)?;
         }
     }

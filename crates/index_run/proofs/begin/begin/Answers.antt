@@ -42,7 +42,8 @@ returns-in-Ok-open-clause-latest g c =
 pub returns-in_default-clause-latest : goal.returns-in_default-clause-latest
 returns-in_default-clause-latest g c =
     let told = told_files (g.S.Store.disk c.args.store) in
-    search (latest_none told c.args.buffer c.args.merge c.none.result.state, c.in-Ok.ensures.found, c.none.ensures.state, rules)
+    let found : IsOpened told None = subst (IsOpened told) c.in_default.is c.in-Ok.ensures.found in
+    latest_none told c.args.buffer c.args.merge c.none.result.state found c.none.ensures.state
 
 pub returns-in_default-clause-begins : goal.returns-in_default-clause-begins
 returns-in_default-clause-begins g c =

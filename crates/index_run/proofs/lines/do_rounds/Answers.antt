@@ -14,7 +14,7 @@ use Rattle.commit_board.specs.Posting.{begun_with}
 use Rattle.commit_board.specs.declared.commit.Commit.{Commit}
 use Rattle.commit_point.specs.Holds.{HasSegments}
 use Rattle.index_run.specs.Boards.{AreLookedAt, IsLookingAtFirst}
-use Rattle.index_run.specs.Looked.{AllLooked}
+use Rattle.index_run.specs.Looked.{AllLooked, FewLooked}
 use Rattle.index_run.specs.Driving.{IsCut, IsUnderWay, base_of}
 use Rattle.index_run.specs.Looks.{IsLooking}
 use Rattle.index_run.specs.Rounds.{doing_lines, given}
@@ -217,10 +217,13 @@ returns-clause-looked g c =
     let q = c.requires.begins in
     let far = at.invariant.come q.0 q.1 q.2 q.3 in
     let looked = c.in-Ok-look_last.looked in
+    let few : FewLooked at.looking.looks.items at.looking.looked.items =
+    subst (λ (ls : List (Vec Look)). FewLooked ls at.looking.looked.items) (sym far.1.looks_are)
+    (few_looked q.0.first q.0.start q.1 far.0.log c.args.looks.items at.looking.looked.items far.1.looked) in
     looked_all c.write_last.result.came
     (record { shares = at.shares; commits = at.commits; texts = at.texts; looked = looked; count = at.count })
     c.args.looks.items c.write_last.ensures.same
-    (subst (λ (ls : List (Vec Look)). AllLooked ls looked.items) far.1.looks_are c.in-Ok-look_last.ensures.all)
+    (subst (λ (ls : List (Vec Look)). AllLooked ls looked.items) far.1.looks_are (c.in-Ok-look_last.ensures.all few))
 
 pub returns-clause-few : goal.returns-clause-few
 returns-clause-few g c = λ lines are.

@@ -9,7 +9,7 @@ use Rattle.index_run.specs.Driving.{EndsRound, GoesOnBy, IsCut, IsRound}
 use Rattle.index_run.specs.Rounds.{given}
 use Rattle.index_run.specs.declared.rounds.RanFault.TheVariants as halt
 use Rattle.index_run.proofs.Coming.{come_begun, goes_on, round_done}
-use Rattle.index_run.proofs.Rounding.{cut_done, halted_cut, on_fault, on_ok, stopped_cut}
+use Rattle.index_run.proofs.Rounding.{cut_done, halted_cut, halted_for, on_fault, on_ok, stopped_cut, stopped_for}
 use Rattle.index_run.proofs.RoundLooks.{behind_count, looking_on, top_first}
 use Rattle.index_run.proofs.Workers.{all_go_on, at_work, fewer_open}
 use Rattle.index_run.proofs.rounds.do_round.Goals as goal
@@ -207,3 +207,20 @@ returns-in-Ok-finish_round-clause-looking g c = λ r lines log commits size are 
     looking_on r c.args.threads lines shares news log commits c.in-Ok-came.commit c.args.due c.in-Ok-finish_round.due v.state mid.state
     end.state (g.S.Store.disk v.store) (g.S.Store.disk mid.store) (g.S.Store.disk end.store) c.args.looking.looks.items
     c.args.looking c.in-Ok-back.came.looking size.0 go begun next none on are looking shown.0 shown.1 newest
+
+pub returns-in-Err-clause-asked : goal.returns-in-Err-clause-asked
+returns-in-Err-clause-asked g c = λ damaged told all. stopped_for _ _ damaged _ c.stopped.ensures told
+
+pub returns-in-Err-told_counts-clause-asked : goal.returns-in-Err-told_counts-clause-asked
+returns-in-Err-told_counts-clause-asked g c = λ damaged told all.
+    stopped_for _ _ damaged _ c.stopped-in-Err-told_counts.ensures told
+
+pub returns-in-Err-came-clause-asked : goal.returns-in-Err-came-clause-asked
+returns-in-Err-came-clause-asked g c = λ damaged told all.
+    c.work-writer.ensures.asked damaged (halted_for _ _ _ _ _ c.in-Err-came.is c.halted.ensures told) all
+
+pub returns-in-Err-back-clause-asked : goal.returns-in-Err-back-clause-asked
+returns-in-Err-back-clause-asked g c = λ damaged told all. stopped_for _ _ damaged _ c.stopped-in-Err-back.ensures told
+
+pub returns-clause-asked : goal.returns-clause-asked
+returns-clause-asked g c = λ damaged told all. stopped_for _ _ damaged _ c.stopped-in-Err-finish_round.ensures told

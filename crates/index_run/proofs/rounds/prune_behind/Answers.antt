@@ -7,6 +7,7 @@ use Rattle.index_run.proofs.DiskAfter.{same_stored}
 use Rattle.index_run.proofs.DiskPruned.{GivesUp}
 use Rattle.index_run.proofs.GivingUp.{come_pruned, cut_pruned, finds_broken, open_still, same_open}
 use Rattle.index_run.proofs.OneLeft.{EndsPrune}
+use Rattle.index_run.proofs.WrittenBeside.{halted_unread, pruned_unread}
 use Rattle.index_run.proofs.rounds.prune_behind.Goals as goal
 
 pub returns-in-Ok-clause-pruned : goal.returns-in-Ok-clause-pruned
@@ -81,3 +82,7 @@ returns-in-Err-clause-pruned g c =
       same = (ap (λ (s : State). s.out) p.state, ap (λ (s : State). s.buffer) p.state);
       sound = p.sound;
     })
+
+pub returns-in-Err-clause-read : goal.returns-in-Err-clause-read
+returns-in-Err-clause-read g c = λ damaged told.
+    halted_unread _ _ _ c.halted.ensures (λ broken is. pruned_unread c.in-Err.fault broken (sym c.from.ensures ∙ is)) damaged told

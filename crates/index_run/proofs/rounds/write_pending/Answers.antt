@@ -3,7 +3,8 @@ use Rattle.index_writer.specs.declared.state.State.{State}
 use Rattle.index_run.specs.Driving.{WritesPending}
 use Rattle.index_run.specs.Leaving.{CommitLaws}
 use Rattle.index_run.proofs.Coming.{come_written}
-use Rattle.index_run.proofs.Rounding.{cut_done, cut_written, pending_there}
+use Rattle.index_run.proofs.Rounding.{cut_done, cut_written, pending_there, stopped_for}
+use Rattle.index_run.proofs.WrittenBeside.{last_written, written_of}
 use Rattle.index_run.proofs.rounds.write_pending.Goals as goal
 
 pub returns-then-next_id-gt-MOST-clause-pending : goal.returns-then-next_id-gt-MOST-clause-pending
@@ -70,3 +71,24 @@ returns-in-Err-clause-pending g c =
       same = (ap (λ (s : State). s.out) c.in-Err.ensures.err, ap (λ (s : State). s.buffer) c.in-Err.ensures.err);
       sound = c.commit.ensures.sound;
     })
+
+pub returns-in-Ok-clause-last : goal.returns-in-Ok-clause-last
+returns-in-Ok-clause-last g c =
+    let well = c.in-Ok.ensures in
+    last_written c.args.writer.state c.commit.new.self.state c.in-Ok.info.number (c.requires.sound c.requires.open) well.number well.on
+
+pub returns-in-Ok-clause-made : goal.returns-in-Ok-clause-made
+returns-in-Ok-clause-made g c =
+    let w = c.args.writer in
+    let x = c.commit.new.self in
+    let well = c.in-Ok.ensures in
+    let low : w.state.published.next_id ≤ 2 ^ 62 =
+    (let small = c.if-next_id-gt-MOST.false in let id = c.next_id.ensures in omega (arith, small, id)) in
+    written_of c.args.due.now.pairs w.state x.state (g.S.Store.disk w.store) (g.S.Store.disk x.store) c.in-Ok.info
+    c.commits_hold.ensures.made (c.requires.sound c.requires.open) well.number (well.made low)
+
+pub returns-then-next_id-gt-MOST-clause-read : goal.returns-then-next_id-gt-MOST-clause-read
+returns-then-next_id-gt-MOST-clause-read g c = λ damaged is. stopped_for _ _ damaged _ c.stopped.ensures is
+
+pub returns-in-Err-clause-read : goal.returns-in-Err-clause-read
+returns-in-Err-clause-read g c = λ damaged is. stopped_for _ _ damaged _ c.stopped-in-Err.ensures is
