@@ -382,7 +382,7 @@ begins r lines shares asks laws some can rise are fresh asks_are =
     (asks_are, come_start r lines shares laws some can rise are fresh)
 
 -- and answers the search lines that stand behind no commit line
-pub under_way : (r : Run) (lines : List Line) (shares : List Share) (asks : List (Vec Ask)) (w : State) (now : Option Disk)
+abbrev pub under_way : (r : Run) (lines : List Line) (shares : List Share) (asks : List (Vec Ask)) (w : State) (now : Option Disk)
     (none texts : List (Vec (List ℕ))) → Begins r lines shares asks w now → AllByRecursion IsNone none
     → AllAnswerBehind w 0 asks none texts → IsUnderWay r lines shares asks [] no_commit texts w now
 under_way r lines shares asks w now none texts begins empty answers = record {
@@ -392,7 +392,7 @@ under_way r lines shares asks w now none texts begins empty answers = record {
 }
 
 -- it answers those behind the commit with which a round ended, if it ended with one
-pub way_on : (r : Run) (lines : List Line) (news : List Share) (asks : List (Vec Ask)) (log : List Line) (commits : List Pair)
+abbrev pub way_on : (r : Run) (lines : List Line) (news : List Share) (asks : List (Vec Ask)) (log : List Line) (commits : List Pair)
     (due : CommitLine) (olds texts : List (Vec (List ℕ))) (w : State) (now : Option Disk) → AreAsks lines asks
     → AreAnswered r.first log asks olds → GoesOnBy r lines news log commits due w now
     → (w.pending ≡ None → texts ≡ olds) → (IsSome w.pending → AllAnswerBehind w due.line asks olds texts)

@@ -31,11 +31,10 @@ look_line_if : (after : ℕ) (l : Line) (b : Bool) → 1 ≤ length (if b then l
 look_line_if after l true some = look_line after l l.act some
 look_line_if after l false some = absurd (omega (arith, some))
 
-any_from : (n worker after : ℕ) (lines : List Line) → 1 ≤ length (looks_from n worker after lines)
-    → list_any is_look_line lines ≡ true
-any_from n worker after [] some = absurd (omega (arith, some))
-any_from n worker after (l ∷ ls) some =
-    by (λ more. any_from n worker (after_past n worker after l) ls more) (is_look l.act) refl
+any_step : (n worker after : ℕ) (l : Line) (ls : List Line) → 1 ≤ length (looks_from n worker after (l ∷ ls))
+    → (1 ≤ length (looks_from n worker (after_past n worker after l) ls) → list_any is_look_line ls ≡ true)
+    → list_any is_look_line (l ∷ ls) ≡ true
+any_step n worker after l ls some further = by (is_look l.act) refl
   where
     rest : List Look
     rest = looks_from n worker (after_past n worker after l) ls
@@ -49,10 +48,15 @@ any_from n worker after (l ∷ ls) some =
       | inr here ↦ absurd (let is = look_line_if after l (l.caller % n == worker) here in cc)
     ]
 
-    by : (1 ≤ length rest → list_any is_look_line ls ≡ true) → (b : Bool) → is_look l.act ≡ b
-        → list_any is_look_line (l ∷ ls) ≡ true
-    by further true e = ap (λ (b : Bool). b || list_any is_look_line ls) e
-    by further false e = ap (λ (b : Bool). b || list_any is_look_line ls) e ∙ further (behind e)
+    by : (b : Bool) → is_look l.act ≡ b → list_any is_look_line (l ∷ ls) ≡ true
+    by true e = ap (λ (b : Bool). b || list_any is_look_line ls) e
+    by false e = ap (λ (b : Bool). b || list_any is_look_line ls) e ∙ further (behind e)
+
+any_from : (n worker after : ℕ) (lines : List Line) → 1 ≤ length (looks_from n worker after lines)
+    → list_any is_look_line lines ≡ true
+any_from n worker after [] some = absurd (omega (arith, some))
+any_from n worker after (l ∷ ls) some =
+    any_step n worker after l ls some (any_from n worker (after_past n worker after l) ls)
 
 asked_from : (n i : ℕ) (lines : List Line) (vs : List (Vec Look)) → AreLooksFrom n i lines vs → SomeLook vs
     → list_any is_look_line lines ≡ true
