@@ -13,7 +13,24 @@ use std::alloc::Global;
 use std::marker::Brand;
 use std::sync::{Arc, Wait};
 
-/// Both watchers look, and their answers go behind the others.
+/// A watcher looks, and its answer goes behind the others.
+fn look_once<L: BoardLaw>(
+    alloc: Global,
+    watcher: &mut Watcher<L>,
+    query: &Query,
+    answers: &mut Vec<Shown>,
+) -> Result<(), NoMemory>
+    requires old { All (λ shown. IsAnswer L.lawful query.now shown.number shown.hits.items)
+        answers.old.items }
+    ensures new { All (λ shown. IsAnswer L.lawful query.now shown.number shown.hits.items)
+        answers.new.items }
+{
+    let shown = watcher.hits(alloc, query)?;
+    answers.push(shown)?;
+    Ok(())
+}
+
+/// Both watchers look.
 fn look<L: BoardLaw>(
     alloc: Global,
     watchers: &mut [Watcher<L>],
@@ -27,9 +44,8 @@ fn look<L: BoardLaw>(
 {
     match watchers {
         [first, second] => {
-            answers.push(first.hits(alloc, query)?)?;
-            answers.push(second.hits(alloc, query)?)?;
-            Ok(())
+            look_once(alloc, first, query, answers)?;
+            look_once(alloc, second, query, answers)
         }
         _ => Ok(()),
     }

@@ -1,10 +1,17 @@
 -- What came back of a round's workers, whatever went along with them.
 use Rattle.std.proofs.Common.{◌≡◌, ◌∙◌, List, [], ◌∷◌, ◌++◌, length, map, refl, sym, ap, append_assoc, arith}
 use Rattle.std.proofs.lemmas.List.{map-append}
+use Rattle.std.specs.Prelude.{IfOk, IsOk, OnOk, Option, Result, Ok, Err}
 use Rattle.std.specs.Global.{Vec}
+use Rattle.std.specs.declared.alloc.Global.{Global}
+use Rattle.std.specs.declared.sync.Arc.{Arc}
+use Rattle.commit_board.specs.Commits.{top_of}
+use Rattle.commit_board.specs.Posting.{Posting, begun_with}
+use Rattle.commit_board.specs.declared.commit.Commit.{Commit}
 use Rattle.delete_queue.specs.declared.queue.DeleteQueue.{DeleteQueue}
 use Rattle.index_writer.specs.declared.round.RoundParts.{RoundParts}
 use Rattle.line_shares.specs.declared.looks.Look.{Look}
+use Rattle.round_work.specs.Companions.{AreAlong}
 use Rattle.round_work.specs.Working.{AreWorked, Works}
 use Rattle.round_work.specs.declared.worked.Stop.TheVariants.{NoMemory}
 use Rattle.round_work.specs.declared.worked.Worked.{Worked}
@@ -12,10 +19,14 @@ use Rattle.run_log.proofs.Lists.{each_in_both}
 use Rattle.thread_writer.specs.declared.piece.Piece.{Piece}
 use Rattle.thread_writer.specs.declared.writer.ThreadWriter.{ThreadWriter}
 use Rattle.worker_tasks.specs.declared.share.Share.{Share}
-use Rattle.index_run.specs.Boards.{AreLinedUp, ComesBack}
-use Rattle.index_run.specs.Rounds.{AllCame, gave_of, pieces_of, share_of, writers_of}
+use Rattle.index_run.specs.Boards.{AreLinedUp, AreLookedOn, ComesBack, IsBegun}
+use Rattle.index_run.specs.Looks.{Hears}
+use Rattle.index_run.specs.Rounds.{AllCame, companions_of, gave_of, pieces_of, share_of, writers_of}
 use Rattle.index_run.specs.declared.looks.Looked.{Looked}
 use Rattle.index_run.specs.declared.looks.Looker.{Looker}
+use Rattle.index_run.specs.declared.looks.Looking.{Looking}
+use Rattle.index_run.specs.declared.rounds.Came.{Came}
+use Rattle.index_run.proofs.RoundBoards.{looked_back}
 
 -- what came back of one worker, without what went along with it
 abbrev alone : {C : Type 0} → Worked C → Worked (Unit {0})
@@ -109,3 +120,42 @@ module _ {C : Type 0} (xs : List (Worked C)) (one : Worked C) where
 
   pub came_on : AllCame xs → (one.stop ≡ NoMemory → ⊥) → AllCame (xs ++ one ∷ [])
   came_on came not = each_in_both (λ (w : Worked C). w.stop ≡ NoMemory → ⊥) xs (one ∷ []) came (not, tt)
+
+-- ---- all of them
+
+-- what is said of what came back of a round's workers
+abbrev pub HasBack : {L : Type 0} → DeleteQueue → Option (Arc Commit Global) → Came → Vec (Worked (Looker L)) → Type 0
+HasBack {L} q newest came worked = (came.parts.queue ≡ q) × (came.parts.writers.items ≡ writers_of worked.items)
+    × (pieces_of came.parts.pieces.items ≡ gave_of worked.items) × (came.shares.items ≡ map share_of worked.items)
+    × AllCame worked.items × AreLinedUp came.looking.looks.items came.looking.looked.items (companions_of worked.items)
+    × (came.looking.newest ≡ newest)
+
+pub back_all : {L E : Type 0} (q : DeleteQueue) (newest : Option (Arc Commit Global)) (writers : List ThreadWriter) (shares : List Share)
+    (came : Result Came E) (back : Result (Vec (Worked (Looker L))) E)
+    → IfOk back (λ (all : Vec (Worked (Looker L))). AreWorked q writers shares all.items)
+    → IfOk came (λ (c : Came). IfOk back (HasBack q newest c)) → OnOk came (IsOk back)
+    → IfOk came (λ (c : Came). ComesBack q writers shares c.parts c.shares.items)
+back_all {L} {E} q newest writers shares (Err e) back works has all = tt
+back_all {L} {E} q newest writers shares (Ok c) (Err e) works has all = absurd cc
+back_all {L} {E} q newest writers shares (Ok c) (Ok worked) works has all =
+    comes_back q writers shares worked.items c.parts c.shares.items works has.0 has.1 has.2 has.3 has.4
+
+pub back_looked : {L E : Type 0} (lawful : Commit → Type 0) (looking : Looking) (lookers : List (Looker L))
+    (newest : Option (Arc Commit Global)) (poster : Option Posting) (ss : List Share) (q : DeleteQueue)
+    (last : Option (Arc Commit Global)) (came : Result Came E) (back : Result (Vec (Worked (Looker L))) E)
+    → IsBegun looking poster lookers newest → AreLinedUp looking.looks.items looking.looked.items lookers
+    → IfOk back (λ (all : Vec (Worked (Looker L))). AreAlong (Hears lawful) lookers ss all.items)
+    → IfOk came (λ (c : Came). IfOk back (HasBack q last c)) → OnOk came (IsOk back)
+    → IfOk came (λ (c : Came). (c.looking.looks.items ≡ looking.looks.items)
+    × AreLookedOn lawful (top_of (begun_with looking.newest)) c.shares.items looking.looks.items looking.looked.items
+    c.looking.looked.items)
+back_looked {L} {E} lawful looking lookers newest poster ss q last (Err e) back begun lined along has all = tt
+back_looked {L} {E} lawful looking lookers newest poster ss q last (Ok c) (Err e) begun lined along has all = absurd cc
+back_looked {L} {E} lawful looking lookers newest poster ss q last (Ok c) (Ok worked) begun lined along has all =
+    let on =
+    looked_back lawful looking lookers newest poster ss worked.items c.looking.looks.items c.looking.looked.items begun lined
+    along has.5 in (
+      on.0,
+      subst (λ (xs : List Share). AreLookedOn lawful (top_of (begun_with looking.newest)) xs looking.looks.items
+          looking.looked.items c.looking.looked.items) (sym has.3) on.1,
+    )

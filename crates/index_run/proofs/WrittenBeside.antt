@@ -23,6 +23,7 @@ use Rattle.index_writer.specs.declared.round.CommitInfo.{CommitInfo}
 use Rattle.index_writer.specs.declared.state.State.{State}
 use Rattle.index_writer.specs.declared.writer.IndexWriter.{IndexWriter}
 use Rattle.index_writer.specs.Laws.{CommitsHold}
+use Rattle.index_writer.specs.declared.fault.WriterFault.{WriterFault}
 use Rattle.index_writer.specs.Ready.{CanBePending, IsReady, IsSound}
 use Rattle.index_writer.specs.Storing.{Commits, on_commit}
 use Rattle.index_run.specs.Boards.{CanShow, IsShownBeside, IsWrittenOf, Prunes}
@@ -68,9 +69,6 @@ written_of pairs w v before now info hold ready pending made = record {
         (subst (λ (s : ℕ). HoldsInverted n.0 s w.published.next_id rows) (sym can.0 ∙ sym same) holds.0);
   };
 }
-
-pub came_with : {T E : Type 0} (came : Result (Option T) E) (o p : Option T) → came ≡ Ok o → o ≡ p → came ≡ Ok p
-came_with {T} {E} came o p is same = is ∙ ap Ok same
 
 -- ---- it is shown
 
@@ -256,3 +254,19 @@ pub halted_unread : {S T : Type 0} (writer : IndexWriter S) (fault : RanFault) (
     → (damaged : Damaged) → ran.came ≡ Err (halt.Unread damaged) → ⊥
 halted_unread {S} {T} writer fault ran halted never damaged told =
     never damaged (one_error ran.came fault (halt.Unread damaged) (ap (λ (x : Ran S T). x.came) halted) told)
+
+-- ---- before the round's board was there
+
+-- a writer that did nothing yet, and a run that stops by it
+pub pending_stopped : {S : Type 0} (disk : S → Option Disk) (keep : Option ℕ) (due : CommitLine) (old : IndexWriter S)
+    (fault : WriterFault) (ran : Ran S (Option CommitInfo)) → IsSound old.state
+    → ran ≡ record { writer = old; came = Err (halt.Writer fault) } → WritesPending disk keep due old ran
+pending_stopped {S} disk keep due old fault ran sound stopped = subst (WritesPending disk keep due old) (sym stopped) (record {
+  come = λ r lines shares log commits keeps come. tt;
+  cut = λ r lines shares log commits keeps come. cut_done r lines shares log old.state (disk old.store) come.done;
+  written = tt;
+  upto = tt;
+  is_open = tt;
+  same = (refl, refl);
+  sound = sound;
+})

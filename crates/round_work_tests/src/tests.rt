@@ -4,7 +4,7 @@ ghost use Rattle.std.specs.List.{AllByRecursion};
 ghost use Rattle.delete_queue.specs.Making.{AreNewFrom};
 ghost use Rattle.delete_queue.specs.Seats.{IsSeatOf, number_of, own_of};
 ghost use Rattle.round_work.specs.Working.{AreAtWork, IsAtWork};
-ghost use Rattle.round_work.specs.declared.worked.Stop.TheVariants as stop;
+ghost use Rattle.round_work.specs.declared.worked.Stop.TheVariants as stopped;
 ghost use Rattle.round_work_tests.specs.Shares.{CanGoOn};
 
 use crate::along::{listeners, nothings, show_heard};
@@ -12,7 +12,7 @@ use delete_queue::{DeleteQueue, Reserve, Seat};
 use ix_base::{Birth, Document, Fields, NoMemory, Operation, Refusal, Text};
 use ix_memory::{GroupsGate, MeetingGate, RecordingGate};
 use ix_outside::Gate;
-use round_work::{Companion, Stop, Worked, run_round};
+use round_work::{Stop, Worked, run_round};
 use std::alloc::Global;
 use std::fmt::Write;
 use std::sync::Wait;
@@ -74,12 +74,11 @@ fn four_tasks(alloc: Global) -> Result<Vec<Task>, Fail> {
 }
 
 /// The share of a worker. The only error is that it ran out of memory.
-fn share_of<C: Companion>(worked: Worked<C>) -> Result<Share, NoMemory>
-    requires few { length worked.share.replies ≤ length worked.share.tasks }
-    requires sent { (worked.stop ≡ stop.NoMemory → ⊥) → worked.share.held ≡ None }
+fn share_of(stop: Stop, share: Share) -> Result<Share, NoMemory>
+    requires few { length share.replies ≤ length share.tasks }
+    requires sent { (stop ≡ stopped.NoMemory → ⊥) → share.held ≡ None }
     ensures { IfOk result CanGoOn }
 {
-    let Worked { share, stop, .. } = worked;
     if stop == Stop::NoMemory {
         return Err(NoMemory);
     }
@@ -111,7 +110,8 @@ fn one_round<R: Threads + Wait + Sync>(
     };
     show_heard(out, worked.companion.heard.as_slice())?;
     show(out, worked.stop, &worked.share, worked.pieces.len())?;
-    Ok(share_of(worked)?)
+    let Worked { share, stop, .. } = worked;
+    Ok(share_of(stop, share)?)
 }
 
 /// What becomes of a share in three rounds, the first of them behind the number 250. It is done before the
