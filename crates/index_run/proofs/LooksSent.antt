@@ -7,6 +7,7 @@ use Rattle.ix_base.specs.contracts.query.Query as query
 use Rattle.line_shares.specs.contracts.looks.Look as look
 use Rattle.index_run.specs.contracts.looks.Looked as looked
 use Rattle.index_run.specs.contracts.looks.Looker as looker
+use Rattle.commit_board.specs.declared.law.BoardLaw.{Ghosts}
 use Rattle.commit_board.proofs.watcher.Watcher.TheSendSync as watcher
 use Rattle.ix_base.proofs.document.Term.TheSendSync as term
 use Rattle.ix_base.proofs.list.List.TheSendSync as list
@@ -30,5 +31,5 @@ look_send = search (sendable, declared_send, query_send) depth 14
 pub looked_send : IsSend looked.the_row
 looked_send = search (sendable, declared_send, list.the_send) depth 14
 
-pub looker_send : (L : RattleType) → IsSend L → IsSend (looker.the_row L)
-looker_send L l = search (sendable, declared_send, watcher.the_send, look_send, looked_send, global.the_send) depth 14
+pub looker_send : (L : RattleType) (G : Ghosts L.Denot) → IsSend (looker.the_row L G)
+looker_send L G = search (sendable, declared_send, watcher.the_send L G, look_send, looked_send, global.the_send) depth 14

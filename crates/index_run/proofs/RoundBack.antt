@@ -1,5 +1,5 @@
 -- What came back of a round's workers, whatever went along with them.
-use Rattle.std.proofs.Common.{◌≡◌, ◌∙◌, List, [], ◌∷◌, ◌++◌, length, map, refl, sym, ap, append_assoc, arith}
+use Rattle.std.proofs.Common.{◌≡◌, ◌∙◌, List, [], ◌∷◌, ◌++◌, length, map, refl, sym, ap, append_assoc, arith, subst}
 use Rattle.std.proofs.lemmas.List.{map-append}
 use Rattle.std.specs.Prelude.{IfOk, IsOk, OnOk, Option, Result, Ok, Err}
 use Rattle.std.specs.Global.{Vec}
