@@ -1,6 +1,7 @@
 //! What watchers are shown, on one thread and beside a poster in another one. The commit of the number n
 //! has n rows here, so that what is found tells which commit was searched.
 ghost use Rattle.std.specs.Prelude.{◌≡◌, ◌≤◌, IfOk};
+ghost use Rattle.std.specs.Arc.{arc_value};
 
 use crate::round::answers_by_rows;
 use analysis::invert;
@@ -52,6 +53,7 @@ fn segment_of(alloc: Global, count: u64) -> Result<LiveSegment, Fail> {
 /// The commit of this number.
 fn commit_of(alloc: Global, number: u64) -> Result<Arc<Commit, Global>, Fail>
     requires { 1 ≤ number }
+    ensures { IfOk result (λ commit. (arc_value commit).number ≡ number) }
 {
     let segment = segment_of(alloc, number)?;
     let segments = List::from_vec(vec![in alloc; segment]?);

@@ -1,7 +1,8 @@
 -- What goes along with a worker may go to another thread.
 use denote.RattleType.{RattleType}
-use denote.Param.Send.{IsSend, sendable}
+use denote.Param.Send.{IsSend, plain_send, recorded_send, sendable, struct_send}
 use denote.Param.SendFields.{as_row_send, declared_send}
+use denote.Struct.Declared.{shape}
 use denote.Struct.Field.{i64-field}
 use Rattle.ix_base.specs.contracts.query.Query as query
 use Rattle.line_shares.specs.contracts.looks.Look as look
@@ -9,6 +10,8 @@ use Rattle.index_run.specs.contracts.looks.Looked as looked
 use Rattle.index_run.specs.contracts.looks.Looker as looker
 use Rattle.commit_board.specs.declared.law.BoardLaw.{Ghosts}
 use Rattle.commit_board.proofs.watcher.Watcher.TheSendSync as watcher
+use Rattle.commit_board.specs.contracts.watcher.Watcher as watcher_of
+use Rattle.std.proofs.option.Option.TheSendSync as option
 use Rattle.ix_base.proofs.document.Term.TheSendSync as term
 use Rattle.ix_base.proofs.list.List.TheSendSync as list
 use Rattle.ix_base.proofs.query.Queries.TheLaws.TheKnot as knot
@@ -32,4 +35,14 @@ pub looked_send : IsSend looked.the_row
 looked_send = search (sendable, declared_send, list.the_send) depth 14
 
 pub looker_send : (L : RattleType) (G : Ghosts L.Denot) → IsSend (looker.the_row L G)
-looker_send L G = search (sendable, declared_send, watcher.the_send L G, look_send, looked_send, global.the_send) depth 14
+looker_send L G =
+    recorded_send (looker.the_field L G).row _ _ (looker.the_type L G).to_one (struct_send (shape (looker.the_type L G)) (
+      search (sendable, global.the_send) depth 8,
+      (
+        option.the_field_send (watcher_of.the_row L G) (watcher.the_send L G),
+        (
+          vec.the_send look.the_row _ _ look_send global.the_send frees,
+          (vec.the_send looked.the_row _ _ looked_send global.the_send frees, (plain_send _ _ _ _ _, tt)),
+        ),
+      ),
+    ))

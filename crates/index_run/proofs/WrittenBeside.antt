@@ -70,8 +70,8 @@ written_of pairs w v before now info hold ready pending made = record {
   };
 }
 
-pub came_with : {T E : Type 0} (came : Result (Option T) E) (o p : Option T) → came ≡ Ok o → p ≡ o → came ≡ Ok p
-came_with {T} {E} came o p is same = is ∙ ap Ok (sym same)
+pub came_with : {T E : Type 0} (came : Result (Option T) E) (o p : Option T) → came ≡ Ok o → o ≡ p → came ≡ Ok p
+came_with {T} {E} came o p is same = is ∙ ap Ok same
 
 -- ---- it is shown
 

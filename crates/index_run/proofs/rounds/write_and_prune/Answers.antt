@@ -13,7 +13,8 @@ show-requires-clause-lawful g c =
     let wrote = c.write_pending-writer in
     let info = c.in-Ok-Some.info in
     let is : wrote.result.came ≡ Ok (Some info) =
-    came_with wrote.result.came c.in-Ok-Some.field-0 (Some info) c.in-Ok-Some.is c.in-Ok-Some.field-0-is in
+    came_with wrote.result.came c.in-Ok-Some.field-0 (Some info) c.in-Ok-Some.is
+    (rw c.in-Ok-Some.is at c.in-Ok-Some.field-0-is) in
     (can_post g.L.BoardLaw.lawful c.args.poster.now w.state (g.S.Store.disk w.store) (g.S.Store.disk wrote.result.writer.store) info
     c.requires.board (on_ok _ _ _ is wrote.ensures.made)).1
 
@@ -27,7 +28,8 @@ pub returns-in-Ok-None-clause-pending : goal.returns-in-Ok-None-clause-pending
 returns-in-Ok-None-clause-pending g c =
     pending_none g.S.Store.disk c.args.keep c.args.due.now c.args.writer c.write_pending-writer.result c.unshown.result.ran
     c.write_pending-writer.ensures.pending
-    (came_with c.write_pending-writer.result.came c.in-Ok-None.field-0 None c.in-Ok-None.is c.in-Ok-None.field-0-is)
+    (came_with c.write_pending-writer.result.came c.in-Ok-None.field-0 None c.in-Ok-None.is
+    (rw c.in-Ok-None.is at c.in-Ok-None.field-0-is))
     (ap (λ (b : Beside g.row.S.Denot). b.ran) c.unshown.ensures)
 
 pub returns-in-Ok-clause-newest : goal.returns-in-Ok-clause-newest
@@ -36,7 +38,8 @@ returns-in-Ok-clause-newest g c =
     let wrote = c.write_pending-writer in
     let info = c.in-Ok-Some.info in
     let is : wrote.result.came ≡ Ok (Some info) =
-    came_with wrote.result.came c.in-Ok-Some.field-0 (Some info) c.in-Ok-Some.is c.in-Ok-Some.field-0-is in
+    came_with wrote.result.came c.in-Ok-Some.field-0 (Some info) c.in-Ok-Some.is
+    (rw c.in-Ok-Some.is at c.in-Ok-Some.field-0-is) in
     shown_beside c.args.poster.now w.state (g.S.Store.disk w.store) (g.S.Store.disk wrote.result.writer.store) info c.in-Ok.newest
     c.show.result c.prune_behind.result.came (on_ok _ _ _ is wrote.ensures.made) c.in-Ok.is c.show.ensures.shown
     c.prune_behind.ensures.pruned.commit_is
@@ -46,7 +49,8 @@ returns-in-Ok-clause-pending g c =
     let wrote = c.write_pending-writer in
     let info = c.in-Ok-Some.info in
     let is : wrote.result.came ≡ Ok (Some info) =
-    came_with wrote.result.came c.in-Ok-Some.field-0 (Some info) c.in-Ok-Some.is c.in-Ok-Some.field-0-is in
+    came_with wrote.result.came c.in-Ok-Some.field-0 (Some info) c.in-Ok-Some.is
+    (rw c.in-Ok-Some.is at c.in-Ok-Some.field-0-is) in
     pending_pruned g.S.Store.disk c.args.keep c.args.due.now c.args.writer wrote.result info c.show.new.writer is wrote.ensures.pending
     c.show.ensures.state c.show.ensures.reads c.prune_behind.result c.prune_behind.ensures.pruned
 
@@ -55,7 +59,8 @@ returns-in-Err-show-clause-pending g c =
     let wrote = c.write_pending-writer in
     let info = c.in-Ok-Some.info in
     let is : wrote.result.came ≡ Ok (Some info) =
-    came_with wrote.result.came c.in-Ok-Some.field-0 (Some info) c.in-Ok-Some.is c.in-Ok-Some.field-0-is in
+    came_with wrote.result.came c.in-Ok-Some.field-0 (Some info) c.in-Ok-Some.is
+    (rw c.in-Ok-Some.is at c.in-Ok-Some.field-0-is) in
     let e = c.show.ensures in
     let fault = c.in-Err-show.is in
     pending_unshown g.S.Store.disk c.args.keep c.args.due.now c.args.writer wrote.result info c.show.new.writer is wrote.ensures.pending
