@@ -10,7 +10,7 @@ returns-in-Err-clause-pending g c =
     pending_stopped g.S.Store.disk c.args.keep c.args.due c.args.writer _ c.stopped.result c.requires.sound c.stopped.ensures
 
 pub run_round-ran-requires-send-C : goal.run_round-ran-requires-send-C
-run_round-ran-requires-send-C g c κs within = param_send 2 _ (arg_send _ _ _ (looker_send _ _))
+run_round-ran-requires-send-C g c κs within = param_send 2 _ (arg_send _ _ _ (looker_send g.row.L g.L.BoardLaw))
 
 pub run_round-ran-requires-clause-companions : goal.run_round-ran-requires-clause-companions
 run_round-ran-requires-clause-companions g c κs within =
