@@ -1,5 +1,6 @@
 use Rattle.std.proofs.Common.{◌≡◌, ◌∙◌, Ok, rules}
 use denote.Exit.{no}
+use denote.Param.{param}
 use denote.Param.Send.{arg_send, param_send}
 use Rattle.index_run.proofs.LooksSent.{looker_send}
 use Rattle.index_run.proofs.RoundBack.{back_all, back_looked, lined_count}
@@ -11,7 +12,7 @@ returns-in-Err-clause-pending g c =
     pending_stopped g.S.Store.disk c.args.keep c.args.due c.args.writer _ c.stopped.result c.requires.sound c.stopped.ensures
 
 pub run_round-ran-requires-send-C : goal.run_round-ran-requires-send-C
-run_round-ran-requires-send-C g c κs within = param_send 2 _ (arg_send _ no _ (looker_send g.row.L g.L.BoardLaw))
+run_round-ran-requires-send-C g c κs within = param_send 2 _ (arg_send _ no _ (looker_send (param 0 g.row.L) g.L.BoardLaw))
 
 pub run_round-ran-requires-clause-companions : goal.run_round-ran-requires-clause-companions
 run_round-ran-requires-clause-companions g c κs within =
